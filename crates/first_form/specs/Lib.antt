@@ -1,0 +1,4 @@
+pub mod Building
+pub mod Form
+pub mod Reading
+pub mod Seen

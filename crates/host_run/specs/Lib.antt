@@ -1,0 +1,6 @@
+pub mod Answers
+pub mod Claims
+pub mod Due
+pub mod Report
+pub mod Taking
+pub mod Words

@@ -1,0 +1,4 @@
+pub mod Updates
+pub mod Values
+pub mod Waves
+pub mod Zeros

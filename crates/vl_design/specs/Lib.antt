@@ -1,0 +1,10 @@
+pub mod Alone
+pub mod Examples
+pub mod Exec
+pub mod Queue
+pub mod Sound
+pub mod State
+pub mod Syntax
+pub mod Trees
+pub mod Value
+pub mod Width

@@ -1,0 +1,10 @@
+pub mod RunLaws
+pub mod Values
+pub mod NextLaws
+pub mod StringLaws
+pub mod GapLaws
+pub mod NumberLaws
+pub mod Stands
+pub mod PassLaws
+pub mod LexLaws
+pub mod TokenLaws

@@ -1,0 +1,4 @@
+//! Tokens and trees of a source, with their definitions.
+#![tactic(auto)]
+
+pub mod token;

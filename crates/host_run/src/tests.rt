@@ -4,10 +4,14 @@ use crate::host::host;
 use fab_io::gate::NoGate;
 use fab_io::mem_sink::MemSink;
 use fab_io::mem_store::MemStore;
+use first_form::design::design;
+use plain_run::run::run;
 use std::alloc::Global;
 use std::sync::Wait;
 use std::test::Fail;
 use std::thread::Threads;
+use vl_design::design::End;
+use vl_lex::lex::lex;
 
 const COUNTER: &str =
     "module m(input wire clk);\n  reg [7:0] c;\n  always @(posedge clk) begin\n    $display(\"%0d\", c);\n    c <= c + 1;\n  end\nendmodule\n";
@@ -374,5 +378,17 @@ fn limits_of_the_form(rt: HostRuntime) -> Result<(), Fail> {
         let (status, _) = served(&rt, rt.alloc(), &["run", "m.v", "2"], source.as_bytes())?;
         assert_eq!(rt; status, expected, "{registers}");
     }
+    Ok(())
+}
+
+#[test]
+fn parts_answer(rt: HostRuntime) -> Result<(), Fail> {
+    let tokens = lex(rt.alloc(), COUNTER.as_bytes()).ok().ok_or("tokens")?;
+    assert_eq!(rt; tokens.len(), 38);
+    let design = design(rt.alloc(), tokens.as_slice())?.ok_or("a design")?;
+    let outcome = run(rt.alloc(), &design, 3)?;
+    assert_eq!(rt; outcome.ticks, 3);
+    assert_eq!(rt; outcome.end, End::Budget);
+    assert_eq!(rt; outcome.printed.as_slice(), b"0\n1\n2\n".as_slice());
     Ok(())
 }

@@ -8,3 +8,4 @@ pub mod Stands
 pub mod PassLaws
 pub mod LexLaws
 pub mod TokenLaws
+pub mod CutLaws

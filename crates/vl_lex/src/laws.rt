@@ -1,8 +1,9 @@
 //! Laws of tokens: what follows from their definition alone.
 
-ghost use Rattle.std.specs.Prelude.{◌≡◌, List, ℕ};
+ghost use Rattle.std.specs.Prelude.{◌≡◌, ◌++◌, List, ℕ};
+ghost use Rattle.vl_base.specs.declared.place.Place.{Place};
 ghost use Rattle.vl_tree.specs.declared.token.Token.{Token};
-ghost use Rattle.vl_tree.specs.Tokens.{Tokens};
+ghost use Rattle.vl_tree.specs.Tokens.{Tokens, Passes, start};
 ghost use Rattle.vl_lex.specs.Laws.{AreSlices, Rise};
 
 /// A text has one list of tokens.
@@ -19,4 +20,10 @@ pub fn slices()
 /// The places of tokens rise.
 pub fn rising_places()
     ensures { (text : List ℕ) (tokens : List Token) → Tokens text tokens → Rise tokens }
+{}
+
+/// A text that is cut behind a token, or a gap, has the tokens so far, or it has a fault: no other tokens.
+pub fn cut_text()
+    ensures { (front rest : List ℕ) (place : Place) (tokens others : List Token)
+        → Passes start (front ++ rest) tokens place rest → Tokens front others → others ≡ tokens }
 {}

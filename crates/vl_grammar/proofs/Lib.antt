@@ -1,0 +1,10 @@
+pub mod Passing
+pub mod Follows
+pub mod MarkLemmas
+pub mod Complete
+pub mod Sound
+pub mod Enough
+pub mod Reaching
+pub mod Reached
+pub mod Bindings
+pub mod Otherwise

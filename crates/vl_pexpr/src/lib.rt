@@ -1,0 +1,9 @@
+//! The parser of expressions, which is exactly their grammar (IEEE 1364-2005, clause 5 and annex A.8).
+#![tactic(auto)]
+
+mod grammar;
+pub mod parse;
+#[cfg(test)]
+mod tests;
+
+pub use parse::{ParseFault, expression};

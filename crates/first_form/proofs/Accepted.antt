@@ -12,7 +12,7 @@ use Rattle.std.proofs.lemmas.List.Quantifiers.{all_pairs_push, position-Some}
 use Rattle.vl_base.specs.declared.bits.BinOp.TheVariants.{Add}
 use Rattle.vl_design.specs.declared.design.SigKind.TheVariants.{Var}
 use Rattle.vl_design.specs.Syntax.{Exp, Num, Bin, Stm, Then, Row, Flat}
-use Rattle.first_form.specs.Form.{Operand, Named, Plain, Action, Show, Assign, Register, Source, operand_names, operand_values, action_names, action_values, action_length, register_names, IsAccepted, operand_exp, sum_exp, action_stm, block_stm, flat}
+use Rattle.first_form.specs.Form.{Operand, Named, Plain, Action, Show, Stop, Assign, Register, Source, operand_names, operand_values, action_names, action_values, action_length, register_names, IsAccepted, operand_exp, sum_exp, action_stm, block_stm, flat}
 use Rattle.first_form.specs.Building.{all_new, number_of, but_clock, operand_in, sum_in, show_in, assign_in, stm_in, each, block_of, is_small, row_in, flat_in}
 use Rattle.first_form.proofs.Spelled.{with_some}
 use Rattle.first_form.proofs.Steps.{but_clock-some}
@@ -179,6 +179,7 @@ good-values regs os p = each-flat Is31 operand_values os (each-weaker (Good regs
 stm-all : (s : Source) → Apart (s.clock ∷ register_names s) → (a : Action) → IsGood (register_names s) a → stm_in (s.clock ∷ register_names s) a ≡ Some (action_stm s a)
 unfolding show_in assign_in
 stm-all s apart (Show n) good = rw (number-all s.clock n (register_names s) apart good.names.0) refl
+stm-all s apart Stop good = refl
 stm-all s apart (Assign n first others) good =
     let g = operands-good (register_names s) (first ∷ others) good.names.1 good.values in
     let short : ltb 499 (length others) ≡ false = le-ltb 499 (length others) (omega (arith, good.short)) in
@@ -187,6 +188,7 @@ stm-all s apart (Assign n first others) good =
 stm-only : (clock : List ℕ) (regs : List (List ℕ)) (a : Action) (x : Stm) → stm_in (clock ∷ regs) a ≡ Some x → IsGood regs a
 unfolding show_in assign_in
 stm-only clock regs (Show n) x h = with_some (number_of (clock ∷ regs) n) _ x h (λ k k-is h. record { names = (number-only clock n regs k k-is, tt); values = tt; short = omega arith })
+stm-only clock regs Stop x h = record { names = tt; values = tt; short = omega arith }
 stm-only clock regs (Assign n first others) x h =
     let p = unless _ _ x h in
     let short : length others ≤ 499 = ltb-false _ _ p.0 in

@@ -12,7 +12,7 @@ use Rattle.vl_design.specs.Syntax.{Exp, Sig, Bin, Shown, Row}
 use Rattle.vl_design.specs.Width.{signal_form}
 use Rattle.vl_design.specs.Queue.{is_comb}
 use Rattle.vl_design.specs.Sound.{IsWidth, IsSignal, IsSoundExp, IsSoundPiece, IsSoundStm, IsSound, HasNoNets}
-use Rattle.first_form.specs.Form.{Operand, Named, Plain, Action, Show, Assign, Register, Source, register_names, operand_exp, sum_exp, action_stm, block_stm, signal_of, IsAccepted, flat}
+use Rattle.first_form.specs.Form.{Operand, Named, Plain, Action, Show, Stop, Assign, Register, Source, register_names, operand_exp, sum_exp, action_stm, block_stm, signal_of, IsAccepted, flat}
 use Rattle.first_form.proofs.Accepted.{Good, IsGood, IsFit, goods, fits, operands-good, place_below, bytes_same}
 
 rows-wide : (rows : List Row) → Each (λ r. IsWidth r.width) rows → (k : ℕ) → IsWidth (signal_form rows k).width
@@ -45,6 +45,7 @@ sound-sum s h e (o ∷ os) sound good = sound-sum s h (Bin Add e (operand_exp s 
 
 sound-action : (s : Source) → IsAccepted s → (a : Action) → IsGood (register_names s) a → IsSoundStm (flat s).rows (action_stm s a)
 sound-action s h (Show n) good = All-from_recursion (IsSoundPiece (flat s).rows) (Shown LeastDecimal (Sig (signal_of s n)) ∷ []) (is-signal s h n good.names.0, tt)
+sound-action s h Stop good = tt
 sound-action s h (Assign n first others) good =
     let g = operands-good (register_names s) (first ∷ others) good.names.1 good.values in
     (is-signal s h n good.names.0, sound-sum s h (operand_exp s first) others (sound-operand s h first g.0) g.1)

@@ -8,8 +8,8 @@ use Rattle.std.proofs.lemmas.List.{length-append}
 use Rattle.vl_base.specs.declared.number.Number.{Number as Numeral}
 use Rattle.vl_tree.specs.declared.token.TokenKind.{TokenKind}
 use Rattle.vl_tree.specs.declared.token.TokenKind.TheVariants as t
-use Rattle.first_form.specs.Form.{Operand, Named, Plain, Action, Show, Assign, Register, Source, plain, operand_spelling, action_spelling, register_spelling, header_spelling, always_spelling, spelling}
-use Rattle.first_form.specs.Reading.{◌>>=◌, Found, is_keyword, is_mark, is_system, is_string, after, name_at, is_plain, plain_at, zero_then, register_at, header_at, always_at, show_at, operand_at, target_at, other_at, one_more, many, every, or_else, is_end, assign_at, action_at, ends, source_at}
+use Rattle.first_form.specs.Form.{Operand, Named, Plain, Action, Show, Stop, Assign, Register, Source, plain, operand_spelling, action_spelling, register_spelling, header_spelling, always_spelling, spelling}
+use Rattle.first_form.specs.Reading.{◌>>=◌, Found, is_keyword, is_mark, is_system, is_string, after, name_at, is_plain, plain_at, zero_then, register_at, header_at, always_at, show_at, stop_at, operand_at, target_at, other_at, one_more, many, every, or_else, is_end, assign_at, action_at, ends, source_at}
 
 pub with_some : {A B : Type 0} {P : Type 0} (o : Option A) (f : A → Option B) (y : B) → (o >>= f) ≡ Some y → ((x : A) → o ≡ Some x → f x ≡ Some y → P) → P
 with_some (Some x) f y h use_it = use_it x refl h
@@ -188,6 +188,16 @@ show_again : (name : List ℕ) (rest : List TokenKind) → show_at (action_spell
 unfolding show_at after name_at
 show_again name rest = refl
 
+stop_takes : (ks rest : List TokenKind) → stop_at ks ≡ Some rest → ks ≡ action_spelling Stop ++ rest
+unfolding stop_at
+stop_takes ks rest h =
+    with_some (after (is_system (codes "$finish")) ks) _ rest h (λ (a : List TokenKind) a-is h.
+    after_system (codes "$finish") ks a a-is ∙ ap (λ l. t.System (codes "$finish") ∷ l) (after_mark (codes ";") a rest h))
+
+stop_again : (rest : List TokenKind) → stop_at (action_spelling Stop ++ rest) ≡ Some rest
+unfolding stop_at after
+stop_again rest = refl
+
 operand_takes : (ks : List TokenKind) (x : Operand × List TokenKind) → operand_at ks ≡ Some x → ks ≡ operand_spelling x.0 ++ x.1
 unfolding operand_at
 operand_takes [] x h = absurd cc
@@ -316,22 +326,47 @@ shows_none : (n : List ℕ) (first : Operand) (others : List Operand) (rest : Li
 unfolding show_at after
 shows_none n first others rest = refl
 
-either_takes : (ks : List TokenKind) (o : Found (List ℕ)) → show_at ks ≡ o → (x : Action × List TokenKind) → or_else (o >>= λ y. Some (Show y.0, y.1)) (assign_at ks) ≡ Some x → ks ≡ action_spelling x.0 ++ x.1
-either_takes ks None e x h = assign_takes ks x h
-either_takes ks (Some y) e x h = subst (λ z. ks ≡ action_spelling z.0 ++ z.1) (same_Some {A = Action × List TokenKind} (Show y.0, y.1) x h) (show_takes ks y e)
+stops_none : (n : List ℕ) (first : Operand) (others : List Operand) (rest : List TokenKind) → stop_at (action_spelling (Assign n first others) ++ rest) ≡ None
+unfolding stop_at after
+stops_none n first others rest = refl
+
+stop_shows_none : (rest : List TokenKind) → show_at (action_spelling Stop ++ rest) ≡ None
+unfolding show_at after
+stop_shows_none rest = refl
+
+abbrev shown : Found (List ℕ) → Found Action → Found Action
+shown o other = or_else (o >>= λ x. Some (Show x.0, x.1)) other
+
+abbrev stopped : Option (List TokenKind) → Found Action → Found Action
+stopped o other = or_else (o >>= λ rest. Some (Stop, rest)) other
+
+stopped_takes : (ks : List TokenKind) (o : Option (List TokenKind)) → stop_at ks ≡ o → (x : Action × List TokenKind) → stopped o (assign_at ks) ≡ Some x → ks ≡ action_spelling x.0 ++ x.1
+stopped_takes ks None e x h = assign_takes ks x h
+stopped_takes ks (Some rest) e x h = subst (λ z. ks ≡ action_spelling z.0 ++ z.1) (same_Some {A = Action × List TokenKind} (Stop, rest) x h) (stop_takes ks rest e)
+
+shown_takes : (ks : List TokenKind) (o : Found (List ℕ)) → show_at ks ≡ o → (x : Action × List TokenKind) → shown o (stopped (stop_at ks) (assign_at ks)) ≡ Some x → ks ≡ action_spelling x.0 ++ x.1
+shown_takes ks None e x h = stopped_takes ks (stop_at ks) refl x h
+shown_takes ks (Some y) e x h = subst (λ z. ks ≡ action_spelling z.0 ++ z.1) (same_Some {A = Action × List TokenKind} (Show y.0, y.1) x h) (show_takes ks y e)
 
 pub action_takes : (ks : List TokenKind) (x : Action × List TokenKind) → action_at ks ≡ Some x → ks ≡ action_spelling x.0 ++ x.1
 unfolding action_at
-action_takes ks x h = either_takes ks (show_at ks) refl x h
+action_takes ks x h = shown_takes ks (show_at ks) refl x h
 
 action_again : (a : Action) (rest : List TokenKind) → action_at (action_spelling a ++ rest) ≡ Some (a, rest)
 unfolding action_at
-action_again (Show n) rest = ap (λ o. or_else (o >>= λ y. Some (Show y.0, y.1)) (assign_at (action_spelling (Show n) ++ rest))) (show_again n rest)
+action_again (Show n) rest = let ks = action_spelling (Show n) ++ rest in ap (λ o. shown o (stopped (stop_at ks) (assign_at ks))) (show_again n rest)
+action_again Stop rest =
+    let ks = action_spelling Stop ++ rest in
+    ap (λ o. shown o (stopped (stop_at ks) (assign_at ks))) (stop_shows_none rest) ∙ ap (λ o. stopped o (assign_at ks)) (stop_again rest)
 action_again (Assign n first others) rest =
-    ap (λ o. or_else (o >>= λ y. Some (Show y.0, y.1)) (assign_at (action_spelling (Assign n first others) ++ rest))) (shows_none n first others rest) ∙ assign_again n first others rest
+    let ks = action_spelling (Assign n first others) ++ rest in
+    ap (λ o. shown o (stopped (stop_at ks) (assign_at ks))) (shows_none n first others rest)
+    ∙ ap (λ o. stopped o (assign_at ks)) (stops_none n first others rest)
+    ∙ assign_again n first others rest
 
 action-some : (a : Action) → 1 ≤ length (action_spelling a)
 action-some (Show n) = omega arith
+action-some Stop = omega arith
 action-some (Assign n first others) = omega arith
 
 pub reads_actions : Reads action_at action_spelling
@@ -360,7 +395,7 @@ unfolding register_at after
 no_register edge rest = refl
 
 no_action : action_at end_spelling ≡ None
-unfolding action_at show_at assign_at target_at name_at after
+unfolding action_at show_at stop_at assign_at target_at name_at after
 no_action = refl
 
 pub source_takes : (ks : List TokenKind) (s : Source) → source_at ks ≡ Some s → ks ≡ spelling s

@@ -6,8 +6,8 @@ use Rattle.vl_base.specs.declared.bits.BinOp.TheVariants.{Add}
 use Rattle.vl_base.specs.Display.{LeastDecimal}
 use Rattle.vl_design.specs.declared.design.SigKind.TheVariants.{Var, Clock}
 use Rattle.vl_design.specs.declared.design.ProcKind.TheVariants.{Rise}
-use Rattle.vl_design.specs.Syntax.{Exp, Num, Sig, Bin, Whole, Shown, Display, Stm, Then, Nop, Later, Sys, Row, Flat}
-use Rattle.first_form.specs.Form.{Operand, Named, Plain, Action, Show, Assign, Register, Source}
+use Rattle.vl_design.specs.Syntax.{Exp, Num, Sig, Bin, Whole, Shown, Display, Finish, Stm, Then, Nop, Later, Sys, Row, Flat}
+use Rattle.first_form.specs.Form.{Operand, Named, Plain, Action, Show, Stop, Assign, Register, Source}
 use Rattle.vl_tree.specs.declared.token.TokenKind.{TokenKind}
 use Rattle.first_form.specs.Reading.{◌>>=◌, source_at}
 
@@ -46,6 +46,7 @@ assign_in names n first others =
 
 abbrev pub stm_in : List (List ℕ) → Action → Option Stm
 stm_in names (Show n) = show_in names n
+stm_in names Stop = Some (Sys Finish)
 stm_in names (Assign n first others) = assign_in names n first others
 
 -- what a function gives for each item, where it gives it for all

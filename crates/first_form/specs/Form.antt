@@ -1,5 +1,5 @@
--- The first form of source: one module with one input, registers, and one clocked block of displays
--- and nonblocking assignments of sums (IEEE 1364-2005, clauses 3.3, 9.2.2, 9.7, 12.1 and 17.1).
+-- The first form of source: one module with one input, registers, and one clocked block of displays,
+-- finishes and nonblocking assignments of sums (IEEE 1364-2005, clauses 3.3, 9.2.2, 9.7, 12.1, 17.1 and 17.4.1).
 use Rattle.std.specs.Prelude.{◌≡◌, ℕ, ◌+◌, ◌*◌, ◌-◌, ◌^◌, ◌<◌, ◌≤◌, true, false, List, [], ◌∷◌, ◌++◌, length, map, flat_map, position, unwrap_or, All, Contains, AllPairs, ◌≢◌, codes}
 use Rattle.std.specs.Str.{bytes_eq}
 use Rattle.vl_base.specs.declared.bits.BinOp.TheVariants.{Add}
@@ -9,16 +9,17 @@ use Rattle.vl_tree.specs.declared.token.TokenKind.{TokenKind}
 use Rattle.vl_tree.specs.declared.token.TokenKind.TheVariants as t
 use Rattle.vl_design.specs.declared.design.SigKind.TheVariants.{Var, Clock}
 use Rattle.vl_design.specs.declared.design.ProcKind.TheVariants.{Rise}
-use Rattle.vl_design.specs.Syntax.{Exp, Num, Sig, Bin, Whole, Shown, Display, Stm, Then, Nop, Later, Sys, Flat}
+use Rattle.vl_design.specs.Syntax.{Exp, Num, Sig, Bin, Whole, Shown, Display, Finish, Stm, Then, Nop, Later, Sys, Flat}
 
 -- what a sum adds
 pub data Operand : Type 0 where
   Named : (name : List ℕ) → Operand
   Plain : (value : ℕ) → Operand
 
--- `$display("%0d", NAME);` and `NAME <= A + B + ..;`
+-- `$display("%0d", NAME);`, `$finish;` and `NAME <= A + B + ..;`
 pub data Action : Type 0 where
   Show : (name : List ℕ) → Action
+  Stop : Action
   Assign : (name : List ℕ) (first : Operand) (others : List Operand) → Action
 
 -- `reg [TOP:0] NAME;`
@@ -46,6 +47,7 @@ abbrev pub action_spelling : Action → List TokenKind
 action_spelling (Show n) =
     t.System (codes "$display") ∷ t.Mark (codes "(") ∷ t.Str (codes "%0d") ∷ t.Mark (codes ",") ∷ t.Name n
     ∷ t.Mark (codes ")") ∷ t.Mark (codes ";") ∷ []
+action_spelling Stop = t.System (codes "$finish") ∷ t.Mark (codes ";") ∷ []
 action_spelling (Assign n first others) =
     t.Name n ∷ t.Mark (codes "<=") ∷ operand_spelling first
     ++ flat_map (λ o. t.Mark (codes "+") ∷ operand_spelling o) others ++ t.Mark (codes ";") ∷ []
@@ -78,6 +80,7 @@ operand_names (Plain v) = []
 -- the names that an action uses
 abbrev pub action_names : Action → List (List ℕ)
 action_names (Show n) = n ∷ []
+action_names Stop = []
 action_names (Assign n first others) = n ∷ flat_map operand_names (first ∷ others)
 
 abbrev pub operand_values : Operand → List ℕ
@@ -87,11 +90,13 @@ operand_values (Plain v) = v ∷ []
 -- the numbers that an action has
 abbrev pub action_values : Action → List ℕ
 action_values (Show n) = []
+action_values Stop = []
 action_values (Assign n first others) = flat_map operand_values (first ∷ others)
 
--- how many tokens its expression has
+-- how many tokens its expression has, if it has one
 abbrev pub action_length : Action → ℕ
 action_length (Show n) = 1
+action_length Stop = 0
 action_length (Assign n first others) = 1 + 2 * length others
 
 abbrev pub register_names : Source → List (List ℕ)
@@ -124,6 +129,7 @@ sum_exp s sum (o ∷ os) = sum_exp s (Bin Add sum (operand_exp s o)) os
 
 abbrev pub action_stm : Source → Action → Stm
 action_stm s (Show n) = Sys (Display (Shown LeastDecimal (Sig (signal_of s n)) ∷ []))
+action_stm s Stop = Sys Finish
 action_stm s (Assign n first others) = Later (Whole (signal_of s n)) (sum_exp s (operand_exp s first) others)
 
 abbrev pub block_stm : Source → List Action → Stm

@@ -4,7 +4,7 @@ use Rattle.std.specs.Str.{bytes_eq}
 use Rattle.vl_base.specs.declared.number.Number.{Number as Numeral}
 use Rattle.vl_tree.specs.declared.token.TokenKind.{TokenKind}
 use Rattle.vl_tree.specs.declared.token.TokenKind.TheVariants as t
-use Rattle.first_form.specs.Form.{Operand, Named, Plain, Action, Show, Assign, Register, Source}
+use Rattle.first_form.specs.Form.{Operand, Named, Plain, Action, Show, Stop, Assign, Register, Source}
 
 infixl 10 ◌>>=◌
 abbrev pub ◌>>=◌ : {A B : Type 0} → Option A → (A → Option B) → Option B
@@ -109,6 +109,12 @@ show_at ks = do
   f ← after (is_mark (codes ";")) e
   Some (name.0, f)
 
+-- $finish;
+unfoldable pub stop_at : List TokenKind → Option (List TokenKind)
+stop_at ks = do
+  a ← after (is_system (codes "$finish")) ks
+  after (is_mark (codes ";")) a
+
 abbrev pub operand_by : TokenKind → List TokenKind → Found Operand
 operand_by (t.Name n) ks = Some (Named n, ks)
 operand_by (t.Number n) ks = if is_plain n then Some (Plain n.value, ks) else None
@@ -157,7 +163,7 @@ or_else (Some x) o = Some x
 or_else None o = o
 
 unfoldable pub action_at : List TokenKind → Found Action
-action_at ks = or_else (show_at ks >>= λ x. Some (Show x.0, x.1)) (assign_at ks)
+action_at ks = or_else (show_at ks >>= λ x. Some (Show x.0, x.1)) (or_else (stop_at ks >>= λ rest. Some (Stop, rest)) (assign_at ks))
 
 abbrev pub is_end : Option (List TokenKind) → Bool
 is_end (Some []) = true

@@ -10,7 +10,7 @@ use Rattle.first_form.specs.declared.source.Step.{Step}
 use Rattle.first_form.specs.declared.source.Step.TheVariants as step
 use Rattle.first_form.specs.declared.source.Declared.{Declared}
 use Rattle.first_form.specs.declared.source.Module.{Module}
-use Rattle.first_form.specs.Form.{Operand, Named, Plain, Action, Show, Assign, Register, Source}
+use Rattle.first_form.specs.Form.{Operand, Named, Plain, Action, Show, Stop, Assign, Register, Source}
 
 abbrev pub kinds : List Token → List TokenKind
 kinds ts = map (λ t. t.kind) ts
@@ -21,6 +21,7 @@ operand_of (term.Plain _ v) = Plain v
 
 abbrev pub action_of : Step → Action
 action_of (step.Show _ n) = Show n.text.now
+action_of (step.Finish _) = Stop
 action_of (step.Assign n first others) = Assign n.text.now (operand_of first) (map operand_of others.items)
 
 abbrev pub register_of : Declared → Register

@@ -184,6 +184,17 @@ fn show_at(tokens: &[Token]) -> Option<(Place, Name<'_>, &[Token])>
     Some((place, name, rest))
 }
 
+/// `$finish;`
+#[tactic(auto, unfolding(crate::specs::Reading::stop_at))]
+fn stop_at(tokens: &[Token]) -> Option<(Place, &[Token])>
+    ensures reads { option_map (λ x. s.kinds x.1.now) result ≡ r.stop_at (s.kinds tokens.now) }
+    ensures shorter { IfSome result (λ x. length x.1.now < length tokens.now) }
+{
+    let (place, rest) = after_system(tokens, b"$finish")?;
+    let rest = after_mark(rest, b";")?;
+    Some((place, rest))
+}
+
 /// A name or a plain decimal at the front.
 #[tactic(auto, unfolding(crate::specs::Reading::operand_at))]
 fn operand_at(tokens: &[Token]) -> Option<(Term<'_>, &[Token])>
@@ -266,6 +277,9 @@ fn step_at(alloc: Global, tokens: &[Token]) -> Result<Option<(Step<'_>, &[Token]
 {
     if let Some((place, name, rest)) = show_at(tokens) {
         return Ok(Some((Step::Show(place, name), rest)));
+    }
+    if let Some((place, rest)) = stop_at(tokens) {
+        return Ok(Some((Step::Finish(place), rest)));
     }
     assign_at(alloc, tokens)
 }

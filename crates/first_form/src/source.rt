@@ -25,6 +25,8 @@ pub enum Term<'a> {
 pub enum Step<'a> {
     /// Shows a register; the place is that of the task.
     Show(Place, Name<'a>),
+    /// Ends the run; the place is that of the task.
+    Finish(Place),
     /// Gives a register the sum of a first term and others.
     Assign(Name<'a>, Term<'a>, Vec<Term<'a>>),
 }

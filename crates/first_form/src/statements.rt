@@ -2,7 +2,7 @@
 
 ghost use Rattle.std.specs.Prelude.{◌≡◌, ◌≤◌, ◌++◌, length, map, option_map, IfOk, codes};
 ghost use Rattle.vl_design.specs.Trees.{exp_of, stm_of};
-ghost use Rattle.vl_design.specs.Syntax.{Bin, Sig};
+ghost use Rattle.vl_design.specs.Syntax.{Bin, Finish, Sig, Sys};
 ghost use Rattle.vl_base.specs.declared.bits.BinOp.TheVariants.{Add as Plus};
 ghost use Rattle.first_form.specs.Building as b;
 ghost use Rattle.first_form.specs.Seen as s;
@@ -116,6 +116,20 @@ fn show_of(
     }))
 }
 
+/// `$finish;`
+fn finish_of(alloc: Global, place: Place) -> Result<Stmt, AllocError>
+    ensures { IfOk result (λ s. stm_of s ≡ Sys Finish) }
+{
+    let call = SysCall {
+        name: text_of(alloc, b"$finish")?,
+        args: Vec::new(alloc),
+    };
+    Ok(Stmt {
+        place,
+        node: StmtNode::Sys(call),
+    })
+}
+
 /// `NAME <= A + B + ..;`
 #[tactic(auto, unfolding(crate::specs::Building::assign_in))]
 fn assign_of(
@@ -161,6 +175,7 @@ fn stmt_of(
 {
     match step {
         Step::Show(place, name) => show_of(alloc, names, *place, *name),
+        Step::Finish(place) => Ok(Some(finish_of(alloc, *place)?)),
         Step::Assign(name, first, others) => assign_of(alloc, names, *name, first, others),
     }
 }

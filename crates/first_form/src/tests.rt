@@ -131,6 +131,27 @@ fn the_counter_has_a_design(rt: HostRuntime) -> Result<(), Fail> {
     Ok(())
 }
 
+/// Whether the counter with this in its block instead has a design.
+fn builds(alloc: Global, block: &[Short]) -> Result<bool, AllocError> {
+    let mut tokens = Vec::new(alloc);
+    add(alloc, &mut tokens, &COUNTER[..23])?;
+    add(alloc, &mut tokens, block)?;
+    add(alloc, &mut tokens, &COUNTER[36..])?;
+    Ok(design(alloc, &tokens)?.is_some())
+}
+
+#[test]
+fn a_block_may_finish(rt: HostRuntime) -> Result<(), Fail> {
+    let alloc = rt.alloc();
+    assert!(rt; builds(alloc, &[System(b"$finish"), Mark(b";")])?);
+    assert!(rt; !builds(alloc, &[System(b"$finish")])?, "no semicolon");
+    assert!(rt;
+        !builds(alloc, &[System(b"$stop"), Mark(b";")])?,
+        "another task"
+    );
+    Ok(())
+}
+
 #[test]
 fn other_sources_have_none(rt: HostRuntime) -> Result<(), Fail> {
     let alloc = rt.alloc();

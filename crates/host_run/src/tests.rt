@@ -101,6 +101,23 @@ fn sources_run(rt: HostRuntime) -> Result<(), Fail> {
             "module m(input wire k); reg [7:0] a; always @(posedge k) begin $display(\"%0d\", a); a <= 1; a <= 2; end endmodule",
             "tenant main budget 2 4\n0\n2\n\n",
         ),
+        // after a finish nothing is shown, updated or run
+        (
+            "5",
+            "module m(input wire k); reg [7:0] a; always @(posedge k) begin $display(\"%0d\", a); a <= 7; $finish; $display(\"%0d\", a); end endmodule",
+            "tenant main finished 1 2\n0\n\n",
+        ),
+        (
+            "5",
+            "module m(input wire k); reg [7:0] a; always @(posedge k) begin $finish ; $display(\"%0d\", a); end endmodule",
+            "tenant main finished 1 0\n\n",
+        ),
+        // before the first tick nothing finishes
+        (
+            "0",
+            "module m(input wire k); always @(posedge k) begin $finish; end endmodule",
+            "tenant main budget 0 0\n\n",
+        ),
         // comments, attributes and white space between all tokens, an escaped name, a number with underscores
         (
             "2",
@@ -148,7 +165,15 @@ fn sources_are_refused(rt: HostRuntime) -> Result<(), Fail> {
             notbuilt,
         ),
         (
-            "module m(input wire k); reg [7:0] a; always @(posedge k) begin $finish; end endmodule",
+            "module m(input wire k); reg [7:0] a; always @(posedge k) begin $finish(1); end endmodule",
+            notbuilt,
+        ),
+        (
+            "module m(input wire k); reg [7:0] a; always @(posedge k) begin $finish end endmodule",
+            notbuilt,
+        ),
+        (
+            "module m(input wire k); reg [7:0] a; always @(posedge k) begin $stop; end endmodule",
             notbuilt,
         ),
         (

@@ -1,1 +1,14 @@
+pub mod BitLaws
+pub mod Bounds
+pub mod Congruent
+pub mod Digits
+pub mod FileSets
+pub mod Parities
+pub mod Parts
+pub mod Readings
+pub mod ShiftLaws
+pub mod Shifts
+pub mod SumLaws
+pub mod Wholes
+pub mod WorkedRows
 pub mod Wrapping

@@ -19,7 +19,7 @@ mod-mod_below n k m h =
     rw j (mod-mod-pow n (m - k) k)
 
 -- the rest of all ones less a number
-not-mod : (m j k : ℕ) → m < 2 ^ (j + k) → ((2 ^ (j + k) - 1) - m) % 2 ^ k ≡ (2 ^ k - 1) - m % 2 ^ k
+pub not-mod : (m j k : ℕ) → m < 2 ^ (j + k) → ((2 ^ (j + k) - 1) - m) % 2 ^ k ≡ (2 ^ k - 1) - m % 2 ^ k
 not-mod m j k h =
     let p : 0 < 2 ^ k = pow_pos k in
     let r : m % 2 ^ k < 2 ^ k = mod_below m (2 ^ k) p in

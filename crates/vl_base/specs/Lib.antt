@@ -1,2 +1,4 @@
 pub mod Display
+pub mod Files
+pub mod Selects
 pub mod Value

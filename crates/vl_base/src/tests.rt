@@ -1,5 +1,8 @@
 //! Worked values, and each allocating call once.
 
+mod files;
+mod operators;
+
 use crate::bits::{BinOp, Bits, binary, resize};
 use crate::items::Text;
 use std::test::Fail;

@@ -1,6 +1,6 @@
 use Rattle.std.proofs.Common.{◌∙◌, ◌+◌}
 use Rattle.vl_base.proofs.Wrapping.{mod-mod_below}
-use Rattle.vl_base.proofs.bits.sum.Goals as goal
+use Rattle.vl_base.proofs.arith.sum.Goals as goal
 
 pub returns-clause-value : goal.returns-clause-value
 returns-clause-value c =

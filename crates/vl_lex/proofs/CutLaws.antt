@@ -1,27 +1,21 @@
 -- A text that is cut behind a token or a gap: what stood at each place before the cut stands there still.
-use Rattle.std.proofs.Common.{◌≡◌, ℕ, Bool, true, false, not, cond, ◌==◌, ◌||◌, ◌&&◌, List, [], ◌∷◌, ◌++◌, drop, None, refl, sym, ap, subst, ◌∙◌, arith, ◌⊎◌, inl, inr}
+use Rattle.std.proofs.Common.{◌≡◌, ℕ, Bool, true, false, not, cond, ◌==◌, ◌||◌, ◌&&◌, List, [], ◌∷◌, ◌++◌, drop, refl, sym, ap, subst, ◌∙◌, ◌⊎◌, inl, inr}
 use Rattle.std.specs.Prelude.{nat_eq, codes}
 use Rattle.std.specs.List.{starts_with}
 use Rattle.std.proofs.lemmas.Bool.{or_parts, or_from, or_cases, or_left, or_right, and_parts, and_from, eqb-true, cases_Bool, both_ways, true≢false}
-use Rattle.std.proofs.lemmas.Bool.Decides.{nat_tests}
 use Rattle.std.proofs.lemmas.List.{append_assoc, append_cancel_right}
-use Rattle.vl_base.specs.declared.place.Place.{Place}
-use Rattle.vl_tree.specs.declared.token.Token.{Token}
 use Rattle.vl_tree.specs.declared.token.TokenKind.{TokenKind}
-use Rattle.vl_tree.specs.Bytes.{is_white, is_letter, is_figure, is_octal, is_decimal, is_name_byte, is_in_line, begins, past, Are, Ends}
+use Rattle.vl_tree.specs.Bytes.{is_white, is_octal, is_decimal, is_name_byte, is_in_line, begins, past, Are, Ends}
 use Rattle.vl_tree.specs.Numbers.{is_further_digit, Digits, Based, Plain}
 use Rattle.vl_tree.specs.Strings.{Item, plain as plain_item, escape, one_digit, two_digits, three_digits, Items, no_more, more, IsString}
 use Rattle.vl_tree.specs.Marks.{IsMark}
 use Rattle.vl_tree.specs.Gaps.{opens, opens_line, opens_block, opens_attribute, is_directive, IsGap, white, line_comment, block_comment, attribute, directive, IsUpTo, IsLine}
-use Rattle.vl_tree.specs.Tokens.{EndsAtWhite, IsToken, keyword, name, escaped_name, system_name, plain, based, string, mark, start, Passes, here, gap, token, Tokens}
-use Rattle.vl_lex.specs.Reading.{first_of, sign_of, next, stuck, past_pair, other_at}
-use Rattle.vl_lex.proofs.RunLaws.{pair_goes, pair_none}
-use Rattle.vl_lex.proofs.PassLaws.{Linear, first_on, second_on, linear, same_stop, next_nil, tokens_once}
+use Rattle.vl_tree.specs.Tokens.{EndsAtWhite, IsToken, keyword, name, escaped_name, system_name, plain, based, string, mark}
 
 -- ---- cutting
 
 -- what is passed before the cut is passed in the cut text
-cut : (text after front mid rest word : List ℕ) → text ≡ front ++ rest → after ≡ mid ++ rest → text ≡ word ++ after → front ≡ word ++ mid
+pub cut : (text after front mid rest word : List ℕ) → text ≡ front ++ rest → after ≡ mid ++ rest → text ≡ word ++ after → front ≡ word ++ mid
 cut text after front mid rest word e f k = append_cancel_right front (word ++ mid) rest (sym e ∙ k ∙ ap (λ (s : List ℕ). word ++ s) f ∙ sym (append_assoc word mid rest))
 
 ends_cut : (p : ℕ → Bool) (after mid rest : List ℕ) → after ≡ mid ++ rest → Ends p after → Ends p mid
@@ -101,7 +95,7 @@ directive_cut text word after front mid rest e f k d l =
     let line : IsLine (l.line ++ mid) mid = record { line = l.line; spelled = refl; in_line = l.in_line; ends = ends_cut is_in_line after mid rest f l.ends } in
     directive {name = l.line ++ mid} split (directive_kept l.line after mid l.ends (ap is_directive (sym l.spelled) ∙ d)) line
 
-gap_cut : (text after front mid rest : List ℕ) → IsGap text after → text ≡ front ++ rest → after ≡ mid ++ rest → IsGap front mid
+pub gap_cut : (text after front mid rest : List ℕ) → IsGap text after → text ≡ front ++ rest → after ≡ mid ++ rest → IsGap front mid
 gap_cut text after front mid rest (white {b} k h) e f = white {b = b} (cut text after front mid rest (b ∷ []) e f k) h
 gap_cut text after front mid rest (line_comment h l) e f = line_cut text after front mid rest e f h l
 gap_cut text after front mid rest (block_comment h u) e f = block_cut text after front mid rest e f h u
@@ -188,55 +182,50 @@ block_shut [] rest h = refl
 block_shut (a ∷ []) rest h = elim (47 == a) as (λ v. (v && false) ≡ false) [ true ↦ refl | false ↦ refl ]
 block_shut (a ∷ b ∷ bs) rest h = h
 
-white_no_star : (b : ℕ) → is_white b ≡ true → b == 42 ≡ false
-unfolding is_white
-white_no_star b h = grind (arith, nat_tests)
-
 -- what white space is followed by is there after the cut too, or the cut text is white space alone
-white_cases : (bs rest : List ℕ) → (begins 41 (past is_white (bs ++ rest)) ≡ begins 41 (past is_white bs)) ⊎ (past_pair 42 41 bs ≡ None)
+white_cases : (bs rest : List ℕ) → (begins 41 (past is_white (bs ++ rest)) ≡ begins 41 (past is_white bs)) ⊎ Are is_white bs
 unfolding past
-white_cases [] rest = inr (pair_none 42 41)
+white_cases [] rest = inr refl
 white_cases (b ∷ bs) rest = elim (cases_Bool (is_white b)) [
   | inl w ↦ elim (white_cases bs rest) [
     | inl same ↦ inl (rw w same)
-    | inr none ↦ inr (pair_goes 42 41 b bs (white_no_star b w) ∙ none)
+    | inr all ↦ inr (and_from _ _ w all)
   ]
   | inr w ↦ inl (rw w refl)
 ]
 
--- an attribute that isn't closed
-open_stuck : (bs : List ℕ) → opens_attribute (40 ∷ 42 ∷ bs) ≡ true → past_pair 42 41 bs ≡ None → next (40 ∷ 42 ∷ bs) ≡ stuck 2
-unfolding next other_at first_of sign_of is_white is_letter is_figure opens_line opens_block
-open_stuck bs h none = rw (h, none) refl
+-- In the text no comment or attribute begins here; cut, it is `(*` and white space.
+pub record IsLeftOpen (text front : List ℕ) : Type 0 where
+  pub space : List ℕ
+  pub spelled : front ≡ 40 ∷ 42 ∷ space
+  pub is_space : Are is_white space
+  pub shut : opens text ≡ false
 
-attribute_stuck : (a b : ℕ) (bs : List ℕ) → a ≡ 40 → b ≡ 42 → opens_attribute (a ∷ b ∷ bs) ≡ true → past_pair 42 41 bs ≡ None → next (a ∷ b ∷ bs) ≡ stuck 2
-attribute_stuck a b bs k l h none =
-    let same : a ∷ b ∷ bs ≡ 40 ∷ 42 ∷ bs = cc in
-    ap next same ∙ open_stuck bs (ap opens_attribute (sym same) ∙ h) none
-
-attribute_shut : (front rest : List ℕ) → opens_attribute (front ++ rest) ≡ false → (opens_attribute front ≡ false) ⊎ (next front ≡ stuck 2)
+attribute_shut : (front rest : List ℕ) → opens (front ++ rest) ≡ false → opens_attribute (front ++ rest) ≡ false → (opens_attribute front ≡ false) ⊎ IsLeftOpen (front ++ rest) front
 unfolding opens_attribute
-attribute_shut [] rest h = inl refl
-attribute_shut (a ∷ []) rest h = inl (elim (40 == a) as (λ v. ((v && false) && not (begins 41 (past is_white []))) ≡ false) [ true ↦ refl | false ↦ refl ])
-attribute_shut (a ∷ b ∷ bs) rest h = elim (cases_Bool (opens_attribute (a ∷ b ∷ bs))) [
+attribute_shut [] rest o h = inl refl
+attribute_shut (a ∷ []) rest o h = inl (elim (40 == a) as (λ v. ((v && false) && not (begins 41 (past is_white []))) ≡ false) [ true ↦ refl | false ↦ refl ])
+attribute_shut (a ∷ b ∷ bs) rest o h = elim (cases_Bool (opens_attribute (a ∷ b ∷ bs))) [
   | inl opened ↦ elim (white_cases bs rest) [
     | inl same ↦ absurd (both_ways _ h (ap (λ (v : Bool). ((40 == a) && ((42 == b) && true)) && not v) same ∙ opened))
-    | inr none ↦
+    | inr all ↦
         let two = and_parts (40 == a) ((42 == b) && true) (and_parts ((40 == a) && ((42 == b) && true)) (not (begins 41 (past is_white bs))) opened).0 in
-        inr (attribute_stuck a b bs (sym (eqb-true 40 a two.0)) (sym (eqb-true 42 b (and_parts (42 == b) true two.1).0)) opened none)
+        let paren : 40 ≡ a = eqb-true 40 a two.0 in
+        let star : 42 ≡ b = eqb-true 42 b (and_parts (42 == b) true two.1).0 in
+        inr (record { space = bs; spelled = cc; is_space = all; shut = o })
   ]
   | inr shut ↦ inl shut
 ]
 
-shut_cut : (text front rest : List ℕ) → text ≡ front ++ rest → opens text ≡ false → (opens front ≡ false) ⊎ (next front ≡ stuck 2)
+shut_cut : (text front rest : List ℕ) → text ≡ front ++ rest → opens text ≡ false → (opens front ≡ false) ⊎ IsLeftOpen text front
 unfolding opens
 shut_cut text front rest e h =
     let whole : opens (front ++ rest) ≡ false = ap opens (sym e) ∙ h in
     let parts = or_parts (opens_line (front ++ rest)) (opens_block (front ++ rest) || opens_attribute (front ++ rest)) whole in
     let parts2 = or_parts (opens_block (front ++ rest)) (opens_attribute (front ++ rest)) parts.1 in
-    elim (attribute_shut front rest parts2.1) [
+    elim (attribute_shut front rest whole parts2.1) [
       | inl a ↦ inl (or_from _ _ (line_shut front rest parts.0) (or_from _ _ (block_shut front rest parts2.0) a))
-      | inr s ↦ inr s
+      | inr l ↦ inr (record { space = l.space; spelled = l.spelled; is_space = l.is_space; shut = h })
     ]
 
 mark_cut : (text m after front mid rest : List ℕ) → IsMark text m after → text ≡ front ++ rest → after ≡ mid ++ rest → IsMark front m mid
@@ -248,8 +237,8 @@ mark_cut text m after front mid rest k e f = record {
 
 -- ---- tokens
 
--- A token stands in the cut text as before, or it was a mark behind which an attribute now stays open.
-token_cut : {text after : List ℕ} {kind : TokenKind} → IsToken text kind after → (front mid rest : List ℕ) → text ≡ front ++ rest → after ≡ mid ++ rest → (IsToken front kind mid) ⊎ (next front ≡ stuck 2)
+-- A token stands in the cut text as before, or an attribute is now open there.
+pub token_cut : {text after : List ℕ} {kind : TokenKind} → IsToken text kind after → (front mid rest : List ℕ) → text ≡ front ++ rest → after ≡ mid ++ rest → (IsToken front kind mid) ⊎ IsLeftOpen text front
 token_cut {text} (keyword {word} {rest = after} k n ends r) front mid rest e f = inl (keyword {word = word} (cut text after front mid rest word e f k) n (ends_cut is_name_byte after mid rest f ends) r)
 token_cut {text} (name {word} {rest = after} k n ends r) front mid rest e f = inl (name {word = word} (cut text after front mid rest word e f k) n (ends_cut is_name_byte after mid rest f ends) r)
 token_cut {text} (escaped_name {word} {rest = after} k n ends) front mid rest e f = inl (escaped_name {word = word} (cut text after front mid rest (92 ∷ word) e f k) n (white_end_cut after mid rest f ends))
@@ -262,50 +251,3 @@ token_cut {text} (mark {mark = m} {rest = after} k o) front mid rest e f = elim 
   | inl shut ↦ inl (mark (mark_cut text m after front mid rest k e f) shut)
   | inr s ↦ inr s
 ]
-
--- ---- runs
-
-passes_back : {p q : Place} {text rest : List ℕ} {ts : List Token} → Passes p text ts q rest → (front : List ℕ) × (text ≡ front ++ rest)
-passes_back here = ([], refl)
-passes_back {rest = rest} (gap passed e g h) = let b = passes_back h in (passed ++ b.0, e ∙ ap (λ (s : List ℕ). passed ++ s) b.1 ∙ sym (append_assoc passed b.0 rest))
-passes_back {rest = rest} (token passed e t h) = let b = passes_back h in (passed ++ b.0, e ∙ ap (λ (s : List ℕ). passed ++ s) b.1 ∙ sym (append_assoc passed b.0 rest))
-
-nothing_behind : (before after : List ℕ) → [] ≡ before ++ after → after ≡ []
-nothing_behind [] after e = sym e
-nothing_behind (b ∷ before) after e = absurd cc
-
--- a run to the end of the text goes on from each place of it
-onward : {q r : Place} {a b : List ℕ} {ts us : List Token} → Linear ts q a us r b → b ≡ [] → (vs : List Token) × (x : Place) × Passes q a vs x []
-onward {q} {r} {a} (first_on {vs = vs} h e) k = (vs, r, subst (λ (s : List ℕ). Passes q a vs r s) k h)
-onward {q} {a = a} (second_on h e) k =
-    let behind = passes_back h in
-    ([], q, subst (λ (s : List ℕ). Passes q s [] q []) (sym (nothing_behind behind.0 a (sym k ∙ behind.1))) here)
-
-stuck_no_run : {X : Type 0} {p r : Place} {front : List ℕ} {us : List Token} → next front ≡ stuck 2 → Passes p front us r [] → X
-stuck_no_run s k = wrong (sym next_nil ∙ ap next (sym (same_stop 2 1 here s k next_nil).rest) ∙ s)
-  where
-    wrong : {X : Type 0} → stuck 1 ≡ stuck 2 → X
-    wrong e = absurd cc
-
-pub cut_passes : {p q : Place} {text rest : List ℕ} {ts : List Token} → Passes p text ts q rest → (r : Place) (front : List ℕ) (us : List Token) → text ≡ front ++ rest → Passes p front us r [] → Passes p front ts q []
-cut_passes (here {p} {text}) r front us e k =
-    let nil : front ≡ [] = append_cancel_right front [] text (sym e) in
-    subst (λ (s : List ℕ). Passes p s [] p []) (sym nil) here
-cut_passes {p} {q} {text} {rest} (gap {after = after} passed f g h) r front us e k =
-    let b = passes_back h in
-    let split = cut text after front b.0 rest passed e b.1 f in
-    let stands = gap_cut text after front b.0 rest g e b.1 in
-    let on = onward (linear (gap passed split stands here) k) refl in
-    gap passed split stands (cut_passes h on.1 b.0 on.0 b.1 on.2)
-cut_passes {p} {q} {text} {rest} (token {after = after} {kind = kind} passed f t h) r front us e k =
-    let b = passes_back h in
-    let split = cut text after front b.0 rest passed e b.1 f in
-    elim (token_cut t front b.0 rest e b.1) [
-      | inl stands ↦
-          let on = onward (linear (token passed split stands here) k) refl in
-          token passed split stands (cut_passes h on.1 b.0 on.0 b.1 on.2)
-      | inr s ↦ stuck_no_run s k
-    ]
-
-pub cut_tokens : (front rest : List ℕ) (place : Place) (ts us : List Token) → Passes start (front ++ rest) ts place rest → Tokens front us → us ≡ ts
-cut_tokens front rest place ts us h k = tokens_once front us ts k (place, cut_passes h k.0 front us refl k.1)

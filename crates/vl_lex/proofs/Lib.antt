@@ -9,3 +9,5 @@ pub mod PassLaws
 pub mod LexLaws
 pub mod TokenLaws
 pub mod CutLaws
+pub mod CutRuns
+pub mod CutBehind

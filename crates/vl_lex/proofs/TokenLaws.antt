@@ -29,20 +29,20 @@ before_then p q r (inl h) (inr k) = inl (omega arith)
 before_then p q r (inr h) (inl k) = inl (omega arith)
 before_then p q r (inr h) (inr k) = inr (omega arith, omega arith)
 
-up_to_then : (p q r : Place) → IsBefore p q → IsNotAfter q r → IsBefore p r
+pub up_to_then : (p q r : Place) → IsBefore p q → IsNotAfter q r → IsBefore p r
 up_to_then p q r h (inl e) = subst (λ (x : Place). IsBefore p x) e h
 up_to_then p q r h (inr k) = before_then p q r h k
 
 next_after : (p : Place) (b : ℕ) → IsBefore p (next_place p b)
 next_after p b = elim (b == 10) as (λ v. IsBefore p (cond v (record { line = p.line + 1; column = 1 }) (record { line = p.line; column = p.column + 1 }))) [ true ↦ inl (omega arith) | false ↦ inr (refl, omega arith) ]
 
-place_up : (p : Place) (bs : List ℕ) → IsNotAfter p (place_after p bs)
+pub place_up : (p : Place) (bs : List ℕ) → IsNotAfter p (place_after p bs)
 unfolding place_after
 place_up p [] = inl refl
 place_up p (b ∷ bs) = inr (up_to_then p (next_place p b) (place_after (next_place p b) bs) (next_after p b) (place_up (next_place p b) bs))
 
 -- bytes that are passed lead on
-place_rises : (p : Place) (bs : List ℕ) → 0 < length bs → IsBefore p (place_after p bs)
+pub place_rises : (p : Place) (bs : List ℕ) → 0 < length bs → IsBefore p (place_after p bs)
 unfolding place_after
 place_rises p [] h = absurd (omega arith)
 place_rises p (b ∷ bs) h = up_to_then p (next_place p b) (place_after (next_place p b) bs) (next_after p b) (place_up (next_place p b) bs)
@@ -54,7 +54,7 @@ nil_no_token : (kind : TokenKind) (after : List ℕ) → next [] ≡ found kind 
 unfolding next
 nil_no_token kind after e = cc
 
-token_long : (text passed after : List ℕ) (kind : TokenKind) → text ≡ passed ++ after → IsToken text kind after → 0 < length passed
+pub token_long : (text passed after : List ℕ) (kind : TokenKind) → text ≡ passed ++ after → IsToken text kind after → 0 < length passed
 token_long [] passed after kind e k = absurd (nil_no_token kind after (token_read k))
 token_long (b ∷ bs) passed after kind e k = omega (arith, says_found (b ∷ bs) kind after (omega arith) (token_read k), ap length e, length-append passed after)
 

@@ -6,4 +6,5 @@ pub mod parse;
 #[cfg(test)]
 mod tests;
 
+pub use grammar::{expression_at, selects_at};
 pub use parse::{ParseFault, expression};

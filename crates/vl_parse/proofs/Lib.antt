@@ -1,0 +1,5 @@
+pub mod Lists
+pub mod PortNames
+pub mod Separators
+pub mod Whole
+pub mod Judging

@@ -1,0 +1,41 @@
+-- The separators of events.
+use Rattle.std.proofs.Common.{◌≡◌, ℕ, List, [], ◌∷◌, Option, Some, None, codes, refl, length, ◌<◌, Ok}
+use Rattle.vl_base.specs.declared.place.Place.{Place}
+use Rattle.vl_tree.specs.declared.token.Token.{Token}
+use Rattle.vl_grammar.specs.Reading.{next_by, behind, mark, keyword}
+use Rattle.vl_source.specs.declared.fault.Fault.{Fault}
+use Rattle.vl_source.specs.declared.tree.Event.{Event}
+use Rattle.vl_source.specs.Parsers.{Fails}
+use Rattle.vl_source.specs.Parsing.{whole, target, between_events, either_place, event, events}
+use Rattle.vl_pstmt.proofs.Passing.{fails_on, GoesOn}
+
+either_first : (n : ℕ) (a b : Option Place) (us vs : List Token) (x : Place) → Some (x, us) ≡ behind vs a → Some (x, us) ≡ behind vs (either_place (whole n) (target n) n a b)
+either_first n None b us vs x h = let z : ⊥ = cc in absurd z
+either_first n (Some y) b us vs x h = h
+
+either_second : (n : ℕ) (a b : Option Place) (vs : List Token) → None ≡ behind vs a → behind vs b ≡ behind vs (either_place (whole n) (target n) n a b)
+either_second n None b vs h = refl
+either_second n (Some y) b vs h = let z : ⊥ = cc in absurd z
+
+module _ (n : ℕ) where
+  -- "or"
+  pub separator_first : (ts us : List Token) (x : Place) → Some (x, us) ≡ next_by (keyword (codes "or")) ts → Some (x, us) ≡ next_by (between_events (whole n) (target n) n) ts
+  unfolding next_by between_events
+  separator_first [] us x h = h
+  separator_first (t ∷ ts) us x h = either_first n (keyword (codes "or") t) (mark (codes ",") t) us ts x h
+
+  -- ","
+  pub separator_second : (ts : List Token) → None ≡ next_by (keyword (codes "or")) ts → next_by (mark (codes ",")) ts ≡ next_by (between_events (whole n) (target n) n) ts
+  unfolding next_by between_events
+  separator_second [] h = refl
+  separator_second (t ∷ ts) h = either_second n (keyword (codes "or") t) (mark (codes ",") t) ts h
+
+  -- events go on behind the first one
+  pub events_open : (ts us : List Token) (a : Event) → event (whole n) (target n) n ts ≡ Ok (a, us) → length us < n → GoesOn (between_events (whole n) (target n) n) (λ _. event (whole n) (target n) n) (a ∷ []) us (events (whole n) (target n) n ts)
+  unfolding events
+  events_open ts us a h l = (n, l, rw h refl)
+
+  -- a fault in the first one is one of them all
+  pub events_fail : (ts : List Token) (e : Fault) → Fails e (event (whole n) (target n) n ts) → Fails e (events (whole n) (target n) n ts)
+  unfolding events
+  events_fail ts e h = fails_on e _ _ h

@@ -1,0 +1,5 @@
+pub mod Passing
+pub mod Opening
+pub mod Lvalues
+pub mod Windows
+pub mod CaseItems

@@ -1,3 +1,6 @@
+pub mod Doing
+pub mod Sampling
+pub mod Shows
 pub mod Updates
 pub mod Values
 pub mod Waves

@@ -1,4 +1,4 @@
--- Waves of designs without combinational processes.
+-- Waves of plain designs.
 use Rattle.std.proofs.Common.{◌≡◌, ◌<◌, ◌≤◌, ◌+◌, ℕ, zero, suc, Bool, true, false, List, [], ◌∷◌, map, length, drop, get_or, refl, sym, ap, ◌∙◌, arith, subst}
 use Rattle.std.specs.Prelude.{Some, None, All, nat_lt, nat_le}
 use Rattle.std.specs.List.{AllByRecursion}
@@ -9,149 +9,186 @@ use Rattle.std.proofs.lemmas.Bool.Decides.{nat_tests}
 use Rattle.std.proofs.lemmas.List.Elements.{recursion_from_All}
 use Rattle.vl_design.specs.declared.design.Process.{Process}
 use Rattle.vl_design.specs.declared.design.ProcKind.{ProcKind}
+use Rattle.vl_design.specs.declared.design.ProcKind.TheVariants.{Init, Rise}
 use Rattle.vl_design.specs.declared.design.End.TheVariants.{Finished, Budget}
-use Rattle.vl_design.specs.Syntax.{Stm, Proc, Row, Flat}
-use Rattle.vl_design.specs.State.{State, Update}
+use Rattle.vl_design.specs.Syntax.{Stm, Proc, Flat}
+use Rattle.vl_design.specs.State.{State, counted}
 use Rattle.vl_design.specs.Exec.{exec}
-use Rattle.vl_design.specs.Queue.{Queue, next, woken, first_pending, with_updates, is_comb, is_rise, is_fall, none_later}
-use Rattle.vl_design.specs.Alone.{Settles, rests, goes, Boundary, time_zero, ticked, start, risen, fallen, blocks, reason_at}
-use Rattle.vl_design.specs.Sound.{HasNoNets, IsSoundStm}
+use Rattle.vl_design.specs.Functions.{scope_of}
+use Rattle.vl_design.specs.Queue.{Queue, Phase, Wave, Ended, Updated, next, woken, first_pending, with_updates, is_comb, is_fall}
+use Rattle.vl_design.specs.Alone.{Settles, rests, goes, Boundary, begun, ticked, start, risen, blocks, all_comb, reason_at}
+use Rattle.vl_design.specs.Sound.{IsSound, IsSoundStm}
 use Rattle.vl_design.specs.Trees.{stm_of, proc_of}
-use Rattle.vl_design.proofs.Settling.{settles_once, boundary_once}
-use Rattle.plain_run.specs.Runs.{calm, Leads, SettlesQuiet, StandsAt, GoesOn}
+use Rattle.vl_design.proofs.Settling.{boundary_once}
+use Rattle.plain_run.specs.declared.machine.Machine.{Machine}
+use Rattle.vl_design.specs.Plain.{IsPlainProcKind, IsPlainProc, IsPlain, alone, plain_scope}
+use Rattle.plain_run.specs.Machines.{state_of, Does}
+use Rattle.plain_run.specs.Runs.{queue_of, wave_of, Reaches, RunsWave, IsQuiet, SettlesAs, StandsAt, GoesOn}
 
-no_net : Proc → Type 0
-no_net p = is_comb p.kind ≡ false
+-- ---- plain designs have no pending processes, no waves of the fall, and no functions
 
-woken-none : (t : ℕ → Bool) (ps : List Proc) → AllByRecursion (λ p. is_comb p.kind ≡ false) ps → woken t ps (map (λ p. is_comb p.kind) ps) ≡ map (λ p. is_comb p.kind) ps
+not-comb : (k : ProcKind) → IsPlainProcKind k → is_comb k ≡ false
+not-comb Init h = refl
+not-comb Rise h = refl
+not-comb k h = absurd h
+
+not-fall : (k : ProcKind) → IsPlainProcKind k → is_fall k ≡ false
+not-fall Init h = refl
+not-fall Rise h = refl
+not-fall k h = absurd h
+
+woken-none : (t : ℕ → Bool) (ps : List Proc) → AllByRecursion IsPlainProc ps → woken t ps (all_comb ps) ≡ all_comb ps
 woken-none t [] h = refl
-woken-none t (p ∷ ps) h = rw (h.0, woken-none t ps h.1) refl
+woken-none t (p ∷ ps) h = rw (not-comb p.kind h.0.kind, woken-none t ps h.1) refl
 
-first-none : (ps : List Proc) → AllByRecursion (λ p. is_comb p.kind ≡ false) ps → first_pending ps (map (λ p. is_comb p.kind) ps) ≡ None
+first-none : (ps : List Proc) → AllByRecursion IsPlainProc ps → first_pending ps (all_comb ps) ≡ None
 first-none [] h = refl
-first-none (p ∷ ps) h = rw h.0 (first-none ps h.1)
+first-none (p ∷ ps) h = rw (not-comb p.kind h.0.kind) (first-none ps h.1)
 
-nets : (d : Flat) → HasNoNets d → AllByRecursion (λ p. is_comb p.kind ≡ false) d.procs
-nets d h = recursion_from_All (λ p. is_comb p.kind ≡ false) d.procs h
+falls-none : (ps : List Proc) → AllByRecursion IsPlainProc ps → blocks is_fall ps ≡ []
+falls-none [] h = refl
+falls-none (p ∷ ps) h = rw (not-fall p.kind h.0.kind) (falls-none ps h.1)
 
-next-block : (d : Flat) (b : Stm) (bs : List Stm) (s : State) → HasNoNets d → s.finished ≡ false → next d (calm d (b ∷ bs) s) ≡ Some (calm d bs (exec d.rows b s))
-next-block d b bs s h f = rw (f, woken-none _ d.procs (nets d h)) refl
+plain-procs : (d : Flat) → IsPlain d → AllByRecursion IsPlainProc d.procs
+plain-procs d p = recursion_from_All IsPlainProc d.procs p.procs
 
-next-update : (d : Flat) (s : State) → HasNoNets d → s.finished ≡ false → none_later s.later ≡ false → next d (calm d [] s) ≡ Some (calm d [] (with_updates s))
-next-update d s h f e = rw (f, first-none d.procs (nets d h), e, woken-none _ d.procs (nets d h)) refl
+pub scope-plain : (d : Flat) → IsPlain d → scope_of d [] ≡ plain_scope d.rows
+scope-plain d p = rw (p.funs) refl
 
-next-none : (d : Flat) (s : State) → HasNoNets d → s.finished ≡ false → none_later s.later ≡ true → next d (calm d [] s) ≡ None
-next-none d s h f e = rw (f, first-none d.procs (nets d h), e) refl
+-- ---- one event
 
-pub finished-none : (d : Flat) (q : Queue) → q.state.finished ≡ true → next d q ≡ None
+-- the queue of a state, where nothing is pending and no wave is to come
+abbrev calm : Flat → Phase → State → Queue
+calm d phase s = record { state = s; phase = phase; ahead = []; pending = all_comb d.procs }
+
+next-block : (d : Flat) (b : Stm) (bs : List Stm) (s : State) → IsPlain d → s.finished ≡ false → next d [] (calm d (Wave (b ∷ bs)) s) ≡ Some (calm d (Wave bs) (exec (plain_scope d.rows) b s))
+next-block d b bs s p f = rw (f, woken-none _ d.procs (plain-procs d p), scope-plain d p) refl
+
+next-end : (d : Flat) (s : State) → s.finished ≡ false → next d [] (calm d (Wave []) s) ≡ Some (calm d Ended (counted s))
+next-end d s f = rw f refl
+
+next-update : (d : Flat) (s : State) → IsPlain d → s.finished ≡ false → next d [] (calm d Ended s) ≡ Some (calm d Updated (counted (with_updates d.rows s)))
+next-update d s p f = rw (f, first-none d.procs (plain-procs d p), woken-none _ d.procs (plain-procs d p)) refl
+
+next-none : (d : Flat) (s : State) → IsPlain d → s.finished ≡ false → next d [] (calm d Updated s) ≡ None
+next-none d s p f = rw (f, first-none d.procs (plain-procs d p)) refl
+
+finished-none : (d : Flat) (q : Queue) → q.state.finished ≡ true → next d [] q ≡ None
 finished-none d q f = rw f refl
 
-pub calm-updates : (d : Flat) (s : State) → HasNoNets d → s.finished ≡ false → Settles d (calm d [] s) (calm d [] (with_updates s))
-calm-updates d s h f = go s.later refl
-  where
-    go : (us : List Update) → s.later ≡ us → Settles d (calm d [] s) (calm d [] (with_updates s))
-    go [] e =
-        let same : with_updates s ≡ s = rw e refl in
-        let none : none_later s.later ≡ true = rw e refl in
-        rw same (rests (next-none d s h f none))
-    go (u ∷ us) e =
-        let some : none_later s.later ≡ false = rw e refl in
-        goes (next-update d s h f some) (rests (next-none d (with_updates s) h f refl))
+calm-settles : (d : Flat) (s : State) → IsPlain d → s.finished ≡ false → Settles d [] (calm d (Wave []) s) (calm d Updated (counted (with_updates d.rows (counted s))))
+calm-settles d s p f = goes (next-end d s f) (goes (next-update d (counted s) p f) (rests (next-none d _ p f)))
 
-pub leads-here : (d : Flat) (a : Queue) → Leads d a a
-leads-here d a = λ q h. (q, h, refl, λ _. refl)
+-- ---- waves
 
-pub leads-on : (d : Flat) (a b c : Queue) → next d b ≡ Some c → Leads d a b → Leads d a c
-leads-on d a b c e l = λ q h. l q (goes e h)
+pub reaches-here : (d : Flat) (bs : List Stm) (m : Machine) → Reaches d bs m bs m
+reaches-here d bs m = record { leads = λ c. (c, λ q h. h) }
 
-pub leads-finished : (d : Flat) (a : Queue) (w : List Stm) (s : State) → s.finished ≡ true → Leads d a (calm d w s) → Leads d a (calm d [] s)
-leads-finished d a w s f l = λ q h.
-    let same : calm d [] s ≡ q = settles_once (rests (finished-none d (calm d [] s) f)) h in
-    let there = l (calm d w s) (rests (finished-none d (calm d w s) f)) in
-    (there.0, there.1, there.2 ∙ ap (λ (x : Queue). x.state) same, λ g. let x : q.state.finished ≡ true = rw (← same) f in cc)
+pub reaches-more : (d : Flat) (from : List Stm) (m : Machine) (b : Stm) (bs : List Stm) (n n' : Machine) → IsPlain d → n.finished ≡ false → Reaches d from m (b ∷ bs) n → Does d.rows b n n' → Reaches d from m bs n'
+reaches-more d from m b bs n n' p f h does = record {
+  leads = λ c.
+      let x = h.leads c in
+      let y = does.leads x.0 in
+      let e : next d [] (queue_of d (Wave (b ∷ bs)) n x.0) ≡ Some (queue_of d (Wave bs) n' y.0) =
+      next-block d b bs (state_of d.rows n x.0) p f ∙ ap (λ (s : State). Some (calm d (Wave bs) s)) y.1 in
+      (y.0, λ q s. x.1 q (goes e s));
+}
 
 -- the blocks of a wave in the rest of a list of processes
 pub blocks-more : (p : ProcKind → Bool) (xs : List Process) (i : ℕ) (x : Process) → i < length xs → x ≡ get_or xs i x → blocks p (map proc_of (drop i xs)) ≡ blocks p (map proc_of (x ∷ drop (i + 1) xs))
 blocks-more p xs i x h e = at_drop_more (λ ys. blocks p (map proc_of ys)) xs i x h ∙ ap (λ y. blocks p (map proc_of (y ∷ drop (i + 1) xs))) (sym e)
 
-pub blocks-taken : (p : ProcKind → Bool) (x : Proc) (xs : List Proc) → p x.kind ≡ true → blocks p (x ∷ xs) ≡ x.body ∷ blocks p xs
+blocks-taken : (p : ProcKind → Bool) (x : Proc) (xs : List Proc) → p x.kind ≡ true → blocks p (x ∷ xs) ≡ x.body ∷ blocks p xs
 blocks-taken p x xs h = rw h refl
 
-pub blocks-passed : (p : ProcKind → Bool) (x : Proc) (xs : List Proc) → p x.kind ≡ false → blocks p (x ∷ xs) ≡ blocks p xs
+blocks-passed : (p : ProcKind → Bool) (x : Proc) (xs : List Proc) → p x.kind ≡ false → blocks p (x ∷ xs) ≡ blocks p xs
 blocks-passed p x xs h = rw h refl
 
-pub sound-at : (rows : List Row) (xs : List Process) (i : ℕ) (x : Process) → All (λ p. IsSoundStm rows p.body) (map proc_of xs) → i < length xs → x ≡ get_or xs i x → IsSoundStm rows (stm_of x.body)
-sound-at rows xs i x all h e =
+pub plain-at : (xs : List Process) (i : ℕ) (x : Process) → All IsPlainProc (map proc_of xs) → i < length xs → x ≡ get_or xs i x → IsPlainProc (proc_of x)
+plain-at xs i x all h e =
     let there : i < length (map proc_of xs) = omega (arith, length-map xs proc_of) in
-    subst (λ (p : Proc). IsSoundStm rows p.body) (get_or-map proc_of xs i x ∙ ap proc_of (sym e)) (all i (proc_of x) there)
+    subst IsPlainProc (get_or-map proc_of xs i x ∙ ap proc_of (sym e)) (all i (proc_of x) there)
+
+pub sound-at : (d : Flat) (xs : List Process) (i : ℕ) (x : Process) → IsPlain d → IsSound d → d.procs ≡ map proc_of xs → i < length xs → x ≡ get_or xs i x → IsSoundStm (plain_scope d.rows) (stm_of x.path x.body)
+sound-at d xs i x p s g h e =
+    let all : All (λ y. IsSoundStm (plain_scope d.rows) y.body) (map proc_of xs) = rw (← g, ← scope-plain d p) s.procs in
+    let there : i < length (map proc_of xs) = omega (arith, length-map xs proc_of) in
+    subst (λ (y : Proc). IsSoundStm (plain_scope d.rows) y.body) (get_or-map proc_of xs i x ∙ ap proc_of (sym e)) (all i (proc_of x) there)
 
 -- a process that doesn't belong to the wave is passed over
-pub wave-passed : (d : Flat) (p : ProcKind → Bool) (xs : List Process) (i : ℕ) (x : Process) (a : Queue) (s : State) → i < length xs → x ≡ get_or xs i x → p x.kind ≡ false → Leads d a (calm d (blocks p (map proc_of (drop i xs))) s) → Leads d a (calm d (blocks p (map proc_of (drop (i + 1) xs))) s)
-wave-passed d p xs i x a s h e f l =
-    let same = blocks-more p xs i x h e ∙ blocks-passed p (proc_of x) (map proc_of (drop (i + 1) xs)) f in
-    subst (λ (w : List Stm). Leads d a (calm d w s)) same l
+pub wave-passed : (d : Flat) (t : ProcKind → Bool) (xs : List Process) (i : ℕ) (x : Process) (from : List Stm) (m n : Machine) → i < length xs → x ≡ get_or xs i x → t x.kind ≡ false → Reaches d from m (blocks t (map proc_of (drop i xs))) n → Reaches d from m (blocks t (map proc_of (drop (i + 1) xs))) n
+wave-passed d t xs i x from m n h e f l =
+    let same = blocks-more t xs i x h e ∙ blocks-passed t (proc_of x) (map proc_of (drop (i + 1) xs)) f in
+    subst (λ (w : List Stm). Reaches d from m w n) same l
 
 -- one that belongs to it is run
-pub wave-run : (d : Flat) (p : ProcKind → Bool) (xs : List Process) (i : ℕ) (x : Process) (a : Queue) (s : State) → HasNoNets d → s.finished ≡ false → i < length xs → x ≡ get_or xs i x → p x.kind ≡ true → Leads d a (calm d (blocks p (map proc_of (drop i xs))) s) → Leads d a (calm d (blocks p (map proc_of (drop (i + 1) xs))) (exec d.rows (stm_of x.body) s))
-wave-run d p xs i x a s nets go h e t l =
-    let left = blocks p (map proc_of (drop (i + 1) xs)) in
-    let same = blocks-more p xs i x h e ∙ blocks-taken p (proc_of x) (map proc_of (drop (i + 1) xs)) t in
-    let here : Leads d a (calm d (stm_of x.body ∷ left) s) = subst (λ (w : List Stm). Leads d a (calm d w s)) same l in
-    leads-on d a _ _ (next-block d (stm_of x.body) left s nets go) here
+pub wave-run : (d : Flat) (t : ProcKind → Bool) (xs : List Process) (i : ℕ) (x : Process) (from : List Stm) (m n n' : Machine) → IsPlain d → n.finished ≡ false → i < length xs → x ≡ get_or xs i x → t x.kind ≡ true → Reaches d from m (blocks t (map proc_of (drop i xs))) n → Does d.rows (stm_of x.path x.body) n n' → Reaches d from m (blocks t (map proc_of (drop (i + 1) xs))) n'
+wave-run d t xs i x from m n n' p go h e is l does =
+    let same = blocks-more t xs i x h e ∙ blocks-taken t (proc_of x) (map proc_of (drop (i + 1) xs)) is in
+    let here = subst (λ (w : List Stm). Reaches d from m w n) same l in
+    reaches-more d from m _ _ n n' p go here does
 
--- a wave that leads to its end settles with the updates made
-pub settles-updated : (d : Flat) (a : Queue) (s : State) → HasNoNets d → s.finished ≡ false → Leads d a (calm d [] s) → SettlesQuiet d a (with_updates s)
-settles-updated d a s h f l =
-    let there = l (calm d [] (with_updates s)) (calm-updates d s h f) in
-    (there.0, there.1, record { state = there.2; calm = there.3; nothing_later = λ _. refl })
+-- a wave that is over settles with the updates made
+pub settles-updated : (d : Flat) (from : List Stm) (m n n' : Machine) → IsPlain d → n.finished ≡ false → RunsWave d from m n → ((c : ℕ) → with_updates d.rows (state_of d.rows n c) ≡ state_of d.rows n' c) → SettlesAs d from m n'
+settles-updated d from m n n' p f w u = record {
+  leads = λ c.
+      let x = w.reaches.leads c in
+      let e : counted (with_updates d.rows (counted (state_of d.rows n x.0))) ≡ state_of d.rows n' (x.0 + 1 + 1) = ap counted (u (x.0 + 1)) in
+      let ends : Settles d [] (queue_of d (Wave []) n x.0) (queue_of d Updated n' (x.0 + 1 + 1)) =
+      subst (λ (s : State). Settles d [] (queue_of d (Wave []) n x.0) (calm d Updated s)) e (calm-settles d (state_of d.rows n x.0) p f) in
+      let here = subst (λ (bs : List Stm). Settles d [] (queue_of d (Wave bs) n x.0) (queue_of d Updated n' (x.0 + 1 + 1))) (sym (w.over f)) ends in
+      (queue_of d Updated n' (x.0 + 1 + 1), x.1 _ here, record { count = x.0 + 1 + 1; state = refl; quiet = λ _. refl });
+}
 
 -- one that comes to a `$finish` settles there
-pub settles-finished : (d : Flat) (a : Queue) (s : State) → s.finished ≡ true → Leads d a (calm d [] s) → SettlesQuiet d a s
-settles-finished d a s f l =
-    let there = l (calm d [] s) (rests (finished-none d (calm d [] s) f)) in
-    (there.0, there.1, record { state = there.2; calm = λ g. cc; nothing_later = λ g. cc })
+pub settles-finished : (d : Flat) (from : List Stm) (m n : Machine) → n.finished ≡ true → RunsWave d from m n → SettlesAs d from m n
+settles-finished d from m n f w = record {
+  leads = λ c.
+      let x = w.reaches.leads c in
+      let q = queue_of d (Wave w.left) n x.0 in
+      (q, x.1 q (rests (finished-none d q f)), record { count = x.0; state = refl; quiet = λ g. cc });
+}
 
--- a tick that comes to its end
-pub ticked-through : (d : Flat) (k : ℕ) (s high after : State) → s.finished ≡ false → StandsAt d k s → SettlesQuiet d (calm d (blocks is_rise d.procs) (record s { ticks = s.ticks + 1 })) high → high.finished ≡ false → SettlesQuiet d (calm d (blocks is_fall d.procs) high) after → StandsAt d (suc k) after
-ticked-through d k s high after f (q, b, quiet) (h, up, still) g (a, down, end) =
-    let low : risen d q ≡ calm d (blocks is_rise d.procs) (record s { ticks = s.ticks + 1 }) = ap (risen d) (quiet.calm f) ∙ rw f refl in
-    let top : fallen d h ≡ calm d (blocks is_fall d.procs) high = ap (fallen d) (still.calm g) ∙ rw g refl in
-    (a, ticked b (subst (λ x. Settles d x h) (sym low) up) (subst (λ x. Settles d x a) (sym top) down), end)
+-- ---- boundaries
 
--- a tick with a `$finish` as the clock rises
-pub ticked-finished : (d : Flat) (k : ℕ) (s high : State) → s.finished ≡ false → StandsAt d k s → SettlesQuiet d (calm d (blocks is_rise d.procs) (record s { ticks = s.ticks + 1 })) high → high.finished ≡ true → StandsAt d (suc k) high
-ticked-finished d k s high f (q, b, quiet) (h, up, still) g =
-    let low : risen d q ≡ calm d (blocks is_rise d.procs) (record s { ticks = s.ticks + 1 }) = ap (risen d) (quiet.calm f) ∙ rw f refl in
-    let over : h.state.finished ≡ true = ap (λ (x : State). x.finished) still.state ∙ g in
-    let top : fallen d h ≡ h = rw over refl in
-    (h, ticked b (subst (λ x. Settles d x h) (sym low) up) (rw top (rests (finished-none d h over))), still)
+-- the clock rises
+rises : (d : Flat) (m : Machine) (c : ℕ) → IsPlain d → m.finished ≡ false → risen d (queue_of d Updated m c) ≡ queue_of d (Wave (wave_of d Rise)) (record m { ticks = m.ticks + 1 }) c
+rises d m c p f = rw (f, falls-none d.procs (plain-procs d p)) refl
+
+pub ticked-once : (d : Flat) (budget k : ℕ) (m n : Machine) → IsPlain d → m.finished ≡ false → SettlesAs d (wave_of d Rise) (record m { ticks = m.ticks + 1 }) n → StandsAt d budget k m → StandsAt d budget (suc k) n
+ticked-once d budget k m n p f h (q, b, quiet) =
+    let x = h.leads quiet.count in
+    let up : risen d q ≡ queue_of d (Wave (wave_of d Rise)) (record m { ticks = m.ticks + 1 }) quiet.count = ap (risen d) (quiet.quiet f) ∙ rises d m quiet.count p f in
+    (x.0, ticked b (subst (λ (a : Queue). Settles d [] a x.0) (sym up) x.1), x.2)
+
+-- time zero
+pub stands-zero : (d : Flat) (budget : ℕ) (m n : Machine) → start d ≡ queue_of d (Wave (wave_of d Init)) m 0 → SettlesAs d (wave_of d Init) m n → StandsAt d budget zero n
+stands-zero d budget m n e h =
+    let x = h.leads 0 in
+    (x.0, begun refl (subst (λ (a : Queue). Settles d [] a x.0) (sym e) x.1), x.2)
+
+pub goes-on-zero : (d : Flat) (budget : ℕ) → GoesOn d budget zero
+goes-on-zero d budget = λ j b h at. absurd (omega arith)
 
 -- a boundary that has no reason to end
-pub goes-more : (d : Flat) (budget k : ℕ) (s : State) → s.finished ≡ false → k < budget → StandsAt d k s → GoesOn d budget k → GoesOn d budget (k + 1)
-goes-more d budget k s f lt (q, b, quiet) before = λ j c h at. go j c (nat_lt j k) refl h at
+pub goes-more : (d : Flat) (budget k : ℕ) (m : Machine) → m.finished ≡ false → k < budget → StandsAt d budget k m → GoesOn d budget k → GoesOn d budget (k + 1)
+goes-more d budget k m f lt (q, b, quiet) before = λ j c h at. go j c (nat_lt j k) refl h at
   where
-    go : (j : ℕ) (c : Queue) (t : Bool) → nat_lt j k ≡ t → j < k + 1 → Boundary d j c → reason_at budget j c ≡ None
+    go : (j : ℕ) (c : Queue) (t : Bool) → nat_lt j k ≡ t → j < k + 1 → Boundary (alone d budget) j c → reason_at (alone d budget).plan j c ≡ None
     go j c true e h at = before j c (ltb-true j k e) at
     go j c false e h at =
         let past : k ≤ j = ltb-false j k e in
         let same : j ≡ k = omega arith in
-        let here : c ≡ q = boundary_once (subst (λ i. Boundary d i c) same at) b in
+        let here : c ≡ q = boundary_once (subst (λ i. Boundary (alone d budget) i c) same at) b in
         let on : c.state.finished ≡ false = rw (here, quiet.state) f in
         let left : nat_le budget j ≡ false = grind (arith, nat_tests) in
         rw (on, left) refl
 
-pub finished-reason : (budget k : ℕ) (q : Queue) (s : State) → q.state ≡ s → s.finished ≡ true → reason_at budget k q ≡ Some Finished
-finished-reason budget k q s e f = let g : q.state.finished ≡ true = rw e f in rw g refl
+pub finished-reason : (d : Flat) (budget k : ℕ) (q : Queue) (m : Machine) → IsQuiet d q m → m.finished ≡ true → reason_at (alone d budget).plan k q ≡ Some Finished
+finished-reason d budget k q m h f = let g : q.state.finished ≡ true = rw (h.state) f in rw g refl
 
-pub spent-reason : (budget k : ℕ) (q : Queue) (s : State) → q.state ≡ s → s.finished ≡ false → budget ≤ k → reason_at budget k q ≡ Some Budget
-spent-reason budget k q s e f le =
-    let g : q.state.finished ≡ false = rw e f in
+pub spent-reason : (d : Flat) (budget k : ℕ) (q : Queue) (m : Machine) → IsQuiet d q m → m.finished ≡ false → budget ≤ k → reason_at (alone d budget).plan k q ≡ Some Budget
+spent-reason d budget k q m h f le =
+    let g : q.state.finished ≡ false = rw (h.state) f in
     let spent : nat_le budget k ≡ true = le-leb budget k le in
     rw (g, spent) refl
-
--- time zero
-pub stands-zero : (d : Flat) (a : Queue) (s : State) → start d ≡ a → SettlesQuiet d a s → StandsAt d zero s
-stands-zero d a s e (q, settles, quiet) = (q, time_zero (subst (λ x. Settles d x q) (sym e) settles), quiet)
-
-pub goes-on-zero : (d : Flat) (budget : ℕ) → GoesOn d budget zero
-goes-on-zero d budget = λ j b h at. absurd (omega arith)

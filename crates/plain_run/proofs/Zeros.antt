@@ -1,10 +1,14 @@
 -- Values that are all 0.
 use Rattle.std.proofs.Common.{◌≡◌, ◌<◌, ◌∙◌, List, [], ◌∷◌, map, length, refl, ap, sym, arith}
-use Rattle.std.specs.Prelude.{replicate, slice_index}
+use Rattle.std.specs.Prelude.{replicate, slice_index, All}
+use Rattle.std.specs.List.{AllByRecursion}
 use Rattle.std.proofs.lemmas.List.{get_or-replicate, length-replicate, length-map}
+use Rattle.std.proofs.lemmas.List.Elements.{recursion_from_All}
 use Rattle.std.proofs.Math.Pow.{pow_pos}
 use Rattle.vl_design.specs.Syntax.{Row}
 use Rattle.vl_design.specs.Width.{signal_form}
+use Rattle.vl_design.specs.Functions.{zeros}
+use Rattle.vl_design.specs.Plain.{IsPlainRow}
 use Rattle.plain_run.specs.Reading.{words, HaveRange}
 
 pub zeros-range : {X : Type 0} (f : X → Row) (xs : List X) → HaveRange (map f xs) (replicate (length xs) 0)
@@ -16,6 +20,9 @@ zeros-range f xs = record {
       rw zero_at (pow_pos (signal_form (map f xs) k).width);
 }
 
-pub zeros-words : {X : Type 0} (f : X → Row) (xs : List X) → words (replicate (length xs) 0) ≡ map (λ _. 0 ∷ []) (map f xs)
-zeros-words f [] = refl
-zeros-words f (x ∷ xs) = ap (λ rest. (0 ∷ []) ∷ rest) (zeros-words f xs)
+by_recursion : {X : Type 0} (f : X → Row) (xs : List X) → AllByRecursion IsPlainRow (map f xs) → words (replicate (length xs) 0) ≡ zeros (map f xs)
+by_recursion f [] h = refl
+by_recursion f (x ∷ xs) h = rw (h.0.words) (ap (λ rest. (0 ∷ []) ∷ rest) (by_recursion f xs h.1))
+
+pub zeros-words : {X : Type 0} (f : X → Row) (xs : List X) → All IsPlainRow (map f xs) → words (replicate (length xs) 0) ≡ zeros (map f xs)
+zeros-words f xs h = by_recursion f xs (recursion_from_All IsPlainRow (map f xs) h)

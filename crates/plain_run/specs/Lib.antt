@@ -1,3 +1,4 @@
 pub mod Machines
 pub mod Reading
 pub mod Runs
+pub mod Shown

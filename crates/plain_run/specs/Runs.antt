@@ -1,46 +1,56 @@
--- Queues of designs without combinational processes.
-use Rattle.std.specs.Prelude.{◌≡◌, ◌<◌, ℕ, true, false, Bool, List, [], map, None}
+-- Queues of plain designs.
+use Rattle.std.specs.Prelude.{◌≡◌, ◌<◌, ℕ, false, Bool, List, [], None}
 use Rattle.vl_design.specs.declared.design.ProcKind.{ProcKind}
-use Rattle.vl_design.specs.declared.design.ProcKind.TheVariants.{Init, Rise, Fall}
+use Rattle.vl_design.specs.declared.design.ProcKind.TheVariants.{Init, Rise}
 use Rattle.vl_design.specs.Syntax.{Stm, Flat}
-use Rattle.vl_design.specs.State.{State}
-use Rattle.vl_design.specs.Queue.{Queue, is_init, is_rise, is_fall, is_comb, none_later}
-use Rattle.vl_design.specs.Alone.{Settles, Boundary, reason_at}
+use Rattle.vl_design.specs.Queue.{Queue, Phase, Wave, Updated, is_init, is_rise}
+use Rattle.vl_design.specs.Alone.{Settles, Boundary, blocks, all_comb, reason_at}
+use Rattle.plain_run.specs.declared.machine.Machine.{Machine}
+use Rattle.vl_design.specs.Plain.{alone}
+use Rattle.plain_run.specs.Machines.{state_of}
 
--- no process is pending
-abbrev pub none_pending : Flat → List Bool
-none_pending d = map (λ p. is_comb p.kind) d.procs
-
--- the queue with a state and a wave, where no process is pending
-abbrev pub calm : Flat → List Stm → State → Queue
-calm d wave s = record { state = s; wave = wave; pending = none_pending d }
+-- the queue of a machine at a phase: no process is pending, and no wave of the tick is to come
+abbrev pub queue_of : Flat → Phase → Machine → ℕ → Queue
+queue_of d phase m count = record { state = state_of d.rows m count; phase = phase; ahead = []; pending = all_comb d.procs }
 
 -- a process of this kind belongs to a wave of that kind
 abbrev pub is_of : ProcKind → ProcKind → Bool
 is_of Init kind = is_init kind
 is_of Rise kind = is_rise kind
-is_of Fall kind = is_fall kind
 is_of wave kind = false
 
--- where b settles, a settles in the same state; in the same queue, unless the run has finished there
-abbrev pub Leads : Flat → Queue → Queue → Type 0
-Leads d a b = (q : Queue) → Settles d b q →
-    (r : Queue) × Settles d a r × (r.state ≡ q.state) × (q.state.finished ≡ false → r ≡ q)
+-- the blocks of a wave
+abbrev pub wave_of : Flat → ProcKind → List Stm
+wave_of d wave = blocks (is_of wave) d.procs
 
--- a queue with this state is quiet, or its run has finished
-pub record IsQuiet (d : Flat) (q : Queue) (s : State) : Type 0 where
-  pub state : q.state ≡ s
-  pub calm : s.finished ≡ false → q ≡ calm d [] s
-  pub nothing_later : s.finished ≡ false → none_later s.later ≡ true
+-- where b settles, a settles
+abbrev pub Precedes : Flat → Queue → Queue → Type 0
+Precedes d a b = (q : Queue) → Settles d [] b q → Settles d [] a q
 
--- a queue settles in a quiet one with this state
-abbrev pub SettlesQuiet : Flat → Queue → State → Type 0
-SettlesQuiet d q s = (r : Queue) × Settles d q r × IsQuiet d r s
+-- so far from a machine before these blocks: a machine before those blocks
+pub record Reaches (d : Flat) (from : List Stm) (m : Machine) (to : List Stm) (m' : Machine) : Type 0 where
+  pub leads : (c : ℕ) → (c' : ℕ) × Precedes d (queue_of d (Wave from) m c) (queue_of d (Wave to) m' c')
 
--- the run stands at boundary k in a quiet queue with this state
-abbrev pub StandsAt : Flat → ℕ → State → Type 0
-StandsAt d k s = (q : Queue) × Boundary d k q × IsQuiet d q s
+-- a wave is over, or the run has finished in it
+pub record RunsWave (d : Flat) (from : List Stm) (m m' : Machine) : Type 0 where
+  pub left : List Stm
+  pub reaches : Reaches d from m left m'
+  pub over : m'.finished ≡ false → left ≡ []
+
+-- a queue stands for this machine; it is quiet, or its run has finished
+pub record IsQuiet (d : Flat) (q : Queue) (m : Machine) : Type 0 where
+  pub count : ℕ
+  pub state : q.state ≡ state_of d.rows m count
+  pub quiet : m.finished ≡ false → q ≡ queue_of d Updated m count
+
+-- from one machine at a wave a run settles in the other
+pub record SettlesAs (d : Flat) (from : List Stm) (m m' : Machine) : Type 0 where
+  pub leads : (c : ℕ) → (q : Queue) × Settles d [] (queue_of d (Wave from) m c) q × IsQuiet d q m'
+
+-- the run stands at boundary k in a quiet queue that stands for this machine
+abbrev pub StandsAt : Flat → ℕ → ℕ → Machine → Type 0
+StandsAt d budget k m = (q : Queue) × Boundary (alone d budget) k q × IsQuiet d q m
 
 -- no boundary before k has a reason to end
 abbrev pub GoesOn : Flat → ℕ → ℕ → Type 0
-GoesOn d budget k = (j : ℕ) (b : Queue) → j < k → Boundary d j b → reason_at budget j b ≡ None
+GoesOn d budget k = (j : ℕ) (b : Queue) → j < k → Boundary (alone d budget) j b → reason_at (alone d budget).plan j b ≡ None

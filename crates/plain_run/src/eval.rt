@@ -6,14 +6,16 @@ ghost use Rattle.vl_design.specs.Trees.{exp_of, row_of, range_width};
 ghost use Rattle.vl_design.specs.Sound.{IsSoundExp, IsSignal, IsWidth};
 ghost use Rattle.vl_design.specs.Width as w;
 ghost use Rattle.vl_design.specs.Value as v;
-ghost use Rattle.plain_run.specs.Reading.{words, HaveRange, IsReadable};
+ghost use Rattle.vl_design.specs.Plain.{IsPlainExp, IsPlainOp, plain_scope};
+ghost use Rattle.plain_run.specs.Reading.{sample_of, HaveRange, IsUsable, IsReadable};
 
 use vl_base::bits::{BinOp, Bits, binary, resize};
 use vl_design::design::{Expr, ExprNode, Form, Signal};
 
 /// The width and the sign of a signal.
+#[tactic(auto, using(crate::proofs::Values::signal_rules))]
 pub fn signal_form(signals: &[Signal], number: u32) -> Form
-    requires { IsSignal (map row_of signals.now) number }
+    requires { IsSignal (plain_scope (map row_of signals.now)) number }
     ensures value { result ≡ w.signal_form (map row_of signals.now) number }
     ensures width { IsWidth result.width }
 {
@@ -34,34 +36,37 @@ fn joined(a: Form, b: Form) -> Form
     }
 }
 
-/// The width and the sign of an operator's value.
+/// The width and the sign of a sum or of a comparison.
 fn binary_form(op: BinOp, a: Form, b: Form) -> Form
+    requires { IsPlainOp op }
     ensures { result ≡ w.binary_form op a b }
 {
     match op {
         BinOp::Add => joined(a, b),
-        BinOp::Eq => Form {
+        _ => Form {
             width: 1,
             signed: false,
         },
     }
 }
 
-/// The context of an operator's operands.
+/// The context of the operands of a sum or of a comparison.
 fn operands_form(op: BinOp, a: Form, b: Form, context: Form) -> Form
-    ensures { result ≡ w.operands_form op a b context }
+    requires { IsPlainOp op }
+    ensures left { result ≡ w.left_form op a b context }
+    ensures right { result ≡ w.right_form op a b context }
 {
     match op {
         BinOp::Add => context,
-        BinOp::Eq => joined(a, b),
+        _ => joined(a, b),
     }
 }
 
 /// The width and the sign of an expression read for itself.
 #[tactic(auto, using(crate::proofs::Values::width_rules))]
 pub fn form_of(signals: &[Signal], e: &Expr) -> Form
-    requires { IsSoundExp (map row_of signals.now) (exp_of e.now) }
-    ensures value { result ≡ w.form (map row_of signals.now) (exp_of e.now) }
+    requires { IsUsable (map row_of signals.now) (exp_of e.now) }
+    ensures value { result ≡ w.form (plain_scope (map row_of signals.now)) (exp_of e.now) }
     ensures width { IsWidth result.width }
 {
     match &e.node {
@@ -71,11 +76,13 @@ pub fn form_of(signals: &[Signal], e: &Expr) -> Form
         },
         ExprNode::Sig(number) => signal_form(signals, *number),
         ExprNode::Bin(op, a, b) => binary_form(*op, form_of(signals, a), form_of(signals, b)),
+        _ => unreachable!(),
     }
 }
 
-/// The value of an operator in a context at least as wide.
+/// The value of a sum or a comparison in a context at least as wide.
 fn operated(op: BinOp, signed: bool, x: Bits, y: Bits, width: u8) -> Bits
+    requires plain { IsPlainOp op }
     requires same { x.width ≡ y.width }
     requires wide { a.binary_width op x.width ≤ width }
     requires narrow { width ≤ 128 }
@@ -88,9 +95,9 @@ fn operated(op: BinOp, signed: bool, x: Bits, y: Bits, width: u8) -> Bits
 
 /// The value of a signal.
 fn signal_bits(signals: &[Signal], values: &[u128], number: u32) -> Bits
-    requires signal { IsSignal (map row_of signals.now) number }
+    requires signal { IsSignal (plain_scope (map row_of signals.now)) number }
     requires values { HaveRange (map row_of signals.now) values.now }
-    ensures value { result.value ≡ v.value_of (words values.now) number }
+    ensures value { result.value ≡ v.value_of (sample_of values.now).values number }
     ensures width { result.width ≡ (w.signal_form (map row_of signals.now) number).width }
 {
     let form = signal_form(signals, number);
@@ -104,7 +111,7 @@ fn signal_bits(signals: &[Signal], values: &[u128], number: u32) -> Bits
 #[tactic(auto, using(crate::proofs::Values::width_rules))]
 pub fn eval(signals: &[Signal], values: &[u128], e: &Expr, context: Form) -> Bits
     requires { IsReadable (map row_of signals.now) values.now (exp_of e.now) context }
-    ensures value { result.value ≡ v.value (map row_of signals.now) (words values.now) (exp_of e.now) context }
+    ensures value { result.value ≡ v.value (plain_scope (map row_of signals.now)) (sample_of values.now) (exp_of e.now) context }
     ensures width { result.width ≡ context.width }
 {
     let width = context.width as u8;
@@ -121,15 +128,17 @@ pub fn eval(signals: &[Signal], values: &[u128], e: &Expr, context: Form) -> Bit
             let y = eval(signals, values, b, operands);
             operated(*op, operands.signed, x, y, width)
         }
+        _ => unreachable!(),
     }
 }
 
 /// The value of an expression read for itself.
+#[tactic(auto, using(crate::proofs::Values::width_rules))]
 pub fn own_value(signals: &[Signal], values: &[u128], e: &Expr) -> Bits
-    requires sound { IsSoundExp (map row_of signals.now) (exp_of e.now) }
+    requires usable { IsUsable (map row_of signals.now) (exp_of e.now) }
     requires values { HaveRange (map row_of signals.now) values.now }
-    ensures value { result.value ≡ v.own_value (map row_of signals.now) (words values.now) (exp_of e.now) }
-    ensures width { result.width ≡ (w.form (map row_of signals.now) (exp_of e.now)).width }
+    ensures value { result.value ≡ v.own_value (plain_scope (map row_of signals.now)) (sample_of values.now) (exp_of e.now) }
+    ensures width { result.width ≡ (w.form (plain_scope (map row_of signals.now)) (exp_of e.now)).width }
 {
     eval(signals, values, e, form_of(signals, e))
 }

@@ -1,14 +1,18 @@
 //! What statements do.
 
-ghost use Rattle.std.specs.Prelude.{◌≡◌, ◌<◌, ◌≤◌, ◌++◌, ◌∷◌, [], ◌^◌, ◌%◌, map, length, OnOk, IfOk, codes, List, ℕ, ◌+◌, All};
+ghost use Rattle.std.specs.Prelude.{◌≡◌, ◌<◌, ◌≤◌, ◌++◌, ◌∷◌, [], ◌^◌, ◌%◌, map, length, OnOk, IfOk, codes, List, ℕ, ◌+◌, All, option_map, true};
 ghost use Rattle.vl_base.specs.Display.{item_text, LeastDecimal};
 ghost use Rattle.vl_base.specs.Value as a;
-ghost use Rattle.vl_design.specs.Trees.{exp_of, stm_of, row_of, target_of, pieces_of, task_of};
-ghost use Rattle.vl_design.specs.Sound.{IsSoundExp, IsSoundStm, IsSoundTarget, IsSoundPiece};
+ghost use Rattle.vl_design.specs.Syntax as y;
+ghost use Rattle.vl_design.specs.Trees.{exp_of, stm_of, row_of, target_of, arg_of, task_of};
+ghost use Rattle.vl_design.specs.Sound.{IsSoundTarget, IsSoundExp, IsSoundStm, IsSoundTask};
 ghost use Rattle.vl_design.specs.Width as w;
-ghost use Rattle.vl_design.specs.Exec as x;
-ghost use Rattle.plain_run.specs.Reading.{words, HaveRange};
-ghost use Rattle.plain_run.specs.Machines.{state_of, update_of, IsUpdate, IsMachine};
+ghost use Rattle.vl_design.specs.Targets as t;
+ghost use Rattle.vl_design.specs.Tasks.{display_text};
+ghost use Rattle.vl_design.specs.Plain.{IsPlainTarget, IsPlainStm, IsPlainTask, plain_scope};
+ghost use Rattle.plain_run.specs.Reading.{sample_of, HaveRange, IsUsable};
+ghost use Rattle.plain_run.specs.Machines.{update_of, IsUpdate, IsMachine, Does};
+ghost use Rattle.plain_run.specs.Shown.{first_value};
 
 use crate::eval::{eval, form_of, own_value, signal_form};
 use crate::machine::{Machine, Update};
@@ -47,66 +51,78 @@ fn negated(value: Bits) -> u128
     }
 }
 
-/// Adds the pieces of a display: of a format and its values, each item's text.
-fn push_pieces(
+/// Adds what a display of a value in decimal prints.
+fn show(
     alloc: Global,
     signals: &[Signal],
     values: &[u128],
-    args: &[SysArg],
+    shown: &Expr,
     printed: &mut Vec<u8>,
 ) -> Result<(), AllocError>
-    requires sound { All (IsSoundPiece (map row_of signals.now)) (pieces_of args.now) }
+    requires usable { IsUsable (map row_of signals.now) (exp_of shown.now) }
     requires values { HaveRange (map row_of signals.now) values.now }
-    ensures { OnOk result (printed.new.items ++ codes "\n" ≡ printed.old.items
-        ++ x.display_text (map row_of signals.now) (words values.now) (pieces_of args.now)) }
+    ensures { OnOk result (printed.new.items ≡ printed.old.items
+        ++ display_text (plain_scope (map row_of signals.now)) (sample_of values.now) (y.Shown LeastDecimal (exp_of shown.now) ∷ []) true) }
 {
-    let [SysArg::Str(format), SysArg::Value(shown)] = args else {
-        return Ok(());
-    };
-    if format.as_slice() == b"%0d".as_slice() {
-        let form = form_of(signals, shown);
-        let value = own_value(signals, values, shown);
-        push_decimal(alloc, value, form.signed, printed)?;
-    }
+    let form = form_of(signals, shown);
+    let value = own_value(signals, values, shown);
+    push_decimal(alloc, value, form.signed, printed)?;
+    printed.push(b'\n')?;
     Ok(())
+}
+
+/// The first value among the arguments of a call.
+fn first_value(args: &[SysArg]) -> Option<&Expr>
+    ensures { option_map (λ e. exp_of e.now) result ≡ first_value (map arg_of args.now) }
+{
+    for arg in args {
+        if let SysArg::Value(shown) = arg {
+            return Some(shown);
+        }
+    }
+    None
 }
 
 /// Does a call of a system task.
 fn task(
     alloc: Global,
     signals: &[Signal],
+    _path: &[u8],
     call: &SysCall,
     m: &mut Machine,
 ) -> Result<(), AllocError>
-    requires sound { IsSoundStm (map row_of signals.now) (task_of call.now.name call.now.args.items) }
+    requires plain { IsPlainTask (task_of _path.now call.now.name (map arg_of call.now.args.items)) }
+    requires sound { IsSoundTask (plain_scope (map row_of signals.now)) (task_of _path.now call.now.name (map arg_of call.now.args.items)) }
     requires machine { IsMachine (map row_of signals.now) m.old }
-    ensures ok { OnOk result (state_of (map row_of signals.now) m.new
-        ≡ x.exec (map row_of signals.now) (task_of call.now.name call.now.args.items) (state_of (map row_of signals.now) m.old)) }
+    ensures does { OnOk result (Does (map row_of signals.now)
+        (y.Sys (task_of _path.now call.now.name (map arg_of call.now.args.items))) m.old m.new) }
     ensures machine { OnOk result (IsMachine (map row_of signals.now) m.new) }
     ensures ticks { OnOk result (m.new.ticks ≡ m.old.ticks) }
 {
     if m.finished {
         return Ok(());
     }
-    if call.name.as_slice() == b"$display".as_slice() {
-        push_pieces(alloc, signals, &m.values, &call.args, &mut m.printed)?;
-        m.printed.push(b'\n')?;
-    } else if call.name.as_slice() == b"$finish".as_slice() {
+    if call.name.as_slice() == b"$finish".as_slice() {
         m.finished = true;
+    } else if let Some(shown) = first_value(&call.args) {
+        show(alloc, signals, &m.values, shown, &mut m.printed)?;
     }
     Ok(())
 }
 
 /// The update that an assignment makes.
 fn assignment(signals: &[Signal], values: &[u128], target: &Target, source: &Expr) -> Update
-    requires target { IsSoundTarget (map row_of signals.now) (target_of target.now.node) }
-    requires source { IsSoundExp (map row_of signals.now) (exp_of source.now) }
+    requires plain { IsPlainTarget (target_of target.now) }
+    requires target { IsSoundTarget (plain_scope (map row_of signals.now)) (target_of target.now) }
+    requires source { IsUsable (map row_of signals.now) (exp_of source.now) }
     requires values { HaveRange (map row_of signals.now) values.now }
-    ensures update { update_of (map row_of signals.now) result ≡ x.update_of (map row_of signals.now) (target_of target.now.node)
-        (x.assigned_value (map row_of signals.now) (words values.now) (target_of target.now.node) (exp_of source.now)) }
+    ensures update { t.assignment (plain_scope (map row_of signals.now)) (sample_of values.now) (target_of target.now) (exp_of source.now)
+        ≡ update_of (map row_of signals.now) result ∷ [] }
     ensures fits { IsUpdate (map row_of signals.now) result }
 {
-    let TargetNode::Sig(signal) = target.node;
+    let TargetNode::Sig(signal) = target.node else {
+        unreachable!();
+    };
     let width = signal_form(signals, signal).width;
     let own = form_of(signals, source);
     let context = Form {
@@ -120,12 +136,57 @@ fn assignment(signals: &[Signal], values: &[u128], target: &Target, source: &Exp
     }
 }
 
-/// Does one statement. After an `Err` the machine may have done a part of it.
-pub fn exec(alloc: Global, signals: &[Signal], s: &Stmt, m: &mut Machine) -> Result<(), AllocError>
-    requires sound { IsSoundStm (map row_of signals.now) (stm_of s.now) }
+/// Does a blocking assignment.
+fn assign(signals: &[Signal], target: &Target, source: &Expr, m: &mut Machine)
+    requires plain { IsPlainTarget (target_of target.now) }
+    requires target { IsSoundTarget (plain_scope (map row_of signals.now)) (target_of target.now) }
+    requires source { IsUsable (map row_of signals.now) (exp_of source.now) }
     requires machine { IsMachine (map row_of signals.now) m.old }
-    ensures ok { OnOk result (state_of (map row_of signals.now) m.new
-        ≡ x.exec (map row_of signals.now) (stm_of s.now) (state_of (map row_of signals.now) m.old)) }
+    ensures does { Does (map row_of signals.now) (y.Set (target_of target.now) (exp_of source.now)) m.old m.new }
+    ensures machine { IsMachine (map row_of signals.now) m.new }
+    ensures ticks { m.new.ticks ≡ m.old.ticks }
+{
+    if !m.finished {
+        let update = assignment(signals, &m.values, target, source);
+        m.values[update.signal as usize] = update.value;
+    }
+}
+
+/// Does a nonblocking assignment.
+fn assign_later(
+    signals: &[Signal],
+    target: &Target,
+    source: &Expr,
+    m: &mut Machine,
+) -> Result<(), AllocError>
+    requires plain { IsPlainTarget (target_of target.now) }
+    requires target { IsSoundTarget (plain_scope (map row_of signals.now)) (target_of target.now) }
+    requires source { IsUsable (map row_of signals.now) (exp_of source.now) }
+    requires machine { IsMachine (map row_of signals.now) m.old }
+    ensures does { OnOk result (Does (map row_of signals.now) (y.Later (target_of target.now) (exp_of source.now)) m.old m.new) }
+    ensures machine { OnOk result (IsMachine (map row_of signals.now) m.new) }
+    ensures ticks { OnOk result (m.new.ticks ≡ m.old.ticks) }
+{
+    if !m.finished {
+        let update = assignment(signals, &m.values, target, source);
+        m.later.push(update)?;
+    }
+    Ok(())
+}
+
+/// Does one statement of an instance of a path, which no plain form shows. After an `Err` the machine may have done a
+/// part of it.
+pub fn exec(
+    alloc: Global,
+    signals: &[Signal],
+    path: &[u8],
+    s: &Stmt,
+    m: &mut Machine,
+) -> Result<(), AllocError>
+    requires plain { IsPlainStm (stm_of path.now s.now) }
+    requires sound { IsSoundStm (plain_scope (map row_of signals.now)) (stm_of path.now s.now) }
+    requires machine { IsMachine (map row_of signals.now) m.old }
+    ensures does { OnOk result (Does (map row_of signals.now) (stm_of path.now s.now) m.old m.new) }
     ensures machine { OnOk result (IsMachine (map row_of signals.now) m.new) }
     ensures ticks { OnOk result (m.new.ticks ≡ m.old.ticks) }
 {
@@ -133,24 +194,23 @@ pub fn exec(alloc: Global, signals: &[Signal], s: &Stmt, m: &mut Machine) -> Res
         StmtNode::Nop => Ok(()),
         StmtNode::Seq(list) => {
             for item in list {
-                exec(alloc, signals, item, m)?;
+                exec(alloc, signals, path, item, m)?;
             }
             Ok(())
         }
         StmtNode::If(test, first, second) => {
             if own_value(signals, &m.values, test).value == 0 {
-                exec(alloc, signals, second, m)
+                exec(alloc, signals, path, second, m)
             } else {
-                exec(alloc, signals, first, m)
+                exec(alloc, signals, path, first, m)
             }
         }
-        StmtNode::Later(target, source) => {
-            if !m.finished {
-                let update = assignment(signals, &m.values, target, source);
-                m.later.push(update)?;
-            }
+        StmtNode::Set(target, source) => {
+            assign(signals, target, source, m);
             Ok(())
         }
-        StmtNode::Sys(call) => task(alloc, signals, call, m),
+        StmtNode::Later(target, source) => assign_later(signals, target, source, m),
+        StmtNode::Sys(call) => task(alloc, signals, path, call, m),
+        _ => unreachable!(),
     }
 }

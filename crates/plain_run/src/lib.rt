@@ -1,4 +1,4 @@
-//! The plain runner: it does the events of the queue on a design, one after another.
+//! The plain runner: it does the events of the queue on a design of the plain forms, one after another.
 #![tactic(auto)]
 
 pub mod eval;

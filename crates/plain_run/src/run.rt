@@ -2,11 +2,12 @@
 
 ghost use Rattle.std.specs.Prelude.{◌≡◌, ◌<◌, ◌≤◌, ◌+◌, ◌^◌, suc, [], map, length, OnOk, IfOk, true, false, ℕ, All};
 ghost use Rattle.vl_design.specs.Trees.{row_of, flat_of};
-ghost use Rattle.vl_design.specs.Sound.{IsSound, HasNoNets};
-ghost use Rattle.vl_design.specs.Queue.{Queue, with_updates};
-ghost use Rattle.vl_design.specs.Alone.{Ends, blocks, start, Boundary};
+ghost use Rattle.vl_design.specs.Sound.{IsSound};
+ghost use Rattle.vl_design.specs.Queue.{Queue, Wave, with_updates};
+ghost use Rattle.vl_design.specs.Alone.{Ends, start, Boundary};
+ghost use Rattle.vl_design.specs.Plain.{IsPlain, alone};
 ghost use Rattle.plain_run.specs.Machines.{state_of, IsMachine, written};
-ghost use Rattle.plain_run.specs.Runs.{calm, is_of, Leads, SettlesQuiet, StandsAt};
+ghost use Rattle.plain_run.specs.Runs.{queue_of, is_of, wave_of, RunsWave, SettlesAs, StandsAt};
 
 use crate::exec::exec;
 use crate::machine::{Machine, Update};
@@ -38,7 +39,8 @@ fn write_all(values: &mut Vec<u128>, later: &[Update])
 /// Makes all pending updates, in order.
 fn update(design: &Design, m: &mut Machine)
     requires { IsMachine (map row_of design.now.signals) m.old }
-    ensures state { state_of (map row_of design.now.signals) m.new ≡ with_updates (state_of (map row_of design.now.signals) m.old) }
+    ensures state { (c : ℕ) → with_updates (map row_of design.now.signals) (state_of (map row_of design.now.signals) m.old c)
+        ≡ state_of (map row_of design.now.signals) m.new c }
     ensures machine { IsMachine (map row_of design.now.signals) m.new }
     ensures ticks { m.new.ticks ≡ m.old.ticks }
 {
@@ -53,8 +55,7 @@ fn belongs(wave: ProcKind, kind: ProcKind) -> bool
     match wave {
         ProcKind::Init => matches!(kind, ProcKind::Init),
         ProcKind::Rise => matches!(kind, ProcKind::Rise),
-        ProcKind::Fall => matches!(kind, ProcKind::Fall),
-        ProcKind::Comb | ProcKind::Assign => false,
+        ProcKind::Fall | ProcKind::Comb | ProcKind::Assign => false,
     }
 }
 
@@ -65,21 +66,25 @@ fn run_wave(
     wave: ProcKind,
     m: &mut Machine,
 ) -> Result<(), AllocError>
+    requires plain { IsPlain (flat_of design.now) }
     requires sound { IsSound (flat_of design.now) }
-    requires nets { HasNoNets (flat_of design.now) }
     requires machine { IsMachine (map row_of design.now.signals) m.old }
     ensures machine { OnOk result (IsMachine (map row_of design.now.signals) m.new) }
     ensures ticks { OnOk result (m.new.ticks ≡ m.old.ticks) }
-    ensures leads { OnOk result (Leads (flat_of design.now)
-        (calm (flat_of design.now) (blocks (is_of wave) (flat_of design.now).procs) (state_of (map row_of design.now.signals) m.old))
-        (calm (flat_of design.now) [] (state_of (map row_of design.now.signals) m.new))) }
+    ensures runs { OnOk result (RunsWave (flat_of design.now) (wave_of (flat_of design.now) wave) m.old m.new) }
 {
     for process in design.processes.as_slice() {
         if m.finished {
             return Ok(());
         }
         if belongs(wave, process.kind) {
-            exec(alloc, design.signals.as_slice(), &process.body, m)?;
+            exec(
+                alloc,
+                design.signals.as_slice(),
+                process.path.as_slice(),
+                &process.body,
+                m,
+            )?;
         }
     }
     Ok(())
@@ -87,14 +92,12 @@ fn run_wave(
 
 /// Runs the blocks of a wave, and then makes all nonblocking updates.
 fn settle(alloc: Global, design: &Design, wave: ProcKind, m: &mut Machine) -> Result<(), AllocError>
+    requires plain { IsPlain (flat_of design.now) }
     requires sound { IsSound (flat_of design.now) }
-    requires nets { HasNoNets (flat_of design.now) }
     requires machine { IsMachine (map row_of design.now.signals) m.old }
     ensures machine { OnOk result (IsMachine (map row_of design.now.signals) m.new) }
     ensures ticks { OnOk result (m.new.ticks ≡ m.old.ticks) }
-    ensures settles { OnOk result (SettlesQuiet (flat_of design.now)
-        (calm (flat_of design.now) (blocks (is_of wave) (flat_of design.now).procs) (state_of (map row_of design.now.signals) m.old))
-        (state_of (map row_of design.now.signals) m.new)) }
+    ensures settles { OnOk result (SettlesAs (flat_of design.now) (wave_of (flat_of design.now) wave) m.old m.new) }
 {
     run_wave(alloc, design, wave, m)?;
     if !m.finished {
@@ -105,11 +108,11 @@ fn settle(alloc: Global, design: &Design, wave: ProcKind, m: &mut Machine) -> Re
 
 /// The machine before time zero, whose values are all 0.
 fn begin(alloc: Global, design: &Design) -> Result<Machine, AllocError>
-    requires { IsSound (flat_of design.now) }
+    requires { IsPlain (flat_of design.now) }
     ensures machine { IfOk result (IsMachine (map row_of design.now.signals)) }
     ensures ticks { IfOk result (λ m. m.ticks ≡ 0) }
     ensures start { IfOk result (λ m. start (flat_of design.now)
-        ≡ calm (flat_of design.now) (blocks (is_of ProcKind.Init) (flat_of design.now).procs) (state_of (map row_of design.now.signals) m)) }
+        ≡ queue_of (flat_of design.now) (Wave (wave_of (flat_of design.now) ProcKind.Init)) m 0) }
 {
     let signals = design.signals.as_slice().len();
     Ok(Machine {
@@ -121,31 +124,29 @@ fn begin(alloc: Global, design: &Design) -> Result<Machine, AllocError>
     })
 }
 
-/// Lets the clock rise and fall.
+/// Lets the clock rise.
 fn tick(alloc: Global, design: &Design, m: &mut Machine) -> Result<(), AllocError>
+    requires plain { IsPlain (flat_of design.now) }
     requires sound { IsSound (flat_of design.now) }
-    requires nets { HasNoNets (flat_of design.now) }
     requires machine { IsMachine (map row_of design.now.signals) m.old }
     requires going { m.old.finished ≡ false }
     requires room { m.old.ticks + 1 < 2 ^ 64 }
     ensures machine { OnOk result (IsMachine (map row_of design.now.signals) m.new) }
-    ensures boundary { OnOk result ((k : ℕ) → StandsAt (flat_of design.now) k (state_of (map row_of design.now.signals) m.old)
-        → StandsAt (flat_of design.now) (suc k) (state_of (map row_of design.now.signals) m.new)) }
+    ensures boundary { OnOk result ((budget k : ℕ) → StandsAt (flat_of design.now) budget k m.old
+        → StandsAt (flat_of design.now) budget (suc k) m.new) }
     ensures ticks { OnOk result (m.new.ticks ≡ m.old.ticks + 1) }
 {
     m.ticks += 1;
-    settle(alloc, design, ProcKind::Rise, m)?;
-    if !m.finished {
-        settle(alloc, design, ProcKind::Fall, m)?;
-    }
-    Ok(())
+    settle(alloc, design, ProcKind::Rise, m)
 }
 
-/// Runs a design without combinational processes alone, for at most a budget of ticks.
+/// Runs a design of the plain forms alone, from time zero and without files, for at most a budget of ticks. Its blocks
+/// are initial ones and those that wait for the clock's rise (IEEE 1364-2005, clause 9.9); they choose, assign to whole
+/// variables, show one variable by `%0d` and finish, over sums and comparisons. An `Err` is want of memory alone.
 pub fn run(alloc: Global, design: &Design, budget: u64) -> Result<Outcome, AllocError>
+    requires plain { IsPlain (flat_of design.now) }
     requires sound { IsSound (flat_of design.now) }
-    requires nets { HasNoNets (flat_of design.now) }
-    ensures { IfOk result (λ o. (q : Queue) × Ends (flat_of design.now) budget o.ticks o.end q
+    ensures { IfOk result (λ o. (q : Queue) × Ends (alone (flat_of design.now) budget) o.ticks o.end q
         × (q.state.ticks ≡ o.ticks) × (q.state.printed ≡ o.printed)) }
 {
     let mut m = begin(alloc, design)?;

@@ -1,2 +1,16 @@
+pub mod Running
 pub mod Settling
+pub mod Ending
+pub mod Unread
+pub mod Leading
+pub mod Kept
+pub mod Growing
+pub mod Ranging
+pub mod OncePerAct
+pub mod Resting
+pub mod Agreeing
+pub mod Lengthening
 pub mod TreeLemmas
+pub mod Counting
+pub mod Acting
+pub mod Rising

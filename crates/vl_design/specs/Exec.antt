@@ -1,47 +1,126 @@
--- What a statement does (IEEE 1364-2005, clauses 9 and 17).
-use Rattle.std.specs.Prelude.{ℕ, ◌%◌, ◌^◌, true, List, [], ◌∷◌, ◌++◌, if◌then◌else◌, ◌==◌, codes}
-use Rattle.vl_base.specs.Display.{item_text}
-use Rattle.vl_design.specs.Syntax.{Exp, Target, Whole, Piece, Shown, Call, Display, Finish, Stm, Nop, Then, If, Later, Sys, Row}
-use Rattle.vl_design.specs.Width.{form, signal_form, assigned}
-use Rattle.vl_design.specs.Value.{value, own_value}
-use Rattle.vl_design.specs.State.{State, Update}
+-- What a statement does (IEEE 1364-2005, clause 9).
+use Rattle.std.specs.Prelude.{ℕ, zero, suc, ◌+◌, ◌-◌, ◌^◌, Bool, true, false, not, ◌&&◌, ◌||◌, ◌++◌, slice_set, if◌then◌else◌, ◌==◌, bit_and, bit_xor}
+use Rattle.vl_design.specs.declared.design.Form.{Form}
+use Rattle.vl_design.specs.Syntax.{Exp, Label, Un, Answer, Exps, NoExps, MoreExps, Stm, Nop, Then, If, Case, For, Repeat, Set, Later, Sys, Items, NoItems, Labelled, Default}
+use Rattle.vl_design.specs.Width.{Scope, form, joined}
+use Rattle.vl_design.specs.Value.{Sample, value, own_value, words_of}
+use Rattle.vl_design.specs.State.{State, sample, counted, all_updated}
+use Rattle.vl_design.specs.Targets.{assignment}
+use Rattle.vl_design.specs.Tasks.{called}
 
--- the width of a target
-abbrev pub target_width : List Row → Target → ℕ
-target_width rows (Whole k) = (signal_form rows k).width
+-- ---- case statements (clause 9.5): the subject and all labels are sized to the longest, and signed where all are
 
--- the update that writes a number to a target, cut to the target's width
-abbrev pub update_of : List Row → Target → ℕ → Update
-update_of rows (Whole k) v =
-    let w = (signal_form rows k).width in
-    record { signal = k; word = 0; low = 0; width = w; value = v % 2 ^ w }
+abbrev pub labels_form : Scope → Form → Exps → Form
+labels_form scope f NoExps = f
+labels_form scope f (MoreExps e es) = labels_form scope (joined f (form scope e)) es
 
--- the value of the right side of an assignment (clause 5.5.1: sized to the longer of both sides)
-abbrev pub assigned_value : List Row → List (List ℕ) → Target → Exp → ℕ
-assigned_value rows values t e = value rows values e (assigned (target_width rows t) (form rows e))
+abbrev pub items_form : Scope → Form → Items → Form
+items_form scope f NoItems = f
+items_form scope f (Labelled es a others) = items_form scope (labels_form scope f es) others
+items_form scope f (Default a others) = items_form scope f others
 
--- the text of an item of a format
-abbrev pub piece_text : List Row → List (List ℕ) → Piece → List ℕ
-piece_text rows values (Shown format e) =
-    let f = form rows e in
-    item_text format f.signed f.width (own_value rows values e)
+-- the bits that are compared with a label of w bits in a context of more: those of care, and all above the label's
+abbrev pub compared : ℕ → ℕ → ℕ → ℕ
+compared care w more = care + (2 ^ more - 2 ^ w)
 
--- the text of a display (clause 17.1)
-abbrev pub display_text : List Row → List (List ℕ) → List Piece → List ℕ
-display_text rows values [] = codes "\n"
-display_text rows values (p ∷ ps) = piece_text rows values p ++ display_text rows values ps
+-- a label matches a value v (clause 9.5.1)
+abbrev pub label_matches : Scope → Sample → Form → ℕ → Exp → Bool
+label_matches scope s c v (Label l care w signed) =
+    bit_and (bit_xor v (value scope s (Label l care w signed) c)) (compared care w c.width) == 0
+label_matches scope s c v e = value scope s e c == v
 
--- what a call of a system task does
-abbrev pub called : List Row → Call → State → State
-called rows (Display pieces) s = record s { printed = s.printed ++ display_text rows s.values pieces }
-called rows Finish s = record s { finished = true }
+abbrev pub some_match : Scope → Sample → Form → ℕ → Exps → Bool
+some_match scope s c v NoExps = false
+some_match scope s c v (MoreExps e es) = label_matches scope s c v e || some_match scope s c v es
 
--- what a statement does; once a run has finished, nothing changes
-abbrev pub exec : List Row → Stm → State → State
-exec rows Nop s = s
-exec rows (Then a b) s = exec rows b (exec rows a s)
-exec rows (If t a b) s = if own_value rows s.values t == 0 then exec rows b s else exec rows a s
-exec rows (Later t e) s =
-    if s.finished then s
-    else record s { later = s.later ++ update_of rows t (assigned_value rows s.values t e) ∷ [] }
-exec rows (Sys call) s = if s.finished then s else called rows call s
+-- ---- loops (clause 9.6)
+
+-- at most this many turns of a loop are done
+abbrev pub most_turns : ℕ
+most_turns = 4096
+
+-- turn by turn, as long as the test holds
+abbrev pub turns : {S : Type 0} → ℕ → (S → Bool) → (S → S) → S → S
+turns zero test turn s = s
+turns (suc n) test turn s = elim (test s) [ true ↦ turns n test turn (turn s) | false ↦ s ]
+
+-- in some turn p holds
+abbrev pub some_turn : {S : Type 0} → ℕ → (S → Bool) → (S → S) → (S → Bool) → S → Bool
+some_turn zero test turn p s = false
+some_turn (suc n) test turn p s = elim (test s) [ true ↦ p s || some_turn n test turn p (turn s) | false ↦ false ]
+
+-- so many times
+abbrev pub times : {S : Type 0} → ℕ → (S → S) → S → S
+times zero turn s = s
+times (suc n) turn s = times n turn (turn s)
+
+-- the condition holds: its value isn't 0 (clause 9.4)
+abbrev pub is_true : Scope → Exp → State → Bool
+is_true scope e s = not (own_value scope (sample s) e == 0)
+
+-- behind a loop its variable is as before: it has no value outside (own)
+abbrev pub restored : ℕ → State → State → State
+restored k before s = record s { values = slice_set s.values k (words_of before.values k) }
+
+-- ---- statements
+
+-- the condition is the answer of a system function, or its negation
+abbrev pub asks : Exp → Bool
+asks Answer = true
+asks (Un op a) = asks a
+asks e = false
+
+-- the choice of a branch is a counted act where the statement holds a call
+abbrev pub counted_if : Bool → State → State
+counted_if held s = if held && not s.finished then counted s else s
+
+abbrev mutual
+  -- what a statement does; once a run has finished, nothing changes
+  pub exec : Scope → Stm → State → State
+  exec scope Nop s = s
+  exec scope (Then a b) s = exec scope b (exec scope a s)
+  exec scope (If t a b) s =
+      let s' = counted_if (asks t || (holds scope s a || holds scope s b)) s in
+      if is_true scope t s then exec scope a s' else exec scope b s'
+  exec scope (Case e items) s =
+      let s' = counted_if (items_hold scope s items) s in
+      let c = items_form scope (form scope e) items in
+      exec_items scope (value scope (sample s) e c) c items (exec_default scope items s') s'
+  exec scope (For k start test step a) s =
+      restored k s (turns most_turns (is_true scope test) (λ t. exec scope step (exec scope a t)) (exec scope start s))
+  exec scope (Repeat n a) s = times n (exec scope a) s
+  exec scope (Set t e) s =
+      if s.finished then s else record s { values = all_updated scope.rows s.values (assignment scope (sample s) t e) }
+  exec scope (Later t e) s =
+      if s.finished then s else record s { later = s.later ++ assignment scope (sample s) t e }
+  exec scope (Sys task) s = if s.finished then s else called scope task s
+
+  -- the first item with a label that matches v, or what the default did
+  pub exec_items : Scope → ℕ → Form → Items → State → State → State
+  exec_items scope v c NoItems otherwise s = otherwise
+  exec_items scope v c (Labelled es a others) otherwise s =
+      if some_match scope (sample s) c v es then exec scope a s else exec_items scope v c others otherwise s
+  exec_items scope v c (Default a others) otherwise s = exec_items scope v c others otherwise s
+
+  pub exec_default : Scope → Items → State → State
+  exec_default scope NoItems s = s
+  exec_default scope (Labelled es a others) s = exec_default scope others s
+  exec_default scope (Default a others) s = exec scope a s
+
+  -- the statement holds a call, with its loops unrolled: a loop of no turn holds nothing
+  pub holds : Scope → State → Stm → Bool
+  holds scope s Nop = false
+  holds scope s (Then a b) = holds scope s a || holds scope s b
+  holds scope s (If t a b) = asks t || (holds scope s a || holds scope s b)
+  holds scope s (Case e items) = items_hold scope s items
+  holds scope s (For k start test step a) =
+      some_turn most_turns (is_true scope test) (exec scope step) (λ t. holds scope t a) (exec scope start s)
+  holds scope s (Repeat n a) = not (n == 0) && holds scope s a
+  holds scope s (Set t e) = false
+  holds scope s (Later t e) = false
+  holds scope s (Sys task) = true
+
+  pub items_hold : Scope → State → Items → Bool
+  items_hold scope s NoItems = false
+  items_hold scope s (Labelled es a others) = holds scope s a || items_hold scope s others
+  items_hold scope s (Default a others) = holds scope s a || items_hold scope s others

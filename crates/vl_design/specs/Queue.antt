@@ -1,40 +1,29 @@
--- One event of the queue (IEEE 1364-2005, clause 11).
+-- One event of the queue (IEEE 1364-2005, clause 11; the order among active events is own).
 use Rattle.std.specs.Prelude.{ℕ, Bool, true, false, not, ◌||◌, ◌&&◌, List, [], ◌∷◌, if◌then◌else◌, Option, Some, None}
 use Rattle.std.specs.Str.{bytes_eq}
-use Rattle.std.specs.List.{list_any}
+use Rattle.vl_base.specs.declared.files.File.{File}
 use Rattle.vl_design.specs.declared.design.ProcKind.{ProcKind}
 use Rattle.vl_design.specs.declared.design.ProcKind.TheVariants.{Init, Rise, Fall, Comb, Assign}
-use Rattle.vl_design.specs.Syntax.{Exp, Num, Sig, Bin, Piece, Shown, Call, Display, Finish, Stm, Nop, Then, If, Later, Sys, Proc, Flat}
+use Rattle.vl_design.specs.Syntax.{Row, Stm, Proc, Flat}
 use Rattle.vl_design.specs.Value.{words_of}
-use Rattle.vl_design.specs.State.{Update, State, all_updated}
+use Rattle.vl_design.specs.State.{State, counted, all_updated}
 use Rattle.vl_design.specs.Exec.{exec}
+use Rattle.vl_design.specs.Functions.{scope_of}
+use Rattle.vl_design.specs.Reads.{stm_reads}
 
--- a run's state, the blocks left of the running wave, and for each process whether it is pending
+-- where a run stands in its tick: in a wave, of which these blocks are left; behind its end; behind the update
+pub data Phase : Type 0 where
+  Wave : (blocks : List Stm) → Phase
+  Ended : Phase
+  Updated : Phase
+
 pub record Queue : Type 0 where
   pub state : State
-  pub wave : List Stm
+  pub phase : Phase
+  -- the waves of this tick that are still to come
+  pub ahead : List (List Stm)
+  -- for each process whether it is pending
   pub pending : List Bool
-
--- the expression reads a signal that passes the test
-abbrev pub reads : (ℕ → Bool) → Exp → Bool
-reads p (Num v w s) = false
-reads p (Sig k) = p k
-reads p (Bin op a b) = reads p a || reads p b
-
-abbrev pub piece_reads : (ℕ → Bool) → Piece → Bool
-piece_reads p (Shown format e) = reads p e
-
-abbrev pub call_reads : (ℕ → Bool) → Call → Bool
-call_reads p (Display pieces) = list_any (piece_reads p) pieces
-call_reads p Finish = false
-
--- the statement reads a signal that passes the test
-abbrev pub stm_reads : (ℕ → Bool) → Stm → Bool
-stm_reads p Nop = false
-stm_reads p (Then a b) = stm_reads p a || stm_reads p b
-stm_reads p (If t a b) = reads p t || (stm_reads p a || stm_reads p b)
-stm_reads p (Later t e) = reads p e
-stm_reads p (Sys call) = call_reads p call
 
 -- a signal has other words in two lists
 abbrev pub changed : List (List ℕ) → List (List ℕ) → ℕ → Bool
@@ -77,35 +66,53 @@ first_done [] = []
 first_done (true ∷ bs) = false ∷ bs
 first_done (false ∷ bs) = false ∷ first_done bs
 
+-- all nonblocking updates done, in order
+abbrev pub with_updates : List Row → State → State
+with_updates rows s = record s { values = all_updated rows s.values s.later; later = [] }
+
 -- the queue after an event that led to the state s
-abbrev pub moved : Flat → Queue → State → List Stm → List Bool → Queue
-moved d q s wave pending = record {
+abbrev pub moved : List Proc → Queue → State → Phase → List Bool → Queue
+moved procs q s phase pending = record {
   state = s;
-  wave = wave;
-  pending = woken (changed q.state.values s.values) d.procs pending;
+  phase = phase;
+  ahead = q.ahead;
+  pending = woken (changed q.state.values s.values) procs pending;
 }
 
--- all nonblocking updates done, in order
-abbrev pub with_updates : State → State
-with_updates s = record s { values = all_updated s.values s.later; later = [] }
+-- the wave ends: a counted act
+abbrev pub ended : Queue → Queue
+ended q = record q { state = counted q.state; phase = Ended }
 
--- no nonblocking update is pending
-abbrev pub none_later : List Update → Bool
-none_later [] = true
-none_later (u ∷ us) = false
+module _ (d : Flat) (files : List File) where
+  -- the update: a counted act, also where nothing is to be done
+  abbrev pub updated : Queue → Queue
+  updated q = moved d.procs q (counted (with_updates d.rows q.state)) Updated q.pending
 
-abbrev pub next_update : Flat → Queue → Option Queue
-next_update d q = if none_later q.state.later then None else Some (moved d q (with_updates q.state) [] q.pending)
+  -- the lowest pending process is evaluated and its values are assigned
+  abbrev pub evaluated : Queue → Stm → Queue
+  evaluated q body = moved d.procs q (exec (scope_of d files) body q.state) q.phase (first_done q.pending)
 
-abbrev pub next_pending : Flat → Queue → Option Stm → Option Queue
-next_pending d q None = next_update d q
-next_pending d q (Some body) = Some (moved d q (exec d.rows body q.state) [] (first_done q.pending))
+  -- the next block of the wave, whole
+  abbrev pub executed : Queue → Stm → List Stm → Queue
+  executed q b bs = moved d.procs q (exec (scope_of d files) b q.state) (Wave bs) q.pending
 
-abbrev pub next_block : Flat → Queue → List Stm → Option Queue
-next_block d q [] = next_pending d q (first_pending d.procs q.pending)
-next_block d q (b ∷ bs) = Some (moved d q (exec d.rows b q.state) bs q.pending)
+  -- where no process is pending: the update, or the next wave of the tick
+  abbrev pub next_phase : Queue → Phase → List (List Stm) → Option Queue
+  next_phase q (Wave bs) ahead = None
+  next_phase q Ended ahead = Some (updated q)
+  next_phase q Updated [] = None
+  next_phase q Updated (w ∷ ws) = Some (record q { phase = Wave w; ahead = ws })
 
--- one event: the next block of the wave, whole; else the lowest pending process; else all nonblocking
--- updates; none where the run is quiet or has finished
-abbrev pub next : Flat → Queue → Option Queue
-next d q = if q.state.finished then None else next_block d q q.wave
+  abbrev pub next_pending : Queue → Option Stm → Option Queue
+  next_pending q None = next_phase q q.phase q.ahead
+  next_pending q (Some body) = Some (evaluated q body)
+
+  abbrev pub next_event : Queue → Phase → Option Queue
+  next_event q (Wave (b ∷ bs)) = Some (executed q b bs)
+  next_event q (Wave []) = Some (ended q)
+  next_event q phase = next_pending q (first_pending d.procs q.pending)
+
+  -- one event: the next block of the wave, whole, or the wave's end; behind it the lowest pending process; else the
+  -- update; behind that the next wave. None where the run is quiet or has finished
+  abbrev pub next : Queue → Option Queue
+  next q = if q.state.finished then None else next_event q q.phase

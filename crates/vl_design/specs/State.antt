@@ -1,35 +1,54 @@
 -- The state of a run.
-use Rattle.std.specs.Prelude.{ℕ, ◌+◌, ◌*◌, ◌/◌, ◌%◌, ◌^◌, Bool, List, [], ◌∷◌, slice_index, slice_set}
-use Rattle.vl_design.specs.Value.{words_of}
+use Rattle.std.specs.Prelude.{ℕ, ◌+◌, ℤ, Bool, List, [], ◌∷◌, slice_index, slice_set}
+use Rattle.vl_base.specs.declared.files.OpenFile.{OpenFile}
+use Rattle.vl_base.specs.Selects.{placed}
+use Rattle.vl_design.specs.Syntax.{Row}
+use Rattle.vl_design.specs.Width.{signal_form}
+use Rattle.vl_design.specs.Value.{Sample, words_of}
 
--- a nonblocking update: `width` bits of a word of a signal, from the bit `low` on
+-- an update: `width` bits of a word of a signal, from the bit `low` on
 pub record Update : Type 0 where
   pub signal : ℕ
   pub word : ℕ
-  pub low : ℕ
+  pub low : ℤ
   pub width : ℕ
   pub value : ℕ
 
--- each signal's words, the pending updates in the order of their assignments, the bytes printed, the
--- number of ticks begun, and whether a `$finish` was done
 pub record State : Type 0 where
+  -- each signal's words
   pub values : List (List ℕ)
+  -- the pending nonblocking updates, in the order of their assignments
   pub later : List Update
+  -- the bytes printed
   pub printed : List ℕ
+  -- the open files
+  pub table : List OpenFile
+  -- the names of the snapshots asked for in this tick, in order
+  pub saves : List (List ℕ)
+  -- the answer of the system function called last
+  pub answer : ℕ
+  -- the ticks begun
   pub ticks : ℕ
+  -- a `$finish` was done
   pub finished : Bool
+  -- how many counted acts were done
+  pub count : ℕ
 
--- x with `width` bits from `low` on replaced by v, a number of that width
-abbrev pub with_bits : ℕ → ℕ → ℕ → ℕ → ℕ
-with_bits x low width v = x / 2 ^ (low + width) * 2 ^ (low + width) + v * 2 ^ low + x % 2 ^ low
+-- what expressions read of a state
+abbrev pub sample : State → Sample
+sample s = record { values = s.values; time = s.ticks; answer = s.answer }
 
--- the values after an update
-abbrev pub updated : List (List ℕ) → Update → List (List ℕ)
-updated values u =
+-- one more counted act is done
+abbrev pub counted : State → State
+counted s = record s { count = s.count + 1 }
+
+-- the values after an update: bits that the signal doesn't have, and words that it doesn't have, are left out
+abbrev pub updated : List Row → List (List ℕ) → Update → List (List ℕ)
+updated rows values u =
     let words = words_of values u.signal in
-    slice_set values u.signal (slice_set words u.word (with_bits (slice_index words u.word) u.low u.width u.value))
+    slice_set values u.signal (slice_set words u.word (placed (signal_form rows u.signal).width (slice_index words u.word) u.low u.width u.value))
 
 -- the values after updates in order
-abbrev pub all_updated : List (List ℕ) → List Update → List (List ℕ)
-all_updated values [] = values
-all_updated values (u ∷ us) = all_updated (updated values u) us
+abbrev pub all_updated : List Row → List (List ℕ) → List Update → List (List ℕ)
+all_updated rows values [] = values
+all_updated rows values (u ∷ us) = all_updated rows (updated rows values u) us

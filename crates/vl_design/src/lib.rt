@@ -4,3 +4,4 @@
 pub mod design;
 pub mod laws;
 pub mod rows;
+pub mod sized;

@@ -1,6 +1,5 @@
 use Rattle.std.proofs.Common.{◌≡◌, suc, sym, ◌∙◌, subst, add-one}
 use Rattle.vl_design.specs.Trees.{flat_of}
-use Rattle.plain_run.specs.Machines.{state_of}
 use Rattle.plain_run.specs.Runs.{StandsAt}
 use Rattle.plain_run.proofs.Waves.{stands-zero, goes-on-zero, goes-more}
 use Rattle.plain_run.proofs.run.run.Goals as goal
@@ -8,23 +7,25 @@ use Rattle.plain_run.proofs.run.run.Goals as goal
 pub ticks-init : goal.ticks-init
 ticks-init c =
     let d = flat_of c.args.design.now in
-    let after = state_of d.rows c.settle.new.m in
-    let zero_ticks : c.settle.new.m.ticks ≡ 0 = c.in_ok-settle.ensures.ticks ∙ c.in_ok-m.ensures.ticks in
+    let budget = c.args.budget in
+    let after = c.settle.new.m in
+    let zero_ticks : after.ticks ≡ 0 = c.in_ok-settle.ensures.ticks ∙ c.in_ok-m.ensures.ticks in
     record {
       machine = c.in_ok-settle.ensures.machine;
-      stands = subst (λ n. StandsAt d n after) (sym zero_ticks) (stands-zero d _ after c.in_ok-m.ensures.start c.in_ok-settle.ensures.settles);
-      goes_on = rw zero_ticks (goes-on-zero d c.args.budget);
+      stands = subst (λ n. StandsAt d budget n after) (sym zero_ticks) (stands-zero d budget _ after c.in_ok-m.ensures.start c.in_ok-settle.ensures.settles);
+      goes_on = rw zero_ticks (goes-on-zero d budget);
     }
 
 pub ticks-preserved : goal.ticks-preserved
 ticks-preserved c =
     let d = flat_of c.args.design.now in
+    let budget = c.args.budget in
     let k = c.ticks.m.ticks in
-    let s = state_of d.rows c.ticks.m in
+    let l = c.ticks.invariant in
     let more = c.in_ok-tick.ensures.ticks in
     let next : c.tick.new.m.ticks ≡ suc k = more ∙ add-one k in
     record {
       machine = c.in_ok-tick.ensures.machine;
-      stands = subst (λ n. StandsAt d n (state_of d.rows c.tick.new.m)) (sym next) (c.in_ok-tick.ensures.boundary k c.ticks.invariant.stands);
-      goes_on = rw more (goes-more d c.args.budget k s c.ticks-test.true c.if-m-budget.true c.ticks.invariant.stands c.ticks.invariant.goes_on);
+      stands = subst (λ n. StandsAt d budget n c.tick.new.m) (sym next) (c.in_ok-tick.ensures.boundary budget k l.stands);
+      goes_on = rw more (goes-more d budget k c.ticks.m c.ticks-test.true c.if-m-budget.true l.stands l.goes_on);
     }

@@ -1,6 +1,6 @@
 use Rattle.std.proofs.Common.{◌-◌}
 use Rattle.vl_design.specs.Trees.{flat_of}
-use Rattle.plain_run.specs.Machines.{state_of, IsMachine}
+use Rattle.plain_run.specs.Machines.{IsMachine}
 use Rattle.plain_run.specs.Runs.{StandsAt, GoesOn}
 use Rattle.plain_run.proofs.run.run.Given as goal
 
@@ -10,7 +10,7 @@ invariant-ticks l =
     let d = flat_of l.design in
     record {
       machine : IsMachine d.rows l.m;
-      stands : StandsAt d l.m.ticks (state_of d.rows l.m);
+      stands : StandsAt d l.budget l.m.ticks l.m;
       goes_on : GoesOn d l.budget l.m.ticks;
     }
 

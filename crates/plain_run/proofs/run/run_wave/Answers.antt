@@ -1,21 +1,30 @@
-use Rattle.std.proofs.Common.{◌≡◌, true, false, sym, ◌∙◌}
-use Rattle.vl_design.specs.Trees.{flat_of}
-use Rattle.plain_run.specs.Machines.{state_of}
+use Rattle.std.proofs.Common.{◌≡◌, true, false, refl, sym, ◌∙◌, map}
+use Rattle.vl_design.specs.Trees.{flat_of, proc_of}
 use Rattle.plain_run.specs.Runs.{is_of}
-use Rattle.plain_run.proofs.Waves.{leads-finished, wave-passed, wave-run, sound-at}
+use Rattle.plain_run.proofs.Waves.{reaches-here, wave-passed, wave-run, plain-at, sound-at}
 use Rattle.plain_run.proofs.run.run_wave.Goals as goal
 use Rattle.plain_run.proofs.run.run_wave.Goals.{then-belongs+in_ok-exec, else-belongs}
 
-pub returns-then-m-clause-leads : goal.returns-then-m-clause-leads
-returns-then-m-clause-leads c =
-    let d = flat_of c.args.design.now in
-    leads-finished d _ _ (state_of d.rows c.loop-process.m) c.if-m.true c.loop-process.invariant.leads
+pub loop-process-init : goal.loop-process-init
+loop-process-init c = record {
+  machine = c.requires.machine;
+  ticks = refl;
+  reaches = rw c.as_slice-process-items.ensures (reaches-here _ _ _);
+}
+
+pub exec-requires-clause-plain : goal.exec-requires-clause-plain
+exec-requires-clause-plain c =
+    let xs = c.as_slice-process-items.result.now in
+    let plain = rw (← c.as_slice-process-items.ensures) at c.requires.plain.procs in
+    rw c.as_slice-then-belongs.ensures (plain-at xs c.loop-process.process-index c.process-item.result plain c.loop-process-test.true c.process-item.is).body
 
 pub exec-requires-clause-sound : goal.exec-requires-clause-sound
 exec-requires-clause-sound c =
     let xs = c.as_slice-process-items.result.now in
-    rw (c.as_slice.ensures)
-    (sound-at _ xs c.loop-process.process-index c.process-item.result (rw c.as_slice-process-items.ensures c.requires.sound) c.loop-process-test.true c.process-item.is)
+    let d = flat_of c.args.design.now in
+    let procs : d.procs ≡ map proc_of xs = rw c.as_slice-process-items.ensures refl in
+    rw (c.as_slice.ensures, c.as_slice-then-belongs.ensures)
+    (sound-at d xs c.loop-process.process-index c.process-item.result c.requires.plain c.requires.sound procs c.loop-process-test.true c.process-item.is)
 
 pub loop-process-preserved : goal.loop-process-preserved
 loop-process-preserved c =
@@ -23,22 +32,21 @@ loop-process-preserved c =
     let xs = c.as_slice-process-items.result.now in
     let i = c.loop-process.process-index in
     let x = c.process-item.result in
-    let s = state_of d.rows c.loop-process.m in
-    let l = c.loop-process.invariant.leads in
+    let l = c.loop-process.invariant in
     elim c.if-belongs.branch [
       | then-belongs+in_ok-exec w ↦
           let at : is_of c.args.wave x.kind ≡ true = sym c.belongs.ensures ∙ w.if-belongs.true in
-          let done = rw w.as_slice.ensures at w.in_ok-exec.ensures in
+          let done = rw (w.as_slice.ensures, w.as_slice-then-belongs.ensures) at w.in_ok-exec.ensures in
           record {
             machine = rw w.m-is done.machine;
-            ticks = rw w.m-is (done.ticks ∙ c.loop-process.invariant.ticks);
-            leads = rw (w.m-is, done.ok) (wave-run d (is_of c.args.wave) xs i x _ s c.requires.nets c.if-m.false c.loop-process-test.true c.process-item.is at l);
+            ticks = rw w.m-is (done.ticks ∙ l.ticks);
+            reaches = rw w.m-is (wave-run d (is_of c.args.wave) xs i x _ _ c.loop-process.m _ c.requires.plain c.if-m.false c.loop-process-test.true c.process-item.is at l.reaches done.does);
           }
       | else-belongs w ↦
           let at : is_of c.args.wave x.kind ≡ false = sym c.belongs.ensures ∙ w.if-belongs.false in
           record {
-            machine = rw w.m-is c.loop-process.invariant.machine;
-            ticks = rw w.m-is c.loop-process.invariant.ticks;
-            leads = rw w.m-is (wave-passed d (is_of c.args.wave) xs i x _ s c.loop-process-test.true c.process-item.is at l);
+            machine = rw w.m-is l.machine;
+            ticks = rw w.m-is l.ticks;
+            reaches = rw w.m-is (wave-passed d (is_of c.args.wave) xs i x _ _ c.loop-process.m c.loop-process-test.true c.process-item.is at l.reaches);
           }
     ]

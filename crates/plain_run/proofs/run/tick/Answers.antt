@@ -1,16 +1,16 @@
+use Rattle.std.proofs.Common.{ℕ, ◌+◌, suc}
+use Rattle.std.proofs.lemmas.Result.{on_ok_weaker}
+use Rattle.vl_design.specs.declared.design.ProcKind.TheVariants.{Rise}
 use Rattle.vl_design.specs.Trees.{flat_of}
-use Rattle.plain_run.specs.Machines.{state_of}
-use Rattle.plain_run.proofs.Waves.{ticked-through, ticked-finished}
+use Rattle.plain_run.specs.Runs.{wave_of, SettlesAs, StandsAt}
+use Rattle.plain_run.proofs.Waves.{ticked-once}
 use Rattle.plain_run.proofs.run.tick.Goals as goal
 
-pub returns-in_ok-settle-2-clause-boundary : goal.returns-in_ok-settle-2-clause-boundary
-returns-in_ok-settle-2-clause-boundary c = λ k at.
+pub returns-clause-boundary : goal.returns-clause-boundary
+returns-clause-boundary c =
     let d = flat_of c.args.design.now in
-    ticked-through d k (state_of d.rows c.args.m.now) (state_of d.rows c.settle.new.m) _ c.requires.going at
-    c.in_ok-settle.ensures.settles c.if-not-m.true c.in_ok-settle-2.ensures.settles
-
-pub returns-else-not-m-clause-boundary : goal.returns-else-not-m-clause-boundary
-returns-else-not-m-clause-boundary c = λ k at.
-    let d = flat_of c.args.design.now in
-    ticked-finished d k (state_of d.rows c.args.m.now) (state_of d.rows c.settle.new.m) c.requires.going at
-    c.in_ok-settle.ensures.settles c.if-not-m.false
+    let m = c.args.m.now in
+    let n = c.settle.new.m in
+    let step : SettlesAs d (wave_of d Rise) (record m { ticks = m.ticks + 1 }) n → (budget k : ℕ) → StandsAt d budget k m → StandsAt d budget (suc k) n =
+    λ h budget k at. ticked-once d budget k m n c.requires.plain c.requires.going h at in
+    on_ok_weaker _ step c.settle.ensures.settles

@@ -6,12 +6,11 @@ use Rattle.plain_run.proofs.Updates.{updates-written}
 use Rattle.plain_run.proofs.run.update.Goals as goal
 
 pub returns-clause-state : goal.returns-clause-state
-returns-clause-state c =
+returns-clause-state c = λ n.
     let m = c.args.m.now in
     let rows = map row_of c.args.design.now.signals in
     let w = updates-written rows m.later.items m.values.items c.requires.held c.requires.later in
-    let e : c.write_all.new.values.items ≡ written m.values.items m.later.items =
-    rw (← c.deref.ensures.value) c.write_all.ensures in
+    let e : c.write_all.new.values.items ≡ written m.values.items m.later.items = rw (← c.deref.ensures.value) c.write_all.ensures in
     rw (e, c.clear.ensures.items, w.0) refl
 
 pub returns-clause-machine : goal.returns-clause-machine
@@ -19,8 +18,7 @@ returns-clause-machine c =
     let m = c.args.m.now in
     let rows = map row_of c.args.design.now.signals in
     let w = updates-written rows m.later.items m.values.items c.requires.held c.requires.later in
-    let e : c.write_all.new.values.items ≡ written m.values.items m.later.items =
-    rw (← c.deref.ensures.value) c.write_all.ensures in
+    let e : c.write_all.new.values.items ≡ written m.values.items m.later.items = rw (← c.deref.ensures.value) c.write_all.ensures in
     record {
       held = rw e w.1;
       later = rw c.clear.ensures.items (All-nil (IsUpdate rows));

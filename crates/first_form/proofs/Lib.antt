@@ -1,5 +1,11 @@
-pub mod Accepted
-pub mod Public
-pub mod Soundness
-pub mod Spelled
+pub mod Finding
+pub mod Inversions
+pub mod Operators
+pub mod Lists
 pub mod Steps
+pub mod Displays
+pub mod Accepted
+pub mod Unique
+pub mod Soundness
+pub mod Public
+pub mod Examples

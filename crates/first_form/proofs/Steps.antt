@@ -1,17 +1,11 @@
 -- The turns of the loops.
-use Rattle.std.proofs.Common.{◌≡◌, ◌<◌, ◌≤◌, ◌+◌, ℕ, zero, suc, Bool, true, false, cond, not, ◌||◌, ◌&&◌, leb, List, [], ◌∷◌, ◌++◌, length, map, drop, get_or, Option, Some, None, Bor, option_map, refl, sym, ap, ◌∙◌, append_assoc, append-nil}
+use Rattle.std.proofs.Common.{◌≡◌, ◌<◌, ◌≤◌, ◌+◌, ℕ, Bool, true, false, cond, not, ◌||◌, List, [], ◌∷◌, ◌++◌, length, map, drop, get_or, Option, Some, None, Bor, option_map, refl, sym, ap, ◌∙◌, append_assoc, append-nil}
 use Rattle.std.specs.List.{position, prefix_len, list_any}
 use Rattle.std.proofs.lemmas.List.{at_drop_more, at_drop_all, length-map, map_push}
 use Rattle.std.specs.Str.{bytes_eq}
-use Rattle.std.proofs.lemmas.Option.{same_Some}
-use Rattle.vl_design.specs.Syntax.{Then, Row, Stm, Flat}
-use Rattle.vl_design.specs.declared.design.ProcKind.TheVariants.{Rise}
-use Rattle.first_form.specs.declared.source.Declared.{Declared}
-use Rattle.first_form.specs.Form.{Source}
+use Rattle.first_form.specs.declared.form.Declared.{Declared}
 use Rattle.first_form.specs.Seen.{register_of}
-use Rattle.vl_design.specs.Trees.{stm_of, then_of}
-use Rattle.vl_design.specs.declared.design.Stmt.{Stmt}
-use Rattle.first_form.specs.Building.{each, all_new, but_clock, block_of, row_in, stm_in, flat_in, clock_row}
+use Rattle.first_form.specs.Building.{each, all_new}
 
 each_front : {A B : Type 0} (f : A → Option B) (ys : List B) (x : A) (y : B) (xs : List A) (o : Option (List B)) → o ≡ each f xs → f x ≡ Some y → option_map (λ zs. (ys ++ y ∷ []) ++ zs) o ≡ option_map (λ zs. ys ++ zs) (each f (x ∷ xs))
 unfolding each
@@ -71,10 +65,6 @@ pub list_any-map : {X Y : Type 0} (p : Y → Bool) (f : X → Y) (xs : List X) �
 list_any-map p f [] = refl
 list_any-map p f (x ∷ xs) = ap (λ b. p (f x) || b) (list_any-map p f xs)
 
-pub but_clock-some : (k : ℕ) → (k ≡ 0 → ⊥) → Some k ≡ but_clock (Some k)
-but_clock-some zero h = absurd (h refl)
-but_clock-some (suc k) h = refl
-
 -- one more name
 pub name_turn : (known : List (List ℕ)) (n : List ℕ) (ns : List (List ℕ)) → list_any (bytes_eq n) known ≡ false → all_new (known ++ n ∷ []) ns ≡ all_new known (n ∷ ns)
 unfolding all_new
@@ -83,11 +73,6 @@ name_turn known n ns h = rw h refl
 pub name_stop : (known : List (List ℕ)) (n : List ℕ) (ns : List (List ℕ)) → list_any (bytes_eq n) known ≡ true → None ≡ all_new known (n ∷ ns)
 unfolding all_new
 name_stop known n ns h = rw h refl
-
--- statements one after another
-pub then_of-block : (xs : List Stmt) → then_of xs ≡ block_of (map stm_of xs)
-then_of-block [] = refl
-then_of-block (x ∷ xs) = ap (Then (stm_of x)) (then_of-block xs)
 
 -- the names of registers
 abbrev pub names : List Declared → List (List ℕ)
@@ -132,17 +117,3 @@ names_stop keys xs i x added whole l e a wrong before =
     ∙ ap (λ y. all_new (nows keys) (y.name.text.now ∷ ns)) e
     ∙ sym (at_drop_more (λ ys. all_new (nows keys) (names ys)) xs i x l)
     ∙ before
-
--- the whole design
-pub flat_is : (s : Source) (all : List (List ℕ)) (o : Option (List Row)) (q : Option (List Stm)) (rows : List Row) (stm : Stm) → (bytes_eq s.edge s.clock && leb (length s.registers) 16384) ≡ true
-    → Some all ≡ all_new (s.clock ∷ []) (map (λ r. r.name) s.registers) → o ≡ each (row_in (length s.name)) s.registers → Some rows ≡ option_map (λ rs. clock_row ∷ rs) o
-    → q ≡ each (stm_in all) s.body → Some stm ≡ option_map block_of q
-    → (let d : Flat = record { rows = rows; procs = record { kind = Rise; body = stm } ∷ [] } in Some d ≡ flat_in s)
-unfolding flat_in
-flat_is s all None q rows stm g n e r f b = absurd cc
-flat_is s all (Some rs) None rows stm g n e r f b = absurd cc
-flat_is s all (Some rs) (Some stms) rows stm g n e r f b =
-    rw (g, ← n, ← e, ← f) (ap Some (pair rows (clock_row ∷ rs) stm (block_of stms) (same_Some _ _ r) (same_Some _ _ b)))
-  where
-    pair : (rows rs : List Row) (stm t : Stm) → rows ≡ rs → stm ≡ t → (let flat : List Row → Stm → Flat = λ x y. record { rows = x; procs = record { kind = Rise; body = y } ∷ [] } in flat rows stm ≡ flat rs t)
-    pair rows rs stm t e f = rw (e, f) refl

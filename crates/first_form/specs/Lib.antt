@@ -1,4 +1,4 @@
 pub mod Building
+pub mod Examples
 pub mod Form
-pub mod Reading
 pub mod Seen

@@ -1,12 +1,15 @@
-//! The first form of source that runs: one module with one clocked block, from its tokens.
+//! The first form of source that runs: one module with one clocked block, from the tree of a source.
 #![tactic(auto)]
 
+mod alone;
 mod build;
 pub mod design;
+mod expressions;
+mod form;
 mod names;
-mod read;
+mod recognise;
+pub mod rows;
 mod signals;
-mod source;
 mod statements;
 #[cfg(test)]
 mod tests;

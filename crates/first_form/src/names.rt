@@ -1,10 +1,11 @@
 //! The names of a source, by their numbers.
 
 ghost use Rattle.std.specs.Prelude.{◌≡◌, ◌≤◌, ◌+◌, ◌∷◌, [], length, map, option_map, IfOk, IfSome};
+ghost use Rattle.first_form.specs.Form.{IsRegister};
 ghost use Rattle.first_form.specs.Building as b;
 ghost use Rattle.first_form.specs.Seen as s;
 
-use crate::source::{Declared, Name};
+use crate::form::{Declared, Name};
 use indexmap::IndexSet;
 use std::alloc::{AllocError, Global};
 
@@ -30,10 +31,9 @@ pub fn names_of<'a>(
 }
 
 /// The number of a register.
-#[tactic(auto, unfolding(crate::specs::Building::number_of))]
 pub fn number_of(names: &IndexSet<&[u8]>, name: &[u8]) -> Option<u32>
     requires { length names.now.keys ≤ 16385 }
-    ensures { result ≡ b.number_of (s.texts names.now) name.now }
+    ensures { s.Finds (λ k. k) (IsRegister (s.texts names.now) name.now) result }
 {
     let index = names.get_index_of(name)?;
     if index == 0 {

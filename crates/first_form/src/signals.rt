@@ -5,7 +5,7 @@ ghost use Rattle.vl_design.specs.Trees.{row_of};
 ghost use Rattle.first_form.specs.Building as b;
 ghost use Rattle.first_form.specs.Seen as s;
 
-use crate::source::{Declared, Name};
+use crate::form::{Declared, Name};
 use std::alloc::{AllocError, Global};
 use vl_base::items::{Items, Text};
 use vl_design::design::{SigKind, Signal};
@@ -22,7 +22,7 @@ fn path_of(alloc: Global, top: &[u8], name: &[u8]) -> Result<Text, AllocError>
 
 /// The clock.
 fn clock_of(alloc: Global, top: &[u8], clock: Name<'_>) -> Result<Signal, AllocError>
-    ensures { IfOk result (λ x. row_of x ≡ b.clock_row) }
+    ensures { IfOk result (λ x. row_of x ≡ b.clock_row top.now clock.entry.text.now) }
 {
     Ok(Signal {
         name: path_of(alloc, top, clock.text)?,
@@ -31,6 +31,8 @@ fn clock_of(alloc: Global, top: &[u8], clock: Name<'_>) -> Result<Signal, AllocE
         signed: false,
         left: 0,
         right: 0,
+        first: 0,
+        last: 0,
     })
 }
 
@@ -41,7 +43,7 @@ fn signal_of(
     top: &[u8],
     register: &Declared<'_>,
 ) -> Result<Option<Signal>, AllocError>
-    ensures { IfOk result (λ o. option_map row_of o ≡ b.row_in (length top.now) (s.register_of register.now)) }
+    ensures { IfOk result (λ o. option_map row_of o ≡ b.row_in top.now (s.register_of register.now)) }
 {
     if register.top >= 128 || top.len() + 1 + register.name.text.len() > 255 {
         return Ok(None);
@@ -53,6 +55,8 @@ fn signal_of(
         signed: false,
         left: register.top as i32,
         right: 0,
+        first: 0,
+        last: 0,
     }))
 }
 
@@ -64,7 +68,7 @@ pub fn signals_of(
     registers: &[Declared<'_>],
 ) -> Result<Option<Vec<Signal>>, AllocError>
     ensures { IfOk result (λ o. option_map (λ signals. map row_of signals.items) o
-        ≡ option_map (λ rows. b.clock_row ∷ rows) (b.each (b.row_in (length top.now)) (map s.register_of registers.now))) }
+        ≡ option_map (λ rows. b.clock_row top.now clock.entry.text.now ∷ rows) (b.each (b.row_in top.now) (map s.register_of registers.now))) }
 {
     let mut signals = Vec::new(alloc);
     signals.push(clock_of(alloc, top, clock)?)?;

@@ -1,20 +1,26 @@
 //! The statements of a design.
 
-ghost use Rattle.std.specs.Prelude.{◌≡◌, ◌≤◌, ◌++◌, length, map, option_map, IfOk, codes};
-ghost use Rattle.vl_design.specs.Trees.{exp_of, stm_of};
-ghost use Rattle.vl_design.specs.Syntax.{Bin, Finish, Sig, Sys};
-ghost use Rattle.vl_base.specs.declared.bits.BinOp.TheVariants.{Add as Plus};
-ghost use Rattle.first_form.specs.Building as b;
+ghost use Rattle.std.specs.Prelude.{◌≡◌, ◌≤◌, ◌↔◌, ℕ, true, List, [], ◌∷◌, length, IfOk, IsTrue, codes};
+ghost use Rattle.vl_base.specs.declared.place.Place.{Place as Where};
+ghost use Rattle.vl_base.specs.Display.{LeastDecimal};
+ghost use Rattle.vl_design.specs.Syntax.{Print, Finish, NoExps, Shown, Sig, Sys};
+ghost use Rattle.vl_design.specs.Trees.{stm_of};
+ghost use Rattle.vl_grammar.specs.declared.tree.Primary.TheVariants as x;
+ghost use Rattle.vl_grammar.specs.declared.tree.SystemCall.{out-SystemCall};
+ghost use Rattle.vl_source.specs.declared.tree.Statement.TheVariants as t;
+ghost use Rattle.first_form.specs.Form.{IsStm, IsBlock, IsArgument, IsDisplay, IsFinish};
 ghost use Rattle.first_form.specs.Seen as s;
 
-use crate::names::number_of;
-use crate::source::{Name, Step, Term};
+use crate::alone::alone;
+use crate::expressions::{expression, variable_of};
 use indexmap::IndexSet;
 use std::alloc::{AllocError, Global};
-use vl_base::bits::{BinOp, Bits};
 use vl_base::items::{Items, Text};
 use vl_base::place::Place;
 use vl_design::design::{Expr, ExprNode, Stmt, StmtNode, SysArg, SysCall, Target, TargetNode};
+use vl_grammar::parts::Boxed;
+use vl_grammar::tree::{Expression, Name, Primary, SystemArgument, SystemCall};
+use vl_source::tree::{AssignMark, Lvalue, Statement};
 
 /// A text of these bytes.
 pub fn text_of(alloc: Global, bytes: &[u8]) -> Result<Text, AllocError>
@@ -23,84 +29,72 @@ pub fn text_of(alloc: Global, bytes: &[u8]) -> Result<Text, AllocError>
     Ok(Items::from_vec(Vec::from_slice(alloc, bytes)?))
 }
 
-/// A term of a sum.
-#[tactic(auto, unfolding(crate::specs::Building::operand_in))]
-fn term_of(names: &IndexSet<&[u8]>, term: &Term<'_>) -> Option<Expr>
-    requires { length names.now.keys ≤ 16385 }
-    ensures { option_map exp_of result ≡ b.operand_in (s.texts names.now) (s.operand_of term.now) }
+/// The primary that an argument is, without operators.
+fn argument(argument: &SystemArgument) -> Option<&Primary>
+    ensures { s.Finds (λ y. y.now) (IsArgument argument.now) result }
 {
-    match term {
-        Term::Named(name) => {
-            let number = number_of(names, name.text)?;
-            Some(Expr {
-                place: name.place,
-                node: ExprNode::Sig(number),
-            })
-        }
-        Term::Plain(place, value) => {
-            if *value >= 1 << 31 {
-                return None;
-            }
-            let bits = Bits {
-                value: *value,
-                width: 32,
-            };
-            Some(Expr {
-                place: *place,
-                node: ExprNode::Num(bits, true),
-            })
-        }
-    }
+    alone(argument.argument.as_ref()?)
 }
 
-/// The sum of two.
-fn added(alloc: Global, a: Expr, b: Expr) -> Result<Expr, AllocError>
-    ensures { IfOk result (λ e. exp_of e ≡ Bin Plus (exp_of a) (exp_of b)) }
+/// Whether an argument is the format `"%0d"`.
+fn is_format(format: &SystemArgument) -> bool
+    ensures { IsTrue result ↔ ((at : Where) × IsArgument format.now (x.Str at (codes "%0d"))) }
 {
-    let place = a.place;
-    Ok(Expr {
-        place,
-        node: ExprNode::Bin(BinOp::Add, Box::new(alloc, a)?, Box::new(alloc, b)?),
-    })
-}
-
-/// A sum of a first term and others, from the left.
-#[tactic(auto, unfolding(crate::specs::Building::sum_in))]
-fn sum_of(
-    alloc: Global,
-    names: &IndexSet<&[u8]>,
-    first: Expr,
-    others: &[Term<'_>],
-) -> Result<Option<Expr>, AllocError>
-    requires { length names.now.keys ≤ 16385 }
-    ensures { IfOk result (λ o. option_map exp_of o ≡ b.sum_in (s.texts names.now) (exp_of first) (map s.operand_of others.now)) }
-{
-    let mut sum = first;
-    for other in others {
-        let Some(term) = term_of(names, other) else {
-            return Ok(None);
-        };
-        sum = added(alloc, sum, term)?;
-    }
-    Ok(Some(sum))
-}
-
-/// `$display("%0d", NAME);`
-#[tactic(auto, unfolding(crate::specs::Building::show_in))]
-fn show_of(
-    alloc: Global,
-    names: &IndexSet<&[u8]>,
-    place: Place,
-    name: Name<'_>,
-) -> Result<Option<Stmt>, AllocError>
-    requires { length names.now.keys ≤ 16385 }
-    ensures { IfOk result (λ o. option_map stm_of o ≡ b.show_in (s.texts names.now) name.entry.text.now) }
-{
-    let Some(number) = number_of(names, name.text) else {
-        return Ok(None);
+    let Some(Primary::Str(_, text)) = argument(format) else {
+        return false;
     };
+    text.as_slice() == b"%0d".as_slice()
+}
+
+/// The name that an argument is, without operators.
+fn name_in(shown: &SystemArgument) -> Option<&Name>
+    ensures { s.Finds (λ n. n.now) (s.IsName shown.now) result }
+{
+    match argument(shown)? {
+        Primary::Name(name) => Some(name),
+        _ => None,
+    }
+}
+
+/// Whether a call is of this system task.
+fn is_named(call: &SystemCall, name: &[u8]) -> bool
+    ensures { IsTrue result ↔ ((out-SystemCall call.now).name ≡ name.now) }
+{
+    call.name.as_slice() == name
+}
+
+/// What `$display("%0d", NAME)` shows: the number of a register, and where its name stands.
+fn shown_by(names: &IndexSet<&[u8]>, call: &SystemCall) -> Option<(u32, Place)>
+    requires { length names.now.keys ≤ 16385 }
+    ensures { s.Finds (λ x. x.0) (IsDisplay (s.texts names.now) call.now) result }
+{
+    if !is_named(call, b"$display".as_slice()) {
+        return None;
+    }
+    let [format, shown] = call.arguments.as_ref()?.as_slice() else {
+        return None;
+    };
+    if !is_format(format) {
+        return None;
+    }
+    let name = name_in(shown)?;
+    let number = variable_of(names, name)?;
+    Some((number, name.place))
+}
+
+/// Whether a call is `$finish`.
+fn is_finish(call: &SystemCall) -> bool
+    ensures { IsTrue result ↔ IsFinish call.now }
+{
+    is_named(call, b"$finish".as_slice()) && call.arguments.is_none()
+}
+
+/// The display of a register.
+fn display_of(alloc: Global, place: Place, number: u32, shown: Place) -> Result<Stmt, AllocError>
+    ensures { (path : List ℕ) → IfOk result (λ a. stm_of path a ≡ Sys (Print (Shown LeastDecimal (Sig number) ∷ []) true)) }
+{
     let shown = Expr {
-        place: name.place,
+        place: shown,
         node: ExprNode::Sig(number),
     };
     let mut args = Vec::new(alloc);
@@ -110,15 +104,15 @@ fn show_of(
         name: text_of(alloc, b"$display")?,
         args,
     };
-    Ok(Some(Stmt {
+    Ok(Stmt {
         place,
         node: StmtNode::Sys(call),
-    }))
+    })
 }
 
 /// `$finish;`
 fn finish_of(alloc: Global, place: Place) -> Result<Stmt, AllocError>
-    ensures { IfOk result (λ s. stm_of s ≡ Sys Finish) }
+    ensures { (path : List ℕ) → IfOk result (λ a. stm_of path a ≡ Sys (Finish NoExps)) }
 {
     let call = SysCall {
         name: text_of(alloc, b"$finish")?,
@@ -130,28 +124,44 @@ fn finish_of(alloc: Global, place: Place) -> Result<Stmt, AllocError>
     })
 }
 
-/// `NAME <= A + B + ..;`
-#[tactic(auto, unfolding(crate::specs::Building::assign_in))]
-fn assign_of(
+/// The design of a call of a system task.
+fn task(
     alloc: Global,
     names: &IndexSet<&[u8]>,
-    name: Name<'_>,
-    first: &Term<'_>,
-    others: &[Term<'_>],
+    place: Place,
+    call: &SystemCall,
 ) -> Result<Option<Stmt>, AllocError>
     requires { length names.now.keys ≤ 16385 }
-    ensures { IfOk result (λ o. option_map stm_of o ≡ b.assign_in (s.texts names.now) name.entry.text.now (s.operand_of first.now) (map s.operand_of others.now)) }
+    ensures { (path : List ℕ) (at : Where) → IfOk result (s.Finds (stm_of path) (IsStm (s.texts names.now) (t.System at call.now))) }
 {
-    if others.len() > 499 {
-        return Ok(None);
+    if is_finish(call) {
+        return Ok(Some(finish_of(alloc, place)?));
     }
-    let Some(number) = number_of(names, name.text) else {
+    let Some((number, shown)) = shown_by(names, call) else {
         return Ok(None);
     };
-    let Some(first) = term_of(names, first) else {
+    Ok(Some(display_of(alloc, place, number, shown)?))
+}
+
+/// The design of an assignment: `NAME <= E;`.
+fn assignment(
+    alloc: Global,
+    names: &IndexSet<&[u8]>,
+    place: Place,
+    target: &Lvalue,
+    mark: AssignMark,
+    value: &Expression,
+) -> Result<Option<Stmt>, AllocError>
+    requires { length names.now.keys ≤ 16385 }
+    ensures { (path : List ℕ) (at : Where) → IfOk result (s.Finds (stm_of path) (IsStm (s.texts names.now) (t.Assign at target.now mark value.now))) }
+{
+    let (Lvalue::Name(name), AssignMark::Nonblocking) = (target, mark) else {
         return Ok(None);
     };
-    let Some(sum) = sum_of(alloc, names, first, others)? else {
+    let Some(number) = variable_of(names, name) else {
+        return Ok(None);
+    };
+    let Some(source) = expression(alloc, names, value)? else {
         return Ok(None);
     };
     let target = Target {
@@ -159,61 +169,87 @@ fn assign_of(
         node: TargetNode::Sig(number),
     };
     Ok(Some(Stmt {
-        place: name.place,
-        node: StmtNode::Later(target, sum),
+        place,
+        node: StmtNode::Later(target, source),
     }))
 }
 
-/// A statement.
-fn stmt_of(
-    alloc: Global,
-    names: &IndexSet<&[u8]>,
-    step: &Step<'_>,
-) -> Result<Option<Stmt>, AllocError>
-    requires { length names.now.keys ≤ 16385 }
-    ensures { IfOk result (λ o. option_map stm_of o ≡ b.stm_in (s.texts names.now) (s.action_of step.now)) }
-{
-    match step {
-        Step::Show(place, name) => show_of(alloc, names, *place, *name),
-        Step::Finish(place) => Ok(Some(finish_of(alloc, *place)?)),
-        Step::Assign(name, first, others) => assign_of(alloc, names, *name, first, others),
-    }
-}
-
-/// The statements of a block.
-fn stmts_of(
-    alloc: Global,
-    names: &IndexSet<&[u8]>,
-    steps: &[Step<'_>],
-) -> Result<Option<Vec<Stmt>>, AllocError>
-    requires { length names.now.keys ≤ 16385 }
-    ensures { IfOk result (λ o. option_map (λ stmts. map stm_of stmts.items) o ≡ b.each (b.stm_in (s.texts names.now)) (map s.action_of steps.now)) }
-{
-    let mut stmts = Vec::new(alloc);
-    for step in steps {
-        let Some(stmt) = stmt_of(alloc, names, step)? else {
-            return Ok(None);
-        };
-        stmts.push(stmt)?;
-    }
-    Ok(Some(stmts))
-}
-
-/// A block of statements.
-pub fn block_of(
+/// The design of the second branch of a condition.
+#[cycle(statement)]
+fn branch(
     alloc: Global,
     names: &IndexSet<&[u8]>,
     place: Place,
-    steps: &[Step<'_>],
+    branch: &Option<Boxed<Statement>>,
 ) -> Result<Option<Stmt>, AllocError>
     requires { length names.now.keys ≤ 16385 }
-    ensures { IfOk result (λ o. option_map stm_of o ≡ option_map b.block_of (b.each (b.stm_in (s.texts names.now)) (map s.action_of steps.now))) }
+    ensures { (path : List ℕ) → IfOk result (s.Finds (stm_of path) (s.IsBranch (s.texts names.now) branch.now)) }
 {
-    let Some(stmts) = stmts_of(alloc, names, steps)? else {
-        return Ok(None);
-    };
+    match branch {
+        Some(branch) => statement(alloc, names, branch.get()),
+        None => Ok(Some(Stmt {
+            place,
+            node: StmtNode::Nop,
+        })),
+    }
+}
+
+/// The design of a statement.
+#[cycle(statement)]
+fn statement(
+    alloc: Global,
+    names: &IndexSet<&[u8]>,
+    tree: &Statement,
+) -> Result<Option<Stmt>, AllocError>
+    requires { length names.now.keys ≤ 16385 }
+    ensures { (path : List ℕ) → IfOk result (s.Finds (stm_of path) (IsStm (s.texts names.now) tree.now)) }
+{
+    match tree {
+        Statement::Block(place, statements) => block(alloc, names, *place, statements.as_slice()),
+        Statement::If(place, test, first, second) => {
+            let Some(test) = expression(alloc, names, test)? else {
+                return Ok(None);
+            };
+            let Some(first) = statement(alloc, names, first.get())? else {
+                return Ok(None);
+            };
+            let Some(second) = branch(alloc, names, *place, second)? else {
+                return Ok(None);
+            };
+            let node = StmtNode::If(test, Box::new(alloc, first)?, Box::new(alloc, second)?);
+            Ok(Some(Stmt {
+                place: *place,
+                node,
+            }))
+        }
+        Statement::Assign(place, target, mark, value) => {
+            assignment(alloc, names, *place, target, *mark, value)
+        }
+        Statement::System(place, call) => task(alloc, names, *place, call),
+        _ => Ok(None),
+    }
+}
+
+/// The design of statements one after another.
+#[cycle(statement)]
+pub fn block(
+    alloc: Global,
+    names: &IndexSet<&[u8]>,
+    place: Place,
+    statements: &[Statement],
+) -> Result<Option<Stmt>, AllocError>
+    requires { length names.now.keys ≤ 16385 }
+    ensures { (path : List ℕ) → IfOk result (s.Finds (stm_of path) (IsBlock (s.texts names.now) statements.now)) }
+{
+    let mut list = Vec::new(alloc);
+    for tree in statements {
+        let Some(stmt) = statement(alloc, names, tree)? else {
+            return Ok(None);
+        };
+        list.push(stmt)?;
+    }
     Ok(Some(Stmt {
         place,
-        node: StmtNode::Seq(stmts),
+        node: StmtNode::Seq(list),
     }))
 }

@@ -1,4 +1,4 @@
-//! Tests.
+//! Places of designs, which no contract says.
 
 use crate::design::design;
 use std::alloc::{AllocError, Global};
@@ -6,174 +6,237 @@ use std::test::Fail;
 use vl_base::items::{Items, Text};
 use vl_base::number::Number;
 use vl_base::place::Place;
-use vl_design::design::Design;
-use vl_tree::token::{Token, TokenKind};
+use vl_design::design::{Expr, ExprNode, Stmt, StmtNode};
+use vl_grammar::parts::{Boxed, Parts};
+use vl_grammar::tree::{
+    Binary, BinaryOperator, Expression, Identifier, Link, Name, Primary, Unary,
+};
+use vl_source::tree::{
+    AssignMark, Direction, Edge, Event, Item, Lvalue, Module, PortDeclaration, Ports, Range,
+    Source, Statement, Trigger, VariableType,
+};
 
-/// A token, shortly.
-#[derive(Clone, Copy)]
-enum Short {
-    /// A reserved word.
-    Word(&'static [u8]),
-    /// A name.
-    Name(&'static [u8]),
-    /// A system name.
-    System(&'static [u8]),
-    /// A string.
-    Str(&'static [u8]),
-    /// A mark.
-    Mark(&'static [u8]),
-    /// A plain decimal.
-    Plain(u128),
+/// A place in the first line.
+fn at(column: u32) -> Place {
+    Place { line: 1, column }
 }
-
-use Short::{Mark, Plain, Str, System, Word};
-
-/// A counter of 8 bits that is shown at each tick.
-const COUNTER: [Short; 38] = [
-    Word(b"module"),
-    Short::Name(b"top"),
-    Mark(b"("),
-    Word(b"input"),
-    Word(b"wire"),
-    Short::Name(b"clk"),
-    Mark(b")"),
-    Mark(b";"),
-    Word(b"reg"),
-    Mark(b"["),
-    Plain(7),
-    Mark(b":"),
-    Plain(0),
-    Mark(b"]"),
-    Short::Name(b"n"),
-    Mark(b";"),
-    Word(b"always"),
-    Mark(b"@"),
-    Mark(b"("),
-    Word(b"posedge"),
-    Short::Name(b"clk"),
-    Mark(b")"),
-    Word(b"begin"),
-    System(b"$display"),
-    Mark(b"("),
-    Str(b"%0d"),
-    Mark(b","),
-    Short::Name(b"n"),
-    Mark(b")"),
-    Mark(b";"),
-    Short::Name(b"n"),
-    Mark(b"<="),
-    Short::Name(b"n"),
-    Mark(b"+"),
-    Plain(1),
-    Mark(b";"),
-    Word(b"end"),
-    Word(b"endmodule"),
-];
 
 fn text(alloc: Global, bytes: &[u8]) -> Result<Text, AllocError> {
     Ok(Items::from_vec(Vec::from_slice(alloc, bytes)?))
 }
 
-fn kind_of(alloc: Global, short: Short) -> Result<TokenKind, AllocError> {
-    Ok(match short {
-        Word(bytes) => TokenKind::Keyword(text(alloc, bytes)?),
-        Short::Name(bytes) => TokenKind::Name(text(alloc, bytes)?),
-        System(bytes) => TokenKind::System(text(alloc, bytes)?),
-        Str(bytes) => TokenKind::Str(text(alloc, bytes)?),
-        Mark(bytes) => TokenKind::Mark(text(alloc, bytes)?),
-        Plain(value) => TokenKind::Number(Number {
+fn identifier(alloc: Global, column: u32, bytes: &[u8]) -> Result<Identifier, AllocError> {
+    Ok(Identifier {
+        place: at(column),
+        name: text(alloc, bytes)?,
+    })
+}
+
+fn name(alloc: Global, column: u32, bytes: &[u8]) -> Result<Name, AllocError> {
+    Ok(Name {
+        place: at(column),
+        identifier: identifier(alloc, column, bytes)?,
+        selects: Parts::new(alloc),
+    })
+}
+
+/// A plain decimal.
+fn plain(column: u32, value: u128) -> Primary {
+    Primary::Number(
+        at(column),
+        Number {
             value,
             care: 0xffff_ffff,
             width: 32,
             sized: false,
             signed: true,
-        }),
+        },
+    )
+}
+
+fn operand(alloc: Global, column: u32, primary: Primary) -> Result<Unary, AllocError> {
+    Ok(Unary {
+        place: at(column),
+        operators: Parts::new(alloc),
+        primary: Boxed::new(alloc, primary)?,
     })
 }
 
-fn add(alloc: Global, tokens: &mut Vec<Token>, shorts: &[Short]) -> Result<(), AllocError> {
-    for short in shorts {
-        let place = Place { line: 1, column: 1 };
-        let kind = kind_of(alloc, *short)?;
-        tokens.push(Token { place, kind })?;
+fn expression(
+    alloc: Global,
+    column: u32,
+    first: Primary,
+    links: Vec<Link>,
+) -> Result<Expression, AllocError> {
+    let binary = Binary {
+        place: at(column),
+        first: operand(alloc, column, first)?,
+        links: Parts::from_vec(links),
+    };
+    Ok(Expression {
+        place: at(column),
+        binary: Boxed::new(alloc, binary)?,
+        choice: None,
+    })
+}
+
+fn alone(alloc: Global, column: u32, primary: Primary) -> Result<Expression, AllocError> {
+    expression(alloc, column, primary, Vec::new(alloc))
+}
+
+/// `(n) + 1 == 7` at a column.
+fn condition(alloc: Global, column: u32) -> Result<Expression, AllocError> {
+    let inner = alone(
+        alloc,
+        column + 1,
+        Primary::Name(name(alloc, column + 1, b"n")?),
+    )?;
+    let first = Primary::Parenthesized(at(column), Boxed::new(alloc, inner)?);
+    let mut links = Vec::new(alloc);
+    links.push(Link {
+        operator: BinaryOperator::Add,
+        operand: operand(alloc, column + 6, plain(column + 6, 1))?,
+    })?;
+    links.push(Link {
+        operator: BinaryOperator::Equal,
+        operand: operand(alloc, column + 11, plain(column + 11, 7))?,
+    })?;
+    expression(alloc, column, first, links)
+}
+
+/// `if ((n) + 1 == 7) n <= 2;`
+fn statement(alloc: Global) -> Result<Statement, AllocError> {
+    let assign = Statement::Assign(
+        at(80),
+        Lvalue::Name(name(alloc, 80, b"n")?),
+        AssignMark::Nonblocking,
+        alone(alloc, 85, plain(85, 2))?,
+    );
+    Ok(Statement::If(
+        at(62),
+        condition(alloc, 66)?,
+        Boxed::new(alloc, assign)?,
+        None,
+    ))
+}
+
+/// `reg [7:0] n;`
+fn register(alloc: Global) -> Result<Item, AllocError> {
+    let range = Range {
+        place: at(29),
+        left: alone(alloc, 30, plain(30, 7))?,
+        right: alone(alloc, 32, plain(32, 0))?,
+    };
+    let variable = VariableType {
+        place: at(35),
+        name: identifier(alloc, 35, b"n")?,
+        more: None,
+    };
+    Ok(Item::Reg(
+        at(25),
+        false,
+        Some(range),
+        Parts::from_vec(vec![in alloc; variable]?),
+    ))
+}
+
+/// `always @(posedge k) begin if ((n) + 1 == 7) n <= 2; end`
+fn always(alloc: Global) -> Result<Item, AllocError> {
+    let event = Event {
+        place: at(46),
+        edge: Some(Edge::Rising),
+        name: identifier(alloc, 54, b"k")?,
+    };
+    let block = Statement::Block(at(57), Parts::from_vec(vec![in alloc; statement(alloc)?]?));
+    Ok(Item::Always(
+        at(38),
+        Trigger::Events(Parts::from_vec(vec![in alloc; event]?)),
+        block,
+    ))
+}
+
+/// A module of the form; `input` says whether its port is one.
+fn source(alloc: Global, input: bool) -> Result<Source, AllocError> {
+    let direction = if input {
+        Direction::Input
+    } else {
+        Direction::Output
+    };
+    let names = Parts::from_vec(vec![in alloc; identifier(alloc, 21, b"k")?]?);
+    let port = PortDeclaration::Net(at(10), direction, true, false, None, names);
+    let module = Module {
+        place: at(1),
+        name: identifier(alloc, 8, b"m")?,
+        parameters: None,
+        ports: Some(Ports::Declarations(Parts::from_vec(vec![in alloc; port]?))),
+        items: Parts::from_vec(vec![in alloc; register(alloc)?, always(alloc)?]?),
+    };
+    Ok(Source {
+        place: at(1),
+        modules: Parts::from_vec(vec![in alloc; module]?),
+    })
+}
+
+/// The columns of an expression, each operator before its operands.
+fn columns(e: &Expr, found: &mut Vec<u32>) -> Result<(), AllocError> {
+    found.push(e.place.column)?;
+    if let ExprNode::Bin(_, a, b) = &e.node {
+        columns(a, found)?;
+        columns(b, found)?;
     }
     Ok(())
 }
 
-fn design_of(alloc: Global, shorts: &[Short]) -> Result<Option<Design>, AllocError> {
-    let mut tokens = Vec::new(alloc);
-    add(alloc, &mut tokens, shorts)?;
-    design(alloc, &tokens)
-}
-
-/// Whether the counter with one token changed has a design.
-fn passes(alloc: Global, index: usize, short: Short) -> Result<bool, AllocError> {
-    let mut shorts = COUNTER;
-    if index < 38 {
-        shorts[index] = short;
+/// The columns of a statement, each before its parts.
+fn statement_columns(s: &Stmt, found: &mut Vec<u32>) -> Result<(), AllocError> {
+    found.push(s.place.column)?;
+    match &s.node {
+        StmtNode::Seq(list) => {
+            for item in list {
+                statement_columns(item, found)?;
+            }
+        }
+        StmtNode::If(test, first, second) => {
+            columns(test, found)?;
+            statement_columns(first, found)?;
+            statement_columns(second, found)?;
+        }
+        StmtNode::Later(target, value) => {
+            found.push(target.place.column)?;
+            columns(value, found)?;
+        }
+        _ => {}
     }
-    Ok(design_of(alloc, shorts.as_slice())?.is_some())
+    Ok(())
 }
 
 #[test]
-fn the_counter_has_a_design(rt: HostRuntime) -> Result<(), Fail> {
-    let found = design_of(rt.alloc(), COUNTER.as_slice())?.ok_or("no design")?;
-    assert_eq!(rt; found.top.as_slice(), b"top".as_slice());
+fn parts_have_the_places_of_their_first_tokens(rt: HostRuntime) -> Result<(), Fail> {
+    let alloc = rt.alloc();
+    let found = design(alloc, &source(alloc, true)?)?.ok_or("no design")?;
+    assert_eq!(rt; found.top.as_slice(), b"m".as_slice());
     let signals = found.signals.as_slice();
     assert_eq!(rt; signals.len(), 2);
-    assert_eq!(rt; signals[0].name.as_slice(), b"top.clk".as_slice());
-    assert_eq!(rt; signals[1].name.as_slice(), b"top.n".as_slice());
-    assert_eq!(rt; signals[1].left, 7);
+    assert_eq!(rt; signals[0].name.as_slice(), b"m.k".as_slice());
+    assert_eq!(rt; signals[0].place.column, 21);
+    assert_eq!(rt; signals[1].name.as_slice(), b"m.n".as_slice());
+    assert_eq!(rt; signals[1].place.column, 35);
     let processes = found.processes.as_slice();
     assert_eq!(rt; processes.len(), 1);
-    assert_eq!(rt; processes[0].path.as_slice(), b"top".as_slice());
-    assert_eq!(rt; processes[0].events.as_slice().len(), 1);
-    Ok(())
-}
+    assert_eq!(rt; processes[0].place.column, 38);
+    assert_eq!(rt; processes[0].path.as_slice(), b"m".as_slice());
 
-/// Whether the counter with this in its block instead has a design.
-fn builds(alloc: Global, block: &[Short]) -> Result<bool, AllocError> {
-    let mut tokens = Vec::new(alloc);
-    add(alloc, &mut tokens, &COUNTER[..23])?;
-    add(alloc, &mut tokens, block)?;
-    add(alloc, &mut tokens, &COUNTER[36..])?;
-    Ok(design(alloc, &tokens)?.is_some())
-}
-
-#[test]
-fn a_block_may_finish(rt: HostRuntime) -> Result<(), Fail> {
-    let alloc = rt.alloc();
-    assert!(rt; builds(alloc, &[System(b"$finish"), Mark(b";")])?);
-    assert!(rt; !builds(alloc, &[System(b"$finish")])?, "no semicolon");
-    assert!(rt;
-        !builds(alloc, &[System(b"$stop"), Mark(b";")])?,
-        "another task"
-    );
+    // `==` and `+` begin at the `(`, and what stands inside has its own place; no `else` stands at the `if`
+    let mut all = Vec::new(alloc);
+    statement_columns(&processes[0].body, &mut all)?;
+    let expected = [57u32, 62, 66, 66, 67, 72, 77, 80, 80, 85, 62];
+    assert_eq!(rt; all.as_slice(), expected.as_slice());
     Ok(())
 }
 
 #[test]
-fn other_sources_have_none(rt: HostRuntime) -> Result<(), Fail> {
+fn another_source_has_none(rt: HostRuntime) -> Result<(), Fail> {
     let alloc = rt.alloc();
-    assert!(rt; passes(alloc, 14, Short::Name(b"n"))?);
-    assert!(rt;
-        !passes(alloc, 27, Short::Name(b"m"))?,
-        "an undeclared name"
-    );
-    assert!(rt; !passes(alloc, 14, Short::Name(b"clk"))?, "a repeated name");
-    assert!(rt;
-        !passes(alloc, 32, Short::Name(b"clk"))?,
-        "a clock that is read"
-    );
-    assert!(rt; !passes(alloc, 20, Short::Name(b"n"))?, "another edge");
-    assert!(rt; passes(alloc, 10, Plain(127))?);
-    assert!(rt; !passes(alloc, 10, Plain(128))?, "a top of 128");
-    assert!(rt; passes(alloc, 34, Plain(2_147_483_647))?);
-    assert!(rt;
-        !passes(alloc, 34, Plain(2_147_483_648))?,
-        "a number of 2^31"
-    );
-    assert!(rt; !passes(alloc, 35, Word(b"end"))?, "no semicolon");
-    assert!(rt; design_of(alloc, &COUNTER[..37])?.is_none(), "no endmodule");
+    assert!(rt; design(alloc, &source(alloc, false)?)?.is_none());
     Ok(())
 }

@@ -1,29 +1,41 @@
 -- What the host is due to print, and with which status.
-use Rattle.std.specs.Prelude.{◌≡◌, ℕ, List, map, take, Option, Some, None, ◌⊎◌}
+use Rattle.std.specs.Prelude.{◌≡◌, ℕ, List, [], take, Option, Some, None, ◌⊎◌}
 use Rattle.fab_io.specs.declared.store.ReadError.{ReadError}
 use Rattle.fab_io.specs.declared.store.ReadError.TheVariants as read
 use Rattle.fab_io.specs.Outside.{Files, HasRisen, IsAbsent, IsTooLong, IsTold}
 use Rattle.vl_base.specs.declared.place.Place.{Place}
 use Rattle.vl_tree.specs.declared.token.Token.{Token}
 use Rattle.vl_tree.specs.Faults.{IsRead, IsFirstFault, IsFirstLimit}
+use Rattle.vl_tree.specs.Tokens.{start, place_after}
+use Rattle.vl_source.specs.declared.tree.Source.{Source}
+use Rattle.vl_source.specs.Grammar.{ReadsSource}
+use Rattle.vl_source.specs.Faults.{PassesLimit, limits, statement_limit, expression_limit}
+use Rattle.vl_source.specs.Faults.{IsFirstFault as IsSyntaxFault}
 use Rattle.vl_design.specs.declared.design.End.{End}
 use Rattle.vl_design.specs.Syntax.{Flat}
 use Rattle.vl_design.specs.Queue.{Queue}
 use Rattle.vl_design.specs.Alone.{Ends}
-use Rattle.first_form.specs.Form.{Spells}
+use Rattle.vl_design.specs.Plain.{alone}
+use Rattle.first_form.specs.Form.{IsDesignOf}
 use Rattle.host_run.specs.Taking.{Takes}
 use Rattle.host_run.specs.Words.{command_of}
-use Rattle.host_run.specs.Report.{block, refusal, lexical, limit, notbuilt, usage, unread}
+use Rattle.host_run.specs.Report.{block, refusal, lexical, limit, syntax, notbuilt, usage, unread}
 
 -- the most bytes that are read of a source
 abbrev pub most_source : ℕ
 most_source = 2097152
 
--- a source text stands for this design: its tokens spell it
+-- the place after the last byte of a text: line and column from 1
+abbrev pub end_of : List ℕ → Place
+end_of text = place_after start text
+
+-- a source text stands for this design: its tokens are a source within the limits, and the tree of it has the design
 pub record StandsFor (text : List ℕ) (d : Flat) : Type 0 where
   pub tokens : List Token
+  pub tree : Source
   pub read : IsRead text tokens
-  pub spelled : Spells (map (λ t. t.kind) tokens) d
+  pub parsed : ReadsSource (limits 0) tree tokens []
+  pub has_design : IsDesignOf tree d
 
 -- what the run alone of a source prints in at most this many ticks, and how it ends
 pub record Reports (text : List ℕ) (budget : ℕ) (report : List ℕ) : Type 0 where
@@ -32,14 +44,18 @@ pub record Reports (text : List ℕ) (budget : ℕ) (report : List ℕ) : Type 0
   pub tick : ℕ
   pub reason : End
   pub last : Queue
-  pub ends : Ends design budget tick reason last
+  pub ends : Ends (alone design budget) tick reason last
   pub block : report ≡ block reason last.state.ticks last.state.printed
 
--- the line by which a source is refused
+-- the line by which a source is refused: its first lexical fault or limit; else the first syntax fault of its tokens, or
+-- limit 3 or 4; else it has tokens and a tree, and stands for no design of the form
 pub data Refuses (text line : List ℕ) : Type 0 where
   fault : {place : Place} {cause : ℕ} → IsFirstFault text place cause → line ≡ refusal place (lexical cause) → Refuses text line
   passed : {place : Place} {number : ℕ} → IsFirstLimit text place number → line ≡ refusal place (limit number) → Refuses text line
-  unbuilt : (tokens : List Token) → IsRead text tokens → ((d : Flat) → StandsFor text d → ⊥) → line ≡ notbuilt → Refuses text line
+  unparsed : {tokens : List Token} {place : Place} → IsRead text tokens → IsSyntaxFault tokens (end_of text) place → line ≡ refusal place syntax → Refuses text line
+  too_deep : {tokens : List Token} {place : Place} → IsRead text tokens → PassesLimit statement_limit tokens (end_of text) place → line ≡ refusal place (limit 3) → Refuses text line
+  too_long : {tokens : List Token} {place : Place} → IsRead text tokens → PassesLimit expression_limit tokens (end_of text) place → line ≡ refusal place (limit 4) → Refuses text line
+  unbuilt : {tokens : List Token} {tree : Source} → IsRead text tokens → ReadsSource (limits 0) tree tokens [] → ((d : Flat) → StandsFor text d → ⊥) → line ≡ notbuilt → Refuses text line
 
 -- why a file was not read: the store's faults or absences rose, or the told file is absent or too long
 pub record Counts : Type 0 where

@@ -5,11 +5,12 @@ use Rattle.fab_io.specs.declared.store.ReadError.{ReadError}
 use Rattle.fab_io.specs.declared.store.ReadError.TheVariants as read
 use Rattle.vl_base.specs.declared.place.Place.{Place}
 use Rattle.vl_design.specs.declared.design.End.{End}
-use Rattle.vl_design.specs.declared.design.End.TheVariants.{Finished, Budget}
+use Rattle.vl_design.specs.declared.design.End.TheVariants.{Finished, Budget, Stopped}
 
 abbrev pub end_word : End → List ℕ
 end_word Finished = codes "finished"
 end_word Budget = codes "budget"
+end_word Stopped = codes "stopped"
 
 -- a tenant's block: `tenant main STATUS TICKS BYTES`, the printed bytes, and a newline
 abbrev pub block : End → ℕ → List ℕ → List ℕ
@@ -25,6 +26,9 @@ refusal place kind =
 -- the kinds of a refusal
 abbrev pub lexical : ℕ → List ℕ
 lexical cause = codes "lex " ++ decimal cause
+
+abbrev pub syntax : List ℕ
+syntax = codes "parse"
 
 abbrev pub limit : ℕ → List ℕ
 limit number = codes "limit " ++ decimal number

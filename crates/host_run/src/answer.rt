@@ -1,15 +1,18 @@
 //! What is answered to a source.
 
 ghost use Rattle.std.specs.Prelude.{◌≡◌, ℕ, List, IfOk};
-ghost use Rattle.vl_tree.specs.declared.token.Token.{Token as Tok};
-ghost use Rattle.vl_tree.specs.Faults.{IsRead};
-ghost use Rattle.host_run.specs.Answers.{IsAnswer};
+ghost use Rattle.host_run.specs.Due.{end_of as end_of_lem};
+ghost use Rattle.host_run.specs.Answers.{IsAnswer, IsTreeOf, AreTokensOf};
 
+use crate::end::end_of;
 use crate::report;
 use first_form::design::design;
 use plain_run::run::run;
 use std::alloc::{AllocError, Global};
+use vl_base::place::Place;
 use vl_lex::lex::{LexFault, lex};
+use vl_parse::{ParseFault, parse};
+use vl_source::tree::Source;
 use vl_tree::token::Token;
 
 /// A tenant's block, or the line by which its source is refused.
@@ -21,12 +24,11 @@ pub enum Answer {
     Refusal(Vec<u8>),
 }
 
-/// The answer to the tokens of a source.
-fn answer_to_tokens(alloc: Global, tokens: &[Token], ticks: u64) -> Result<Answer, AllocError>
-    ensures { IfOk result (λ a. (text : List ℕ) → IsRead text tokens.now
-        → ((others : List Tok) → IsRead text others → others ≡ tokens.now) → IsAnswer text ticks a) }
+/// The answer to the tree of a source.
+fn answer_to_tree(alloc: Global, tree: &Source, ticks: u64) -> Result<Answer, AllocError>
+    ensures { IfOk result (λ a. (text : List ℕ) → IsTreeOf text tree.now → IsAnswer text ticks a) }
 {
-    let Some(design) = design(alloc, tokens)? else {
+    let Some(design) = design(alloc, tree)? else {
         return Ok(Answer::Refusal(report::notbuilt(alloc)?));
     };
     let outcome = run(alloc, &design, ticks)?;
@@ -39,12 +41,31 @@ fn answer_to_tokens(alloc: Global, tokens: &[Token], ticks: u64) -> Result<Answe
     Ok(Answer::Report(block))
 }
 
+/// The answer to the tokens of a source, which ends at the place `end`.
+fn answer_to_tokens(
+    alloc: Global,
+    tokens: &[Token],
+    end: Place,
+    ticks: u64,
+) -> Result<Answer, AllocError>
+    ensures { IfOk result (λ a. (text : List ℕ) → AreTokensOf text tokens.now → end ≡ end_of_lem text → IsAnswer text ticks a) }
+{
+    match parse(alloc, tokens, end) {
+        Ok(tree) => answer_to_tree(alloc, &tree, ticks),
+        Err(ParseFault::At(place)) => Ok(Answer::Refusal(report::syntax(alloc, place)?)),
+        Err(ParseFault::Limit(place, number)) => Ok(Answer::Refusal(report::limit(
+            alloc, place, number,
+        )?)),
+        Err(ParseFault::Memory) => Err(AllocError),
+    }
+}
+
 /// The answer to a source in at most this many ticks: what its run alone prints, or why it is refused.
 pub fn answer_to(alloc: Global, text: &[u8], ticks: u64) -> Result<Answer, AllocError>
     ensures { IfOk result (IsAnswer text.now ticks) }
 {
     match lex(alloc, text) {
-        Ok(tokens) => answer_to_tokens(alloc, &tokens, ticks),
+        Ok(tokens) => answer_to_tokens(alloc, &tokens, end_of(text), ticks),
         Err(LexFault::At(place, cause)) => Ok(Answer::Refusal(report::lexical(
             alloc, place, cause,
         )?)),

@@ -2,6 +2,7 @@
 #![tactic(auto)]
 
 pub mod answer;
+pub mod end;
 pub mod host;
 pub mod put;
 pub mod report;

@@ -25,6 +25,7 @@ fn end_word(end: End) -> &'static [u8]
     match end {
         End::Finished => b"finished".as_slice(),
         End::Budget => b"budget".as_slice(),
+        End::Stopped => b"stopped".as_slice(),
     }
 }
 
@@ -66,6 +67,16 @@ pub fn lexical(alloc: Global, place: Place, cause: u8) -> Result<Vec<u8>, AllocE
     text.extend_from_slice(b"lex ")?;
     push_number(alloc, u64::from(cause), &mut text)?;
     text.extend_from_slice(b"\n")?;
+    Ok(text)
+}
+
+/// The line of a source with a syntax fault.
+pub fn syntax(alloc: Global, place: Place) -> Result<Vec<u8>, AllocError>
+    ensures { IfOk result (λ text. text.items ≡ r.refusal place r.syntax) }
+{
+    let mut text = Vec::new(alloc);
+    push_place(alloc, place, &mut text)?;
+    text.extend_from_slice(b"parse\n")?;
     Ok(text)
 }
 

@@ -1,7 +1,7 @@
 use Rattle.std.proofs.Common.{◌<◌, [], length, get_or, arith}
 use Rattle.std.proofs.lemmas.List.{get_or_default}
 use Rattle.std.proofs.lemmas.Grind.{common_steps}
-use Rattle.first_form.specs.declared.source.Declared.{Declared}
+use Rattle.first_form.specs.declared.form.Declared.{Declared}
 use Rattle.first_form.proofs.Steps.{names_turn, names_stop}
 use Rattle.first_form.proofs.names.names_of.Goals as goal
 

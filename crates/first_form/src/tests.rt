@@ -84,24 +84,20 @@ fn alone(alloc: Global, column: u32, primary: Primary) -> Result<Expression, All
     expression(alloc, column, primary, Vec::new(alloc))
 }
 
-/// `(n) + 1 == 7` at a column.
-fn condition(alloc: Global, column: u32) -> Result<Expression, AllocError> {
-    let inner = alone(
-        alloc,
-        column + 1,
-        Primary::Name(name(alloc, column + 1, b"n")?),
-    )?;
-    let first = Primary::Parenthesized(at(column), Boxed::new(alloc, inner)?);
+/// `(n) + 1 == 7` at column 66.
+fn condition(alloc: Global) -> Result<Expression, AllocError> {
+    let inner = alone(alloc, 67, Primary::Name(name(alloc, 67, b"n")?))?;
+    let first = Primary::Parenthesized(at(66), Boxed::new(alloc, inner)?);
     let mut links = Vec::new(alloc);
     links.push(Link {
         operator: BinaryOperator::Add,
-        operand: operand(alloc, column + 6, plain(column + 6, 1))?,
+        operand: operand(alloc, 72, plain(72, 1))?,
     })?;
     links.push(Link {
         operator: BinaryOperator::Equal,
-        operand: operand(alloc, column + 11, plain(column + 11, 7))?,
+        operand: operand(alloc, 77, plain(77, 7))?,
     })?;
-    expression(alloc, column, first, links)
+    expression(alloc, 66, first, links)
 }
 
 /// `if ((n) + 1 == 7) n <= 2;`
@@ -114,7 +110,7 @@ fn statement(alloc: Global) -> Result<Statement, AllocError> {
     );
     Ok(Statement::If(
         at(62),
-        condition(alloc, 66)?,
+        condition(alloc)?,
         Boxed::new(alloc, assign)?,
         None,
     ))

@@ -108,12 +108,7 @@ fn statement(alloc: Global) -> Result<Statement, AllocError> {
         AssignMark::Nonblocking,
         alone(alloc, 85, plain(85, 2))?,
     );
-    Ok(Statement::If(
-        at(62),
-        condition(alloc)?,
-        Boxed::new(alloc, assign)?,
-        None,
-    ))
+    Ok(Statement::If(at(62), condition(alloc)?, Boxed::new(alloc, assign)?, None))
 }
 
 /// `reg [7:0] n;`

@@ -1,0 +1,7 @@
+pub mod Orders
+pub mod Members
+pub mod Listed
+pub mod Keys
+pub mod Repeats
+pub mod Noting
+pub mod Meanings

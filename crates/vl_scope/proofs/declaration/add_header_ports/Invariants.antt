@@ -1,0 +1,7 @@
+use Rattle.std.proofs.Common.{◌≡◌, ◌++◌, take}
+use Rattle.std.specs.List.{flat_map}
+use Rattle.vl_scope.specs.Declarations as spec
+use Rattle.vl_scope.proofs.declaration.add_header_ports.Given as goal
+
+abbrev pub invariant-loop-port : goal.invariant-loop-port
+invariant-loop-port l = spec.all_seen l.declarations.items ≡ spec.all_seen l.initial.declarations.items ++ flat_map spec.port_declarations (take l.port-index l.port-items)

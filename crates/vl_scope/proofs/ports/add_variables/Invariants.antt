@@ -1,0 +1,6 @@
+use Rattle.std.proofs.Common.{◌≡◌, ◌++◌, map, take}
+use Rattle.vl_scope.specs.Declarations as spec
+use Rattle.vl_scope.proofs.ports.add_variables.Given as goal
+
+abbrev pub invariant-loop-assignment : goal.invariant-loop-assignment
+invariant-loop-assignment l = spec.all_seen l.declarations.items ≡ spec.all_seen l.initial.declarations.items ++ map (λ a. spec.output_variable l.vector a.name) (take l.assignment-index l.assignments)

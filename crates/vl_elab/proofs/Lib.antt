@@ -1,0 +1,6 @@
+pub mod Steps
+pub mod Walks
+pub mod Bounded
+pub mod Graph
+pub mod Listed
+pub mod Whole

@@ -1,0 +1,14 @@
+//! The modules of a source: its hierarchy, its connections, and the whole phase of names.
+#![tactic(auto)]
+
+mod components;
+mod connections;
+mod cycle;
+mod hierarchy;
+mod instances;
+mod interface;
+mod itself;
+pub mod laws;
+pub mod names;
+mod numbers;
+mod tops;

@@ -11,6 +11,8 @@ use Rattle.vl_source.specs.declared.tree.Source.{Source}
 use Rattle.vl_source.specs.Grammar.{ReadsSource}
 use Rattle.vl_source.specs.Faults.{PassesLimit, limits, statement_limit, expression_limit}
 use Rattle.vl_source.specs.Faults.{IsFirstFault as IsSyntaxFault}
+use Rattle.vl_scope.specs.Faults.{at, IsFirst}
+use Rattle.vl_elab.specs.NameFaults.{IsNameFault}
 use Rattle.vl_design.specs.declared.design.End.{End}
 use Rattle.vl_design.specs.Syntax.{Flat}
 use Rattle.vl_design.specs.Queue.{Queue}
@@ -19,7 +21,7 @@ use Rattle.vl_design.specs.Plain.{alone}
 use Rattle.first_form.specs.Form.{IsDesignOf}
 use Rattle.host_run.specs.Taking.{Takes}
 use Rattle.host_run.specs.Words.{command_of}
-use Rattle.host_run.specs.Report.{block, refusal, lexical, limit, syntax, notbuilt, usage, unread}
+use Rattle.host_run.specs.Report.{block, refusal, lexical, limit, syntax, construct, notbuilt, usage, unread}
 
 -- the most bytes that are read of a source
 abbrev pub most_source : ℕ
@@ -29,12 +31,14 @@ most_source = 2097152
 abbrev pub end_of : List ℕ → Place
 end_of text = place_after start text
 
--- a source text stands for this design: its tokens are a source within the limits, and the tree of it has the design
+-- a source text stands for this design: its tokens are a source within the limits, the names of its tree have no fault, and
+-- the tree has the design
 pub record StandsFor (text : List ℕ) (d : Flat) : Type 0 where
   pub tokens : List Token
   pub tree : Source
   pub read : IsRead text tokens
   pub parsed : ReadsSource (limits 0) tree tokens []
+  pub named : IsFirst (IsNameFault tree) None
   pub has_design : IsDesignOf tree d
 
 -- what the run alone of a source prints in at most this many ticks, and how it ends
@@ -48,14 +52,17 @@ pub record Reports (text : List ℕ) (budget : ℕ) (report : List ℕ) : Type 0
   pub block : report ≡ block reason last.state.ticks last.state.printed
 
 -- the line by which a source is refused: its first lexical fault or limit; else the first syntax fault of its tokens, or
--- limit 3 or 4; else it has tokens and a tree, and stands for no design of the form
+-- limit 3 or 4; else it has tokens and a tree, and the first fault of its names; else there is none, and it stands for no
+-- design of the form
 pub data Refuses (text line : List ℕ) : Type 0 where
   fault : {place : Place} {cause : ℕ} → IsFirstFault text place cause → line ≡ refusal place (lexical cause) → Refuses text line
   passed : {place : Place} {number : ℕ} → IsFirstLimit text place number → line ≡ refusal place (limit number) → Refuses text line
   unparsed : {tokens : List Token} {place : Place} → IsRead text tokens → IsSyntaxFault tokens (end_of text) place → line ≡ refusal place syntax → Refuses text line
   too_deep : {tokens : List Token} {place : Place} → IsRead text tokens → PassesLimit statement_limit tokens (end_of text) place → line ≡ refusal place (limit 3) → Refuses text line
   too_long : {tokens : List Token} {place : Place} → IsRead text tokens → PassesLimit expression_limit tokens (end_of text) place → line ≡ refusal place (limit 4) → Refuses text line
-  unbuilt : {tokens : List Token} {tree : Source} → IsRead text tokens → ReadsSource (limits 0) tree tokens [] → ((d : Flat) → StandsFor text d → ⊥) → line ≡ notbuilt → Refuses text line
+  misnamed : {tokens : List Token} {tree : Source} {place : Place} {number : ℕ} → IsRead text tokens → ReadsSource (limits 0) tree tokens [] →
+      IsFirst (IsNameFault tree) (Some (at place number)) → line ≡ refusal place (construct number) → Refuses text line
+  unbuilt : {tokens : List Token} {tree : Source} → IsRead text tokens → ReadsSource (limits 0) tree tokens [] → IsFirst (IsNameFault tree) None → ((d : Flat) → StandsFor text d → ⊥) → line ≡ notbuilt → Refuses text line
 
 -- why a file was not read: the store's faults or absences rose, or the told file is absent or too long
 pub record Counts : Type 0 where

@@ -33,6 +33,9 @@ syntax = codes "parse"
 abbrev pub limit : ℕ → List ℕ
 limit number = codes "limit " ++ decimal number
 
+abbrev pub construct : ℕ → List ℕ
+construct number = codes "construct " ++ decimal number
+
 -- a source whose form isn't built yet
 abbrev pub notbuilt : List ℕ
 notbuilt = codes "refused main 0 0 notbuilt\n"

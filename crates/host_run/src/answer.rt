@@ -1,6 +1,8 @@
 //! What is answered to a source.
 
-ghost use Rattle.std.specs.Prelude.{◌≡◌, ℕ, List, IfOk};
+ghost use Rattle.std.specs.Prelude.{◌≡◌, ℕ, List, IfOk, None};
+ghost use Rattle.vl_scope.specs.Faults.{IsFirst};
+ghost use Rattle.vl_elab.specs.NameFaults.{IsNameFault};
 ghost use Rattle.host_run.specs.Due.{end_of as end_of_lem};
 ghost use Rattle.host_run.specs.Answers.{IsAnswer, IsTreeOf, AreTokensOf};
 
@@ -10,6 +12,7 @@ use first_form::design::design;
 use plain_run::run::run;
 use std::alloc::{AllocError, Global};
 use vl_base::place::Place;
+use vl_elab::names::{NamesFault, names};
 use vl_lex::lex::{LexFault, lex};
 use vl_parse::{ParseFault, parse};
 use vl_source::tree::Source;
@@ -24,9 +27,9 @@ pub enum Answer {
     Refusal(Vec<u8>),
 }
 
-/// The answer to the tree of a source.
-fn answer_to_tree(alloc: Global, tree: &Source, ticks: u64) -> Result<Answer, AllocError>
-    ensures { IfOk result (λ a. (text : List ℕ) → IsTreeOf text tree.now → IsAnswer text ticks a) }
+/// The answer to the tree of a source whose names have no fault.
+fn answer_to_named(alloc: Global, tree: &Source, ticks: u64) -> Result<Answer, AllocError>
+    ensures { IfOk result (λ a. (text : List ℕ) → IsTreeOf text tree.now → IsFirst (IsNameFault tree.now) None → IsAnswer text ticks a) }
 {
     let Some(design) = design(alloc, tree)? else {
         return Ok(Answer::Refusal(report::notbuilt(alloc)?));
@@ -39,6 +42,19 @@ fn answer_to_tree(alloc: Global, tree: &Source, ticks: u64) -> Result<Answer, Al
         outcome.printed.as_slice(),
     )?;
     Ok(Answer::Report(block))
+}
+
+/// The answer to the tree of a source.
+fn answer_to_tree(alloc: Global, tree: &Source, ticks: u64) -> Result<Answer, AllocError>
+    ensures { IfOk result (λ a. (text : List ℕ) → IsTreeOf text tree.now → IsAnswer text ticks a) }
+{
+    match names(alloc, tree) {
+        Ok(()) => answer_to_named(alloc, tree, ticks),
+        Err(NamesFault::Construct(place, number)) => Ok(Answer::Refusal(report::construct(
+            alloc, place, number,
+        )?)),
+        Err(NamesFault::Memory) => Err(AllocError),
+    }
 }
 
 /// The answer to the tokens of a source, which ends at the place `end`.

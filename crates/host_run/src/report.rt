@@ -92,6 +92,18 @@ pub fn limit(alloc: Global, place: Place, number: u8) -> Result<Vec<u8>, AllocEr
     Ok(text)
 }
 
+/// The line of a source with a refused construct.
+pub fn construct(alloc: Global, place: Place, number: u8) -> Result<Vec<u8>, AllocError>
+    ensures { IfOk result (λ text. text.items ≡ r.refusal place (r.construct number)) }
+{
+    let mut text = Vec::new(alloc);
+    push_place(alloc, place, &mut text)?;
+    text.extend_from_slice(b"construct ")?;
+    push_number(alloc, u64::from(number), &mut text)?;
+    text.extend_from_slice(b"\n")?;
+    Ok(text)
+}
+
 /// The line of a source whose form isn't built yet.
 pub fn notbuilt(alloc: Global) -> Result<Vec<u8>, AllocError>
     ensures { IfOk result (λ text. text.items ≡ r.notbuilt) }

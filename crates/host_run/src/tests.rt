@@ -274,38 +274,25 @@ fn blocks_are_refused(rt: HostRuntime) -> Result<(), Fail> {
         "for (a = 0; a == 1; a = 1) a <= 1;",
         "repeat (2) a <= 1;",
         "$finish(1);",
-        "$finish();",
-        "$stop;",
         "$display(\"%d\", a);",
         "$display(\"%0d\", 1);",
         "$display(\"%0d\", (a));",
         "$display(\"%0d\", a + 0);",
-        "$display(\"%0d\");",
         "$display(a);",
         "$display((\"%0d\"), a);",
         "$display(\"%0d\", a, a);",
         "$display(\"%0d\", a[0]);",
         "$display;",
         "$write(\"%0d\", a);",
-        "a <= f(a);",
         "a <= $time;",
         "a <= \"x\";",
         "if (a - 1) a <= 1;",
         "begin a = 1; end",
         "if (a) begin a = 1; end",
         // of the form, and not accepted
-        "b <= 1;",
-        "a <= b;",
-        "$display(\"%0d\", b);",
-        "if (b) a <= 1;",
-        "if (a) a <= b;",
-        "if (a) begin end else a <= b;",
-        "a <= 1 == (b);",
         "a <= k;",
-        "k <= a;",
         "$display(\"%0d\", k);",
         "if (k) a <= 1;",
-        "a <= m;",
         "a <= 2147483648;",
         "a <= a + (2147483648 == 1);",
     ];
@@ -313,6 +300,36 @@ fn blocks_are_refused(rt: HostRuntime) -> Result<(), Fail> {
         let source = source_of(rt.alloc(), block)?;
         let (status, text) = served(&rt, rt.alloc(), &["run", "m.v", "3"], source.as_bytes())?;
         assert_eq!(rt; text.as_str(), "refused main 0 0 notbuilt\n", "{block}");
+        assert_eq!(rt; status, 3, "{block}");
+    }
+    Ok(())
+}
+
+#[test]
+fn names_in_blocks_have_faults(rt: HostRuntime) -> Result<(), Fail> {
+    // the block begins in column 64
+    let rows = [
+        ("$finish();", "refused main 1 64 construct 9\n"),
+        ("$stop;", "refused main 1 64 construct 9\n"),
+        ("$display(\"%0d\");", "refused main 1 64 construct 9\n"),
+        ("a <= f(a);", "refused main 1 69 construct 2\n"),
+        ("b <= 1;", "refused main 1 64 construct 2\n"),
+        ("a <= b;", "refused main 1 69 construct 2\n"),
+        ("$display(\"%0d\", b);", "refused main 1 80 construct 2\n"),
+        ("if (b) a <= 1;", "refused main 1 68 construct 2\n"),
+        ("if (a) a <= b;", "refused main 1 76 construct 2\n"),
+        (
+            "if (a) begin end else a <= b;",
+            "refused main 1 91 construct 2\n",
+        ),
+        ("a <= 1 == (b);", "refused main 1 75 construct 2\n"),
+        ("k <= a;", "refused main 1 64 construct 4\n"),
+        ("a <= m;", "refused main 1 69 construct 2\n"),
+    ];
+    for (block, expected) in rows {
+        let source = source_of(rt.alloc(), block)?;
+        let (status, text) = served(&rt, rt.alloc(), &["run", "m.v", "3"], source.as_bytes())?;
+        assert_eq!(rt; text.as_str(), expected, "{block}");
         assert_eq!(rt; status, 3, "{block}");
     }
     Ok(())
@@ -361,15 +378,15 @@ fn sources_are_refused(rt: HostRuntime) -> Result<(), Fail> {
         ),
         (
             "module m(input wire k, j); always @(posedge k) begin end endmodule",
-            notbuilt,
+            "refused main 1 8 construct 6\n",
         ),
         (
             "module m(input wire k, input wire j); always @(posedge k) begin end endmodule",
-            notbuilt,
+            "refused main 1 8 construct 6\n",
         ),
         (
             "module m(output wire k); always @(posedge k) begin end endmodule",
-            notbuilt,
+            "refused main 1 8 construct 6\n",
         ),
         (
             "module m(k); input wire k; always @(posedge k) begin end endmodule",
@@ -377,11 +394,11 @@ fn sources_are_refused(rt: HostRuntime) -> Result<(), Fail> {
         ),
         (
             "module m; always @(posedge k) begin end endmodule",
-            notbuilt,
+            "refused main 1 8 construct 6\n",
         ),
         (
             "module m(); always @(posedge k) begin end endmodule",
-            notbuilt,
+            "refused main 1 8 construct 6\n",
         ),
         (
             "module m #(parameter P = 1) (input wire k); always @(posedge k) begin end endmodule",
@@ -471,16 +488,16 @@ fn sources_are_refused(rt: HostRuntime) -> Result<(), Fail> {
         ),
         (
             "module m(input wire k); always @(posedge k) begin end endmodule module n(); endmodule",
-            notbuilt,
+            "refused main 1 72 construct 6\n",
         ),
         // of the form, and not accepted
         (
             "module m(input wire k); reg [7:0] a; reg [7:0] a; always @(posedge k) begin end endmodule",
-            notbuilt,
+            "refused main 1 48 construct 3\n",
         ),
         (
             "module m(input wire k); reg [7:0] k; always @(posedge k) begin end endmodule",
-            notbuilt,
+            "refused main 1 35 construct 3\n",
         ),
         (
             "module m(input wire k); reg [7:0] a; always @(posedge a) begin end endmodule",
@@ -488,11 +505,15 @@ fn sources_are_refused(rt: HostRuntime) -> Result<(), Fail> {
         ),
         (
             "module m(input wire k); reg [7:0] a; always @(posedge b) begin end endmodule",
-            notbuilt,
+            "refused main 1 55 construct 2\n",
         ),
         (
             "module m(input wire k); reg [128:0] a; always @(posedge k) begin end endmodule",
             notbuilt,
+        ),
+        (
+            "module m(input wire clk);\n  reg [7:0] c;\n  always @(posedge clk) begin\n    $display(\"%0d\", c);\n    d <= c + 1;\n  end\nendmodule\n",
+            "refused main 5 5 construct 2\n",
         ),
         // no sources
         ("", "refused main 1 1 parse\n"),

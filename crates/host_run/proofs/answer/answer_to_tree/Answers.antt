@@ -1,7 +1,7 @@
-use Rattle.host_run.specs.Due.{unbuilt}
+use Rattle.std.proofs.Common.{ap, Err}
+use Rattle.host_run.specs.Due.{misnamed}
 use Rattle.host_run.proofs.answer.answer_to_tree.Goals as goal
 
-pub returns-in_default : goal.returns-in_default
-returns-in_default c = λ text is.
-    let none = rw c.in_default.is at c.in_ok-design.ensures.none in
-    unbuilt is.read is.parsed (λ d stands. none d (is.only d stands)) c.in_ok-notbuilt.ensures
+pub returns-in_ok-construct-in-Err-Construct : goal.returns-in_ok-construct-in-Err-Construct
+returns-in_ok-construct-in-Err-Construct c = λ text is.
+    misnamed is.read is.parsed (c.in-Err-Construct.ensures.fault _ _ (ap Err c.in-Err-Construct.field-0-is)) c.in_ok-construct-in-Err-Construct.ensures

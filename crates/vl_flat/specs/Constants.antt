@@ -1,0 +1,73 @@
+-- Constant expressions: the value of an expression over no signals (IEEE 1364-2005, clauses 4.10 and 5).
+use Rattle.std.specs.Prelude.{ℕ, ◌-◌, ◌%◌, ◌^◌, nat_lt, ℤ, pos, neg_ℤ, int_le, int_lt, Bool, ◌&&◌, [], if◌then◌else◌}
+use Rattle.std.specs.Int.RustNames.{unsigned_abs}
+use Rattle.vl_design.specs.declared.design.Form.{Form}
+use Rattle.vl_design.specs.Width.{Scope, form, assigned}
+use Rattle.vl_design.specs.Value.{Sample, value, own_value, own_reading}
+use Rattle.vl_flat.specs.Placed.{Exp}
+use Rattle.vl_flat.specs.Plainly.{exp}
+
+-- no signals and no functions
+abbrev pub closed : Scope
+closed = record { rows = []; funs = []; files = []; call = λ f args. 0 }
+
+abbrev pub nothing : Sample
+nothing = record { values = []; time = 0; answer = 0 }
+
+-- the width and the sign of a constant read for itself
+abbrev pub constant_form : Exp → Form
+constant_form e = form closed (exp e)
+
+-- its value read for itself, and the whole number that this is by its own sign
+abbrev pub constant_value : Exp → ℕ
+constant_value e = own_value closed nothing (exp e)
+
+abbrev pub constant_reading : Exp → ℤ
+constant_reading e = own_reading closed nothing (exp e)
+
+-- its value as assigned to so many bits
+abbrev pub assigned_value : Exp → ℕ → ℕ
+assigned_value e w = value closed nothing (exp e) (assigned w (constant_form e)) % 2 ^ w
+
+-- ---- where a whole number has to be in a range, one outside stands for another, and is a fault of its own
+
+abbrev pub lowest : ℤ
+lowest = neg_ℤ (pos (2 ^ 31))
+
+abbrev pub highest : ℤ
+highest = pos (2 ^ 31 - 1)
+
+abbrev pub is_within : ℤ → ℤ → ℤ → Bool
+is_within low high z = int_le low z && int_le z high
+
+-- the bound of a range: from -2^31 to 2^31 - 1
+abbrev pub is_bound : Exp → Bool
+is_bound e = is_within lowest highest (constant_reading e)
+
+abbrev pub bound_of : Exp → ℤ
+bound_of e = if is_bound e then constant_reading e else pos 0
+
+-- the count of a replication: from 1 to 128
+abbrev pub is_count : Exp → Bool
+is_count e = is_within (pos 1) (pos 128) (constant_reading e)
+
+abbrev pub count_of : Exp → ℕ
+count_of e = if is_count e then unsigned_abs (constant_reading e) else 1
+
+-- the width behind `+:` or `-:`: at least 1
+abbrev pub is_width : Exp → Bool
+is_width e = int_le (pos 1) (constant_reading e)
+
+abbrev pub width_of : Exp → ℕ
+width_of e = if is_width e then unsigned_abs (constant_reading e) else 1
+
+-- how often `repeat` does its body: never where the count is negative; no more than 2^32 - 1 times
+abbrev pub turns_of : Exp → ℕ
+turns_of e =
+    if int_lt (constant_reading e) (pos 0) then 0
+    else if nat_lt (unsigned_abs (constant_reading e)) (2 ^ 32) then unsigned_abs (constant_reading e)
+    else 2 ^ 32 - 1
+
+-- a whole number kept within 32 bits
+abbrev pub clamped : ℤ → ℤ
+clamped z = if int_lt z lowest then lowest else if int_lt highest z then highest else z

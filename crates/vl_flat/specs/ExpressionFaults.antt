@@ -1,0 +1,146 @@
+-- The faults of expressions: refused constructs 10, 11 and 24.
+use Rattle.std.specs.Prelude.{ℕ, zero, suc, nat_lt, ℤ, int_lt, Bool, true, false, not, ◌&&◌, ◌||◌, List, [], ◌++◌, Option, if◌then◌else◌, codes}
+use Rattle.std.specs.Str.{bytes_eq}
+use Rattle.vl_base.specs.declared.place.Place.{Place}
+use Rattle.vl_grammar.specs.declared.tree.SelectMark.{SelectMark}
+use Rattle.vl_grammar.specs.declared.tree.SelectMark.TheVariants as m
+use Rattle.vl_design.specs.Formats.{Between, format_pieces}
+use Rattle.vl_design.specs.Formats as formats
+use Rattle.vl_flat.specs.declared.binding.Binding.{Binding}
+use Rattle.vl_flat.specs.declared.stop.Stop.{Stop}
+use Rattle.vl_flat.specs.Surface.{Ex, Exs, Selects, Args, Number, Text, Named, Paren, Unary, Binary, Choice, Joined, Repeated, Called, System, NoExs, MoreExs, NoSelects, Index, Range, NoArgs, NullArg, MoreArgs, node_place}
+use Rattle.vl_flat.specs.Placed.{Exp}
+use Rattle.vl_flat.specs.Stops.{construct_if}
+use Rattle.vl_flat.specs.Scopes.{Scope, range_of}
+use Rattle.vl_flat.specs.Constants.{is_bound, is_count, is_width, bound_of}
+use Rattle.vl_flat.specs.Expressions.{is_long, is_memory, falls, bits_of, constant, taken, form, keeps_texts}
+
+-- ---- strings that are too long as operands
+
+abbrev mutual
+  -- a string operand of more than 16 bytes stands in the expression
+  pub holds_long : Ex → Bool
+  holds_long (Number at n) = false
+  holds_long (Text at text) = is_long text
+  holds_long (Named at name ss) = selects_hold_long ss
+  holds_long (Paren at a) = holds_long a
+  holds_long (Unary at op a) = holds_long a
+  holds_long (Binary at op a b) = holds_long a || holds_long b
+  holds_long (Choice at t a b) = holds_long t || (holds_long a || holds_long b)
+  holds_long (Joined at es) = some_hold_long es
+  holds_long (Repeated at n es) = holds_long n || some_hold_long es
+  holds_long (Called at name es) = some_hold_long es
+  holds_long (System at name given) = args_hold_long (keeps_texts name) given
+
+  pub some_hold_long : Exs → Bool
+  some_hold_long NoExs = false
+  some_hold_long (MoreExs e es) = holds_long e || some_hold_long es
+
+  pub selects_hold_long : Selects → Bool
+  selects_hold_long NoSelects = false
+  selects_hold_long (Index q i others) = holds_long i || selects_hold_long others
+  selects_hold_long (Range q mark l r others) = holds_long l || (holds_long r || selects_hold_long others)
+
+  -- of some calls a bare string is no operand
+  pub args_hold_long : Bool → Args → Bool
+  args_hold_long keeps NoArgs = false
+  args_hold_long keeps (NullArg others) = args_hold_long keeps others
+  args_hold_long keeps (MoreArgs e others) = holds_long e || args_hold_long keeps others
+
+-- ---- selects
+
+-- two bounds stand in another order than those of the declaration; where both are one, in none
+abbrev pub turns_round : ℤ × ℤ → ℤ → ℤ → Bool
+turns_round range l r = if falls range then int_lt l r else int_lt r l
+
+-- how many arguments the items of a format take
+abbrev pub items_in : List ℕ → ℕ
+items_in text = formats.taken (format_pieces [] Between text [])
+
+module _ (scope : Scope) where
+  -- the expression is more than 128 bits wide, and holds no string that is too long
+  abbrev pub past : Ex → List Stop
+  past e = construct_if (nat_lt 128 (form scope e).width && not (holds_long e)) (node_place e) 10
+
+  -- a test that a constant has to pass, unless a string in it is too long
+  abbrev pub constant_must : (Exp → Bool) → Ex → ℕ → List Stop
+  constant_must test e number = construct_if (not (holds_long e) && not (test (constant scope e))) (node_place e) number
+
+  -- `:` against the declared direction
+  abbrev pub direction : ℤ × ℤ → Place → SelectMark → Ex → Ex → List Stop
+  direction range q m.Range l r = construct_if (turns_round range (bound_of (constant scope l)) (bound_of (constant scope r))) q 11
+  direction range q mark l r = []
+
+  -- the bounds of `:` are constants, and so is the width behind `+:` and `-:`
+  abbrev pub left_bound : SelectMark → Ex → List Stop
+  left_bound m.Range l = constant_must is_bound l 10
+  left_bound mark l = []
+
+  abbrev pub right_bound : SelectMark → Ex → List Stop
+  right_bound m.Range r = constant_must is_bound r 10
+  right_bound mark r = constant_must is_width r 11
+
+  abbrev pub index_range : Option Binding → ℤ × ℤ
+  index_range b = if is_memory b then range_of b else bits_of 1
+
+  -- ---- expressions
+
+  abbrev mutual
+    pub faults : Ex → List Stop
+    faults (Number at n) = []
+    faults (Text at text) = construct_if (is_long text) at 24
+    faults (Named at name ss) = past (Named at name ss) ++ name_faults (scope.names name) ss
+    faults (Paren at a) = faults a
+    faults (Unary at op a) = past (Unary at op a) ++ faults a
+    faults (Binary at op a b) = past (Binary at op a b) ++ (faults a ++ faults b)
+    faults (Choice at t a b) = past (Choice at t a b) ++ (faults t ++ (faults a ++ faults b))
+    faults (Joined at es) = past (Joined at es) ++ all_faults es
+    faults (Repeated at n es) = past (Repeated at n es) ++ (faults n ++ (constant_must is_count n 10 ++ all_faults es))
+    faults (Called at name es) = all_faults es
+    faults (System at name given) = past (System at name given) ++ args_faults (keeps_texts name) given
+
+    pub all_faults : Exs → List Stop
+    all_faults NoExs = []
+    all_faults (MoreExs e es) = faults e ++ all_faults es
+
+    pub name_faults : Option Binding → Selects → List Stop
+    name_faults b NoSelects = []
+    name_faults b (Index q i others) = faults i ++ selects_faults (index_range b) others
+    name_faults b (Range q mark l r others) =
+        direction (range_of b) q mark l r ++ (faults l ++ (left_bound mark l ++ (faults r ++ (right_bound mark r
+        ++ selects_faults (bits_of (taken scope mark l r)) others))))
+
+    -- selects on a value whose bits are numbered so
+    pub selects_faults : ℤ × ℤ → Selects → List Stop
+    selects_faults range NoSelects = []
+    selects_faults range (Index q i others) = faults i ++ selects_faults (bits_of 1) others
+    selects_faults range (Range q mark l r others) =
+        direction range q mark l r ++ (faults l ++ (left_bound mark l ++ (faults r ++ (right_bound mark r
+        ++ selects_faults (bits_of (taken scope mark l r)) others))))
+
+    -- arguments of a system call; keeps tells whether a string is none of them, but a format or a name
+    pub args_faults : Bool → Args → List Stop
+    args_faults keeps NoArgs = []
+    args_faults keeps (NullArg others) = args_faults keeps others
+    args_faults keeps (MoreArgs e others) = argument_faults keeps e (faults e) ++ args_faults keeps others
+
+    pub argument_faults : Bool → Ex → List Stop → List Stop
+    argument_faults true (Text at text) fs = []
+    argument_faults keeps e fs = fs
+
+  -- ---- texts to display: a string that an item of a format takes is an operand (clause 17.1.1)
+
+  -- the faults of arguments of which so many first ones are taken by items
+  abbrev pub display_faults : ℕ → Args → List Stop
+  display_faults n NoArgs = []
+  display_faults zero (NullArg others) = display_faults zero others
+  display_faults zero (MoreArgs (Text at text) others) = display_faults (items_in text) others
+  display_faults zero (MoreArgs e others) = faults e ++ display_faults zero others
+  display_faults (suc n) (NullArg others) = display_faults n others
+  display_faults (suc n) (MoreArgs e others) = faults e ++ display_faults n others
+
+  -- the faults of a system task
+  abbrev pub task_faults : List ℕ → Args → List Stop
+  task_faults name given =
+      if bytes_eq name (codes "$display") || bytes_eq name (codes "$write") then display_faults zero given
+      else args_faults (keeps_texts name) given

@@ -1,0 +1,7 @@
+//! The flat design of a source, as a definition (IEEE 1364-2005, clause 12).
+#![tactic(auto)]
+
+pub mod binding;
+pub mod laws;
+pub mod rows;
+pub mod stop;

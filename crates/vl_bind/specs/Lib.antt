@@ -1,0 +1,3 @@
+pub mod Seen
+pub mod Listed
+pub mod SeenStatements

@@ -1,0 +1,126 @@
+//! Functions (IEEE 1364-2005, clause 10.4.1).
+
+ghost use Rattle.std.specs.Prelude.{◌≡◌, ◌++◌, true, false, [], map, flat_map, IfOk};
+ghost use Rattle.std.specs.Option.{option_map_or};
+ghost use Rattle.vl_flat.specs.Declarations as d;
+ghost use Rattle.vl_items.specs.SeenItems as s;
+
+use crate::items::{DataType, Function, Locals};
+use crate::types::{bind_type, copied_name, vector};
+use std::alloc::{AllocError, Global};
+use vl_bind::statements::bind_statement;
+use vl_grammar::parts::Parts;
+use vl_grammar::tree::Identifier;
+use vl_source::tree::{Function as FunctionTree, FunctionDeclaration, FunctionPort};
+
+/// Copies of names.
+pub(crate) fn copied_names(
+    alloc: Global,
+    names: &[Identifier],
+) -> Result<Vec<Identifier>, AllocError>
+    ensures { IfOk result (λ v. v.items ≡ names.now) }
+{
+    let mut all = Vec::new(alloc);
+    for n in names {
+        all.push(copied_name(alloc, n)?)?;
+    }
+    Ok(all)
+}
+
+/// Inputs of one type.
+pub(crate) fn bind_inputs(alloc: Global, a: &FunctionPort) -> Result<Locals, AllocError>
+    ensures { IfOk result (λ b. s.seen_locals b ≡ d.inputs_in a.now) }
+{
+    let kind = bind_type(alloc, &a.kind)?;
+    let names = copied_names(alloc, a.names.as_slice())?;
+    Ok(Locals {
+        kind,
+        is_input: true,
+        is_free: false,
+        names,
+    })
+}
+
+/// Variables of this type that are no inputs.
+fn free_locals(alloc: Global, kind: DataType, names: &[Identifier]) -> Result<Locals, AllocError>
+    ensures { IfOk result (λ b. s.seen_locals b ≡ map (d.local false true (s.seen_type kind)) names.now) }
+{
+    let names = copied_names(alloc, names)?;
+    Ok(Locals {
+        kind,
+        is_input: false,
+        is_free: true,
+        names,
+    })
+}
+
+/// What a declaration in a function declares.
+fn bind_locals(alloc: Global, a: &FunctionDeclaration) -> Result<Locals, AllocError>
+    ensures { IfOk result (λ b. s.seen_locals b ≡ d.locals_in a.now) }
+{
+    match a {
+        FunctionDeclaration::Input(port) => bind_inputs(alloc, port),
+        FunctionDeclaration::Reg(_, signed, range, names) => {
+            let kind = vector(alloc, *signed, range)?;
+            free_locals(alloc, kind, names.as_slice())
+        }
+        FunctionDeclaration::Integer(_, names) => {
+            free_locals(alloc, DataType::Integer, names.as_slice())
+        }
+    }
+}
+
+/// The inputs in a function's parentheses.
+fn header_inputs(alloc: Global, ports: &[FunctionPort]) -> Result<Vec<Locals>, AllocError>
+    ensures { IfOk result (λ v. flat_map s.seen_locals v.items ≡ flat_map d.inputs_in ports.now) }
+{
+    let mut all = Vec::new(alloc);
+    for a in ports {
+        all.push(bind_inputs(alloc, a)?)?;
+    }
+    Ok(all)
+}
+
+/// The inputs in a function's parentheses, where it has some.
+fn bind_header(
+    alloc: Global,
+    ports: &Option<Parts<FunctionPort>>,
+) -> Result<Vec<Locals>, AllocError>
+    ensures { IfOk result (λ v. flat_map s.seen_locals v.items ≡ option_map_or (flat_map d.inputs_in) ports.now []) }
+{
+    match ports {
+        None => Ok(Vec::new(alloc)),
+        Some(ports) => header_inputs(alloc, ports.as_slice()),
+    }
+}
+
+/// Adds what a function's declarations declare.
+fn add_locals(
+    alloc: Global,
+    mut all: Vec<Locals>,
+    declarations: &[FunctionDeclaration],
+) -> Result<Vec<Locals>, AllocError>
+    ensures { IfOk result (λ v. flat_map s.seen_locals v.items ≡ flat_map s.seen_locals all.items ++ flat_map d.locals_in declarations.now) }
+{
+    for a in declarations {
+        all.push(bind_locals(alloc, a)?)?;
+    }
+    Ok(all)
+}
+
+/// A function.
+pub(crate) fn bind_function(alloc: Global, a: &FunctionTree) -> Result<Function, AllocError>
+    ensures { IfOk result (λ b. s.seen_function b ≡ d.function a.now) }
+{
+    let header = bind_header(alloc, &a.ports)?;
+    let locals = add_locals(alloc, header, a.declarations.as_slice())?;
+    let name = copied_name(alloc, &a.name)?;
+    let kind = bind_type(alloc, &a.kind)?;
+    let body = bind_statement(alloc, &a.statement)?;
+    Ok(Function {
+        name,
+        kind,
+        locals,
+        body,
+    })
+}

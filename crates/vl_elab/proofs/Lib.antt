@@ -4,3 +4,4 @@ pub mod Bounded
 pub mod Graph
 pub mod Listed
 pub mod Whole
+pub mod Sound

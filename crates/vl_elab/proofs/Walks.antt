@@ -25,30 +25,6 @@ each-turn P xs i x h e here before k in' = ⊎_elim (before k) (⊎_elim (λ sam
 
 -- ---- marks
 
-pub visits-none : (marks : List Bool) (pile : List ℕ) → Visits [] marks pile marks pile
-visits-none marks pile = record {
-  same_length = refl;
-  kept = λ k h. h;
-  only = λ k h. inl h;
-  all = λ k h. absurd h;
-  piled = λ k h. inl h;
-  stays = λ k h. h;
-  added = λ k h. inl h;
-  less = omega arith;
-}
-
-pub visits-marked : (node : ℕ) (marks : List Bool) (pile : List ℕ) → IsMarked marks node → Visits (node ∷ []) marks pile marks pile
-visits-marked node marks pile m = record {
-  same_length = refl;
-  kept = λ k h. h;
-  only = λ k h. inl h;
-  all = λ k h. ⊎_elim (λ e. subst (IsMarked marks) e m) (λ f. absurd f) h;
-  piled = λ k h. inl h;
-  stays = λ k h. h;
-  added = λ k h. inl h;
-  less = omega arith;
-}
-
 -- what is marked after one more mark
 set_cases : (marks : List Bool) (node k : ℕ) → node < length marks → ((node ≡ k) × IsMarked (set marks node true) k) ⊎ (get_or (set marks node true) k false ≡ get_or marks k false)
 set_cases marks node k h = ⊎_elim (λ e. inl (e, subst (IsMarked (set marks node true)) e (get_or-set_same marks node true false h))) (λ n. inr (get_or-set_other marks node k true false (λ e. n (sym e)))) (cases_eq node k)

@@ -22,6 +22,7 @@ abbrev pub operand_in : Option Choice → List Link → Unary → Option Unary
 operand_in None [] first = Some first
 operand_in _ _ first = None
 
+-- the operand that an expression is, apart from marks before it
 abbrev pub operand_of : Expression → Option Unary
 operand_of x = let y = out-Binary (out-Expression x).binary in operand_in (out-Expression x).choice y.links y.first
 
@@ -30,6 +31,7 @@ abbrev pub unmarked_in : List UnaryMark → Primary → Option Primary
 unmarked_in [] y = Some y
 unmarked_in (m ∷ ms) y = None
 
+-- the primary that an operand is, where it has no marks
 abbrev pub unmarked : Option Unary → Option Primary
 unmarked None = None
 unmarked (Some x) = unmarked_in (out-Unary x).operators (out-Unary x).primary
@@ -66,6 +68,7 @@ abbrev pub row_inner : {m : _} → p.Row_of-Expression m → Option Expression
 row_inner p.end_of-Expression = None
 row_inner (p.more_of-Expression inner rest) = Some inner
 
+-- what stands in the parentheses that a primary is, if it is such
 abbrev pub inner_of : Option Primary → Option Expression
 inner_of (Some (p.Parenthesized' at s inner)) = row_inner inner
 inner_of _ = None
@@ -74,11 +77,12 @@ inner_of _ = None
 abbrev pub apart : Expression → Option Primary
 apart x = sole (stripped x)
 
--- what a primary is, apart from parentheses
+-- what stands in parentheses, apart from those and others round the whole
 abbrev pub row_apart : {m : _} → p.Row_of-Expression m → Option Primary
 row_apart p.end_of-Expression = None
 row_apart (p.more_of-Expression inner rest) = apart inner
 
+-- the primary that a primary is, apart from parentheses
 abbrev pub primary_apart : Primary → Option Primary
 primary_apart (p.Parenthesized' at s inner) = row_apart inner
 primary_apart y = Some y
@@ -93,6 +97,7 @@ abbrev pub behind_marks : List UnaryMark → Primary → Option Primary
 behind_marks (m ∷ []) y = behind_mark m.operator y
 behind_marks _ y = None
 
+-- the primary of which an operand is the `!`
 abbrev pub negated_in : Option Unary → Option Primary
 negated_in None = None
 negated_in (Some x) = behind_marks (out-Unary x).operators (out-Unary x).primary

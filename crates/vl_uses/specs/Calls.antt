@@ -31,6 +31,7 @@ abbrev pub sole_in : Option Expression → Option Primary
 sole_in None = None
 sole_in (Some a) = sole a
 
+-- the primary that an argument is, if it isn't empty
 abbrev pub argument_primary : SystemArgument → Option Primary
 argument_primary a = sole_in (out-SystemArgument a).argument
 
@@ -124,6 +125,7 @@ abbrev pub is_level : Option Primary → Bool
 is_level (Some (p.Number at a)) = nat_le a.value 2 && not (has_z a)
 is_level _ = false
 
+-- arguments of `$finish`: none, or a level (clause 17.4.1)
 abbrev pub is_finish : Option (List SystemArgument) → Bool
 is_finish None = true
 is_finish (Some as') = one_is (λ a. is_level (argument_primary a)) (one (Some as'))
@@ -139,6 +141,7 @@ abbrev pub is_save_name : Option (List ℕ) → Bool
 is_save_name None = false
 is_save_name (Some text) = nat_le 1 (length text) && nat_le (length text) 32 && list_all is_name_byte text
 
+-- arguments of `$save` (own)
 abbrev pub is_save : Option (List SystemArgument) → Bool
 is_save as' = one_is (λ a. is_save_name (argument_text a)) (one as')
 
@@ -147,6 +150,7 @@ abbrev pub is_mode : Option (List ℕ) → Bool
 is_mode None = false
 is_mode (Some text) = bytes_eq text (codes "r") || bytes_eq text (codes "rb")
 
+-- arguments of `$fopen`: a file's name and a mode (clause 17.2.1)
 abbrev pub is_open : Option (List SystemArgument) → Bool
 is_open as' = two_are (λ a b. is_some (argument_text a) && is_mode (argument_text b)) (two as')
 
@@ -155,6 +159,7 @@ abbrev pub bare_kind : (List ℕ → Option Kind) → Option Identifier → Opti
 bare_kind means None = None
 bare_kind means (Some n) = means n.name
 
+-- the bare name that an argument is, if it is one
 abbrev pub bare_in : Option Expression → Option Identifier
 bare_in None = None
 bare_in (Some a) = bare a
@@ -163,18 +168,22 @@ bare_in (Some a) = bare a
 abbrev pub argument_kind : (List ℕ → Option Kind) → SystemArgument → Option Kind
 argument_kind means a = bare_kind means (bare_in (out-SystemArgument a).argument)
 
+-- a variable
 abbrev pub is_variable_class : Class → Bool
 is_variable_class c.Variable = true
 is_variable_class _ = false
 
+-- a memory
 abbrev pub is_memory_class : Class → Bool
 is_memory_class c.Memory = true
 is_memory_class _ = false
 
+-- what is named is a memory
 abbrev pub is_memory : Option Kind → Bool
 is_memory (Some kind) = is_memory_class kind.class
 is_memory None = false
 
+-- what is named is a variable
 abbrev pub is_variable : Option Kind → Bool
 is_variable (Some kind) = is_variable_class kind.class
 is_variable None = false

@@ -87,6 +87,7 @@ pub record Node : Type 0 where
   pub setting : Setting
   pub part : Part
 
+-- a part that stands so
 abbrev pub node : Setting → Part → Node
 node k a = record { setting = k; part = a }
 
@@ -97,11 +98,11 @@ given f (Some a) = f a
 
 -- ---- expressions
 
--- the call loads a memory, which isn't read (clause 17.2.8)
+-- a system call of this name loads a memory (clause 17.2.8), which isn't read
 abbrev pub is_load : List ℕ → Bool
 is_load name = bytes_eq name (codes "$readmemh")
 
--- an argument that isn't read: a bare name where a memory is loaded
+-- an argument isn't read: a bare name where a memory is loaded
 abbrev pub is_loaded : Bool → Expression → Bool
 is_loaded load a = load && is_some (bare a)
 
@@ -195,6 +196,7 @@ right_side_nodes k a = whole_nodes k (call_in (apart a)) (expression_nodes k a)
 unfoldable pub condition_nodes : Setting → Expression → List Node
 condition_nodes k a = whole_nodes k (call_in (apart a)) (whole_nodes k (call_in (negated a)) (expression_nodes k a))
 
+-- a primary is a number
 abbrev pub is_number : Option Primary → Bool
 is_number (Some (p.Number at a)) = true
 is_number _ = false
@@ -216,6 +218,7 @@ unfoldable mutual
   lvalue_row side k l.end_of-Lvalue = []
   lvalue_row side k (l.more_of-Lvalue a rest) = lvalue_nodes side k a ++ lvalue_row side k rest
 
+-- an assignment
 unfoldable pub assignment_nodes : Side → Setting → Assignment → List Node
 assignment_nodes side k a = lvalue_nodes side k a.target ++ right_side_nodes k a.value
 
@@ -252,6 +255,7 @@ unfoldable mutual
 abbrev pub range_nodes : Setting → Range → List Node
 range_nodes k a = expression_nodes (constantly k) a.left ++ expression_nodes (constantly k) a.right
 
+-- the type of a parameter, or of a function's input or result
 abbrev pub type_nodes : Setting → ParameterType → List Node
 type_nodes k pt.Integer = []
 type_nodes k (pt.Vector signed range) = given (range_nodes k) range
@@ -274,16 +278,19 @@ first_value_nodes k a = right_side_nodes (timely k) a
 abbrev pub output_variables_nodes : Setting → List DeclarationAssignment → List Node
 output_variables_nodes k variables = flat_map (λ a. given (first_value_nodes k) a.value) variables
 
+-- a port's declaration
 abbrev pub port_nodes : Setting → PortDeclaration → List Node
 port_nodes k (pd.Net at direction wire signed range names) = given (range_nodes k) range
 port_nodes k (pd.Reg at signed range variables) = given (range_nodes k) range ++ output_variables_nodes k variables
 port_nodes k (pd.Integer at variables) = output_variables_nodes k variables
 
+-- what stands in a module's parentheses
 abbrev pub ports_nodes : Setting → Ports → List Node
 ports_nodes k ps.Empty = []
 ports_nodes k (ps.Names names) = []
 ports_nodes k (ps.Declarations ports) = flat_map (port_nodes k) ports
 
+-- nets, with their values
 abbrev pub nets_nodes : Setting → List DeclarationAssignment → List Node
 nets_nodes k nets = flat_map (λ a. given (expression_nodes k) a.value) nets
 
@@ -292,11 +299,13 @@ abbrev pub variable_nodes : Setting → VariableMore → List Node
 variable_nodes k (vm.Words addresses) = range_nodes k addresses
 variable_nodes k (vm.Value a) = first_value_nodes k a
 
+-- variables and memories
 abbrev pub variables_nodes : Setting → List VariableType → List Node
 variables_nodes k variables = flat_map (λ a. given (variable_nodes k) a.more) variables
 
 -- ---- items
 
+-- continuous assignments
 abbrev pub continuous_nodes : Setting → List Assignment → List Node
 continuous_nodes k assignments = flat_map (assignment_nodes Continuous k) assignments
 
@@ -306,6 +315,7 @@ is_clocked tr.Star = false
 is_clocked tr.Parenthesized = false
 is_clocked (tr.Events events) = list_any (λ a. is_some a.edge) events
 
+-- the names of a trigger
 abbrev pub trigger_nodes : Setting → Trigger → List Node
 trigger_nodes k tr.Star = []
 trigger_nodes k tr.Parenthesized = []
@@ -315,13 +325,16 @@ trigger_nodes k (tr.Events events) = map (λ a. node k (event a.name)) events
 unfoldable pub always_nodes : Setting → Trigger → Statement → List Node
 always_nodes k trigger statement = trigger_nodes k trigger ++ statement_nodes (if is_clocked trigger then timely k else k) statement
 
+-- a connection or an override
 abbrev pub connection_nodes : Setting → Connection → List Node
 connection_nodes k (cn.Ordered at a) = given (expression_nodes k) a
 connection_nodes k (cn.Named at name a) = given (expression_nodes k) a
 
+-- connections or overrides
 abbrev pub connections_nodes : Setting → List Connection → List Node
 connections_nodes k as' = flat_map (connection_nodes k) as'
 
+-- an instance
 abbrev pub named_instance_nodes : Setting → NamedInstance → List Node
 named_instance_nodes k a = connections_nodes k a.connections
 
@@ -342,9 +355,11 @@ item_nodes k (i.Always at trigger statement) = always_nodes k trigger statement
 item_nodes k (i.Function a) = []
 item_nodes k (i.Instance a) = instance_nodes k a
 
+-- the inputs in a function's parentheses
 abbrev pub inputs_nodes : Setting → List FunctionPort → List Node
 inputs_nodes k inputs = flat_map (λ a. type_nodes k a.kind) inputs
 
+-- a declaration in a function's body
 abbrev pub function_declaration_nodes : Setting → FunctionDeclaration → List Node
 function_declaration_nodes k (fd.Input a) = type_nodes k a.kind
 function_declaration_nodes k (fd.Reg at signed range names) = given (range_nodes k) range
@@ -365,6 +380,7 @@ pub record Site : Type 0 where
   pub function : Option Function
   pub node : Node
 
+-- a part that stands in a function or in none
 abbrev pub site : Option Function → Node → Site
 site within a = record { function = within; node = a }
 
@@ -387,10 +403,11 @@ items_sites n (a ∷ as') = item_sites n a ++ items_sites (n + item_parameters a
 abbrev pub items_parameters : List Item → ℕ
 items_parameters items = sum_by item_parameters items
 
--- how many parameters a module's header declares
+-- how many parameters the groups in a module's header declare
 abbrev pub group_parameters : List ParameterGroup → ℕ
 group_parameters groups = sum_by (λ a. length a.assignments) groups
 
+-- how many parameters a module's header declares, if it has any
 abbrev pub header_parameters : Option (List ParameterGroup) → ℕ
 header_parameters None = 0
 header_parameters (Some groups) = group_parameters groups

@@ -28,6 +28,7 @@ pointed o = option_map (λ r. r.now) o
 abbrev pub scoped : Scope → Scope → Scope → Meanings
 scoped outer inner called = record { read = look_within outer inner; called = look_within outer called }
 
+-- what names mean by the program's scopes
 abbrev pub means : Names → Meanings
 means n = scoped n.outer.now n.inner.now n.called.now
 

@@ -37,7 +37,7 @@ pub enum Usage {
 }
 
 /// In a constant place there.
-pub fn constantly(setting: Setting) -> Setting
+pub(crate) fn constantly(setting: Setting) -> Setting
     ensures { result ≡ spec.constantly setting }
 {
     Setting {
@@ -47,7 +47,7 @@ pub fn constantly(setting: Setting) -> Setting
 }
 
 /// In an initial or a clocked process there.
-pub fn timely(setting: Setting) -> Setting
+pub(crate) fn timely(setting: Setting) -> Setting
     ensures { result ≡ spec.timely setting }
 {
     Setting {
@@ -57,7 +57,7 @@ pub fn timely(setting: Setting) -> Setting
 }
 
 /// Outside processes and constants, behind so many declared parameters.
-pub fn behind(parameters: usize) -> Setting
+pub(crate) fn behind(parameters: usize) -> Setting
     ensures { result ≡ spec.behind parameters }
 {
     Setting {
@@ -68,7 +68,7 @@ pub fn behind(parameters: usize) -> Setting
 }
 
 /// Behind so many more parameters.
-pub fn later(setting: Setting, parameters: usize) -> Setting
+pub(crate) fn later(setting: Setting, parameters: usize) -> Setting
     requires { setting.parameters + parameters < 2 ^ 64 }
     ensures { result ≡ spec.later setting parameters }
 {
@@ -79,7 +79,7 @@ pub fn later(setting: Setting, parameters: usize) -> Setting
 }
 
 /// Where what stands before the mark of a select stands.
-pub fn before_mark(mark: SelectMark, setting: Setting) -> Setting
+pub(crate) fn before_mark(mark: SelectMark, setting: Setting) -> Setting
     ensures { result ≡ spec.before_mark mark setting }
 {
     match mark {
@@ -89,7 +89,7 @@ pub fn before_mark(mark: SelectMark, setting: Setting) -> Setting
 }
 
 /// Where the indices on a left side stand.
-pub fn of_index(side: Side, setting: Setting) -> Setting
+pub(crate) fn of_index(side: Side, setting: Setting) -> Setting
     ensures { result ≡ spec.of_index side setting }
 {
     match side {

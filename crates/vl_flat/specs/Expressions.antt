@@ -1,5 +1,5 @@
 -- The expressions of an instance in its design, and their forms (IEEE 1364-2005, clauses 3.6, 5 and 12).
-use Rattle.std.specs.Prelude.{ℕ, ◌+◌, ◌*◌, max, nat_lt, ℤ, pos, neg_ℤ, ◌+ℤ◌, ◌-ℤ◌, int_le, Bool, true, false, not, ◌&&◌, List, length, Option, Some, None, if◌then◌else◌, codes}
+use Rattle.std.specs.Prelude.{ℕ, ◌+◌, ◌*◌, max, min, nat_lt, ℤ, pos, neg_ℤ, ◌+ℤ◌, ◌-ℤ◌, int_le, Bool, true, false, not, ◌&&◌, List, length, Option, Some, None, if◌then◌else◌, codes}
 use Rattle.std.specs.Int.Digits.{number_from_digits}
 use Rattle.std.specs.Str.{bytes_eq}
 use Rattle.vl_base.specs.declared.place.Place.{Place}
@@ -146,11 +146,11 @@ from_highest r w = if falls r then record { constant = (pos 1 -ℤ pos w) -ℤ r
 abbrev pub part_low : ℤ × ℤ → ℤ → ℤ
 part_low r z = clamped (if falls r then z -ℤ r.1 else r.1 -ℤ z)
 
--- how many bits two bounds around a mark choose
+-- how many bits two bounds around a mark choose; more than 128 are refused, and counted as 129
 abbrev pub part_width : SelectMark → p.Exp → p.Exp → ℕ
-part_width m.Range a b = range_width (bound_of a) (bound_of b)
-part_width m.Up a b = width_of b
-part_width m.Down a b = width_of b
+part_width m.Range a b = min 129 (range_width (bound_of a) (bound_of b))
+part_width m.Up a b = min 129 (width_of b)
+part_width m.Down a b = min 129 (width_of b)
 
 -- so many bits of a value, by what stands before the mark and the constant behind it
 abbrev pub part : Place → ℤ × ℤ → p.Exp → SelectMark → p.Exp → p.Exp → ℕ → p.Exp

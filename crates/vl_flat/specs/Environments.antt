@@ -25,6 +25,10 @@ no_more = record { signals = 0; functions = 0 }
 abbrev pub most_numbers : ℕ
 most_numbers = 2 ^ 32 - 1
 
+-- the number behind a number
+abbrev pub after : ℕ → ℕ
+after n = min most_numbers (n + 1)
+
 abbrev pub plus : Counts → Counts → Counts
 plus a b = record { signals = min most_numbers (a.signals + b.signals); functions = min most_numbers (a.functions + b.functions) }
 

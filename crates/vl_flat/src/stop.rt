@@ -1,5 +1,6 @@
 //! Why a flattening stops.
 
+use std::alloc::{AllocError, AllocFailed};
 use vl_base::place::Place;
 
 /// Why a flattening stops.
@@ -11,4 +12,24 @@ pub enum Stop {
     Limit(Place, u8),
     /// Memory ran out.
     Memory,
+}
+
+impl From<AllocError> for Stop {
+    ghost use Rattle.vl_flat.specs.declared.stop.Stop.TheVariants.{Memory};
+
+    ghost from_gives = { λ _ e. e ≡ Memory };
+
+    fn from(_error: AllocError) -> Self {
+        Stop::Memory
+    }
+}
+
+impl<T: Drop> From<AllocFailed<T>> for Stop {
+    ghost use Rattle.vl_flat.specs.declared.stop.Stop.TheVariants.{Memory};
+
+    ghost from_gives = { λ _ e. e ≡ Memory };
+
+    fn from(_error: AllocFailed<T>) -> Self {
+        Stop::Memory
+    }
 }

@@ -1,5 +1,7 @@
 //! Why a flattening stops.
 
+ghost use Rattle.std.specs.Prelude.{◌≡◌};
+
 use std::alloc::{AllocError, AllocFailed};
 use vl_base::place::Place;
 

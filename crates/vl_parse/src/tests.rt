@@ -1,8 +1,1 @@
-//! Tables of sources, with trees and places worked out by hand.
-
-mod faults;
-mod limits;
-mod show;
-mod tokens;
-mod trees;
-mod whole;
+//! Each call is reached by the rows of the crate parse_rows.

@@ -1,0 +1,9 @@
+use Rattle.std.specs.Prelude.{option_map}
+use Rattle.vl_constant.specs.Seen.{seen_scope, binding_of}
+use Rattle.vl_constant.proofs.Kept.{name-range}
+use Rattle.vl_constant.proofs.form.named_form.Goals as goal
+
+pub returns-in-Range : goal.returns-in-Range
+returns-in-Range c =
+    name-range (seen_scope c.args.scope.now) (option_map binding_of c.args.known) c.unsigned.result c.selects_form-in-Range.result c.taken.result c.args.selects.now c.first-item.result c.in-Range.field-0 c.in-Range.mark c.in-Range.left c.in-Range.right
+    c.in-len1-up.len_at_least c.first-item.is c.in-Range.is c.selects_form-in-Range.ensures c.unsigned.ensures c.taken.ensures.same

@@ -1,0 +1,29 @@
+-- The plain data of types and ranges.
+use Rattle.std.specs.Prelude.{nat_lt, ℤ, pos, ◌-ℤ◌, Bool, ◌||◌, if◌then◌else◌}
+use Rattle.vl_flat.specs.declared.binding.Constant.{Constant}
+use Rattle.vl_flat.specs.Placed.{Exp}
+use Rattle.vl_flat.specs.Constants.{constant_form, constant_value}
+use Rattle.vl_flat.specs.Expressions.{falls}
+use Rattle.vl_flat.specs.Ranges.{bits_in}
+use Rattle.vl_flat.specs.Parameters as p
+use Rattle.vl_constant.specs.declared.ranges.Range.{Range}
+use Rattle.vl_constant.specs.declared.scope.Value.{Value}
+
+-- the numbers of the highest and the lowest bit
+abbrev pub numbers : Range → ℤ × ℤ
+numbers r = (r.left, r.right)
+
+abbrev pub constant_of : Value → Constant
+constant_of v = record { value = v.bits.value; width = v.bits.width; signed = v.signed; left = v.left; right = v.right }
+
+-- a range of more than 128 bits counts as that of one bit
+abbrev pub narrowed : ℤ × ℤ → ℤ × ℤ
+narrowed r = if nat_lt 128 (bits_in r) then (pos 0, pos 0) else r
+
+-- a parameter's value with bits of its own
+abbrev pub unranged : Bool → Exp → Constant
+unranged signed e = p.unranged (constant_value e) (constant_form e).width (signed || (constant_form e).signed)
+
+-- how far the bit of a number is from the lowest one
+abbrev pub distance : ℤ × ℤ → ℤ → ℤ
+distance r z = if falls r then z -ℤ r.1 else r.1 -ℤ z

@@ -1,0 +1,148 @@
+//! The types of declarations, and the values of parameters (IEEE 1364-2005, clauses 4.3, 4.8, 4.10 and 12.2).
+
+ghost use Rattle.std.specs.Prelude.{◌≡◌, ◌≤◌, option_map};
+ghost use Rattle.vl_flat.specs.Scopes.{plainly};
+ghost use Rattle.vl_flat.specs.Expressions as flat;
+ghost use Rattle.vl_flat.specs.Ranges as r;
+ghost use Rattle.vl_flat.specs.Parameters as p;
+ghost use Rattle.vl_bind.specs.Seen.{seen};
+ghost use Rattle.vl_constant.specs.Seen.{seen_scope};
+ghost use Rattle.vl_constant.specs.Types.{numbers, constant_of, narrowed, unranged};
+ghost use Rattle.vl_items.specs.SeenItems.{seen_bounds, seen_type};
+
+use crate::scope::{Scope, Value};
+use crate::whole::{assigned_value, bound, own_value};
+use vl_bind::surface::Ex;
+use vl_design::design::Form;
+use vl_items::items::{Bounds, DataType};
+
+/// The numbers of the highest and the lowest bit.
+#[derive(Clone, Copy)]
+pub struct Range {
+    /// The number of the highest bit.
+    pub left: i32,
+    /// The number of the lowest bit.
+    pub right: i32,
+}
+
+/// How many bits a range has.
+pub fn bits_in(range: Range) -> u64
+    ensures { result ≡ r.bits_in (numbers range) }
+{
+    u64::from(range.left.abs_diff(range.right)) + 1
+}
+
+/// The two bounds of a range; one with a fault counts as 0.
+pub fn bounds_of(scope: &Scope<'_, '_>, range: &Bounds) -> Range
+    ensures { numbers result ≡ r.bounds_of (seen_scope scope.now).names (seen_bounds range.now) }
+{
+    Range {
+        left: bound(scope, &range.left),
+        right: bound(scope, &range.right),
+    }
+}
+
+/// The bounds of a range, or `[0:0]` where there is none.
+pub fn optional_bounds(scope: &Scope<'_, '_>, range: &Option<Bounds>) -> Range
+    ensures { numbers result ≡ r.optional_bounds (seen_scope scope.now).names (option_map seen_bounds range.now) }
+{
+    match range {
+        None => Range { left: 0, right: 0 },
+        Some(range) => bounds_of(scope, range),
+    }
+}
+
+/// The range of a type as it is written.
+pub fn written(scope: &Scope<'_, '_>, kind: &DataType) -> Range
+    ensures { numbers result ≡ r.written (seen_scope scope.now).names (seen_type kind.now) }
+{
+    match kind {
+        DataType::Integer => Range { left: 31, right: 0 },
+        DataType::Vector(_, range) => optional_bounds(scope, range),
+    }
+}
+
+/// The type is signed.
+pub fn is_signed(kind: &DataType) -> bool
+    ensures { result ≡ r.is_signed (seen_type kind.now) }
+{
+    match kind {
+        DataType::Integer => true,
+        DataType::Vector(signed, _) => *signed,
+    }
+}
+
+/// The range of a type as it is written has more than 128 bits.
+pub fn is_wide(scope: &Scope<'_, '_>, kind: &DataType) -> bool
+    ensures { result ≡ r.is_wide (seen_scope scope.now).names (seen_type kind.now) }
+{
+    bits_in(written(scope, kind)) > 128
+}
+
+/// A range, or that of one bit where it has more than 128.
+fn narrowed(range: Range) -> Range
+    ensures same { numbers result ≡ narrowed (numbers range) }
+    ensures narrow { r.bits_in (numbers result) ≤ 128 }
+{
+    if bits_in(range) > 128 {
+        Range { left: 0, right: 0 }
+    } else {
+        range
+    }
+}
+
+/// The range of a type; one of more than 128 bits counts as that of one bit.
+pub fn type_range(scope: &Scope<'_, '_>, kind: &DataType) -> Range
+    ensures same { numbers result ≡ r.type_range (seen_scope scope.now).names (seen_type kind.now) }
+    ensures narrow { r.bits_in (numbers result) ≤ 128 }
+{
+    narrowed(written(scope, kind))
+}
+
+/// The width and the sign of a type.
+pub fn type_form(scope: &Scope<'_, '_>, kind: &DataType) -> Form
+    ensures { result ≡ r.type_form (seen_scope scope.now).names (seen_type kind.now) }
+{
+    Form {
+        width: bits_in(type_range(scope, kind)) as u32,
+        signed: is_signed(kind),
+    }
+}
+
+/// A parameter's value with the bits of its type.
+fn ranged(range: Range, signed: bool, above: &Scope<'_, '_>, e: &Ex) -> Value
+    requires { r.bits_in (numbers range) ≤ 128 }
+    ensures { constant_of result ≡ p.ranged (flat.constant (plainly (seen_scope above.now).names) (seen e.now)) (numbers range) signed }
+{
+    let width = bits_in(range) as u8;
+    Value {
+        bits: assigned_value(above, e, width),
+        signed,
+        left: range.left,
+        right: range.right,
+    }
+}
+
+/// A parameter's value with bits of its own.
+fn unranged(signed: bool, above: &Scope<'_, '_>, e: &Ex) -> Value
+    ensures { constant_of result ≡ unranged signed (flat.constant (plainly (seen_scope above.now).names) (seen e.now)) }
+{
+    let own = own_value(above, e);
+    Value {
+        bits: own.bits,
+        signed: signed || own.signed,
+        left: i32::from(own.bits.width) - 1,
+        right: 0,
+    }
+}
+
+/// A parameter of a type, whose value is a constant of another scope: a range or `integer` converts it, `signed` alone keeps its width,
+/// and without a type it keeps its sign too.
+pub fn converted(scope: &Scope<'_, '_>, kind: &DataType, above: &Scope<'_, '_>, e: &Ex) -> Value
+    ensures { constant_of result ≡ p.converted (seen_scope scope.now).names (seen_type kind.now) (flat.constant (plainly (seen_scope above.now).names) (seen e.now)) }
+{
+    match kind {
+        DataType::Vector(signed, None) => unranged(*signed, above, e),
+        _ => ranged(type_range(scope, kind), is_signed(kind), above, e),
+    }
+}

@@ -1,0 +1,23 @@
+-- Expressions and arguments of the design one after another.
+use Rattle.std.specs.Prelude.{List, [], ◌∷◌}
+use Rattle.vl_design.specs.declared.design.SysArg.{SysArg}
+use Rattle.vl_flat.specs.Placed as p
+use Rattle.vl_flat.specs.Seen.{arg}
+use Rattle.vl_flat.specs.Scopes.{Scope}
+use Rattle.vl_flat.specs.Expressions.{exp}
+use Rattle.vl_bind.specs.declared.surface.Ex.{Ex as Bound}
+use Rattle.vl_bind.specs.Seen.{seen}
+
+-- expressions of the design one after another
+abbrev pub listed : List p.Exp → p.Exps
+listed [] = p.NoExps
+listed (x ∷ xs) = p.MoreExps x (listed xs)
+
+-- a bound expression in the design
+abbrev pub seen_exp : Scope → Bound → p.Exp
+seen_exp scope e = exp scope (seen e)
+
+-- arguments before others
+abbrev pub args_with : List SysArg → p.Args → p.Args
+args_with [] others = others
+args_with (a ∷ as') others = arg a (args_with as' others)

@@ -1,0 +1,433 @@
+//! Expressions in the design (IEEE 1364-2005, clause 5).
+
+ghost use Rattle.std.specs.Prelude.{◌≡◌, map, option_map, IfOk, true};
+ghost use Rattle.vl_flat.specs.Surface as x;
+ghost use Rattle.vl_flat.specs.Placed as p;
+ghost use Rattle.vl_flat.specs.Expressions as flat;
+ghost use Rattle.vl_flat.specs.Seen.{exp_of, arg};
+ghost use Rattle.vl_bind.specs.Seen.{seen, select, argument, selects_before, args_before};
+ghost use Rattle.vl_constant.specs.Seen.{seen_scope, binding_of};
+ghost use Rattle.vl_constant.specs.Types.{numbers};
+ghost use Rattle.vl_expression.specs.Listed as n;
+
+use crate::leaves::{operand, whole};
+use std::alloc::{AllocError, Global};
+use vl_base::bits::{BinOp, Bits, UnOp};
+use vl_base::items::{Items, Text};
+use vl_base::place::Place;
+use vl_bind::surface::{Argument, Ex, Select};
+use vl_constant::form::{is_memory, is_word, taken};
+use vl_constant::forms::{mark, operated};
+use vl_constant::ranges::Range;
+use vl_constant::scope::{Known, Scope, found_in, meaning};
+use vl_constant::selects::{bits_of, from_highest, from_lowest, number_of, part_low, range_of};
+use vl_constant::whole::{bound, count};
+use vl_design::design::{Expr, ExprNode, LowestBit, SysArg, SysCall};
+use vl_grammar::tree::SelectMark;
+
+/// A copy of a text.
+pub fn copied(alloc: Global, text: &Text) -> Result<Text, AllocError>
+    ensures { IfOk result (λ t. t ≡ text.now) }
+{
+    Ok(Items::from_vec(Vec::from_slice(alloc, text.as_slice())?))
+}
+
+/// So many bits of a value from the one on that an index names.
+fn picked(
+    alloc: Global,
+    at: Place,
+    base: Expr,
+    index: Expr,
+    from: LowestBit,
+    width: u8,
+) -> Result<Expr, AllocError>
+    ensures { IfOk result (λ e. exp_of e ≡ p.Pick at (exp_of base) (exp_of index) from width) }
+{
+    let base = Box::new(alloc, base)?;
+    let index = Box::new(alloc, index)?;
+    Ok(Expr {
+        place: at,
+        node: ExprNode::Pick(base, index, from, width),
+    })
+}
+
+/// So many bits of a value from a constant one on.
+fn sliced(alloc: Global, at: Place, base: Expr, low: i32, width: u8) -> Result<Expr, AllocError>
+    ensures { IfOk result (λ e. exp_of e ≡ p.Slice at (exp_of base) low width) }
+{
+    let base = Box::new(alloc, base)?;
+    Ok(Expr {
+        place: at,
+        node: ExprNode::Slice(base, low, width),
+    })
+}
+
+/// The word of a memory.
+fn word(alloc: Global, at: Place, memory: u32, address: Expr) -> Result<Expr, AllocError>
+    ensures { IfOk result (λ e. exp_of e ≡ p.Word at memory (exp_of address)) }
+{
+    let address = Box::new(alloc, address)?;
+    Ok(Expr {
+        place: at,
+        node: ExprNode::Word(memory, address),
+    })
+}
+
+/// An operand behind a mark.
+fn marked(alloc: Global, at: Place, op: Option<UnOp>, a: Expr) -> Result<Expr, AllocError>
+    ensures { IfOk result (λ e. exp_of e ≡ flat.marked at op (exp_of a)) }
+{
+    match op {
+        None => Ok(a),
+        Some(op) => {
+            let a = Box::new(alloc, a)?;
+            Ok(Expr {
+                place: at,
+                node: ExprNode::Un(op, a),
+            })
+        }
+    }
+}
+
+/// An operator on two operands.
+fn joined(alloc: Global, at: Place, op: BinOp, a: Expr, b: Expr) -> Result<Expr, AllocError>
+    ensures { IfOk result (λ e. exp_of e ≡ p.Bin at op (exp_of a) (exp_of b)) }
+{
+    let a = Box::new(alloc, a)?;
+    let b = Box::new(alloc, b)?;
+    Ok(Expr {
+        place: at,
+        node: ExprNode::Bin(op, a, b),
+    })
+}
+
+/// A condition with its two branches.
+fn chosen(alloc: Global, at: Place, test: Expr, a: Expr, b: Expr) -> Result<Expr, AllocError>
+    ensures { IfOk result (λ e. exp_of e ≡ p.Cond at (exp_of test) (exp_of a) (exp_of b)) }
+{
+    let test = Box::new(alloc, test)?;
+    let a = Box::new(alloc, a)?;
+    let b = Box::new(alloc, b)?;
+    Ok(Expr {
+        place: at,
+        node: ExprNode::Cond(test, a, b),
+    })
+}
+
+/// `$signed` or `$unsigned`.
+fn cast(alloc: Global, at: Place, signed: bool, a: Expr) -> Result<Expr, AllocError>
+    ensures { IfOk result (λ e. exp_of e ≡ p.Cast at signed (exp_of a)) }
+{
+    let a = Box::new(alloc, a)?;
+    Ok(Expr {
+        place: at,
+        node: ExprNode::Cast(signed, a),
+    })
+}
+
+/// A value whose bits are numbered.
+#[derive(Drop)]
+pub struct Based {
+    /// The value.
+    pub base: Expr,
+    /// The numbers of its bits.
+    pub range: Range,
+}
+
+/// So many bits of a value by a select with a mark.
+#[cycle(exp)]
+fn parted(
+    alloc: Global,
+    scope: &Scope<'_, '_>,
+    at: Place,
+    from: Based,
+    mark: SelectMark,
+    left: &Ex,
+    right: &Ex,
+    width: u8,
+) -> Result<Expr, AllocError>
+    ensures { IfOk result (λ e. exp_of e ≡ flat.part at (numbers from.range) (exp_of from.base) mark (flat.exp (seen_scope scope.now) (seen left.now)) (flat.constant (seen_scope scope.now) (seen right.now)) width) }
+{
+    let Based { base, range } = from;
+    match mark {
+        SelectMark::Range => sliced(alloc, at, base, part_low(range, bound(scope, right)), width),
+        SelectMark::Up => {
+            let index = exp(alloc, scope, left)?;
+            picked(alloc, at, base, index, from_lowest(range, width), width)
+        }
+        SelectMark::Down => {
+            let index = exp(alloc, scope, left)?;
+            picked(alloc, at, base, index, from_highest(range, width), width)
+        }
+    }
+}
+
+/// One select on a value.
+#[cycle(exp)]
+fn one_selected(
+    alloc: Global,
+    scope: &Scope<'_, '_>,
+    at: Place,
+    from: Based,
+    one: &Select,
+) -> Result<Based, AllocError>
+    ensures { IfOk result (λ b. (others : x.Selects) → flat.selected (seen_scope scope.now) at (numbers b.range) (exp_of b.base) others ≡ flat.selected (seen_scope scope.now) at (numbers from.range) (exp_of from.base) (select one.now others)) }
+{
+    match one {
+        Select::Index(_, i) => {
+            let index = exp(alloc, scope, i)?;
+            let Based { base, range } = from;
+            let base = picked(alloc, at, base, index, from_lowest(range, 1), 1)?;
+            let range = bits_of(1);
+            Ok(Based { base, range })
+        }
+        Select::Range(_, mark, left, right) => {
+            let width = taken(scope, *mark, left, right) as u8;
+            let base = parted(alloc, scope, at, from, *mark, left, right, width)?;
+            let range = bits_of(width);
+            Ok(Based { base, range })
+        }
+    }
+}
+
+/// Selects on a value.
+#[cycle(exp)]
+fn selected(
+    alloc: Global,
+    scope: &Scope<'_, '_>,
+    at: Place,
+    from: Based,
+    selects: &[Select],
+) -> Result<Expr, AllocError>
+    ensures { IfOk result (λ e. exp_of e ≡ flat.selected (seen_scope scope.now) at (numbers from.range) (exp_of from.base) (selects_before selects.now x.NoSelects)) }
+{
+    let mut all = from;
+    for one in selects {
+        all = one_selected(alloc, scope, at, all, one)?;
+    }
+    Ok(all.base)
+}
+
+/// A word of a memory with the selects behind it.
+#[cycle(exp)]
+fn worded(
+    alloc: Global,
+    scope: &Scope<'_, '_>,
+    at: Place,
+    known: Option<Known>,
+    selects: &[Select],
+) -> Result<Expr, AllocError>
+    requires { flat.is_memory (option_map binding_of known) ≡ true }
+    ensures { IfOk result (λ e. exp_of e ≡ flat.named (seen_scope scope.now) at (option_map binding_of known) (selects_before selects.now x.NoSelects)) }
+{
+    let range = range_of(known);
+    match selects {
+        [] => Ok(whole(at, known)),
+        [first, rest @ ..] => match first {
+            Select::Index(_, i) => {
+                let index = exp(alloc, scope, i)?;
+                let base = word(alloc, at, number_of(known), index)?;
+                selected(alloc, scope, at, Based { base, range }, rest)
+            }
+            Select::Range(_, _, _, _) => {
+                let base = whole(at, known);
+                selected(alloc, scope, at, Based { base, range }, selects)
+            }
+        },
+    }
+}
+
+/// A name with its selects.
+#[cycle(exp)]
+fn named(
+    alloc: Global,
+    scope: &Scope<'_, '_>,
+    at: Place,
+    known: Option<Known>,
+    selects: &[Select],
+) -> Result<Expr, AllocError>
+    ensures { IfOk result (λ e. exp_of e ≡ flat.named (seen_scope scope.now) at (option_map binding_of known) (selects_before selects.now x.NoSelects)) }
+{
+    if is_memory(known) {
+        return worded(alloc, scope, at, known, selects);
+    }
+    let base = whole(at, known);
+    let range = range_of(known);
+    selected(alloc, scope, at, Based { base, range }, selects)
+}
+
+/// Expressions one by one.
+#[cycle(exp)]
+pub fn exps(alloc: Global, scope: &Scope<'_, '_>, es: &[Ex]) -> Result<Vec<Expr>, AllocError>
+    ensures { IfOk result (λ v. map exp_of v.items ≡ map (n.seen_exp (seen_scope scope.now)) es.now) }
+{
+    let mut all = Vec::new(alloc);
+    for e in es {
+        all.push(exp(alloc, scope, e)?)?;
+    }
+    Ok(all)
+}
+
+/// An expression.
+#[cycle(exp)]
+#[tactic(auto, using(crate::proofs::Lists::lists))]
+pub fn exp(alloc: Global, scope: &Scope<'_, '_>, e: &Ex) -> Result<Expr, AllocError>
+    ensures { IfOk result (λ a. exp_of a ≡ flat.exp (seen_scope scope.now) (seen e.now)) }
+{
+    match e {
+        Ex::Number(at, n) => Ok(Expr {
+            place: *at,
+            node: ExprNode::Num(n.bits, n.signed),
+        }),
+        Ex::Text(at, text) => Ok(operand(*at, text.as_slice())),
+        Ex::Named(at, name, selects) => {
+            let known = meaning(scope, name.as_slice());
+            named(alloc, scope, *at, known, selects.as_slice())
+        }
+        Ex::Paren(_, a) => exp(alloc, scope, a),
+        Ex::Unary(at, operator, a) => {
+            let a = exp(alloc, scope, a)?;
+            marked(alloc, *at, mark(*operator), a)
+        }
+        Ex::Binary(at, operator, a, b) => {
+            let a = exp(alloc, scope, a)?;
+            let b = exp(alloc, scope, b)?;
+            joined(alloc, *at, operated(*operator), a, b)
+        }
+        Ex::Choice(at, t, a, b) => {
+            let t = exp(alloc, scope, t)?;
+            let a = exp(alloc, scope, a)?;
+            let b = exp(alloc, scope, b)?;
+            chosen(alloc, *at, t, a, b)
+        }
+        Ex::Joined(at, parts) => {
+            let parts = exps(alloc, scope, parts.as_slice())?;
+            Ok(Expr {
+                place: *at,
+                node: ExprNode::Cat(parts),
+            })
+        }
+        Ex::Repeated(at, n, parts) => {
+            let parts = exps(alloc, scope, parts.as_slice())?;
+            Ok(Expr {
+                place: *at,
+                node: ExprNode::Rep(count(scope, n), parts),
+            })
+        }
+        Ex::Called(at, name, arguments) => {
+            let number = number_of(found_in(scope.module, name.as_slice()));
+            let arguments = exps(alloc, scope, arguments.as_slice())?;
+            Ok(Expr {
+                place: *at,
+                node: ExprNode::Call(number, arguments),
+            })
+        }
+        Ex::System(at, name, given) => system(alloc, scope, *at, name, given.as_slice()),
+    }
+}
+
+/// An argument of a system call; a string stays one where the call keeps strings.
+#[cycle(exp)]
+fn one_argument(
+    alloc: Global,
+    scope: &Scope<'_, '_>,
+    keeps: bool,
+    a: &Argument,
+) -> Result<SysArg, AllocError>
+    ensures { IfOk result (λ b. (others : x.Args) → arg b (flat.args (seen_scope scope.now) keeps others) ≡ flat.args (seen_scope scope.now) keeps (argument a.now others)) }
+{
+    match a {
+        Argument::Null => Ok(SysArg::Null),
+        Argument::Value(e) => match e {
+            Ex::Text(at, text) => {
+                if keeps {
+                    Ok(SysArg::Str(copied(alloc, text)?))
+                } else {
+                    Ok(SysArg::Value(operand(*at, text.as_slice())))
+                }
+            }
+            _ => Ok(SysArg::Value(exp(alloc, scope, e)?)),
+        },
+    }
+}
+
+/// Arguments of a system call.
+#[cycle(exp)]
+pub fn arguments(
+    alloc: Global,
+    scope: &Scope<'_, '_>,
+    keeps: bool,
+    given: &[Argument],
+) -> Result<Vec<SysArg>, AllocError>
+    ensures { IfOk result (λ v. (others : x.Args) → n.args_with v.items (flat.args (seen_scope scope.now) keeps others) ≡ flat.args (seen_scope scope.now) keeps (args_before given.now others)) }
+{
+    let mut all = Vec::new(alloc);
+    for a in given {
+        all.push(one_argument(alloc, scope, keeps, a)?)?;
+    }
+    Ok(all)
+}
+
+/// The value of the first argument; one zero bit where there is none.
+#[cycle(exp)]
+fn first_argument(
+    alloc: Global,
+    scope: &Scope<'_, '_>,
+    at: Place,
+    given: &[Argument],
+) -> Result<Expr, AllocError>
+    ensures { IfOk result (λ e. exp_of e ≡ flat.first_of (seen_scope scope.now) at (args_before given.now x.NoArgs)) }
+{
+    match given {
+        [Argument::Value(e), ..] => exp(alloc, scope, e),
+        _ => Ok(Expr {
+            place: at,
+            node: ExprNode::Num(Bits { value: 0, width: 1 }, false),
+        }),
+    }
+}
+
+/// Of these calls a string is an argument as it is.
+pub fn keeps_texts(name: &[u8]) -> bool
+    ensures { result ≡ flat.keeps_texts name.now }
+{
+    is_word(name, b"$display".as_slice())
+        || is_word(name, b"$write".as_slice())
+        || is_word(name, b"$fopen".as_slice())
+        || is_word(name, b"$save".as_slice())
+        || is_word(name, b"$readmemh".as_slice())
+}
+
+/// A system call.
+#[cycle(exp)]
+#[tactic(auto, using(crate::proofs::Lists::lists))]
+fn system(
+    alloc: Global,
+    scope: &Scope<'_, '_>,
+    at: Place,
+    name: &Text,
+    given: &[Argument],
+) -> Result<Expr, AllocError>
+    ensures { IfOk result (λ e. exp_of e ≡ flat.exp (seen_scope scope.now) (x.System at name.now (args_before given.now x.NoArgs))) }
+{
+    if is_word(name.as_slice(), b"$signed".as_slice()) {
+        let first = first_argument(alloc, scope, at, given)?;
+        return cast(alloc, at, true, first);
+    }
+    if is_word(name.as_slice(), b"$unsigned".as_slice()) {
+        let first = first_argument(alloc, scope, at, given)?;
+        return cast(alloc, at, false, first);
+    }
+    if is_word(name.as_slice(), b"$time".as_slice()) {
+        return Ok(Expr {
+            place: at,
+            node: ExprNode::Time,
+        });
+    }
+    let args = arguments(alloc, scope, keeps_texts(name.as_slice()), given)?;
+    let name = copied(alloc, name)?;
+    Ok(Expr {
+        place: at,
+        node: ExprNode::Sys(SysCall { name, args }),
+    })
+}

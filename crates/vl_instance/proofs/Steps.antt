@@ -1,0 +1,81 @@
+-- The steps of an instance's names, item by item.
+use Rattle.std.proofs.Common.{◌≡◌, ℕ, List, [], ◌∷◌, map, false, refl, sym, ap, ◌∙◌}
+use Rattle.std.specs.Prelude.{fold, is_some, if◌then◌else◌, Result, Ok, Err, IfOk}
+use Rattle.vl_design.specs.declared.design.SigKind.{SigKind}
+use Rattle.vl_flat.specs.declared.binding.Binding.TheVariants as b
+use Rattle.std.specs.declared.alloc.Global.{Global}
+use Rattle.std.specs.declared.vec.Vec.{Vec}
+use Rattle.std.specs.Borrow.{Bor}
+use Rattle.indexmap.specs.IndexMap.{IndexMap}
+use Rattle.vl_flat.specs.Items as x
+use Rattle.vl_flat.specs.Scopes.{Env, bind}
+use Rattle.vl_flat.specs.Environments as e
+use Rattle.vl_items.specs.declared.items.Parameter.{Parameter}
+use Rattle.vl_items.specs.declared.items.Declared.{Declared}
+use Rattle.vl_items.specs.declared.items.DataType.{DataType}
+use Rattle.vl_items.specs.declared.items.Function.{Function}
+use Rattle.vl_items.specs.declared.items.Instances.{Instances}
+use Rattle.vl_items.specs.declared.items.Item.{Item}
+use Rattle.vl_items.specs.declared.items.Item.TheVariants as i
+use Rattle.vl_items.specs.SeenItems.{seen_declared, seen_function, seen_instances, seen_item, seen_parameter, seen_type}
+use Rattle.vl_constant.specs.declared.scope.Known.{Known}
+use Rattle.vl_kinds.specs.declared.counts.Counts.{Counts}
+use Rattle.vl_instance.specs.declared.given.Above.{Above}
+use Rattle.vl_instance.specs.Given.{given_of, overrides_of}
+use Rattle.vl_instance.specs.Known.{counts_of, functions, kind_in, known, nothing_known, one_signal, with_function, with_parameter, with_parameters, with_signal}
+use Rattle.vl_instance.proofs.Locals.{look-empty}
+
+pub start-known : {S : Type 0} (m : IndexMap (Bor (List ℕ)) Known S) (base : Counts) → m.entries ≡ [] → known m base ≡ nothing_known base
+start-known m base e = ap (λ env. record { env = env; next = counts_of base }) (look-empty m e)
+
+parameters-fold : (g : e.Given) (type : x.DataType) (k : e.Known) (ps : List x.Parameter) → fold (e.with_parameter g type) k ps ≡ with_parameters g.overrides type ps k
+parameters-fold g type k [] = refl
+parameters-fold g type k (a ∷ ps) = parameters-fold g type (e.with_parameter g type k a) ps
+
+-- a name that isn't known yet
+pub signal-step : (kinds : List ℕ → SigKind) (k : e.Known) (d : x.Declared) (env : Env) (next : e.Counts) → is_some (k.env d.name.name) ≡ false
+    → env ≡ bind k.env d.name.name (b.Signal k.next.signals (e.shape k.env (kinds d.name.name) d)) → next ≡ e.plus k.next one_signal
+    → record { env = env; next = next } ≡ with_signal kinds k d
+signal-step kinds k d env next new h j =
+    ap (λ z. record { env = z; next = next }) h
+    ∙ ap (λ z. record { env = bind k.env d.name.name (b.Signal k.next.signals (e.shape k.env (kinds d.name.name) d)); next = z }) j
+    ∙ ap (λ z. if z then k else record { env = bind k.env d.name.name (b.Signal k.next.signals (e.shape k.env (kinds d.name.name) d)); next = e.plus k.next one_signal }) (sym new)
+
+-- what follows from what a call says of its value
+pub if-ok-map : {T E : Type 0} (P Q : T → Type 0) (r : Result T E) → ((y : T) → P y → Q y) → IfOk r P → IfOk r Q
+if-ok-map P Q (Ok y) f h = f y h
+if-ok-map P Q (Err y) f h = tt
+
+module _ (sizes : List ℕ → e.Counts) (m : x.Module) (above : Above) (path : List ℕ) (base : e.Counts) where
+  abbrev stepped : e.Known → Item → e.Known
+  stepped k item = e.with_item sizes (given_of m above path base) m k (seen_item item)
+
+  pub item-parameters : (old new : Env) (next : e.Counts) (item : Item) (kind : DataType) (ps : Vec Parameter Global) → item ≡ i.Parameters kind ps
+      → new ≡ fold (with_parameter (overrides_of above) (seen_type kind)) old (map seen_parameter ps.items)
+      → record { env = new; next = next } ≡ stepped (record { env = old; next = next }) item
+  item-parameters old new next item kind ps is h =
+      ap (λ z. record { env = z; next = next }) h
+      ∙ sym (parameters-fold (given_of m above path base) (seen_type kind) (record { env = old; next = next }) (map seen_parameter ps.items))
+      ∙ ap (stepped (record { env = old; next = next })) (sym is)
+
+  pub item-signals : (old new : e.Known) (item : Item) (kind : DataType) (ds : Vec Declared Global) → item ≡ i.Signals kind ds
+      → new ≡ fold (with_signal (kind_in m above)) old (map (seen_declared (seen_type kind)) ds.items)
+      → new ≡ stepped old item
+  item-signals old new item kind ds is h = h ∙ ap (stepped old) (sym is)
+
+  pub item-function : (old new : e.Known) (item : Item) (f : Function) → item ≡ i.Functions f → new ≡ with_function old (seen_function f) → new ≡ stepped old item
+  item-function old new item f is h = h ∙ ap (stepped old) (sym is)
+
+  pub item-instances : (env : Env) (next after : e.Counts) (counts : Counts) (item : Item) (us : Instances) → item ≡ i.Instantiates us
+      → after ≡ e.plus next (counts_of counts) → counts_of counts ≡ e.item_counts sizes (x.Instantiates (seen_instances us))
+      → record { env = env; next = after } ≡ stepped (record { env = env; next = next }) item
+  item-instances env next after counts item us is h k =
+      ap (λ z. record { env = env; next = z }) (h ∙ ap (e.plus next) k) ∙ ap (stepped (record { env = env; next = next })) (sym is)
+
+  -- an item of no names, whose step is this
+  pub item-other : (env : Env) (next after : e.Counts) (counts : Counts) (item same : Item) → item ≡ same
+      → after ≡ e.plus next (counts_of counts) → counts_of counts ≡ functions 0
+      → stepped (record { env = env; next = next }) same ≡ record { env = env; next = e.plus next (functions 0) }
+      → record { env = env; next = after } ≡ stepped (record { env = env; next = next }) item
+  item-other env next after counts item same is h k s =
+      ap (λ z. record { env = env; next = z }) (h ∙ ap (e.plus next) k) ∙ sym s ∙ ap (stepped (record { env = env; next = next })) (sym is)

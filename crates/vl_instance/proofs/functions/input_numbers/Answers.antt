@@ -1,0 +1,16 @@
+use Rattle.std.proofs.Common.{◌≡◌, ℕ, map, ap, ◌∙◌}
+use Rattle.std.specs.declared.alloc.Global.{Global}
+use Rattle.std.specs.declared.vec.Vec.{Vec}
+use Rattle.vl_flat.specs.Items as x
+use Rattle.vl_flat.specs.Functions as f
+use Rattle.vl_instance.specs.Variables.{seen_variable, IsFrame}
+use Rattle.vl_instance.proofs.Steps.{if-ok-map}
+use Rattle.vl_instance.proofs.functions.input_numbers.Goals as goal
+
+pub returns : goal.returns
+returns c = if-ok-map
+    (λ (numbers : Vec ℕ Global). numbers.items ≡ f.input_numbers c.args.behind (map seen_variable c.as_slice.result.now))
+    (λ (numbers : Vec ℕ Global). (a : x.Function) → IsFrame c.args.frame.now a → numbers.items ≡ f.input_numbers c.args.behind a.locals)
+    c.numbers_of.result
+    (λ numbers h a k. h ∙ ap (f.input_numbers c.args.behind) (ap (map seen_variable) c.as_slice.ensures.value ∙ k.variables))
+    c.numbers_of.ensures

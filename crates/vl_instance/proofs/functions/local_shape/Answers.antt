@@ -1,0 +1,15 @@
+use Rattle.std.proofs.Common.{refl, sym, ap, ◌∙◌}
+use Rattle.vl_flat.specs.Functions as f
+use Rattle.vl_flat.specs.Ranges as r
+use Rattle.vl_constant.specs.Types.{numbers}
+use Rattle.vl_instance.specs.Variables.{seen_variable, plain_shape}
+use Rattle.vl_instance.proofs.functions.local_shape.Goals as goal
+
+pub returns : goal.returns
+returns c =
+    let l = seen_variable c.args.variable.now in
+    let range = numbers c.type_range-range.result in
+    λ a h. c.plain_shape.ensures
+    ∙ ap (λ k. plain_shape k c.is_signed.result range) (c.local_kind-kind.ensures.local a l h refl (sym c.as_slice.ensures))
+    ∙ ap (λ s. plain_shape (f.local_kind a l) s range) c.is_signed.ensures
+    ∙ ap (plain_shape (f.local_kind a l) (r.is_signed l.type)) (c.type_range-range.ensures.same ∙ ap (λ s. r.type_range s.names l.type) c.module_scope.ensures)

@@ -1,0 +1,23 @@
+use Rattle.std.proofs.Common.{sym, ap, ◌∙◌}
+use Rattle.std.specs.Prelude.{is_some}
+use Rattle.vl_flat.specs.declared.binding.Binding.TheVariants as b
+use Rattle.vl_flat.specs.Scopes.{bind}
+use Rattle.vl_flat.specs.Environments as e
+use Rattle.vl_items.specs.SeenItems.{seen_declared, seen_type}
+use Rattle.vl_constant.specs.Seen.{look}
+use Rattle.vl_instance.specs.Known.{counts_of, kind_in, known}
+use Rattle.vl_instance.proofs.Steps.{signal-step}
+use Rattle.vl_instance.proofs.signals.add_signal.Goals as goal
+
+pub returns : goal.returns
+returns c =
+    let env = look c.args.names.now in
+    let d = seen_declared (seen_type c.args.kind.now) c.args.declared.now in
+    let n = c.args.next.signals in
+    λ m h. signal-step (kind_in m c.args.above.now) (known c.args.names.now c.args.next) d (look c.bind.new.names) (counts_of c.plus.result)
+    (sym (c.is_known.ensures ∙ ap (λ t. is_some (env t)) c.as_slice-name.ensures) ∙ c.if-is_known.false)
+    (c.in_ok-bind.ensures
+    ∙ ap (λ s. bind env c.as_slice-name.result.now (b.Signal n s)) c.shape-shape.ensures
+    ∙ ap (λ z. bind env c.as_slice-name.result.now (b.Signal n (e.shape env z d))) (c.signal_kind.ensures m h)
+    ∙ ap (λ t. bind env t (b.Signal n (e.shape env (kind_in m c.args.above.now t) d))) c.as_slice-name.ensures)
+    (c.plus.ensures ∙ ap (e.plus (counts_of c.args.next)) c.one_signal.ensures)

@@ -1,0 +1,65 @@
+-- What the names so far stand for, by the program's tables.
+use Rattle.std.specs.Prelude.{ℕ, List, fold, Option, option_map, is_some, if◌then◌else◌}
+use Rattle.std.specs.Borrow.{Bor}
+use Rattle.indexmap.specs.IndexMap.{IndexMap}
+use Rattle.vl_design.specs.declared.design.SigKind.{SigKind}
+use Rattle.vl_flat.specs.declared.binding.Binding.TheVariants as b
+use Rattle.vl_flat.specs.Items as x
+use Rattle.vl_flat.specs.Placed.{Exp}
+use Rattle.vl_flat.specs.Scopes.{Env, none, bind, plainly}
+use Rattle.vl_flat.specs.Expressions.{constant}
+use Rattle.vl_flat.specs.Kinds.{kind_of}
+use Rattle.vl_flat.specs.Parameters.{converted, value_of}
+use Rattle.vl_flat.specs.Ranges.{type_form}
+use Rattle.vl_flat.specs.Connections.{expression_of}
+use Rattle.vl_flat.specs.Environments as e
+use Rattle.vl_constant.specs.declared.scope.Known.{Known}
+use Rattle.vl_constant.specs.Seen.{look}
+use Rattle.vl_kinds.specs.declared.counts.Counts.{Counts}
+use Rattle.vl_kinds.specs.Sized as s
+use Rattle.vl_instance.specs.declared.given.Above.{Above}
+use Rattle.vl_instance.specs.declared.given.Surroundings.{Surroundings}
+use Rattle.vl_instance.specs.Given.{clocks_of, wired_of}
+use Rattle.vl_instance.specs.Tables.{joined}
+
+abbrev pub counts_of : Counts → e.Counts
+counts_of = s.counts_of
+
+-- the names so far, and the numbers of the next signal and function
+abbrev pub known : {S : Type 0} → IndexMap (Bor (List ℕ)) Known S → Counts → e.Known
+known names next = record { env = look names; next = counts_of next }
+
+-- ---- the steps of Environments, each by what it needs
+
+-- the constant that an item gives a parameter
+abbrev pub override_in : Surroundings → List ℕ → Option Exp
+override_in s t = option_map (constant (plainly (look s.names.now))) (expression_of (joined s.overrides.now t))
+
+abbrev pub with_parameter : (List ℕ → Option Exp) → x.DataType → Env → x.Parameter → Env
+with_parameter overrides type env a = bind env a.name.name (b.Constant (converted env type (value_of env (overrides a.name.name) a)))
+
+-- the kind of a name of a module
+abbrev pub kind_in : x.Module → Above → List ℕ → SigKind
+kind_in m above t = kind_of m (clocks_of m above t) (wired_of m above t) t
+
+abbrev pub one_signal : e.Counts
+one_signal = record { signals = 1; functions = 0 }
+
+abbrev pub functions : ℕ → e.Counts
+functions count = record { signals = 0; functions = count }
+
+abbrev pub with_signal : (List ℕ → SigKind) → e.Known → x.Declared → e.Known
+with_signal kinds k d =
+    if is_some (k.env d.name.name) then k
+    else record { env = bind k.env d.name.name (b.Signal k.next.signals (e.shape k.env (kinds d.name.name) d)); next = e.plus k.next one_signal }
+
+abbrev pub with_function : e.Known → x.Function → e.Known
+with_function k f =
+    record { env = bind k.env f.name.name (b.Function k.next.functions (type_form k.env f.type)); next = e.plus k.next (functions 1) }
+
+abbrev pub with_parameters : (List ℕ → Option Exp) → x.DataType → List x.Parameter → e.Known → e.Known
+with_parameters overrides type ps k = record k { env = fold (with_parameter overrides type) k.env ps }
+
+-- no name is known, and these numbers come next
+abbrev pub nothing_known : Counts → e.Known
+nothing_known base = record { env = none; next = counts_of base }

@@ -1,0 +1,4 @@
+pub mod Given
+pub mod Known
+pub mod Tables
+pub mod Variables

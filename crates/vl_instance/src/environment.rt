@@ -1,0 +1,109 @@
+//! What the names of an instance stand for (IEEE 1364-2005, clause 12).
+
+ghost use Rattle.std.specs.Prelude.{◌≡◌, ◌≤◌, ℕ, List, IfOk};
+ghost use Rattle.vl_flat.specs.Items as x;
+ghost use Rattle.vl_flat.specs.Environments as e;
+ghost use Rattle.vl_items.specs.SeenItems.{seen_function, seen_instances, seen_item, seen_module};
+ghost use Rattle.vl_constant.specs.Seen.{look};
+ghost use Rattle.vl_kinds.specs.Facts.{facts, facts_of};
+ghost use Rattle.vl_kinds.specs.Sized.{IsSizes};
+ghost use Rattle.vl_instance.specs.Given.{given_of};
+ghost use Rattle.vl_instance.specs.Known as spec;
+
+use crate::given::Above;
+use crate::parameters::add_parameters;
+use crate::signals::add_signals;
+use indexmap::IndexMap;
+use std::alloc::{AllocError, Global};
+use vl_constant::ranges::type_form;
+use vl_constant::scope::{Known, Names, bind, module_scope};
+use vl_items::items::{Function, Instances, Item, Module};
+use vl_kinds::counts::{Counts, plus, times};
+use vl_kinds::roles::Roles;
+use vl_kinds::sizes::{Sizes, size_at};
+
+/// So many functions, and no signals.
+fn functions(count: u32) -> Counts
+    ensures { spec.counts_of result ≡ spec.functions count }
+{
+    Counts {
+        signals: 0,
+        functions: count,
+    }
+}
+
+/// Adds a function. The numbers behind it.
+fn add_function<'m>(
+    names: &mut Names<'m>,
+    next: Counts,
+    function: &'m Function,
+) -> Result<Counts, AllocError>
+    ensures { IfOk result (λ after. spec.known names.new after ≡ spec.with_function (spec.known names.old next) (seen_function function.entry.now)) }
+{
+    let form = type_form(&module_scope(names), &function.kind);
+    bind(
+        names,
+        function.name.name.as_slice(),
+        Known::Function(next.functions, form),
+    )?;
+    Ok(plus(next, functions(1)))
+}
+
+/// How many signals and functions instances have, with what is in them.
+fn instances_counts(sizes: &Sizes<'_>, depth: u8, instances: &Instances) -> Counts
+    ensures { (ms : List x.Module) → IsSizes sizes.now ms → depth ≤ 129 → spec.counts_of result ≡ e.item_counts (e.size depth ms) (x.Instantiates (seen_instances instances.now)) }
+{
+    let one = size_at(sizes, depth, instances.definition.as_slice());
+    times(instances.units.len(), one)
+}
+
+/// Adds an item. The numbers behind it.
+fn add_item<'m>(
+    names: &mut Names<'m>,
+    next: Counts,
+    sizes: &Sizes<'_>,
+    depth: u8,
+    roles: &Roles<'_>,
+    above: &Above<'_, '_, '_, 'm>,
+    item: &'m Item,
+) -> Result<Counts, AllocError>
+    ensures { IfOk result (λ after. (ms : List x.Module) (m : x.Module) (path : List ℕ) (base : e.Counts) → IsSizes sizes.now ms → depth ≤ 129 → facts_of roles.now ≡ facts m →
+        spec.known names.new after ≡ e.with_item (e.size depth ms) (given_of m above.now path base) m (spec.known names.old next) (seen_item item.entry.now)) }
+{
+    match item {
+        Item::Parameters(kind, parameters) => {
+            add_parameters(names, above, kind, parameters.as_slice())?;
+            Ok(next)
+        }
+        Item::Signals(kind, declared) => {
+            add_signals(names, next, roles, above, kind, declared.as_slice())
+        }
+        Item::Functions(function) => add_function(names, next, function),
+        Item::Instantiates(instances) => Ok(plus(next, instances_counts(sizes, depth, instances))),
+        Item::Assigns(_) => Ok(plus(next, functions(0))),
+        Item::Initial(_, _) => Ok(plus(next, functions(0))),
+        Item::Always(_, _, _) => Ok(plus(next, functions(0))),
+    }
+}
+
+/// The names of an instance of a module that stands below this, whose first signal and function have these numbers.
+/// `sizes` tells how many signals and functions the modules have, with what stands so deep in them.
+pub fn environment<'m>(
+    alloc: Global,
+    sizes: &Sizes<'_>,
+    depth: u8,
+    roles: &Roles<'_>,
+    above: &Above<'_, '_, '_, 'm>,
+    base: Counts,
+    definition: &'m Module,
+) -> Result<Names<'m>, AllocError>
+    ensures { IfOk result (λ names. (ms : List x.Module) (path : List ℕ) → IsSizes sizes.now ms → depth ≤ 129 → facts_of roles.now ≡ facts (seen_module definition.entry.now) →
+        look names ≡ e.environment (e.size depth ms) (given_of (seen_module definition.entry.now) above.now path (spec.counts_of base)) (seen_module definition.entry.now)) }
+{
+    let mut names = IndexMap::new(alloc);
+    let mut next = base;
+    for item in definition.items.as_slice() {
+        next = add_item(&mut names, next, sizes, depth, roles, above, item)?;
+    }
+    Ok(names)
+}

@@ -1,0 +1,13 @@
+//! What an instance is given, and what its names stand for (IEEE 1364-2005, clauses 12.2 and 12.3).
+#![tactic(auto)]
+
+pub mod connections;
+pub mod environment;
+pub mod functions;
+pub mod given;
+pub mod laws;
+mod parameters;
+pub mod scope;
+mod signals;
+pub mod tops;
+pub mod variables;

@@ -1,0 +1,66 @@
+-- The first fault of lists, and of walks over them.
+use Rattle.std.proofs.Common.{◌≡◌, refl, sym, ap, ◌∙◌, ℕ, ◌+◌, ◌<◌, ◌≤◌, min, arith, List, [], ◌∷◌, ◌++◌, length, get_or, drop}
+use Rattle.std.specs.Prelude.{Option}
+use Rattle.std.proofs.lemmas.List.{at_drop_more, at_drop_all}
+use Rattle.vl_flat.specs.declared.stop.Stop.{Stop}
+use Rattle.vl_flat.specs.Stops.{earlier, earliest}
+
+pub earliest-append : (best : Option Stop) (a b : List Stop) → earliest best (a ++ b) ≡ earliest (earliest best a) b
+earliest-append best [] b = refl
+earliest-append best (x ∷ a) b = earliest-append (earlier best x) a b
+
+-- the first of some, and then of others
+pub over : (b m : Option Stop) (p q : List Stop) → m ≡ earliest b p → earliest m q ≡ earliest b (p ++ q)
+over b m p q h = ap (λ z. earliest z q) h ∙ sym (earliest-append b p q)
+
+pub chain : (b m r : Option Stop) (p q : List Stop) → m ≡ earliest b p → r ≡ earliest m q → r ≡ earliest b (p ++ q)
+chain b m r p q h k = k ∙ over b m p q h
+
+pub chain-three : (b m n r : Option Stop) (p q o : List Stop) → m ≡ earliest b p → n ≡ earliest m q → r ≡ earliest n o → r ≡ earliest b (p ++ (q ++ o))
+chain-three b m n r p q o h k j = chain b m r p (q ++ o) h (chain m n r q o k j)
+
+-- five in a row before others
+pub over-five : (b t u v w r : Option Stop) (c d e f g o : List Stop) → t ≡ earliest b c → u ≡ earliest t d → v ≡ earliest u e → w ≡ earliest v f → r ≡ earliest w g
+    → earliest r o ≡ earliest b (c ++ (d ++ (e ++ (f ++ (g ++ o)))))
+over-five b t u v w r c d e f g o h i j k l =
+    over w r g o l
+    ∙ (over v w f (g ++ o) k
+    ∙ (over u v e (f ++ (g ++ o)) j
+    ∙ (over t u d (e ++ (f ++ (g ++ o))) i
+    ∙ over b t c (d ++ (e ++ (f ++ (g ++ o)))) h)))
+
+-- ---- walks over lists, by what is left of them
+
+left-is : {A : Type 0} {B : Type 0} (F : List A → B) (es : List A) (i : ℕ) (y : A) → i < length es → y ≡ get_or es i y → F (drop i es) ≡ F (y ∷ drop (i + 1) es)
+left-is F es i y h is = at_drop_more F es i y h ∙ ap (λ z. F (z ∷ drop (i + 1) es)) (sym is)
+
+pub step : {A : Type 0} (F : List A → List Stop) (f : A → List Stop) → ((y : A) (ys : List A) → F (y ∷ ys) ≡ f y ++ F ys) → (es : List A) (i : ℕ) (y : A) (a b r : Option Stop)
+    → i < length es → y ≡ get_or es i y → b ≡ earliest a (f y) → earliest a (F (drop i es)) ≡ r → earliest b (F (drop (i + 1) es)) ≡ r
+step F f cons es i y a b r h is k inv =
+    over a b (f y) (F (drop (i + 1) es)) k
+    ∙ (sym (ap (earliest a) (left-is F es i y h is ∙ cons y (drop (i + 1) es))) ∙ inv)
+
+pub finish : {A : Type 0} (F : List A → List Stop) → F [] ≡ [] → (es : List A) (i : ℕ) (a r : Option Stop) → length es ≤ i → earliest a (F (drop i es)) ≡ r → a ≡ r
+finish F none es i a r h inv = sym (ap (earliest a) (at_drop_all F es i h ∙ none)) ∙ inv
+
+-- a walk whose step says what becomes of all that is left
+pub step-left : {A : Type 0} {B : Type 0} (F : List A → B) (G H : B → List Stop) (es : List A) (i : ℕ) (y : A) (a b r : Option Stop)
+    → i < length es → y ≡ get_or es i y → earliest b (H (F (drop (i + 1) es))) ≡ earliest a (G (F (y ∷ drop (i + 1) es))) → earliest a (G (F (drop i es))) ≡ r → earliest b (H (F (drop (i + 1) es))) ≡ r
+step-left F G H es i y a b r h is k inv = k ∙ (sym (ap (λ z. earliest a (G z)) (left-is F es i y h is)) ∙ inv)
+
+-- ---- sums of widths, kept within 129
+
+kept-sum : (a w v n r : ℕ) → v ≡ min 129 w → n ≡ min (a + v) 129 → min 129 (n + r) ≡ min 129 (a + (w + r))
+kept-sum a w v n r h k = omega (arith, h, k)
+
+pub width-step : {A : Type 0} (F : List A → ℕ) (f : A → ℕ) → ((y : A) (ys : List A) → F (y ∷ ys) ≡ f y + F ys) → (es : List A) (i : ℕ) (y : A) (a v n r : ℕ)
+    → i < length es → y ≡ get_or es i y → v ≡ min 129 (f y) → n ≡ min (a + v) 129 → min 129 (a + F (drop i es)) ≡ r → min 129 (n + F (drop (i + 1) es)) ≡ r
+width-step F f cons es i y a v n r h is k j inv =
+    kept-sum a (f y) v n (F (drop (i + 1) es)) k j
+    ∙ (sym (ap (λ z. min 129 (a + z)) (left-is F es i y h is ∙ cons y (drop (i + 1) es))) ∙ inv)
+
+kept-end : (a : ℕ) → a ≤ 129 → a ≡ min 129 (a + 0)
+kept-end a h = omega (arith, h)
+
+pub width-finish : {A : Type 0} (F : List A → ℕ) → F [] ≡ 0 → (es : List A) (i a r : ℕ) → length es ≤ i → a ≤ 129 → min 129 (a + F (drop i es)) ≡ r → a ≡ r
+width-finish F none es i a r h k inv = kept-end a k ∙ (sym (ap (λ z. min 129 (a + z)) (at_drop_all F es i h ∙ none)) ∙ inv)

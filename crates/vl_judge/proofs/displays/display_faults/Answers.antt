@@ -1,0 +1,26 @@
+use Rattle.std.proofs.Common.{drop, ◌+◌}
+use Rattle.vl_flat.specs.Surface as x
+use Rattle.vl_flat.specs.Stops.{earliest}
+use Rattle.vl_flat.specs.ExpressionFaults.{display_faults}
+use Rattle.vl_bind.specs.Seen.{args_before}
+use Rattle.vl_constant.specs.Seen.{seen_scope}
+use Rattle.vl_judge.proofs.Earliest.{step-left, finish}
+use Rattle.vl_judge.proofs.Selected.{shown-none}
+use Rattle.vl_judge.proofs.displays.display_faults.Goals as goal
+
+pub loop-a-preserved : goal.loop-a-preserved
+loop-a-preserved c =
+    let s = seen_scope c.args.scope.now in
+    let now = c.loop-a.all in
+    let next = c.shown-all.result in
+    step-left (λ z. args_before z x.NoArgs) (display_faults s now.taken) (display_faults s next.taken) c.args.given.now c.loop-a.a-index c.a-item.result now.best next.best
+    (earliest c.args.best (display_faults s 0 (args_before c.args.given.now x.NoArgs)))
+    c.loop-a-test.true c.a-item.is (c.shown-all.ensures (args_before (drop (c.loop-a.a-index + 1) c.args.given.now) x.NoArgs)) c.loop-a.invariant
+
+pub returns : goal.returns
+returns c =
+    let s = seen_scope c.args.scope.now in
+    let now = c.loop-a.all in
+    finish (λ z. display_faults s now.taken (args_before z x.NoArgs)) (shown-none s now.taken) c.args.given.now c.loop-a.a-index now.best
+    (earliest c.args.best (display_faults s 0 (args_before c.args.given.now x.NoArgs)))
+    c.loop-a-test.false c.loop-a.invariant

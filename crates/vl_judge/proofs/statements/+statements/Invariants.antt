@@ -1,0 +1,16 @@
+use Rattle.std.proofs.Common.{◌≡◌, map, drop}
+use Rattle.vl_flat.specs.Surface as x
+use Rattle.vl_flat.specs.Stops.{earliest}
+use Rattle.vl_flat.specs.Statements.{statements_faults, items_faults}
+use Rattle.vl_bind.specs.SeenStatements.{seen_statement, statements_of, items_before}
+use Rattle.vl_constant.specs.Seen.{seen_scope}
+use Rattle.vl_judge.proofs.statements.+statements.Given as goal
+
+abbrev pub invariant-statements_faults-loop-a : goal.invariant-statements_faults-loop-a
+invariant-statements_faults-loop-a l =
+    earliest l.all (statements_faults (seen_scope l.scope) (statements_of (map seen_statement (drop l.a-index l.parts))))
+    ≡ earliest l.initial.all (statements_faults (seen_scope l.scope) (statements_of (map seen_statement l.parts)))
+
+abbrev pub invariant-items_faults-loop-a : goal.invariant-items_faults-loop-a
+invariant-items_faults-loop-a l =
+    earliest l.all (items_faults (seen_scope l.scope) (items_before (drop l.a-index l.items) x.NoItems)) ≡ earliest l.initial.all (items_faults (seen_scope l.scope) (items_before l.items x.NoItems))

@@ -1,0 +1,191 @@
+//! What an expression or a select has to pass by itself, but for its operands.
+
+ghost use Rattle.std.specs.Prelude.{◌≡◌, ◌&&◌, nat_lt};
+ghost use Rattle.vl_flat.specs.Constants as c;
+ghost use Rattle.vl_flat.specs.Expressions as flat;
+ghost use Rattle.vl_flat.specs.ExpressionFaults as f;
+ghost use Rattle.vl_flat.specs.Stops as s;
+ghost use Rattle.vl_flat.specs.Surface as x;
+ghost use Rattle.vl_bind.specs.Seen.{seen};
+ghost use Rattle.vl_constant.specs.Seen.{seen_scope};
+ghost use Rattle.vl_constant.specs.Types.{numbers};
+ghost use Rattle.vl_judge.specs.Walked.{is_text};
+
+use crate::long::holds_long;
+use crate::stops::construct_if;
+use vl_base::place::Place;
+use vl_bind::surface::Ex;
+use vl_constant::form::form;
+use vl_constant::ranges::Range;
+use vl_constant::scope::Scope;
+use vl_constant::selects::falls;
+use vl_constant::whole::{bound, bound_in, count_in, reading, width_in};
+use vl_flat::stop::Stop;
+use vl_grammar::tree::SelectMark;
+
+/// The place of a node: parentheses around it are passed over.
+pub fn node_place(e: &Ex) -> Place
+    ensures { result ≡ x.node_place (seen e.now) }
+{
+    match e {
+        Ex::Paren(_, a) => node_place(a),
+        Ex::Number(at, _)
+        | Ex::Text(at, _)
+        | Ex::Named(at, _, _)
+        | Ex::Unary(at, _, _)
+        | Ex::Binary(at, _, _, _)
+        | Ex::Choice(at, _, _, _)
+        | Ex::Joined(at, _)
+        | Ex::Repeated(at, _, _)
+        | Ex::Called(at, _, _)
+        | Ex::System(at, _, _) => *at,
+    }
+}
+
+/// The expression is a bare string.
+pub fn is_text(e: &Ex) -> bool
+    ensures { result ≡ is_text (seen e.now) }
+{
+    match e {
+        Ex::Text(_, _) => true,
+        Ex::Number(_, _)
+        | Ex::Named(_, _, _)
+        | Ex::Paren(_, _)
+        | Ex::Unary(_, _, _)
+        | Ex::Binary(_, _, _, _)
+        | Ex::Choice(_, _, _, _)
+        | Ex::Joined(_, _)
+        | Ex::Repeated(_, _, _)
+        | Ex::Called(_, _, _)
+        | Ex::System(_, _, _) => false,
+    }
+}
+
+/// The expression is a bare string that stays as it is.
+pub fn is_kept(keeps: bool, e: &Ex) -> bool
+    ensures { result ≡ (keeps && is_text (seen e.now)) }
+{
+    keeps && is_text(e)
+}
+
+/// The expression is more than 128 bits wide.
+fn is_wide(scope: &Scope<'_, '_>, e: &Ex) -> bool
+    ensures { result ≡ nat_lt 128 (flat.form (seen_scope scope.now) (seen e.now)).width }
+{
+    form(scope, e).width > 128
+}
+
+/// An expression of more than 128 bits, unless a string in it is too long.
+pub fn past(best: Option<Stop>, scope: &Scope<'_, '_>, e: &Ex) -> Option<Stop>
+    ensures { result ≡ s.earliest best (f.past (seen_scope scope.now) (seen e.now)) }
+{
+    let is_past = is_wide(scope, e) && !holds_long(e);
+    construct_if(best, is_past, node_place(e), 10)
+}
+
+/// The expression is a constant from -2^31 to 2^31 - 1.
+fn is_bound(scope: &Scope<'_, '_>, e: &Ex) -> bool
+    ensures { result ≡ c.is_bound (flat.constant (seen_scope scope.now) (seen e.now)) }
+{
+    bound_in(reading(scope, e)).is_some()
+}
+
+/// The expression is a constant from 1 to 128.
+fn is_count(scope: &Scope<'_, '_>, e: &Ex) -> bool
+    ensures { result ≡ c.is_count (flat.constant (seen_scope scope.now) (seen e.now)) }
+{
+    count_in(reading(scope, e)).is_some()
+}
+
+/// The expression is a constant of at least 1.
+fn is_width(scope: &Scope<'_, '_>, e: &Ex) -> bool
+    ensures { result ≡ c.is_width (flat.constant (seen_scope scope.now) (seen e.now)) }
+{
+    width_in(reading(scope, e)).is_some()
+}
+
+/// What is no bound, unless a string in it is too long.
+pub fn must_be_bound(best: Option<Stop>, scope: &Scope<'_, '_>, e: &Ex) -> Option<Stop>
+    ensures { result ≡ s.earliest best (f.constant_must (seen_scope scope.now) c.is_bound (seen e.now) 10) }
+{
+    let fails = !holds_long(e) && !is_bound(scope, e);
+    construct_if(best, fails, node_place(e), 10)
+}
+
+/// What is no count of a replication, unless a string in it is too long.
+pub fn must_be_count(best: Option<Stop>, scope: &Scope<'_, '_>, e: &Ex) -> Option<Stop>
+    ensures { result ≡ s.earliest best (f.constant_must (seen_scope scope.now) c.is_count (seen e.now) 10) }
+{
+    let fails = !holds_long(e) && !is_count(scope, e);
+    construct_if(best, fails, node_place(e), 10)
+}
+
+/// What is no width of a select, unless a string in it is too long.
+fn must_be_width(best: Option<Stop>, scope: &Scope<'_, '_>, e: &Ex) -> Option<Stop>
+    ensures { result ≡ s.earliest best (f.constant_must (seen_scope scope.now) c.is_width (seen e.now) 11) }
+{
+    let fails = !holds_long(e) && !is_width(scope, e);
+    construct_if(best, fails, node_place(e), 11)
+}
+
+/// Two bounds stand in another order than those of the declaration.
+fn turns_round(range: Range, left: i32, right: i32) -> bool
+    ensures { result ≡ f.turns_round (numbers range) left right }
+{
+    if falls(range) {
+        left < right
+    } else {
+        right < left
+    }
+}
+
+/// Bounds around `:` against the declared direction.
+pub fn direction(
+    best: Option<Stop>,
+    scope: &Scope<'_, '_>,
+    range: Range,
+    at: Place,
+    mark: SelectMark,
+    left: &Ex,
+    right: &Ex,
+) -> Option<Stop>
+    ensures { result ≡ s.earliest best (f.direction (seen_scope scope.now) (numbers range) at mark (seen left.now) (seen right.now)) }
+{
+    match mark {
+        SelectMark::Range => {
+            let turns = turns_round(range, bound(scope, left), bound(scope, right));
+            construct_if(best, turns, at, 11)
+        }
+        SelectMark::Up | SelectMark::Down => best,
+    }
+}
+
+/// What stands before `:` has to be a bound.
+pub fn left_bound(
+    best: Option<Stop>,
+    scope: &Scope<'_, '_>,
+    mark: SelectMark,
+    left: &Ex,
+) -> Option<Stop>
+    ensures { result ≡ s.earliest best (f.left_bound (seen_scope scope.now) mark (seen left.now)) }
+{
+    match mark {
+        SelectMark::Range => must_be_bound(best, scope, left),
+        SelectMark::Up | SelectMark::Down => best,
+    }
+}
+
+/// What stands behind `:` has to be a bound, and behind `+:` or `-:` a width.
+pub fn right_bound(
+    best: Option<Stop>,
+    scope: &Scope<'_, '_>,
+    mark: SelectMark,
+    right: &Ex,
+) -> Option<Stop>
+    ensures { result ≡ s.earliest best (f.right_bound (seen_scope scope.now) mark (seen right.now)) }
+{
+    match mark {
+        SelectMark::Range => must_be_bound(best, scope, right),
+        SelectMark::Up | SelectMark::Down => must_be_width(best, scope, right),
+    }
+}

@@ -1,0 +1,116 @@
+//! The faults of what an output is connected to (IEEE 1364-2005, clause 12.3.9.2).
+
+ghost use Rattle.std.specs.Prelude.{◌≡◌, nat_lt, min, map};
+ghost use Rattle.vl_flat.specs.Connections as k;
+ghost use Rattle.vl_flat.specs.Stops as s;
+ghost use Rattle.vl_flat.specs.Targets as t;
+ghost use Rattle.vl_bind.specs.Seen.{seen};
+ghost use Rattle.vl_bind.specs.Listed.{of_list};
+ghost use Rattle.vl_constant.specs.Seen.{look, seen_scope};
+
+use crate::checks::node_place;
+use crate::faults::name_faults;
+use crate::nets::are_nets;
+use crate::stops::{construct_if, earlier};
+use vl_base::place::Place;
+use vl_bind::surface::Ex;
+use vl_constant::form::named_form;
+use vl_constant::scope::{Names, Scope, meaning, module_scope};
+use vl_flat::stop::Stop;
+
+/// How many bits an expression has as a left side, kept within 129.
+#[cycle(widths)]
+fn width_as_left(scope: &Scope<'_, '_>, e: &Ex) -> u32
+    ensures { result ≡ min 129 (t.left_width (seen_scope scope.now) (k.left_of (seen e.now))) }
+{
+    match e {
+        Ex::Named(_, name, selects) => {
+            let known = meaning(scope, name.as_slice());
+            named_form(scope, known, selects.as_slice()).width
+        }
+        Ex::Paren(_, a) => width_as_left(scope, a),
+        Ex::Joined(_, parts) => widths_as_lefts(scope, parts.as_slice()),
+        Ex::Number(_, _)
+        | Ex::Text(_, _)
+        | Ex::Unary(_, _, _)
+        | Ex::Binary(_, _, _, _)
+        | Ex::Choice(_, _, _, _)
+        | Ex::Repeated(_, _, _)
+        | Ex::Called(_, _, _)
+        | Ex::System(_, _, _) => 0,
+    }
+}
+
+/// How many bits expressions have together as left sides, kept within 129.
+#[cycle(widths)]
+fn widths_as_lefts(scope: &Scope<'_, '_>, es: &[Ex]) -> u32
+    ensures { result ≡ min 129 (t.lefts_width (seen_scope scope.now) (k.lefts_of (of_list (map seen es.now)))) }
+{
+    let mut total = 0;
+    for e in es {
+        total = (total + width_as_left(scope, e)).min(129);
+    }
+    total
+}
+
+/// An expression of more than 128 bits as a left side.
+fn is_past(scope: &Scope<'_, '_>, e: &Ex) -> bool
+    ensures { result ≡ nat_lt 128 (t.left_width (seen_scope scope.now) (k.left_of (seen e.now))) }
+{
+    width_as_left(scope, e) > 128
+}
+
+/// The faults of the selects in an expression as a left side.
+#[cycle(lefts)]
+fn faults_as_left(best: Option<Stop>, scope: &Scope<'_, '_>, e: &Ex) -> Option<Stop>
+    ensures { result ≡ s.earliest best (t.left_faults (seen_scope scope.now) (k.left_of (seen e.now))) }
+{
+    match e {
+        Ex::Named(_, name, selects) => {
+            let known = meaning(scope, name.as_slice());
+            name_faults(best, scope, known, selects.as_slice())
+        }
+        Ex::Paren(_, a) => faults_as_left(best, scope, a),
+        Ex::Joined(_, parts) => faults_as_lefts(best, scope, parts.as_slice()),
+        Ex::Number(_, _)
+        | Ex::Text(_, _)
+        | Ex::Unary(_, _, _)
+        | Ex::Binary(_, _, _, _)
+        | Ex::Choice(_, _, _, _)
+        | Ex::Repeated(_, _, _)
+        | Ex::Called(_, _, _)
+        | Ex::System(_, _, _) => best,
+    }
+}
+
+/// The faults of the selects in expressions as left sides.
+#[cycle(lefts)]
+fn faults_as_lefts(best: Option<Stop>, scope: &Scope<'_, '_>, es: &[Ex]) -> Option<Stop>
+    ensures { result ≡ s.earliest best (t.lefts_faults (seen_scope scope.now) (k.lefts_of (of_list (map seen es.now)))) }
+{
+    let mut all = best;
+    for e in es {
+        all = faults_as_left(all, scope, e);
+    }
+    all
+}
+
+/// The faults of an expression as a left side.
+fn target_faults_of(best: Option<Stop>, scope: &Scope<'_, '_>, e: &Ex) -> Option<Stop>
+    ensures { result ≡ s.earliest best (t.target_faults (seen_scope scope.now) (k.left_of (seen e.now))) }
+{
+    let own = construct_if(best, is_past(scope, e), node_place(e), 10);
+    faults_as_left(own, scope, e)
+}
+
+/// The faults of an output's connection at a place: an output is assigned to nets.
+pub fn output_faults(best: Option<Stop>, names: &Names<'_>, at: Place, e: &Ex) -> Option<Stop>
+    ensures { result ≡ s.earliest best (k.output_faults (look names.now) at (seen e.now)) }
+{
+    let scope = module_scope(names);
+    if are_nets(&scope, e) {
+        target_faults_of(best, &scope, e)
+    } else {
+        earlier(best, Stop::Construct(at, 13))
+    }
+}

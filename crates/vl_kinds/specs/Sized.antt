@@ -1,0 +1,60 @@
+-- Counts, and tables of the sizes of modules.
+use Rattle.std.specs.Prelude.{◌≡◌, ℕ, zero, suc, ◌-◌, ◌+◌, ◌≤◌, min, Bool, true, false, ◌||◌, List, [], ◌∷◌, ◌++◌, map, fold, length, slice_get, if◌then◌else◌}
+use Rattle.std.specs.Option.{option_map_or}
+use Rattle.std.specs.Str.{bytes_eq}
+use Rattle.std.specs.declared.alloc.Global.{Global}
+use Rattle.std.specs.declared.vec.Vec.{Vec}
+use Rattle.vl_flat.specs.Items as x
+use Rattle.vl_flat.specs.Kinds.{signals_of}
+use Rattle.vl_flat.specs.Environments as e
+use Rattle.vl_kinds.specs.declared.counts.Counts.{Counts}
+use Rattle.vl_kinds.specs.declared.index.Index.{Index}
+use Rattle.vl_kinds.specs.declared.sizes.Sizes.{Sizes}
+use Rattle.vl_kinds.specs.Places.{place_of}
+
+abbrev pub counts_of : Counts → e.Counts
+counts_of c = record { signals = c.signals; functions = c.functions }
+
+-- how many of these declarations are of names that aren't known before
+abbrev pub count_new : (List ℕ → Bool) → List x.Declared → ℕ
+count_new known [] = 0
+count_new known (d ∷ ds) = (if known d.name.name then 0 else 1) + count_new (λ t. known t || bytes_eq t d.name.name) ds
+
+-- how many signals a module declares, within 32 bits
+abbrev pub own_signals : x.Module → ℕ
+own_signals m = min e.most_numbers (length (e.new_ones [] (signals_of m)))
+
+-- the counts at a place of a round; none past its end
+abbrev pub counts_at : List Counts → ℕ → e.Counts
+counts_at round p = option_map_or counts_of (slice_get round p) e.no_more
+
+-- what a round tells of a name
+abbrev pub told : Index → List Counts → List ℕ → e.Counts
+told index round t = option_map_or (counts_at round) (place_of index t) e.no_more
+
+-- the counts of items one after another
+abbrev pub items_counts : (List ℕ → e.Counts) → e.Counts → List x.Item → e.Counts
+items_counts sizes c items = fold (λ c item. e.plus c (e.item_counts sizes item)) c items
+
+-- the round for a depth: the last one for each that is deeper
+abbrev pub round_at : List (Vec Counts Global) → ℕ → List Counts
+round_at rounds zero = []
+round_at rounds (suc n) = option_map_or (λ (v : Vec Counts Global). v.items) (slice_get rounds (min n (length rounds - 1))) []
+
+-- the counts of the modules in the round behind a round
+abbrev pub next_counts : Index → List x.Module → List Counts → List e.Counts
+next_counts index ms round = map (e.module_counts (told index round)) ms
+
+-- the rounds have grown by the next one; or they stay, and the next one is the last again
+abbrev pub Grows : Index → List x.Module → List (Vec Counts Global) → List (Vec Counts Global) → Bool → Type 0
+Grows index ms old new true =
+    (v : Vec Counts Global) × (new ≡ old ++ v ∷ []) × (map counts_of v.items ≡ next_counts index ms (round_at old (length old)))
+Grows index ms old new false = (new ≡ old) × (map counts_of (round_at old (length old)) ≡ next_counts index ms (round_at old (length old)))
+
+-- the size of a module of this name at a depth
+abbrev pub size_of : Sizes → ℕ → List ℕ → e.Counts
+size_of s n t = told s.index (round_at s.rounds.items n) t
+
+-- the tables stand for these modules, up to the deepest level
+abbrev pub IsSizes : Sizes → List x.Module → Type 0
+IsSizes s ms = (n : ℕ) → n ≤ 129 → size_of s n ≡ e.size n ms

@@ -1,0 +1,12 @@
+pub mod Growth
+pub mod Counting
+pub mod Steps
+pub mod Judged
+pub mod Same
+pub mod Joints
+pub mod Numbers
+pub mod Levels
+pub mod Places
+pub mod Ours
+pub mod Tops
+pub mod Ends

@@ -1,0 +1,53 @@
+use Rattle.std.proofs.Common.{◌≡◌, refl, ap, sym, ◌∙◌, subst, ℕ, [], map, arith}
+use Rattle.vl_flat.specs.Items as x
+use Rattle.vl_flat.specs.Environments as e
+use Rattle.vl_flat.specs.Flat as f
+use Rattle.vl_items.specs.SeenItems.{seen_item, seen_module}
+use Rattle.vl_constant.specs.Seen.{look}
+use Rattle.vl_kinds.specs.Facts.{facts}
+use Rattle.vl_kinds.specs.Sized.{counts_of}
+use Rattle.vl_flatten.specs.Growing.{Grows, Stops, IsMade, Makes}
+use Rattle.vl_flatten.specs.Libraries.{modules_of}
+use Rattle.vl_flatten.proofs.Growth.{made-all, made-stops, made-handed}
+use Rattle.vl_flatten.proofs.elaborate.made.Goals as goal
+
+pub returns : goal.returns
+returns c = λ m there.
+    let ms = modules_of c.args.library.now in
+    let md = seen_module c.definition_at-top.result.now in
+    let is = c.definition_at-top.ensures m there in
+    let facts-are = c.roles_at-roles.ensures m there ∙ ap facts (sym is) in
+    let g = f.top_given md in
+    let sizes = e.size 128 ms in
+    let names = c.in_ok-names.ensures ms md.name.name c.requires.library.sizes (omega arith) facts-are in
+    let behind = ap (λ z. z.signals) (c.size_at.ensures.size ms c.requires.library.sizes (omega arith)) ∙ ap (λ z. (e.size 129 ms z).signals) c.as_slice-name.ensures in
+    let items = f.items_parts (f.instance 128 ms) sizes ms in
+    let body = ap (λ n. items (record { env = look c.in_ok-names.names; path = c.as_slice-name.result.now; behind = n }) g e.no_more (map seen_item c.as_slice.result.now)) behind
+    ∙ (ap (λ p. items (record { env = look c.in_ok-names.names; path = p; behind = (e.size 129 ms md.name.name).signals }) g e.no_more (map seen_item c.as_slice.result.now)) c.as_slice-name.ensures
+    ∙ (ap (λ z. items (record { env = z; path = md.name.name; behind = (e.size 129 ms md.name.name).signals }) g e.no_more (map seen_item c.as_slice.result.now)) names
+    ∙ ap (λ z. items (record { env = e.environment sizes g md; path = md.name.name; behind = (e.size 129 ms md.name.name).signals }) g e.no_more (map seen_item z)) c.as_slice.ensures.value)) in
+    subst (λ z. IsMade (f.parts_from ms z) c.add_items.new.making) is
+    (made-all c.nothing_yet-making.result c.add_items.new.making (f.parts_from ms md)
+    c.nothing_yet-making.ensures.totals c.nothing_yet-making.ensures.signals c.nothing_yet-making.ensures.funcs c.nothing_yet-making.ensures.processes
+    (subst (Grows c.nothing_yet-making.result c.add_items.new.making) body (c.in_ok-add_items.ensures g refl)))
+
+pub returns-in_err-add_items : goal.returns-in_err-add_items
+returns-in_err-add_items c = λ m there.
+    let ms = modules_of c.args.library.now in
+    let md = seen_module c.definition_at-top.result.now in
+    let is = c.definition_at-top.ensures m there in
+    let facts-are = c.roles_at-roles.ensures m there ∙ ap facts (sym is) in
+    let g = f.top_given md in
+    let sizes = e.size 128 ms in
+    let stop = c.in_err-add_items.field-0.0 in
+    let names = c.in_ok-names.ensures ms md.name.name c.requires.library.sizes (omega arith) facts-are in
+    let behind = ap (λ z. z.signals) (c.size_at.ensures.size ms c.requires.library.sizes (omega arith)) ∙ ap (λ z. (e.size 129 ms z).signals) c.as_slice-name.ensures in
+    let items = f.items_parts (f.instance 128 ms) sizes ms in
+    let body = ap (λ n. items (record { env = look c.in_ok-names.names; path = c.as_slice-name.result.now; behind = n }) g e.no_more (map seen_item c.as_slice.result.now)) behind
+    ∙ (ap (λ p. items (record { env = look c.in_ok-names.names; path = p; behind = (e.size 129 ms md.name.name).signals }) g e.no_more (map seen_item c.as_slice.result.now)) c.as_slice-name.ensures
+    ∙ (ap (λ z. items (record { env = z; path = md.name.name; behind = (e.size 129 ms md.name.name).signals }) g e.no_more (map seen_item c.as_slice.result.now)) names
+    ∙ ap (λ z. items (record { env = e.environment sizes g md; path = md.name.name; behind = (e.size 129 ms md.name.name).signals }) g e.no_more (map seen_item z)) c.as_slice.ensures.value)) in
+    subst (λ z. Makes (f.parts_from ms z) c.from_residual-in_err-add_items.result) is
+    (made-handed c.from_residual-in_err-add_items.result stop (f.parts_from ms md) c.from_residual-in_err-add_items.ensures (λ e h. h)
+    (made-stops stop c.nothing_yet-making.result.totals (f.parts_from ms md) c.nothing_yet-making.ensures.totals
+    (subst (Stops stop c.nothing_yet-making.result.totals) body (c.in_err-add_items.ensures g refl))))

@@ -1,0 +1,11 @@
+use Rattle.std.proofs.Common.{◌≡◌, map, take}
+use Rattle.std.specs.Prelude.{flat_map}
+use Rattle.vl_flat.specs.Stops.{earliest}
+use Rattle.vl_flat.specs.Parameters as q
+use Rattle.vl_items.specs.SeenItems.{seen_type, seen_parameter}
+use Rattle.vl_instance.specs.Given.{overrides_of}
+use Rattle.vl_constant.specs.Seen.{look}
+use Rattle.vl_flatten.proofs.faults.all_parameter_faults.Given as goal
+
+abbrev pub invariant-loop-a : goal.invariant-loop-a
+invariant-loop-a l = l.best ≡ earliest l.fn.best (flat_map (λ a. q.parameter_faults (look l.names) (seen_type l.kind) (overrides_of l.above a.name.name) a) (map seen_parameter (take l.a-index l.list)))

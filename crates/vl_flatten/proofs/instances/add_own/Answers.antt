@@ -1,0 +1,34 @@
+use Rattle.std.proofs.Common.{◌≡◌, refl, ap, sym, ◌∙◌, ℕ, false, List, [], length}
+use Rattle.std.specs.Prelude.{Option}
+use Rattle.vl_flat.specs.Placed.{Exp}
+use Rattle.vl_flat.specs.Environments as e
+use Rattle.vl_flat.specs.Flat as f
+use Rattle.vl_flat.specs.Kinds.{signals_in}
+use Rattle.vl_flat.specs.Processes.{signals}
+use Rattle.vl_items.specs.SeenItems.{seen_item}
+use Rattle.vl_kinds.specs.Sized.{counts_of}
+use Rattle.vl_instance.specs.Given.{overrides_of}
+use Rattle.vl_flatten.specs.Standing.{seen_here}
+use Rattle.vl_flatten.proofs.Numbers.{no-fewer, so-many}
+use Rattle.vl_flatten.proofs.instances.add_own.Goals as goal
+
+-- an instance that is given these overrides
+abbrev given : (List ℕ → Option Exp) → e.Given
+given overrides = record { path = []; base = e.no_more; overrides = overrides; clocks = λ t. false; wired = λ t. false }
+
+pub overflow_sub-own : goal.overflow_sub-own
+overflow_sub-own c =
+    let grown = c.in_ok-add_item.ensures (given (overrides_of c.args.above.now)) refl in
+    no-fewer c.args.making.now.signals.items c.add_item.new.making.signals.items _ (length c.as_slice-first.result.now) (length c.as_slice.result.now) (ap length c.as_slice-first.ensures.value) (ap length c.as_slice.ensures.value) grown.signals
+
+pub returns-clause-behind : goal.returns-clause-behind
+returns-clause-behind c = λ sizes own.
+    let here = seen_here c.args.here in
+    let item = seen_item c.args.item.now in
+    let next = counts_of c.args.next in
+    let found = signals here next.signals (signals_in item) in
+    let grown = c.in_ok-add_item.ensures (given (overrides_of c.args.above.now)) refl in
+    let many = so-many c.args.making.now.signals.items c.add_item.new.making.signals.items found (length c.as_slice-first.result.now) (length c.as_slice.result.now) (ap length c.as_slice-first.ensures.value) (ap length c.as_slice.ensures.value) grown.signals in
+    c.plus.ensures
+    ∙ (ap (λ z. e.plus z (counts_of c.functions_in.result)) (c.behind_signals.ensures ∙ ap (λ k. e.plus next (record { signals = k; functions = 0 })) many)
+    ∙ ap (e.plus (e.plus next (record { signals = length found; functions = 0 }))) (c.functions_in.ensures sizes own))

@@ -1,0 +1,10 @@
+use Rattle.std.proofs.Common.{◌≡◌, fold, take}
+use Rattle.vl_flat.specs.Outcome as o
+use Rattle.vl_flat.specs.Stops.{earliest}
+use Rattle.vl_flatten.specs.Growing.{totals_of}
+use Rattle.vl_flatten.proofs.limits.signals_limits.Given as goal
+
+abbrev pub invariant-loop-signal : goal.invariant-loop-signal
+invariant-loop-signal l =
+    (l.best ≡ earliest l.fn.best (o.signals_limits (totals_of l.fn.t) (take l.signal-index l.signals)))
+    × (totals_of l.totals ≡ fold o.with_signal (totals_of l.fn.t) (take l.signal-index l.signals))

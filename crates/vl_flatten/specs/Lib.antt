@@ -1,0 +1,5 @@
+pub mod Growing
+pub mod Standing
+pub mod Parts
+pub mod Libraries
+pub mod Meeting

@@ -1,0 +1,117 @@
+//! From a source to its flat design (IEEE 1364-2005, clause 12).
+
+ghost use Rattle.std.specs.Prelude.{◌≡◌, ◌<◌, length, map, slice_get, Some};
+ghost use Rattle.vl_flat.specs.Items as x;
+ghost use Rattle.vl_flat.specs.Flat as f;
+ghost use Rattle.vl_flat.specs.Outcome as o;
+ghost use Rattle.vl_items.specs.SeenItems.{seen_module};
+ghost use Rattle.vl_flatten.specs.Growing.{Makes};
+ghost use Rattle.vl_flatten.specs.Libraries.{IsLibrary, modules_of};
+ghost use Rattle.vl_flatten.specs.Meeting.{Meets, Elaborates, stop_of};
+
+use crate::here::Here;
+use crate::instances::add_items;
+use crate::library::{Library, definition_at, library_of, roles_at};
+use crate::making::{Making, nothing_yet};
+use std::alloc::Global;
+use vl_base::items::Items;
+use vl_design::design::Design;
+use vl_elab::names::{NamesFault, names};
+use vl_expression::expressions::copied;
+use vl_flat::stop::Stop;
+use vl_instance::environment::environment;
+use vl_instance::given::Above;
+use vl_instance::tops::top_of;
+use vl_items::items::Module;
+use vl_items::modules::prepare;
+use vl_kinds::counts::Counts;
+use vl_kinds::sizes::size_at;
+use vl_source::tree::Source;
+
+/// What the modules stand for from the one of this number.
+fn made(alloc: Global, library: &Library<'_>, number: usize) -> Result<Making, Stop>
+    requires library { IsLibrary library.now }
+    requires number { number < length library.now.modules.now }
+    ensures { (m : x.Module) → slice_get (modules_of library.now) number ≡ Some m → Makes (f.parts_from (modules_of library.now) m) result }
+{
+    let top = definition_at(library, number);
+    let name = top.name.name.as_slice();
+    let base = Counts {
+        signals: 0,
+        functions: 0,
+    };
+    let roles = roles_at(library, number);
+    let names = environment(alloc, &library.sizes, 128, roles, &Above::Top, base, top)?;
+    let here = Here {
+        names: &names,
+        path: name,
+        behind: size_at(&library.sizes, 129, name).signals,
+    };
+    let mut making = nothing_yet(alloc);
+    add_items(
+        alloc,
+        &mut making,
+        library,
+        128,
+        here,
+        &Above::Top,
+        base,
+        top.items.as_slice(),
+    )?;
+    Ok(making)
+}
+
+/// The flat design of modules from the one of this number.
+fn flatten_from(alloc: Global, modules: &[Module], number: usize) -> Result<Design, Stop>
+    requires { number < length modules.now }
+    ensures { (m : x.Module) → slice_get (map seen_module modules.now) number ≡ Some m → Meets result (o.flattened_from (map seen_module modules.now) m) }
+{
+    let library = library_of(alloc, modules)?;
+    let making = made(alloc, &library, number)?;
+    let top = copied(alloc, &definition_at(&library, number).name.name)?;
+    Ok(Design {
+        top,
+        signals: Items::from_vec(making.signals),
+        funcs: Items::from_vec(making.funcs),
+        processes: Items::from_vec(making.processes),
+    })
+}
+
+/// The flat design of modules, or its first fault.
+fn flatten_modules(alloc: Global, modules: &[Module]) -> Result<Design, Stop>
+    ensures { Meets result (o.flattened_modules (map seen_module modules.now)) }
+{
+    match top_of(alloc, modules)? {
+        Some(number) => flatten_from(alloc, modules, number),
+        None => Err(Stop::Memory),
+    }
+}
+
+/// The flat design of a source whose names have no fault, or its first fault.
+pub fn flatten(alloc: Global, source: &Source) -> Result<Design, Stop>
+    ensures { Meets result (o.flattened source.now) }
+{
+    let modules = prepare(alloc, source)?;
+    flatten_modules(alloc, modules.as_slice())
+}
+
+/// Why a flattening stops at a fault of names.
+fn stop_of(fault: NamesFault) -> Stop
+    ensures { result ≡ stop_of fault }
+{
+    match fault {
+        NamesFault::Construct(place, number) => Stop::Construct(place, number),
+        NamesFault::Memory => Stop::Memory,
+    }
+}
+
+/// The flat design of a source, or the first fault of its names and then of its design: a refused construct or a limit, by its
+/// place and its number.
+pub fn elaborate(alloc: Global, source: &Source) -> Result<Design, Stop>
+    ensures { Elaborates source.now result }
+{
+    match names(alloc, source) {
+        Ok(()) => flatten(alloc, source),
+        Err(fault) => Err(stop_of(fault)),
+    }
+}

@@ -1,0 +1,196 @@
+//! The faults of an item of an instance, but for those of statements: refused constructs 10, 11, 12 and 24.
+
+ghost use Rattle.std.specs.Prelude.{◌≡◌, map, flat_map, option_map, is_some, Option};
+ghost use Rattle.vl_flat.specs.Items as x;
+ghost use Rattle.vl_flat.specs.Placed.{Exp};
+ghost use Rattle.vl_flat.specs.Scopes.{plainly};
+ghost use Rattle.vl_flat.specs.Processes as p;
+ghost use Rattle.vl_flat.specs.Parameters as q;
+ghost use Rattle.vl_flat.specs.Stops.{earliest};
+ghost use Rattle.vl_bind.specs.Seen.{seen};
+ghost use Rattle.vl_items.specs.SeenItems.{seen_type, seen_declared, seen_parameter, seen_setting, seen_connection};
+ghost use Rattle.vl_constant.specs.Seen.{look, binding_of};
+ghost use Rattle.vl_constant.specs.Types.{numbers};
+ghost use Rattle.vl_flat.specs.Connections as c;
+ghost use Rattle.vl_instance.specs.Given.{overrides_of};
+ghost use Rattle.vl_flatten.specs.Parts.{alike};
+
+use vl_base::place::Place;
+use vl_bind::surface::Ex;
+use vl_constant::ranges::{Range, bits_in, is_signed, type_range};
+use vl_constant::scope::{Known, Names, found_in, module_scope};
+use vl_design::design::SigKind;
+use vl_flat::binding::Shape;
+use vl_flat::stop::Stop;
+use vl_instance::connections::expression;
+use vl_instance::given::Above;
+use vl_items::items::{Connection, DataType, Declared, Parameter, Setting};
+use vl_judge::faults::faults;
+use vl_judge::lefts::target_faults;
+use vl_judge::stops::construct_if;
+use vl_judge::types::{range_faults, type_faults};
+
+/// The first of those so far and the faults of an expression, if one stands there.
+#[tactic(auto, using(crate::proofs::Steps::firsts))]
+pub fn optional_faults(best: Option<Stop>, names: &Names<'_>, e: &Option<Ex>) -> Option<Stop>
+    ensures { result ≡ earliest best (p.optional_faults (look names.now) (option_map seen e.now)) }
+{
+    match e {
+        Some(e) => faults(best, &module_scope(names), e),
+        None => best,
+    }
+}
+
+/// A signal is a clock.
+pub fn is_clock(kind: SigKind) -> bool
+    ensures { result ≡ p.is_clock kind }
+{
+    matches!(kind, SigKind::Clock)
+}
+
+/// A declaration has the sign and the range of a signal.
+fn is_alike(signed: bool, range: Range, shape: Shape) -> bool
+    ensures { result ≡ alike signed (numbers range) shape }
+{
+    signed == shape.signed && range.left == shape.left && range.right == shape.right
+}
+
+/// The first of those so far and the faults of a declaration beside what its name stands for.
+#[tactic(auto, using(crate::proofs::Steps::firsts))]
+fn binding_faults(
+    best: Option<Stop>,
+    names: &Names<'_>,
+    kind: &DataType,
+    at: Place,
+    known: Option<Known>,
+) -> Option<Stop>
+    ensures { (d : x.Declared) → d.name.place ≡ at → d.type ≡ seen_type kind.now → result ≡ earliest best (p.binding_faults (look names.now) d (option_map binding_of known)) }
+{
+    let Some(Known::Signal(_, shape)) = known else {
+        return best;
+    };
+    let range = type_range(&module_scope(names), kind);
+    let best = construct_if(best, is_clock(shape.kind) && bits_in(range) > 1, at, 12);
+    construct_if(best, !is_alike(is_signed(kind), range, shape), at, 12)
+}
+
+/// The first of those so far and the faults of a declaration.
+#[tactic(auto, using(crate::proofs::Steps::firsts))]
+fn declared_faults(
+    best: Option<Stop>,
+    names: &Names<'_>,
+    kind: &DataType,
+    d: &Declared,
+) -> Option<Stop>
+    ensures { result ≡ earliest best (p.declared_faults (look names.now) (seen_declared (seen_type kind.now) d.now)) }
+{
+    let at = d.name.place;
+    let best = type_faults(best, names, kind, at);
+    let best = range_faults(best, names, &d.words);
+    let known = found_in(names, d.name.name.as_slice());
+    let best = binding_faults(best, names, kind, at, known);
+    optional_faults(best, names, &d.value)
+}
+
+/// The first of those so far and the faults of declarations.
+#[tactic(auto, using(crate::proofs::Steps::firsts))]
+pub fn all_declared_faults(
+    best: Option<Stop>,
+    names: &Names<'_>,
+    kind: &DataType,
+    ds: &[Declared],
+) -> Option<Stop>
+    ensures { result ≡ earliest best (flat_map (p.declared_faults (look names.now)) (map (seen_declared (seen_type kind.now)) ds.now)) }
+{
+    let mut best = best;
+    for d in ds {
+        best = declared_faults(best, names, kind, d);
+    }
+    best
+}
+
+/// The first of those so far and the faults of a continuous assignment.
+#[tactic(auto, using(crate::proofs::Steps::firsts))]
+fn assignment_faults(best: Option<Stop>, names: &Names<'_>, a: &Setting) -> Option<Stop>
+    ensures { result ≡ earliest best (p.assignment_faults (look names.now) (seen_setting a.now)) }
+{
+    let scope = module_scope(names);
+    let best = target_faults(best, &scope, &a.target);
+    faults(best, &scope, &a.value)
+}
+
+/// The first of those so far and the faults of continuous assignments.
+#[tactic(auto, using(crate::proofs::Steps::firsts))]
+pub fn all_assignment_faults(
+    best: Option<Stop>,
+    names: &Names<'_>,
+    list: &[Setting],
+) -> Option<Stop>
+    ensures { result ≡ earliest best (flat_map (p.assignment_faults (look names.now)) (map seen_setting list.now)) }
+{
+    let mut best = best;
+    for a in list {
+        best = assignment_faults(best, names, a);
+    }
+    best
+}
+
+/// The first of those so far and the faults of a parameter, whose default isn't judged where something stands in its place.
+#[tactic(auto, using(crate::proofs::Steps::firsts))]
+fn parameter_faults(
+    best: Option<Stop>,
+    names: &Names<'_>,
+    kind: &DataType,
+    overridden: bool,
+    a: &Parameter,
+) -> Option<Stop>
+    ensures { (given : Option Exp) → is_some given ≡ overridden → result ≡ earliest best (q.parameter_faults (look names.now) (seen_type kind.now) given (seen_parameter a.now)) }
+{
+    let best = type_faults(best, names, kind, a.name.place);
+    if overridden {
+        best
+    } else {
+        faults(best, &module_scope(names), &a.value)
+    }
+}
+
+/// Something stands in place of a parameter's default.
+fn is_overridden(above: &Above<'_, '_, '_, '_>, name: &[u8]) -> bool
+    ensures { result ≡ is_some (overrides_of above.now name.now) }
+{
+    match above {
+        Above::Top => false,
+        Above::Item(given) => expression(given.overrides, name).is_some(),
+    }
+}
+
+/// The first of those so far and the faults of parameters.
+#[tactic(auto, using(crate::proofs::Steps::firsts))]
+pub fn all_parameter_faults(
+    best: Option<Stop>,
+    names: &Names<'_>,
+    kind: &DataType,
+    above: &Above<'_, '_, '_, '_>,
+    list: &[Parameter],
+) -> Option<Stop>
+    ensures { result ≡ earliest best (flat_map (λ a. q.parameter_faults (look names.now) (seen_type kind.now) (overrides_of above.now a.name.name) a) (map seen_parameter list.now)) }
+{
+    let mut best = best;
+    for a in list {
+        let overridden = is_overridden(above, a.name.name.as_slice());
+        best = parameter_faults(best, names, kind, overridden, a);
+    }
+    best
+}
+
+/// The first of those so far and the faults of overrides.
+#[tactic(auto, using(crate::proofs::Steps::firsts))]
+pub fn override_faults(best: Option<Stop>, names: &Names<'_>, list: &[Connection]) -> Option<Stop>
+    ensures { result ≡ earliest best (flat_map (λ q. c.optional_faults (look names.now) q.value) (map seen_connection list.now)) }
+{
+    let mut best = best;
+    for connection in list {
+        best = optional_faults(best, names, &connection.value);
+    }
+    best
+}

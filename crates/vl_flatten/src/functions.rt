@@ -1,0 +1,80 @@
+//! The functions of an instance in its design (IEEE 1364-2005, clause 10.4).
+
+ghost use Rattle.std.specs.Prelude.{◌≡◌, map, flat_map, IfOk};
+ghost use Rattle.vl_flat.specs.Functions as f;
+ghost use Rattle.vl_flat.specs.Ranges.{type_faults as spec_type_faults};
+ghost use Rattle.vl_flat.specs.Seen.{func_of};
+ghost use Rattle.vl_flat.specs.Stops.{earliest};
+ghost use Rattle.vl_items.specs.SeenItems.{seen_function};
+ghost use Rattle.vl_constant.specs.Seen.{look};
+ghost use Rattle.vl_instance.specs.Variables.{IsFrame, seen_variable};
+ghost use Rattle.vl_flatten.specs.Standing.{seen_here};
+
+use crate::here::Here;
+use std::alloc::{AllocError, Global};
+use vl_base::items::Items;
+use vl_constant::scope::Names;
+use vl_design::design::Func;
+use vl_expression::statements::statement;
+use vl_flat::stop::Stop;
+use vl_instance::functions::{dotted, input_numbers, local_signals, locals};
+use vl_instance::scope::function_scope;
+use vl_instance::variables::{Frame, Variable};
+use vl_items::items::Function;
+use vl_judge::statements::statement_faults;
+use vl_judge::types::type_faults;
+
+/// A function of an instance.
+pub fn function(
+    alloc: Global,
+    here: Here<'_, '_, '_>,
+    frame: &Frame<'_>,
+    a: &Function,
+) -> Result<Func, AllocError>
+    ensures { IfOk result (λ b. IsFrame frame.now (seen_function a.now) → func_of b ≡ f.function here.entry.behind (look here.entry.names.now) here.entry.path.now (seen_function a.now)) }
+{
+    let own = locals(alloc, here.names, here.behind, frame)?;
+    let body = statement(alloc, &function_scope(here.names, &own), &a.body)?;
+    let name = dotted(alloc, here.path, a.name.name.as_slice())?;
+    let inputs = input_numbers(alloc, here.behind, frame)?;
+    let signals = local_signals(alloc, here.names, name.as_slice(), frame)?;
+    Ok(Func {
+        name,
+        place: a.name.place,
+        inputs: Items::from_vec(inputs),
+        result: here.behind,
+        locals: Items::from_vec(signals),
+        body,
+    })
+}
+
+/// The first of those so far and the faults of the types of variables.
+#[tactic(auto, using(crate::proofs::Steps::firsts))]
+fn variables_faults(
+    best: Option<Stop>,
+    names: &Names<'_>,
+    variables: &[Variable<'_>],
+) -> Option<Stop>
+    ensures { result ≡ earliest best (flat_map (λ l. spec_type_faults (look names.now) l.type l.name.place) (map seen_variable variables.now)) }
+{
+    let mut best = best;
+    for variable in variables {
+        best = type_faults(best, names, variable.kind, variable.name.place);
+    }
+    best
+}
+
+/// The first of those so far and the faults of a function.
+pub fn function_faults(
+    alloc: Global,
+    best: Option<Stop>,
+    here: Here<'_, '_, '_>,
+    frame: &Frame<'_>,
+    a: &Function,
+) -> Result<Option<Stop>, AllocError>
+    ensures { IfOk result (λ b. IsFrame frame.now (seen_function a.now) → b ≡ earliest best (f.function_faults here.entry.behind (look here.entry.names.now) (seen_function a.now))) }
+{
+    let own = locals(alloc, here.names, here.behind, frame)?;
+    let best = variables_faults(best, here.names, frame.variables.as_slice());
+    Ok(statement_faults(best, &function_scope(here.names, &own), &a.body))
+}

@@ -1,0 +1,70 @@
+//! The modules of a source, and what is known of each.
+
+ghost use Rattle.std.specs.Prelude.{◌≡◌, ◌<◌, map, length, slice_get, Some, IfOk};
+ghost use Rattle.vl_flat.specs.Items as x;
+ghost use Rattle.vl_items.specs.SeenItems.{seen_module};
+ghost use Rattle.vl_kinds.specs.Facts.{facts, facts_of};
+ghost use Rattle.vl_flatten.specs.Libraries.{IsLibrary, modules_of};
+
+use std::alloc::{AllocError, Global};
+use vl_items::items::Module;
+use vl_kinds::index::{Index, index_of};
+use vl_kinds::roles::{Roles, make_roles};
+use vl_kinds::sizes::{Sizes, sizes_of};
+
+/// The modules of a source, and what is known of each.
+#[derive(Drop)]
+pub struct Library<'m> {
+    /// The modules.
+    pub modules: &'m [Module],
+    /// What names are in each module.
+    pub roles: Vec<Roles<'m>>,
+    /// The modules by name.
+    pub index: Index<'m>,
+    /// How many signals and functions each has.
+    pub sizes: Sizes<'m>,
+}
+
+/// What names are in each module.
+fn all_roles<'m>(alloc: Global, modules: &'m [Module]) -> Result<Vec<Roles<'m>>, AllocError>
+    ensures { IfOk result (λ v. map facts_of v.items ≡ map (λ m. facts (seen_module m)) modules.entry.now) }
+{
+    let mut all = Vec::new(alloc);
+    for definition in modules {
+        all.push(make_roles(alloc, definition)?)?;
+    }
+    Ok(all)
+}
+
+/// What is known of modules.
+pub fn library_of<'m>(alloc: Global, modules: &'m [Module]) -> Result<Library<'m>, AllocError>
+    ensures modules { IfOk result (λ l. l.modules.now ≡ modules.entry.now) }
+    ensures known { IfOk result IsLibrary }
+{
+    let roles = all_roles(alloc, modules)?;
+    let index = index_of(alloc, modules)?;
+    let sizes = sizes_of(alloc, modules)?;
+    Ok(Library {
+        modules,
+        roles,
+        index,
+        sizes,
+    })
+}
+
+/// The module of this number.
+pub fn definition_at<'m>(library: &Library<'m>, number: usize) -> &'m Module
+    requires { number < length library.now.modules.now }
+    ensures { (m : x.Module) → slice_get (modules_of library.now) number ≡ Some m → seen_module result.now ≡ m }
+{
+    &library.modules[number]
+}
+
+/// What names are in the module of this number.
+pub fn roles_at<'s, 'm>(library: &'s Library<'m>, number: usize) -> &'s Roles<'m>
+    requires known { IsLibrary library.now }
+    requires number { number < length library.now.modules.now }
+    ensures { (m : x.Module) → slice_get (modules_of library.entry.now) number ≡ Some m → facts_of result.now ≡ facts m }
+{
+    &library.roles[number]
+}

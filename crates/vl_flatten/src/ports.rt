@@ -1,0 +1,205 @@
+//! The connections of an instance's ports in the design (IEEE 1364-2005, clause 12.3.9).
+
+ghost use Rattle.std.specs.Prelude.{◌≡◌, ◌∷◌, [], option_map, flat_map, IfOk};
+ghost use Rattle.vl_flat.specs.Items as x;
+ghost use Rattle.vl_flat.specs.Connections as c;
+ghost use Rattle.vl_flat.specs.Flat as f;
+ghost use Rattle.vl_flat.specs.Seen.{exp_of, process_of};
+ghost use Rattle.vl_flat.specs.Stops.{earliest};
+ghost use Rattle.vl_bind.specs.Seen.{seen};
+ghost use Rattle.vl_items.specs.SeenItems.{seen_unit};
+ghost use Rattle.vl_constant.specs.Seen.{look};
+ghost use Rattle.vl_flatten.specs.Standing.{seen_here, IsJoined};
+ghost use Rattle.vl_flatten.specs.Growing.{Adds};
+
+use crate::here::Here;
+use crate::making::Making;
+use crate::processes::{assigned, whole_target};
+use std::alloc::{AllocError, Global};
+use vl_base::bits::Bits;
+use vl_base::place::Place;
+use vl_bind::surface::Ex;
+use vl_constant::scope::{Names, found_in, module_scope};
+use vl_constant::selects::number_of;
+use vl_design::design::{Expr, ExprNode, ProcKind, Process};
+use vl_expression::expressions::exp;
+use vl_expression::targets::output_target;
+use vl_flat::stop::Stop;
+use vl_grammar::tree::Identifier;
+use vl_instance::connections::{Connected, connection, expression, place_in};
+use vl_instance::scope::is_clock_known;
+use vl_items::items::NamedUnit;
+use vl_judge::faults::faults;
+use vl_judge::outputs::output_faults;
+use vl_kinds::roles::{Roles, is_input};
+
+/// The ports of an instance, and what stands around them.
+#[derive(Clone, Copy)]
+pub struct Ports<'n, 'p, 'b, 'c, 'd, 'm> {
+    /// Where the instance stands.
+    pub above: Here<'n, 'p, 'm>,
+    /// What names stand for in it.
+    pub names: &'b Names<'m>,
+    /// What names are in its module.
+    pub roles: &'d Roles<'m>,
+    /// The connections of its ports.
+    pub connected: &'c Connected<'m>,
+    /// The instance.
+    pub unit: &'m NamedUnit,
+}
+
+/// What is connected to an input, or 0.
+fn source(alloc: Global, names: &Names<'_>, at: Place, e: Option<&Ex>) -> Result<Expr, AllocError>
+    ensures { IfOk result (λ a. exp_of a ≡ c.source (look names.now) at (option_map (λ e. seen e.now) e.entry)) }
+{
+    match e {
+        Some(e) => exp(alloc, &module_scope(names), e),
+        None => Ok(Expr {
+            place: at,
+            node: ExprNode::Num(Bits { value: 0, width: 1 }, false),
+        }),
+    }
+}
+
+/// The first of those so far and the faults of what is connected to an input.
+fn source_faults(best: Option<Stop>, names: &Names<'_>, e: Option<&Ex>) -> Option<Stop>
+    ensures { result ≡ earliest best (c.optional_faults (look names.now) (option_map (λ e. seen e.now) e.entry)) }
+{
+    match e {
+        Some(e) => faults(best, &module_scope(names), e),
+        None => best,
+    }
+}
+
+/// The process of an input's connection.
+fn input_process(
+    alloc: Global,
+    ports: Ports<'_, '_, '_, '_, '_, '_>,
+    name: &[u8],
+) -> Result<Process, AllocError>
+    ensures { IfOk result (λ a. (m : x.Module) → IsJoined ports.entry m → process_of a ≡ c.input_process (seen_here ports.entry.above) (look ports.entry.names.now) m (seen_unit ports.entry.unit.now) name.now) }
+{
+    let at = place_in(ports.unit, connection(ports.connected, name));
+    let e = source(
+        alloc,
+        ports.above.names,
+        at,
+        expression(ports.connected, name),
+    )?;
+    let target = whole_target(ports.names, at, name);
+    assigned(alloc, ports.above, at, ProcKind::Assign, target, e)
+}
+
+/// The connection of a port, if it is an input; a clock's stands for nothing.
+fn add_input(
+    alloc: Global,
+    making: &mut Making,
+    ports: Ports<'_, '_, '_, '_, '_, '_>,
+    name: &[u8],
+) -> Result<(), Stop>
+    ensures { (m : x.Module) → IsJoined ports.entry m → Adds making.old making.new (f.input_part (seen_here ports.entry.above) (look ports.entry.names.now) m (seen_unit ports.entry.unit.now) name.now) result }
+{
+    if !is_input(ports.roles, name) {
+        return Ok(());
+    }
+    if is_clock_known(found_in(ports.names, name)) {
+        return Ok(());
+    }
+    match source_faults(None, ports.above.names, expression(ports.connected, name)) {
+        Some(stop) => Err(stop),
+        None => {
+            making.processes.push(input_process(alloc, ports, name)?)?;
+            Ok(())
+        }
+    }
+}
+
+/// The connections of inputs.
+pub fn add_inputs(
+    alloc: Global,
+    making: &mut Making,
+    ports: Ports<'_, '_, '_, '_, '_, '_>,
+    names: &[Identifier],
+) -> Result<(), Stop>
+    ensures { (m : x.Module) → IsJoined ports.entry m → Adds making.old making.new (flat_map (λ t. f.input_part (seen_here ports.entry.above) (look ports.entry.names.now) m (seen_unit ports.entry.unit.now) t.name) names.now) result }
+{
+    for name in names {
+        add_input(alloc, making, ports, name.name.as_slice())?;
+    }
+    Ok(())
+}
+
+/// The process of an output's connection.
+fn output_process(
+    alloc: Global,
+    ports: Ports<'_, '_, '_, '_, '_, '_>,
+    at: Place,
+    name: &[u8],
+    e: &Ex,
+) -> Result<Process, AllocError>
+    ensures { IfOk result (λ a. process_of a ≡ c.output_process (seen_here ports.entry.above) (look ports.entry.names.now) at name.now (seen e.now)) }
+{
+    let target = output_target(alloc, &module_scope(ports.above.names), e)?;
+    let source = Expr {
+        place: at,
+        node: ExprNode::Sig(number_of(found_in(ports.names, name))),
+    };
+    assigned(alloc, ports.above, at, ProcKind::Assign, target, source)
+}
+
+/// The connection of an output that is connected.
+fn add_connected(
+    alloc: Global,
+    making: &mut Making,
+    ports: Ports<'_, '_, '_, '_, '_, '_>,
+    name: &[u8],
+    e: &Ex,
+) -> Result<(), Stop>
+    ensures { (m : x.Module) → IsJoined ports.entry m → Adds making.old making.new
+        (f.connection (c.output_process (seen_here ports.entry.above) (look ports.entry.names.now) (c.place_in (seen_unit ports.entry.unit.now) (c.port_connection m (seen_unit ports.entry.unit.now) name.now)) name.now (seen e.now) ∷ [])
+        (c.output_faults (look ports.entry.above.names.now) (c.place_in (seen_unit ports.entry.unit.now) (c.port_connection m (seen_unit ports.entry.unit.now) name.now)) (seen e.now)) ∷ []) result }
+{
+    let at = place_in(ports.unit, connection(ports.connected, name));
+    match output_faults(None, ports.above.names, at, e) {
+        Some(stop) => Err(stop),
+        None => {
+            making
+                .processes
+                .push(output_process(alloc, ports, at, name, e)?)?;
+            Ok(())
+        }
+    }
+}
+
+/// The connection of a port, if it is an output; one that isn't connected stands for nothing.
+fn add_output(
+    alloc: Global,
+    making: &mut Making,
+    ports: Ports<'_, '_, '_, '_, '_, '_>,
+    name: &[u8],
+) -> Result<(), Stop>
+    ensures { (m : x.Module) → IsJoined ports.entry m → Adds making.old making.new (f.output_part (seen_here ports.entry.above) (look ports.entry.names.now) m (seen_unit ports.entry.unit.now) name.now) result }
+{
+    if is_input(ports.roles, name) {
+        return Ok(());
+    }
+    match expression(ports.connected, name) {
+        Some(e) => add_connected(alloc, making, ports, name, e),
+        None => Ok(()),
+    }
+}
+
+/// The connections of outputs.
+pub fn add_outputs(
+    alloc: Global,
+    making: &mut Making,
+    ports: Ports<'_, '_, '_, '_, '_, '_>,
+    names: &[Identifier],
+) -> Result<(), Stop>
+    ensures { (m : x.Module) → IsJoined ports.entry m → Adds making.old making.new (flat_map (λ t. f.output_part (seen_here ports.entry.above) (look ports.entry.names.now) m (seen_unit ports.entry.unit.now) t.name) names.now) result }
+{
+    for name in names {
+        add_output(alloc, making, ports, name.name.as_slice())?;
+    }
+    Ok(())
+}

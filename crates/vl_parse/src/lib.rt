@@ -9,8 +9,6 @@ mod modules;
 mod ports;
 pub mod sources;
 mod steps;
-#[cfg(test)]
-mod tests;
 mod triggers;
 
 pub use sources::parse;

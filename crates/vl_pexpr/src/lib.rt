@@ -3,8 +3,6 @@
 
 mod grammar;
 pub mod parse;
-#[cfg(test)]
-mod tests;
 
 pub use grammar::{expression_at, selects_at};
 pub use parse::{ParseFault, expression};

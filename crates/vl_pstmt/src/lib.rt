@@ -7,5 +7,3 @@ pub mod reader;
 pub mod statements;
 pub mod steps;
 pub mod targets;
-#[cfg(test)]
-mod tests;

@@ -1,1 +1,0 @@
-//! Each call is reached by the rows of the crate parse_rows.

@@ -31,6 +31,17 @@ pub fn is_word(name: &[u8], word: &[u8]) -> bool
     name == word
 }
 
+/// Of these calls a string is an argument as it is.
+pub fn keeps_texts(name: &[u8]) -> bool
+    ensures { result ≡ flat.keeps_texts name.now }
+{
+    is_word(name, b"$display".as_slice())
+        || is_word(name, b"$write".as_slice())
+        || is_word(name, b"$fopen".as_slice())
+        || is_word(name, b"$save".as_slice())
+        || is_word(name, b"$readmemh".as_slice())
+}
+
 /// So many bits, unsigned.
 fn unsigned(width: u32) -> Form
     ensures { result ≡ w.unsigned width }

@@ -16,7 +16,7 @@ use vl_base::bits::{BinOp, Bits, UnOp};
 use vl_base::items::{Items, Text};
 use vl_base::place::Place;
 use vl_bind::surface::{Argument, Ex, Select};
-use vl_constant::form::{is_memory, is_word, taken};
+use vl_constant::form::{is_memory, is_word, keeps_texts, taken};
 use vl_constant::forms::{mark, operated};
 use vl_constant::ranges::Range;
 use vl_constant::scope::{Known, Scope, found_in, meaning};
@@ -385,17 +385,6 @@ fn first_argument(
             node: ExprNode::Num(Bits { value: 0, width: 1 }, false),
         }),
     }
-}
-
-/// Of these calls a string is an argument as it is.
-pub fn keeps_texts(name: &[u8]) -> bool
-    ensures { result ≡ flat.keeps_texts name.now }
-{
-    is_word(name, b"$display".as_slice())
-        || is_word(name, b"$write".as_slice())
-        || is_word(name, b"$fopen".as_slice())
-        || is_word(name, b"$save".as_slice())
-        || is_word(name, b"$readmemh".as_slice())
 }
 
 /// A system call.

@@ -12,13 +12,14 @@ ghost use Rattle.vl_bind.specs.SeenStatements.{seen_left, seen_statement, item, 
 ghost use Rattle.vl_constant.specs.Seen.{seen_scope};
 ghost use Rattle.vl_expression.specs.Walked as n;
 
-use crate::expressions::{arguments, copied, exp, keeps_texts};
+use crate::expressions::{arguments, copied, exp};
 use crate::labels::labels;
 use crate::targets::target;
 use std::alloc::{AllocError, Global};
 use vl_base::items::Text;
 use vl_base::place::Place;
 use vl_bind::surface::{Argument, CaseItem as Branch, Ex, Left, Statement};
+use vl_constant::form::keeps_texts;
 use vl_constant::scope::{Scope, meaning};
 use vl_constant::selects::number_of;
 use vl_constant::whole::repeats;

@@ -19,11 +19,11 @@ use vl_base::place::Place;
 use vl_bind::surface::Ex;
 use vl_constant::ranges::{Range, bits_in, is_signed, type_range};
 use vl_constant::scope::{Known, Names, found_in, module_scope};
-use vl_design::design::SigKind;
 use vl_flat::binding::Shape;
 use vl_flat::stop::Stop;
 use vl_instance::connections::expression;
 use vl_instance::given::Above;
+use vl_instance::scope::is_clock;
 use vl_items::items::{Connection, DataType, Declared, Parameter, Setting};
 use vl_judge::faults::faults;
 use vl_judge::lefts::target_faults;
@@ -39,13 +39,6 @@ pub fn optional_faults(best: Option<Stop>, names: &Names<'_>, e: &Option<Ex>) ->
         Some(e) => faults(best, &module_scope(names), e),
         None => best,
     }
-}
-
-/// A signal is a clock.
-pub fn is_clock(kind: SigKind) -> bool
-    ensures { result ≡ p.is_clock kind }
-{
-    matches!(kind, SigKind::Clock)
 }
 
 /// A declaration has the sign and the range of a signal.

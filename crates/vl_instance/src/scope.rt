@@ -29,7 +29,7 @@ pub fn is_known(names: &Names<'_>, name: &[u8]) -> bool
 }
 
 /// The kind is that of a clock.
-fn is_clock(kind: SigKind) -> bool
+pub fn is_clock(kind: SigKind) -> bool
     ensures { result ≡ flat_is_clock kind }
 {
     matches!(kind, SigKind::Clock)

@@ -10,8 +10,9 @@ ghost use Rattle.vl_judge.specs.Walked.{taken_by};
 
 use crate::checks::is_text;
 use crate::faults::{args_faults, faults};
-use crate::formats::{is_display, items_in, keeps_texts};
+use crate::formats::{is_display, items_in};
 use vl_bind::surface::{Argument, Ex};
+use vl_constant::form::keeps_texts;
 use vl_constant::scope::Scope;
 use vl_flat::stop::Stop;
 

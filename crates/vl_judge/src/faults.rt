@@ -12,10 +12,9 @@ ghost use Rattle.vl_constant.specs.Types.{numbers};
 ghost use Rattle.vl_judge.specs.Walked.{walked};
 
 use crate::checks::{direction, is_kept, left_bound, must_be_count, past, right_bound};
-use crate::formats::keeps_texts;
 use crate::stops::construct_if;
 use vl_bind::surface::{Argument, Ex, Select};
-use vl_constant::form::{is_memory, taken};
+use vl_constant::form::{is_memory, keeps_texts, taken};
 use vl_constant::ranges::Range;
 use vl_constant::scope::{Known, Scope, meaning};
 use vl_constant::selects::{bits_of, range_of};

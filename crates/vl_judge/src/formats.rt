@@ -1,24 +1,12 @@
-//! Texts of displays, and the calls that keep strings (IEEE 1364-2005, clause 17.1.1).
+//! Texts of displays (IEEE 1364-2005, clause 17.1.1).
 
 ghost use Rattle.std.specs.Prelude.{◌≡◌, ◌+◌, ◌∷◌, [], ℕ, List, is_some};
 ghost use Rattle.vl_base.specs.Display as d;
 ghost use Rattle.vl_design.specs.Formats.{format_pieces, taken, Between, Percent};
-ghost use Rattle.vl_flat.specs.Expressions as flat;
 ghost use Rattle.vl_flat.specs.ExpressionFaults as f;
 ghost use Rattle.vl_judge.specs.Walked.{reading_of, one_if, shows_none, is_display};
 
 use vl_constant::form::is_word;
-
-/// Of these calls a string is an argument as it is.
-pub fn keeps_texts(name: &[u8]) -> bool
-    ensures { result ≡ flat.keeps_texts name.now }
-{
-    is_word(name, b"$display".as_slice())
-        || is_word(name, b"$write".as_slice())
-        || is_word(name, b"$fopen".as_slice())
-        || is_word(name, b"$save".as_slice())
-        || is_word(name, b"$readmemh".as_slice())
-}
 
 /// The task displays its arguments.
 pub fn is_display(name: &[u8]) -> bool

@@ -1,2 +1,3 @@
+pub mod OneDesign
 pub mod Outcomes
 pub mod Takings

@@ -1,5 +1,5 @@
 -- What the host is due to print, and with which status.
-use Rattle.std.specs.Prelude.{◌≡◌, ℕ, List, [], take, Option, Some, None, ◌⊎◌}
+use Rattle.std.specs.Prelude.{◌≡◌, ℕ, true, false, List, [], take, Option, Some, None, Ok, Err, ◌⊎◌}
 use Rattle.fab_io.specs.declared.store.ReadError.{ReadError}
 use Rattle.fab_io.specs.declared.store.ReadError.TheVariants as read
 use Rattle.fab_io.specs.Outside.{Files, HasRisen, IsAbsent, IsTooLong, IsTold}
@@ -11,14 +11,16 @@ use Rattle.vl_source.specs.declared.tree.Source.{Source}
 use Rattle.vl_source.specs.Grammar.{ReadsSource}
 use Rattle.vl_source.specs.Faults.{PassesLimit, limits, statement_limit, expression_limit}
 use Rattle.vl_source.specs.Faults.{IsFirstFault as IsSyntaxFault}
-use Rattle.vl_scope.specs.Faults.{at, IsFirst}
-use Rattle.vl_elab.specs.NameFaults.{IsNameFault}
 use Rattle.vl_design.specs.declared.design.End.{End}
 use Rattle.vl_design.specs.Syntax.{Flat}
 use Rattle.vl_design.specs.Queue.{Queue}
 use Rattle.vl_design.specs.Alone.{Ends}
 use Rattle.vl_design.specs.Plain.{alone}
-use Rattle.first_form.specs.Form.{IsDesignOf}
+use Rattle.vl_flat.specs.declared.stop.Stop.TheVariants.{Construct, Limit}
+use Rattle.vl_flat.specs.Placed as p
+use Rattle.vl_flat.specs.Plainly as plain
+use Rattle.vl_flatten.specs.Meeting.{IsElaboration}
+use Rattle.plain_form.specs.Running.{is_running}
 use Rattle.host_run.specs.Taking.{Takes}
 use Rattle.host_run.specs.Words.{command_of}
 use Rattle.host_run.specs.Report.{block, refusal, lexical, limit, syntax, construct, notbuilt, usage, unread}
@@ -31,15 +33,17 @@ most_source = 2097152
 abbrev pub end_of : List ℕ → Place
 end_of text = place_after start text
 
--- a source text stands for this design: its tokens are a source within the limits, the names of its tree have no fault, and
--- the tree has the design
-pub record StandsFor (text : List ℕ) (d : Flat) : Type 0 where
+-- a source text stands for this design: its tokens are a source within the limits, the elaboration of its tree is a flat
+-- design of the forms that run, and the design is that one without places
+pub record StandsFor (text : List ℕ) (design : Flat) : Type 0 where
   pub tokens : List Token
   pub tree : Source
+  pub flat : p.Design
   pub read : IsRead text tokens
   pub parsed : ReadsSource (limits 0) tree tokens []
-  pub named : IsFirst (IsNameFault tree) None
-  pub has_design : IsDesignOf tree d
+  pub elaborated : IsElaboration tree (Ok flat)
+  pub running : is_running flat ≡ true
+  pub is : design ≡ plain.flat flat
 
 -- what the run alone of a source prints in at most this many ticks, and how it ends
 pub record Reports (text : List ℕ) (budget : ℕ) (report : List ℕ) : Type 0 where
@@ -52,17 +56,20 @@ pub record Reports (text : List ℕ) (budget : ℕ) (report : List ℕ) : Type 0
   pub block : report ≡ block reason last.state.ticks last.state.printed
 
 -- the line by which a source is refused: its first lexical fault or limit; else the first syntax fault of its tokens, or
--- limit 3 or 4; else it has tokens and a tree, and the first fault of its names; else there is none, and it stands for no
--- design of the form
+-- limit 3 or 4; else it has tokens and a tree, and the first fault of its elaboration; else it has a flat design, which is not
+-- of the forms that run
 pub data Refuses (text line : List ℕ) : Type 0 where
   fault : {place : Place} {cause : ℕ} → IsFirstFault text place cause → line ≡ refusal place (lexical cause) → Refuses text line
   passed : {place : Place} {number : ℕ} → IsFirstLimit text place number → line ≡ refusal place (limit number) → Refuses text line
   unparsed : {tokens : List Token} {place : Place} → IsRead text tokens → IsSyntaxFault tokens (end_of text) place → line ≡ refusal place syntax → Refuses text line
   too_deep : {tokens : List Token} {place : Place} → IsRead text tokens → PassesLimit statement_limit tokens (end_of text) place → line ≡ refusal place (limit 3) → Refuses text line
   too_long : {tokens : List Token} {place : Place} → IsRead text tokens → PassesLimit expression_limit tokens (end_of text) place → line ≡ refusal place (limit 4) → Refuses text line
-  misnamed : {tokens : List Token} {tree : Source} {place : Place} {number : ℕ} → IsRead text tokens → ReadsSource (limits 0) tree tokens [] →
-      IsFirst (IsNameFault tree) (Some (at place number)) → line ≡ refusal place (construct number) → Refuses text line
-  unbuilt : {tokens : List Token} {tree : Source} → IsRead text tokens → ReadsSource (limits 0) tree tokens [] → IsFirst (IsNameFault tree) None → ((d : Flat) → StandsFor text d → ⊥) → line ≡ notbuilt → Refuses text line
+  misbuilt : {tokens : List Token} {tree : Source} {place : Place} {number : ℕ} → IsRead text tokens → ReadsSource (limits 0) tree tokens [] →
+      IsElaboration tree (Err (Construct place number)) → line ≡ refusal place (construct number) → Refuses text line
+  outgrown : {tokens : List Token} {tree : Source} {place : Place} {number : ℕ} → IsRead text tokens → ReadsSource (limits 0) tree tokens [] →
+      IsElaboration tree (Err (Limit place number)) → line ≡ refusal place (limit number) → Refuses text line
+  unbuilt : {tokens : List Token} {tree : Source} {flat : p.Design} → IsRead text tokens → ReadsSource (limits 0) tree tokens [] →
+      IsElaboration tree (Ok flat) → is_running flat ≡ false → line ≡ notbuilt → Refuses text line
 
 -- why a file was not read: the store's faults or absences rose, or the told file is absent or too long
 pub record Counts : Type 0 where

@@ -1,18 +1,22 @@
 //! What is answered to a source.
 
-ghost use Rattle.std.specs.Prelude.{◌≡◌, ℕ, List, IfOk, None};
-ghost use Rattle.vl_scope.specs.Faults.{IsFirst};
-ghost use Rattle.vl_elab.specs.NameFaults.{IsNameFault};
+ghost use Rattle.std.specs.Prelude.{◌≡◌, ℕ, List, IfOk, Ok};
+ghost use Rattle.vl_tree.specs.Faults.{IsRead};
+ghost use Rattle.vl_source.specs.declared.tree.Source.{Source as Tree};
+ghost use Rattle.vl_flat.specs.Seen.{placed};
+ghost use Rattle.vl_flatten.specs.Meeting.{IsElaboration};
 ghost use Rattle.host_run.specs.Due.{end_of as end_of_lem};
-ghost use Rattle.host_run.specs.Answers.{IsAnswer, IsTreeOf, AreTokensOf};
+ghost use Rattle.host_run.specs.Answers.{IsAnswer, IsTreeOf};
 
 use crate::end::end_of;
 use crate::report;
-use first_form::design::design;
+use plain_form::form::runs;
 use plain_run::run::run;
 use std::alloc::{AllocError, Global};
 use vl_base::place::Place;
-use vl_elab::names::{NamesFault, names};
+use vl_design::design::Design;
+use vl_flat::stop::Stop;
+use vl_flatten::elaborate::elaborate;
 use vl_lex::lex::{LexFault, lex};
 use vl_parse::{ParseFault, parse};
 use vl_source::tree::Source;
@@ -27,14 +31,14 @@ pub enum Answer {
     Refusal(Vec<u8>),
 }
 
-/// The answer to the tree of a source whose names have no fault.
-fn answer_to_named(alloc: Global, tree: &Source, ticks: u64) -> Result<Answer, AllocError>
-    ensures { IfOk result (λ a. (text : List ℕ) → IsTreeOf text tree.now → IsFirst (IsNameFault tree.now) None → IsAnswer text ticks a) }
+/// The answer to the flat design of a source.
+fn answer_to_design(alloc: Global, design: &Design, ticks: u64) -> Result<Answer, AllocError>
+    ensures { IfOk result (λ a. (text : List ℕ) (tree : Tree) → IsTreeOf text tree → IsElaboration tree (Ok (placed design.now)) → IsAnswer text ticks a) }
 {
-    let Some(design) = design(alloc, tree)? else {
+    if !runs(design) {
         return Ok(Answer::Refusal(report::notbuilt(alloc)?));
-    };
-    let outcome = run(alloc, &design, ticks)?;
+    }
+    let outcome = run(alloc, design, ticks)?;
     let block = report::block(
         alloc,
         outcome.end,
@@ -48,12 +52,15 @@ fn answer_to_named(alloc: Global, tree: &Source, ticks: u64) -> Result<Answer, A
 fn answer_to_tree(alloc: Global, tree: &Source, ticks: u64) -> Result<Answer, AllocError>
     ensures { IfOk result (λ a. (text : List ℕ) → IsTreeOf text tree.now → IsAnswer text ticks a) }
 {
-    match names(alloc, tree) {
-        Ok(()) => answer_to_named(alloc, tree, ticks),
-        Err(NamesFault::Construct(place, number)) => Ok(Answer::Refusal(report::construct(
+    match elaborate(alloc, tree) {
+        Ok(design) => answer_to_design(alloc, &design, ticks),
+        Err(Stop::Construct(place, number)) => Ok(Answer::Refusal(report::construct(
             alloc, place, number,
         )?)),
-        Err(NamesFault::Memory) => Err(AllocError),
+        Err(Stop::Limit(place, number)) => Ok(Answer::Refusal(report::limit(
+            alloc, place, number,
+        )?)),
+        Err(Stop::Memory) => Err(AllocError),
     }
 }
 
@@ -64,7 +71,7 @@ fn answer_to_tokens(
     end: Place,
     ticks: u64,
 ) -> Result<Answer, AllocError>
-    ensures { IfOk result (λ a. (text : List ℕ) → AreTokensOf text tokens.now → end ≡ end_of_lem text → IsAnswer text ticks a) }
+    ensures { IfOk result (λ a. (text : List ℕ) → IsRead text tokens.now → end ≡ end_of_lem text → IsAnswer text ticks a) }
 {
     match parse(alloc, tokens, end) {
         Ok(tree) => answer_to_tree(alloc, &tree, ticks),

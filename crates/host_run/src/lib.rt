@@ -4,6 +4,7 @@
 pub mod answer;
 pub mod end;
 pub mod host;
+pub mod laws;
 pub mod put;
 pub mod report;
 pub mod rows;

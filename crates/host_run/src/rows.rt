@@ -1,17 +1,21 @@
 //! A worked row of the definitions.
 
-ghost use Rattle.std.specs.Prelude.{◌≡◌, codes};
+ghost use Rattle.std.specs.Prelude.{◌≡◌, Ok, true, codes};
 ghost use Rattle.vl_design.specs.declared.design.End.TheVariants.{Budget};
 ghost use Rattle.vl_design.specs.Queue.{Queue};
 ghost use Rattle.vl_design.specs.Alone.{Ends};
 ghost use Rattle.vl_design.specs.Plain.{alone};
 ghost use Rattle.vl_design.specs.Examples.{counter};
-ghost use Rattle.first_form.specs.Examples.{counter_source};
-ghost use Rattle.first_form.specs.Form.{IsDesignOf};
+ghost use Rattle.vl_flat.specs.Outcome.{flattened};
+ghost use Rattle.vl_flat.specs.Plainly.{flat};
+ghost use Rattle.plain_form.specs.Running.{is_running};
+ghost use Rattle.host_run.specs.Examples.{counter_source, counter_design};
 ghost use Rattle.host_run.specs.Report.{block};
 
-/// The source of a counter has a design, of which three ticks end by their budget and report these bytes.
+/// The source of a counter has a flat design that runs, of which three ticks end by their budget and report these bytes.
 pub fn three_ticks_of_a_counter_are_reported()
-    ensures design { IsDesignOf counter_source counter }
+    ensures design { flattened counter_source ≡ Ok counter_design }
+    ensures running { is_running counter_design ≡ true }
+    ensures plain { flat counter_design ≡ counter }
     ensures report { (q : Queue) × Ends (alone counter 3) 3 Budget q × (block Budget q.state.ticks q.state.printed ≡ codes "tenant main budget 3 6\n0\n1\n2\n\n") }
 {}

@@ -14,7 +14,8 @@ use Rattle.vl_design.specs.Tasks.{display_text}
 use Rattle.vl_design.specs.Exec.{exec, is_true}
 use Rattle.plain_run.specs.declared.machine.Update.{Update}
 use Rattle.plain_run.specs.declared.machine.Machine.{Machine}
-use Rattle.vl_design.specs.Plain.{IsPlainExp, IsPlainTarget, plain_scope}
+use Rattle.vl_design.specs.Plain.{plain_scope}
+use Rattle.plain_run.specs.Plain.{IsPlainExp, IsPlainTarget}
 use Rattle.plain_run.specs.Reading.{words, sample_of, HaveRange}
 use Rattle.plain_run.specs.Machines.{update_of, state_of, IsUpdate, Does}
 use Rattle.plain_run.proofs.Sampling.{value-at, assignment-at}

@@ -1,6 +1,9 @@
+pub mod ByteNumbers
 pub mod Doing
 pub mod Sampling
+pub mod Scanning
 pub mod Shows
+pub mod Uncalled
 pub mod Updates
 pub mod Values
 pub mod Waves

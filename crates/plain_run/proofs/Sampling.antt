@@ -5,7 +5,7 @@ use Rattle.vl_design.specs.Syntax.{Exp, Num, Sig, Bin, Target, Whole}
 use Rattle.vl_design.specs.Width.{Scope}
 use Rattle.vl_design.specs.Value.{Sample, value}
 use Rattle.vl_design.specs.Targets.{assignment}
-use Rattle.vl_design.specs.Plain.{IsPlainExp, IsPlainTarget}
+use Rattle.plain_run.specs.Plain.{IsPlainExp, IsPlainTarget}
 
 -- values at a time, where nothing has answered
 abbrev pub at_time : List (List ℕ) → ℕ → Sample

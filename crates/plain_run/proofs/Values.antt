@@ -8,7 +8,8 @@ use Rattle.vl_design.specs.declared.design.Form.{Form}
 use Rattle.vl_design.specs.Syntax.{Exp, Num, Sig, Bin, Row}
 use Rattle.vl_design.specs.Width.{form, signal_form, row_form, binary_form, joined}
 use Rattle.vl_design.specs.Sound.{IsSoundExp, IsSignal, IsOf, HasValue, IsWidth}
-use Rattle.vl_design.specs.Plain.{IsPlainExp, IsPlainOp, plain_scope}
+use Rattle.vl_design.specs.Plain.{plain_scope}
+use Rattle.plain_run.specs.Plain.{IsPlainExp, IsPlainOp}
 
 pub signal-width : (rows : List Row) (k : ℕ) → IsSignal (plain_scope rows) k → IsWidth (signal_form rows k).width
 signal-width rows k h = go (slice_get rows k) h

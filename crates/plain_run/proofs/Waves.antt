@@ -21,7 +21,8 @@ use Rattle.vl_design.specs.Sound.{IsSound, IsSoundStm}
 use Rattle.vl_design.specs.Trees.{stm_of, proc_of}
 use Rattle.vl_design.proofs.Settling.{boundary_once}
 use Rattle.plain_run.specs.declared.machine.Machine.{Machine}
-use Rattle.vl_design.specs.Plain.{IsPlainProcKind, IsPlainProc, IsPlain, alone, plain_scope}
+use Rattle.vl_design.specs.Plain.{alone, plain_scope}
+use Rattle.plain_run.specs.Plain.{IsPlainProcKind, IsPlainProc, IsPlain}
 use Rattle.plain_run.specs.Machines.{state_of, Does}
 use Rattle.plain_run.specs.Runs.{queue_of, wave_of, Reaches, RunsWave, IsQuiet, SettlesAs, StandsAt, GoesOn}
 

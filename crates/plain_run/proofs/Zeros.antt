@@ -8,7 +8,7 @@ use Rattle.std.proofs.Math.Pow.{pow_pos}
 use Rattle.vl_design.specs.Syntax.{Row}
 use Rattle.vl_design.specs.Width.{signal_form}
 use Rattle.vl_design.specs.Functions.{zeros}
-use Rattle.vl_design.specs.Plain.{IsPlainRow}
+use Rattle.plain_run.specs.Plain.{IsPlainRow}
 use Rattle.plain_run.specs.Reading.{words, HaveRange}
 
 pub zeros-range : {X : Type 0} (f : X → Row) (xs : List X) → HaveRange (map f xs) (replicate (length xs) 0)

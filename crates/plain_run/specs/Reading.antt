@@ -5,7 +5,8 @@ use Rattle.vl_design.specs.Syntax.{Exp, Row}
 use Rattle.vl_design.specs.Width.{form, signal_form}
 use Rattle.vl_design.specs.Value.{Sample}
 use Rattle.vl_design.specs.Sound.{IsSoundExp}
-use Rattle.vl_design.specs.Plain.{IsPlainExp, plain_scope}
+use Rattle.vl_design.specs.Plain.{plain_scope}
+use Rattle.plain_run.specs.Plain.{IsPlainExp}
 
 -- one word for each signal
 abbrev pub words : List ℕ → List (List ℕ)

@@ -1,11 +1,14 @@
--- What a display of one item shows.
-use Rattle.std.specs.Prelude.{List, [], ◌∷◌, Option, Some, None}
-use Rattle.vl_design.specs.Syntax.{Exp}
-use Rattle.vl_design.specs.Formats.{Arg, Null, Str, Value}
+-- What a display of one `%0d` shows.
+use Rattle.std.specs.Prelude.{ℕ, List, [], ◌∷◌, drop, Option, Some, None}
+use Rattle.vl_base.specs.Display.{LeastDecimal}
+use Rattle.vl_design.specs.Syntax.{Exp, Piece, Shown}
+use Rattle.vl_design.specs.Formats.{Arg, operand}
 
--- the first value among the arguments
-abbrev pub first_value : List Arg → Option Exp
-first_value [] = None
-first_value (Null ∷ args) = first_value args
-first_value (Str text ∷ args) = first_value args
-first_value (Value e ∷ args) = Some e
+-- what one `%0d` shows, where a display shows nothing else
+abbrev pub sole : List Piece → Option Exp
+sole (Shown LeastDecimal e ∷ []) = Some e
+sole pieces = None
+
+-- what an item shows that takes the argument of this place, from 0
+abbrev pub shown_at : ℕ → List Arg → Exp
+shown_at place args = operand (drop place args)

@@ -6,7 +6,8 @@ ghost use Rattle.vl_design.specs.Trees.{exp_of, row_of, range_width};
 ghost use Rattle.vl_design.specs.Sound.{IsSoundExp, IsSignal, IsWidth};
 ghost use Rattle.vl_design.specs.Width as w;
 ghost use Rattle.vl_design.specs.Value as v;
-ghost use Rattle.vl_design.specs.Plain.{IsPlainExp, IsPlainOp, plain_scope};
+ghost use Rattle.vl_design.specs.Plain.{plain_scope};
+ghost use Rattle.plain_run.specs.Plain.{IsPlainExp, IsPlainOp};
 ghost use Rattle.plain_run.specs.Reading.{sample_of, HaveRange, IsUsable, IsReadable};
 
 use vl_base::bits::{BinOp, Bits, binary, resize};

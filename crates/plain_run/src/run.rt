@@ -5,7 +5,8 @@ ghost use Rattle.vl_design.specs.Trees.{row_of, flat_of};
 ghost use Rattle.vl_design.specs.Sound.{IsSound};
 ghost use Rattle.vl_design.specs.Queue.{Queue, Wave, with_updates};
 ghost use Rattle.vl_design.specs.Alone.{Ends, start, Boundary};
-ghost use Rattle.vl_design.specs.Plain.{IsPlain, alone};
+ghost use Rattle.vl_design.specs.Plain.{alone};
+ghost use Rattle.plain_run.specs.Plain.{IsPlain};
 ghost use Rattle.plain_run.specs.Machines.{state_of, IsMachine, written};
 ghost use Rattle.plain_run.specs.Runs.{queue_of, is_of, wave_of, RunsWave, SettlesAs, StandsAt};
 
@@ -142,7 +143,7 @@ fn tick(alloc: Global, design: &Design, m: &mut Machine) -> Result<(), AllocErro
 
 /// Runs a design of the plain forms alone, from time zero and without files, for at most a budget of ticks. Its blocks
 /// are initial ones and those that wait for the clock's rise (IEEE 1364-2005, clause 9.9); they choose, assign to whole
-/// variables, show one variable by `%0d` and finish, over sums and comparisons. An `Err` is want of memory alone.
+/// variables, show one value by `%0d` and finish, over sums and comparisons. An `Err` is want of memory alone.
 pub fn run(alloc: Global, design: &Design, budget: u64) -> Result<Outcome, AllocError>
     requires plain { IsPlain (flat_of design.now) }
     requires sound { IsSound (flat_of design.now) }

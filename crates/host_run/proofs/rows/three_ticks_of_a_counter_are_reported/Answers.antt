@@ -2,13 +2,21 @@ use Rattle.std.proofs.Common.{refl}
 use Rattle.std.specs.Fmt.{digits}
 use Rattle.vl_design.specs.Examples.{counter}
 use Rattle.vl_design.specs.declared.design.End.TheVariants.{Budget}
-use Rattle.first_form.proofs.Examples.{counter-design}
 use Rattle.vl_design.specs.Plain.{alone}
 use Rattle.vl_design.proofs.Ending.{ends_by}
+use Rattle.vl_flat.specs.Environments.{size}
+use Rattle.vl_flat.specs.Flat.{instance}
 use Rattle.host_run.proofs.rows.three_ticks_of_a_counter_are_reported.Goals as goal
 
 pub returns-clause-design : goal.returns-clause-design
-returns-clause-design c = counter-design
+unfolding size instance
+returns-clause-design c = refl
+
+pub returns-clause-running : goal.returns-clause-running
+returns-clause-running c = refl
+
+pub returns-clause-plain : goal.returns-clause-plain
+returns-clause-plain c = refl
 
 pub returns-clause-report : goal.returns-clause-report
 unfolding digits

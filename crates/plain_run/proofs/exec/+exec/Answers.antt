@@ -8,7 +8,8 @@ use Rattle.vl_design.specs.Plain.{plain_scope}
 use Rattle.plain_run.specs.Reading.{sample_of}
 use Rattle.plain_run.specs.Machines.{Does}
 use Rattle.plain_run.proofs.Doing.{does-nop, does-then, does-first, does-second}
-use Rattle.vl_design.proofs.TreeLemmas.{stm_of-Seq, then-more, called-plain}
+use Rattle.vl_design.proofs.TreeLemmas.{stm_of-Seq, then-more}
+use Rattle.plain_run.proofs.Uncalled.{called-plain}
 use Rattle.plain_run.proofs.exec.+exec.Goals as goal
 
 pub loop-item-init : goal.loop-item-init

@@ -2,7 +2,8 @@ use Rattle.std.proofs.Common.{◌≡◌, map, drop}
 use Rattle.vl_design.specs.Trees.{stm_of, row_of, then_of}
 use Rattle.vl_design.specs.Sound.{IsSoundStm}
 use Rattle.plain_run.specs.declared.machine.Machine.{Machine}
-use Rattle.vl_design.specs.Plain.{IsPlainStm, plain_scope}
+use Rattle.vl_design.specs.Plain.{plain_scope}
+use Rattle.plain_run.specs.Plain.{IsPlainStm}
 use Rattle.plain_run.specs.Machines.{IsMachine, Does}
 use Rattle.plain_run.proofs.exec.+exec.Given as goal
 

@@ -1,4 +1,0 @@
-pub mod Building
-pub mod Examples
-pub mod Form
-pub mod Seen

@@ -1,0 +1,6 @@
+pub mod Counting
+pub mod Erased
+pub mod Fine
+pub mod Numbers
+pub mod Tasks
+pub mod Walking

@@ -1,0 +1,37 @@
+-- Numbers of 1 to 128 bits.
+use Rattle.std.proofs.Common.{◌≡◌, ◌≤◌, ◌<◌, ◌^◌, ◌*◌, ◌+◌, ℕ, Bool, true, false, refl, arith}
+use Rattle.std.specs.Prelude.{max, nat_le, nat_lt, ◌&&◌, min, ◌==◌}
+use Rattle.std.proofs.lemmas.Bool.Decides.{nat_tests}
+use Rattle.plain_form.specs.Running.{is_width, is_number}
+
+both-true : (a b : Bool) → a ≡ true → b ≡ true → (a && b) ≡ true
+both-true a b h k = rw (h, k) refl
+
+pub is-width : (w : ℕ) → 1 ≤ w → w ≤ 128 → is_width w ≡ true
+is-width w h k =
+    let low : nat_le 1 w ≡ true = grind (arith, nat_tests) in
+    let high : nat_le w 128 ≡ true = grind (arith, nat_tests) in
+    both-true (nat_le 1 w) (nat_le w 128) low high
+
+pub number-fits : (v w : ℕ) → 1 ≤ w → w ≤ 128 → v < 2 ^ w → is_number v w ≡ true
+number-fits v w h k l =
+    let below : nat_lt v (2 ^ w) ≡ true = grind (arith, nat_tests) in
+    both-true (is_width w) (nat_lt v (2 ^ w)) (is-width w h k) below
+
+pub number-long : (v n : ℕ) → 16 < n → is_number v (8 * max 1 n) ≡ false
+number-long v n h =
+    let past : nat_le (8 * max 1 n) 128 ≡ false = grind (arith, nat_tests) in
+    go (nat_le 1 (8 * max 1 n)) (nat_le (8 * max 1 n) 128) past
+  where
+    go : (a b : Bool) → b ≡ false → ((a && b) && nat_lt v (2 ^ (8 * max 1 n))) ≡ false
+    go true b e = rw e refl
+    go false b e = refl
+
+-- a count that is kept within one past a limit is within it just where the whole is
+pub kept-le : (limit n : ℕ) → nat_le (min (limit + 1) n) limit ≡ nat_le n limit
+kept-le limit n = grind (arith, nat_tests)
+
+pub kept-one : (n : ℕ) → (min 2 n == 1) ≡ (n == 1)
+kept-one n = grind (arith, nat_tests)
+
+pub ruleset numbers = (is-width, number-fits, number-long)

@@ -1,0 +1,13 @@
+use Rattle.std.proofs.Common.{◌≡◌, refl, sym, ap, ◌∙◌}
+use Rattle.vl_flat.specs.Placed as p
+use Rattle.vl_flat.specs.Seen.{stm_of}
+use Rattle.plain_form.specs.Trees.{stms_of}
+use Rattle.plain_form.proofs.Counting.{stm_of-Seq}
+use Rattle.plain_form.proofs.statements.+is_stm.Goals as goal
+
+pub loop-item-init : goal.loop-item-init
+loop-item-init t c =
+    let s = c.args.s.now in
+    let e : stm_of s ≡ p.Seq s.place (stms_of c.deref-item-items.result.now) =
+    stm_of-Seq s c.in-Seq.list c.in-Seq.is ∙ ap (λ ys. p.Seq s.place (stms_of ys)) (sym c.deref-item-items.ensures.value) in
+    record { leads = λ path. rw e refl }

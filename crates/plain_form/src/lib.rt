@@ -1,0 +1,10 @@
+//! The forms that run, among flat designs.
+#![tactic(auto)]
+
+mod counts;
+pub mod form;
+pub mod laws;
+mod names;
+mod statements;
+#[cfg(test)]
+mod tests;

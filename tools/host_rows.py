@@ -1,0 +1,95 @@
+"""Makes the input and the wanted output of crates/host_rows from the table tools/host_rows.txt."""
+
+import pathlib
+import re
+
+TOOLS = pathlib.Path(__file__).resolve().parent
+TOP = TOOLS.parent
+FOLDER = TOP / "crates" / "host_rows"
+MARK = "«"
+BLOCK = "module m(input wire k); reg [7:0] a; always @(posedge k) begin {} end endmodule"
+
+
+def expanded(text):
+    """The text with each ¤C*N¤ as N times C; that of a file where it is `file PATH`."""
+    if text.startswith("file "):
+        return (TOP / text.split()[1]).read_text().rstrip("\n")
+    return re.sub(r"¤([^¤]+)\*(\d+)¤", lambda found: found[1] * int(found[2]), text)
+
+
+def ran(ticks, end, printed):
+    """The status and the lines of a run: it ended for a reason, after so many ticks, and printed these lines."""
+    reason, number = (end.split() + [ticks])[:2]
+    count = sum(len(line.encode()) + 1 for line in printed)
+    return ["status 0", f"tenant main {reason} {number} {count}"] + printed + [""]
+
+
+def refused(kind, source):
+    """The status and the line of a refusal at the mark, and the source without it."""
+    if kind == "notbuilt":
+        assert MARK not in source, source
+        return ["status 3", "refused main 0 0 notbuilt"], source
+    assert source.count(MARK) == 1, source
+    before = source[: source.index(MARK)]
+    line, column = before.count("\n") + 1, len(before.split("\n")[-1].encode()) + 1
+    return ["status 3", f"refused main {line} {column} {kind}"], source.replace(MARK, "")
+
+
+def rows_of(head, rest):
+    """The rows of a case: ticks, what is wanted, and a source."""
+    words = head.split()
+    if words[0] == "run":
+        printed, source = ("\n" + rest).split("\n\n", 1)
+        wanted = ran(words[1], " ".join(words[2:]), printed.split("\n")[1:])
+        return [(words[1], wanted, expanded(source))]
+    if words[0] == "refused":
+        sources = [expanded(rest)]
+    elif words[0] == "sources":
+        sources = [expanded(line) for line in rest.split("\n")]
+    else:
+        assert words[0] == "blocks", head
+        sources = [BLOCK.format(expanded(line)) for line in rest.split("\n")]
+    kind = " ".join(words[1:] if words[0] == "refused" else words[2:])
+    return [("3", *refused(kind, source)) for source in sources]
+
+
+def cases(text):
+    """The cases of the table: their first lines and the others."""
+    lines = [line for line in text.split("\n") if not line.startswith("#")]
+    for case in "\n".join(lines).split("\n---"):
+        case = case.strip("\n")
+        if case:
+            yield case.split("\n", 1)
+
+
+def numbered(name, count, form="{}"):
+    """So many items: names with their numbers, in a form."""
+    return ", ".join(form.format(f"{name}{i}") for i in range(count))
+
+
+def large():
+    """Sources at limits, from both sides."""
+    registers = numbered("r", 16384)
+    block = "  always @(posedge k) begin $display(\"%0d\", r16383); r16383 <= r0 + 3; end\nendmodule"
+    yield "run 2 budget", f"0\n3\n\nmodule m(input wire k);\n  reg [7:0] {registers};\n{block}"
+    yield "refused limit 6", f"module m(input wire k);\n  reg [7:0] {registers}, {MARK}x;\n{block}"
+    # 15 times 1 + 16 * 16, 15 times 16, and one more are 4,096 instances
+    yield "refused limit 5", "\n".join([
+        "module c(input k); endmodule",
+        f"module b(input k); c {numbered('u', 15, '{}(k)')}; endmodule",
+        f"module a(input k); b {numbered('u', 16, '{}(k)')}; endmodule",
+        f"module m(input k); a {numbered('u', 15, '{}(k)')}; b {numbered('v', 15, '{}(k)')}; c w(k); «c z(k); endmodule",
+    ])
+    # a leaf's 100 statements have 99,900 nodes, and 10 leaves with the top's two 1,000,000
+    sum_of = "a = " + "+".join(["1"] * 500) + ";"
+    leaf = "module leaf(input wire k);\n  reg [15:0] a;\n  initial begin\n" + "\n".join([sum_of] * 100) + "\n  end\nendmodule\n"
+    top = f"module m(input wire k);\n  reg [15:0] a;\n  leaf {numbered('u', 10, '{}(k)')};\n  initial begin {sum_of} a = 7; MORE end\n  always @(posedge k) ;\nendmodule"
+    yield "run 1 budget", "\n" + leaf + top.replace("MORE", "")
+    yield "refused notbuilt", leaf + top.replace("MORE", "a = 7;")
+
+
+table = (TOOLS / "host_rows.txt").read_text()
+rows = [row for case in [*cases(table), *large()] for row in rows_of(*case)]
+shown = ["\n".join([f"@ {ticks}"] + [f"= {line}" for line in wanted]) + "\n" + source for ticks, wanted, source in rows]
+(FOLDER / "stdin").write_text("\n".join(shown) + "\n")
+(FOLDER / "stdout").write_text("ok\n" * len(shown))

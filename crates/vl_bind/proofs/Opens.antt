@@ -1,5 +1,5 @@
 -- The plain data of the grammar's trees, by the fields of their nodes.
-use Rattle.std.proofs.Common.{◌≡◌, refl, ℕ, List, [], ◌∷◌, map, Option, Some, None, ap, ◌∙◌}
+use Rattle.std.proofs.Common.{◌≡◌, refl, List, map, Option, Some, None, ap, ◌∙◌}
 use Rattle.vl_base.specs.declared.place.Place.{Place}
 use Rattle.vl_grammar.specs.declared.tree.Identifier.{Identifier}
 use Rattle.vl_grammar.specs.declared.tree.Expression as e

@@ -1,5 +1,5 @@
 -- The plain data of lists of the grammar's trees.
-use Rattle.std.specs.Prelude.{List, [], ◌∷◌, map, Option, Some, None}
+use Rattle.std.specs.Prelude.{List, [], ◌∷◌, Option, Some, None}
 use Rattle.vl_base.specs.declared.place.Place.{Place}
 use Rattle.vl_grammar.specs.declared.tree.Choice.{Choice}
 use Rattle.vl_grammar.specs.declared.tree.Link.{Link, out-Link}

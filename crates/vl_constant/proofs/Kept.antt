@@ -20,7 +20,7 @@ use Rattle.vl_bind.specs.declared.surface.Select as s
 use Rattle.vl_grammar.specs.declared.tree.SelectMark.{SelectMark}
 use Rattle.vl_bind.specs.Seen.{seen, select, selects_before}
 use Rattle.vl_bind.specs.Listed.{of_list}
-use Rattle.vl_bind.proofs.Walks.{joined-seen, called-seen, named-seen, system-seen, row_exs-hidden}
+use Rattle.vl_bind.proofs.Walks.{joined-seen, called-seen, named-seen, system-seen}
 use Rattle.vl_constant.specs.Kept.{kept}
 
 same-form : (w v : ℕ) (s : Bool) → w ≡ v → (let f : Form = record { width = w; signed = s } in f) ≡ record { width = v; signed = s }

@@ -11,11 +11,12 @@ use Rattle.vl_source.specs.declared.tree.Instance.{Instance}
 use Rattle.vl_source.specs.declared.tree.Connection.{Connection}
 use Rattle.vl_grammar.specs.declared.tree.Identifier.{Identifier}
 use Rattle.vl_scope.specs.declared.fault.Fault.{Fault}
+use Rattle.vl_scope.specs.DeclarationFaults.{names_have}
 use Rattle.vl_scope.specs.Faults.{In}
 use Rattle.vl_scope.proofs.Members.{In-flat_map, In-flat_map_cases}
 use Rattle.vl_elab.specs.declared.interface.Listed.{Listed}
 use Rattle.vl_elab.specs.declared.interface.Interface.{Interface}
-use Rattle.vl_elab.specs.Modules.{among, ports, overridable, instances, module_number, steps_of, graph_of, Instantiates, Leads, along, on}
+use Rattle.vl_elab.specs.Modules.{ports, overridable, instances, module_number, steps_of, graph_of, Instantiates, Leads, along, on}
 use Rattle.vl_elab.specs.Connections.{connection_faults}
 use Rattle.vl_elab.specs.HierarchyFaults.{faults_of, faults_by, instance_faults}
 use Rattle.vl_elab.specs.Seen.{Lists, Describes, DescribeAll, faults_to, faults_at, faults_by_number, faults_in}
@@ -70,13 +71,13 @@ itself-law s k = (λ e. leads-map (IsStep (graph_of s)) (Instantiates s) (step-t
 
 -- ---- the tables
 
-lists-faults : (l : Listed) (names : List Identifier) → Lists l names → faults_to l ≡ connection_faults (among names) (length names)
+lists-faults : (l : Listed) (names : List Identifier) → Lists l names → faults_to l ≡ connection_faults (names_have names) (length names)
 lists-faults l names d = λ i. connection_faults (d.known i) (d.count i)
 
 describes-faults : (u : Instance) (i : Interface) (m : Module) → Describes i m → faults_at u i ≡ faults_of u m
 describes-faults u i m d =
     ap (λ (f : List Connection → List Fault). option_map_or f u.overrides [] ++ flat_map (λ n. faults_to i.ports n.connections) u.instances) (lists-faults i.parameters (overridable m) d.parameters)
-    ∙ ap (λ (f : List Connection → List Fault). option_map_or (connection_faults (among (overridable m)) (length (overridable m))) u.overrides [] ++ flat_map (λ n. f n.connections) u.instances) (lists-faults i.ports (ports m) d.ports)
+    ∙ ap (λ (f : List Connection → List Fault). option_map_or (connection_faults (names_have (overridable m)) (length (overridable m))) u.overrides [] ++ flat_map (λ n. f n.connections) u.instances) (lists-faults i.ports (ports m) d.ports)
 
 described-at : (u : Instance) (is : List Interface) (ms : List Module) → DescribeAll is ms → (j : ℕ) → option_map_or (faults_at u) (slice_get is j) [] ≡ option_map_or (faults_of u) (slice_get ms j) []
 described-at u [] [] h j = refl

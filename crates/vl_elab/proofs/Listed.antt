@@ -14,9 +14,10 @@ use Rattle.vl_source.specs.declared.tree.NamedInstance.{NamedInstance}
 use Rattle.vl_source.specs.declared.tree.Connection.{Connection}
 use Rattle.vl_source.specs.declared.tree.Connection.TheVariants.{Ordered, Named}
 use Rattle.vl_scope.specs.declared.fault.Fault.{Fault}
+use Rattle.vl_scope.specs.DeclarationFaults.{names_have}
 use Rattle.vl_scope.specs.Faults.{at, In, each_after}
 use Rattle.vl_scope.proofs.Members.{In-append_left, In-append_right, In-append_cases, In-split, In-middle, In-flat_map, In-flat_map_cases, In-fault_if, In-fault_if_cases, In-each_after, In-each_after_cases}
-use Rattle.vl_elab.specs.Modules.{among, ports, overridable, instances, all_instances, module_number, is_instantiated, graph_of, is_top, has_one_input}
+use Rattle.vl_elab.specs.Modules.{ports, overridable, instances, all_instances, module_number, is_instantiated, graph_of, is_top, has_one_input}
 use Rattle.vl_elab.specs.Walks.{is_cyclic}
 use Rattle.vl_elab.proofs.Graph.{itself-law}
 use Rattle.vl_elab.specs.Connections as c
@@ -63,36 +64,36 @@ other_cases named (x ∷ cs) f h = by (c.has_form named x) refl (λ k. other_cas
     by false t later (inr h) = absurd h
 
 module _ (names : List Identifier) (cs : List Connection) where
-  naming_at : (before after : List Connection) (p : Place) (n : Identifier) (e : Option Expression) → cs ≡ before ++ Named p n e ∷ after → (not (among names n.name) || among (c.given before) n.name) ≡ true → In (at p 7) (each_after (c.naming_fault (among names)) [] cs)
-  naming_at before after p n e is wrong = subst (λ l. In (at p 7) (each_after (c.naming_fault (among names)) [] l)) (sym is)
-      (In-each_after (c.naming_fault (among names)) (at p 7) [] before (Named p n e) after (In-fault_if (not (among names n.name) || among (c.given before) n.name) p 7 wrong))
+  naming_at : (before after : List Connection) (p : Place) (n : Identifier) (e : Option Expression) → cs ≡ before ++ Named p n e ∷ after → (not (names_have names n.name) || names_have (c.given before) n.name) ≡ true → In (at p 7) (each_after (c.naming_fault (names_have names)) [] cs)
+  naming_at before after p n e is wrong = subst (λ l. In (at p 7) (each_after (c.naming_fault (names_have names)) [] l)) (sym is)
+      (In-each_after (c.naming_fault (names_have names)) (at p 7) [] before (Named p n e) after (In-fault_if (not (names_have names n.name) || names_have (c.given before) n.name) p 7 wrong))
 
-  pub connection-In : (f : Fault) → IsConnectionFault names cs f → In f (c.connection_faults (among names) (length names) cs)
+  pub connection-In : (f : Fault) → IsConnectionFault names cs f → In f (c.connection_faults (names_have names) (length names) cs)
   connection-In f (unknown p n e there missing) =
       let r = In-split (Named p n e) cs there in
-      In-append_left f (each_after (c.naming_fault (among names)) [] cs) _ (naming_at r.0 r.1 p n e r.2 (rw missing refl))
-  connection-In f (given_twice before after p n e is again) = In-append_left f (each_after (c.naming_fault (among names)) [] cs) _ (naming_at before after p n e is (rw again (or-true _)))
+      In-append_left f (each_after (c.naming_fault (names_have names)) [] cs) _ (naming_at r.0 r.1 p n e r.2 (rw missing refl))
+  connection-In f (given_twice before after p n e is again) = In-append_left f (each_after (c.naming_fault (names_have names)) [] cs) _ (naming_at before after p n e is (rw again (or-true _)))
   connection-In f (past before after p e is none_left something) =
       let late : nat_le (length names) (length before) ≡ true = grind (arith, nat_tests) in
-      In-append_right f (each_after (c.naming_fault (among names)) [] cs) _ (In-append_left f (if c.is_nothing cs then [] else each_after (c.past_fault (length names)) [] cs) (c.mixed_faults cs)
+      In-append_right f (each_after (c.naming_fault (names_have names)) [] cs) _ (In-append_left f (if c.is_nothing cs then [] else each_after (c.past_fault (length names)) [] cs) (c.mixed_faults cs)
       (subst (λ t. In (at p 7) (if t then [] else each_after (c.past_fault (length names)) [] cs)) (sym something)
       (subst (λ l. In (at p 7) (each_after (c.past_fault (length names)) [] l)) (sym is)
       (In-each_after (c.past_fault (length names)) (at p 7) [] before (Ordered p e) after (In-fault_if (nat_le (length names) (length before)) p 7 late)))))
   connection-In f (mixed first x before after is all other) =
-      In-append_right f (each_after (c.naming_fault (among names)) [] cs) _ (In-append_right f (if c.is_nothing cs then [] else each_after (c.past_fault (length names)) [] cs) (c.mixed_faults cs)
+      In-append_right f (each_after (c.naming_fault (names_have names)) [] cs) _ (In-append_right f (if c.is_nothing cs then [] else each_after (c.past_fault (length names)) [] cs) (c.mixed_faults cs)
       (subst (λ l. In (at (c.place_of x) 7) (c.mixed_faults l)) (sym is) (other-In (c.is_named first) before x after all other)))
 
-  naming_cases : (f : Fault) → In f (each_after (c.naming_fault (among names)) [] cs) → IsConnectionFault names cs f
-  naming_cases f h = let r = In-each_after_cases (c.naming_fault (among names)) f [] cs h in by r.0 r.1 r.2 r.3 r.4
+  naming_cases : (f : Fault) → In f (each_after (c.naming_fault (names_have names)) [] cs) → IsConnectionFault names cs f
+  naming_cases f h = let r = In-each_after_cases (c.naming_fault (names_have names)) f [] cs h in by r.0 r.1 r.2 r.3 r.4
     where
-      by : (before : List Connection) (x : Connection) (after : List Connection) → cs ≡ before ++ x ∷ after → In f (c.naming_fault (among names) before x) → IsConnectionFault names cs f
+      by : (before : List Connection) (x : Connection) (after : List Connection) → cs ≡ before ++ x ∷ after → In f (c.naming_fault (names_have names) before x) → IsConnectionFault names cs f
       by before (Ordered p e) after is h = absurd h
       by before (Named p n e) after is h =
-          let k = In-fault_if_cases (not (among names n.name) || among (c.given before) n.name) p 7 f h in
+          let k = In-fault_if_cases (not (names_have names n.name) || names_have (c.given before) n.name) p 7 f h in
           subst (IsConnectionFault names cs) (sym k.1) (⊎_elim
           (λ missing. unknown p n e (subst (In (Named p n e)) (sym is) (In-middle (Named p n e) before after)) (not-true _ missing))
           (λ again. given_twice before after p n e is again)
-          (or_cases (not (among names n.name)) (among (c.given before) n.name) k.0))
+          (or_cases (not (names_have names n.name)) (names_have (c.given before) n.name) k.0))
 
   past_cases : (f : Fault) → In f (if c.is_nothing cs then [] else each_after (c.past_fault (length names)) [] cs) → IsConnectionFault names cs f
   past_cases f h = which (c.is_nothing cs) refl h
@@ -115,20 +116,20 @@ module _ (names : List Identifier) (cs : List Connection) where
       let r = other_cases (c.is_named first) ds f h in
       subst (IsConnectionFault names cs) (sym r.6) (mixed first r.1 r.0 r.2 (is ∙ ap (λ l. first ∷ l) r.3) r.4 r.5)
 
-  pub connection_cases : (f : Fault) → In f (c.connection_faults (among names) (length names) cs) → IsConnectionFault names cs f
+  pub connection_cases : (f : Fault) → In f (c.connection_faults (names_have names) (length names) cs) → IsConnectionFault names cs f
   connection_cases f h = ⊎_elim (naming_cases f)
       (λ k. ⊎_elim (past_cases f) (mixed_cases f cs refl) (In-append_cases f (if c.is_nothing cs then [] else each_after (c.past_fault (length names)) [] cs) (c.mixed_faults cs) k))
-      (In-append_cases f (each_after (c.naming_fault (among names)) [] cs) ((if c.is_nothing cs then [] else each_after (c.past_fault (length names)) [] cs) ++ c.mixed_faults cs) h)
+      (In-append_cases f (each_after (c.naming_fault (names_have names)) [] cs) ((if c.is_nothing cs then [] else each_after (c.past_fault (length names)) [] cs) ++ c.mixed_faults cs) h)
 
 -- ---- instances
 
 faults_of-overrides : (u : Instance) (m : Module) (cs : List Connection) (f : Fault) → u.overrides ≡ Some cs → IsConnectionFault (overridable m) cs f → In f (h.faults_of u m)
-faults_of-overrides u m cs f e k = In-append_left f (option_map_or (c.connection_faults (among (overridable m)) (length (overridable m))) u.overrides []) _
-    (subst (λ o. In f (option_map_or (c.connection_faults (among (overridable m)) (length (overridable m))) o [])) (sym e) (connection-In (overridable m) cs f k))
+faults_of-overrides u m cs f e k = In-append_left f (option_map_or (c.connection_faults (names_have (overridable m)) (length (overridable m))) u.overrides []) _
+    (subst (λ o. In f (option_map_or (c.connection_faults (names_have (overridable m)) (length (overridable m))) o [])) (sym e) (connection-In (overridable m) cs f k))
 
 faults_of-ports : (u : Instance) (m : Module) (n : NamedInstance) (f : Fault) → In n u.instances → IsConnectionFault (ports m) n.connections f → In f (h.faults_of u m)
-faults_of-ports u m n f there k = In-append_right f (option_map_or (c.connection_faults (among (overridable m)) (length (overridable m))) u.overrides []) _
-    (In-flat_map (λ (x : NamedInstance). c.connection_faults (among (ports m)) (length (ports m)) x.connections) n f u.instances there (connection-In (ports m) n.connections f k))
+faults_of-ports u m n f there k = In-append_right f (option_map_or (c.connection_faults (names_have (overridable m)) (length (overridable m))) u.overrides []) _
+    (In-flat_map (λ (x : NamedInstance). c.connection_faults (names_have (ports m)) (length (ports m)) x.connections) n f u.instances there (connection-In (ports m) n.connections f k))
 
 -- what stands behind the faults of repeated modules
 abbrev later : Source → List Fault
@@ -193,11 +194,11 @@ module _ (s : Source) (f : Fault) where
 
   given_cases : (m : Module) (u : Instance) (of : Module) → In m s.modules → In u (instances m) → IsOf s u of → In f (h.faults_of u of) → IsHierarchyFault s f
   given_cases m u of there inside is k = ⊎_elim (λ a. by u.overrides refl a)
-      (λ b. let r = In-flat_map_cases (λ (x : NamedInstance). c.connection_faults (among (ports of)) (length (ports of)) x.connections) f u.instances b in
+      (λ b. let r = In-flat_map_cases (λ (x : NamedInstance). c.connection_faults (names_have (ports of)) (length (ports of)) x.connections) f u.instances b in
       connection m of u r.0 f there inside is r.1 (connection_cases (ports of) r.0.connections f r.2))
-      (In-append_cases f (option_map_or (c.connection_faults (among (overridable of)) (length (overridable of))) u.overrides []) (flat_map (λ (x : NamedInstance). c.connection_faults (among (ports of)) (length (ports of)) x.connections) u.instances) k)
+      (In-append_cases f (option_map_or (c.connection_faults (names_have (overridable of)) (length (overridable of))) u.overrides []) (flat_map (λ (x : NamedInstance). c.connection_faults (names_have (ports of)) (length (ports of)) x.connections) u.instances) k)
     where
-      by : (o : Option (List Connection)) → u.overrides ≡ o → In f (option_map_or (c.connection_faults (among (overridable of)) (length (overridable of))) o []) → IsHierarchyFault s f
+      by : (o : Option (List Connection)) → u.overrides ≡ o → In f (option_map_or (c.connection_faults (names_have (overridable of)) (length (overridable of))) o []) → IsHierarchyFault s f
       by None e a = absurd a
       by (Some cs) e a = override m of u cs f there inside is e (connection_cases (overridable of) cs f a)
 

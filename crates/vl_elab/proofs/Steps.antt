@@ -15,8 +15,8 @@ use Rattle.std.specs.Map.{lookup}
 use Rattle.vl_grammar.specs.declared.tree.Identifier.{Identifier}
 use Rattle.vl_source.specs.declared.tree.Instance.{Instance}
 use Rattle.vl_source.specs.declared.tree.Module.{Module}
+use Rattle.vl_scope.specs.DeclarationFaults.{names_have}
 use Rattle.vl_elab.specs.declared.interface.Interface.{Interface}
-use Rattle.vl_elab.specs.Modules.{among}
 use Rattle.vl_scope.proofs.Members.{each_after-push}
 use Rattle.vl_scope.proofs.Listed.{bytes_eq-to}
 use Rattle.vl_scope.specs.declared.fault.Fault.{Fault}
@@ -54,12 +54,12 @@ pub list_any-append : {X : Type 0} (p : X → Bool) (xs ys : List X) → list_an
 list_any-append p [] ys = refl
 list_any-append p (x ∷ xs) ys = ap (λ b. p x || b) (list_any-append p xs ys) ∙ or-assoc (p x) _ _
 
-among-push : (t : List ℕ) (ns : List Identifier) (n : Identifier) → among (ns ++ n ∷ []) t ≡ (among ns t || bytes_eq t n.name)
-among-push t ns n = list_any-append (λ m. bytes_eq t m.name) ns (n ∷ []) ∙ ap (λ b. among ns t || b) (or-false (bytes_eq t n.name))
+names_have-push : (t : List ℕ) (ns : List Identifier) (n : Identifier) → names_have (ns ++ n ∷ []) t ≡ (names_have ns t || bytes_eq t n.name)
+names_have-push t ns n = list_any-append (λ m. bytes_eq t m.name) ns (n ∷ []) ∙ ap (λ b. names_have ns t || b) (or-false (bytes_eq t n.name))
 
-pub with_name-among : (ns : List Identifier) (n : Identifier) → with_name (among ns) n.name ≡ among (ns ++ n ∷ [])
+pub with_name-names_have : (ns : List Identifier) (n : Identifier) → with_name (names_have ns) n.name ≡ names_have (ns ++ n ∷ [])
 unfolding with_name
-with_name-among ns n = λ i t. (sym (among-push t ns n)) i
+with_name-names_have ns n = λ i t. (sym (names_have-push t ns n)) i
 
 pub with_name-used : (us : List Instance) (u : Instance) → with_name (is_used us) u.definition.name ≡ is_used (us ++ u ∷ [])
 unfolding with_name
@@ -167,4 +167,4 @@ describe-turn old new ms k i m h e n d before = subst (λ l. DescribeAll l (take
 pub faults_in-at : (number : List ℕ → Option ℕ) (is : List Interface) (u : Instance) (j : ℕ) (i : Interface) → number u.definition.name ≡ Some j → j < length is → i ≡ get_or is j i → faults_in number is u ≡ faults_at u i
 faults_in-at number is u j i e h r = ap (faults_by_number is u) e ∙ ap (λ o. option_map_or (faults_at u) o []) (slice_get_read is (length is) j i refl h r)
 
-pub ruleset walks = (common_steps, look-empty, number_in-some, with_number-in, has-empty, with_name-among, with_name-used, each_after-push, list_any-append, or-false)
+pub ruleset walks = (common_steps, look-empty, number_in-some, with_number-in, has-empty, with_name-names_have, with_name-used, each_after-push, list_any-append, or-false)

@@ -8,8 +8,8 @@ use Rattle.vl_grammar.specs.declared.tree.Expression.{Expression}
 use Rattle.vl_source.specs.declared.tree.Connection.{Connection}
 use Rattle.vl_source.specs.declared.tree.Connection.TheVariants.{Ordered, Named}
 use Rattle.vl_scope.specs.declared.fault.Fault.{Fault}
+use Rattle.vl_scope.specs.DeclarationFaults.{names_have}
 use Rattle.vl_scope.specs.Faults.{at, In, fault_if, each_after}
-use Rattle.vl_elab.specs.Modules.{among}
 
 -- where a connection stands
 abbrev pub place_of : Connection → Place
@@ -46,9 +46,9 @@ is_nothing _ = false
 -- the faults of a list of connections against the names of ports or parameters, in order
 pub data IsConnectionFault (names : List Identifier) (cs : List Connection) : Fault → Type 0 where
   -- a name that isn't there
-  unknown : (p : Place) (n : Identifier) (e : Option Expression) → In (Named p n e) cs → among names n.name ≡ false → IsConnectionFault names cs (at p 7)
+  unknown : (p : Place) (n : Identifier) (e : Option Expression) → In (Named p n e) cs → names_have names n.name ≡ false → IsConnectionFault names cs (at p 7)
   -- a name given twice: at the later
-  given_twice : (before after : List Connection) (p : Place) (n : Identifier) (e : Option Expression) → cs ≡ before ++ Named p n e ∷ after → among (given before) n.name ≡ true → IsConnectionFault names cs (at p 7)
+  given_twice : (before after : List Connection) (p : Place) (n : Identifier) (e : Option Expression) → cs ≡ before ++ Named p n e ∷ after → names_have (given before) n.name ≡ true → IsConnectionFault names cs (at p 7)
   -- one by order for which no name is left
   past : (before after : List Connection) (p : Place) (e : Option Expression) → cs ≡ before ++ Ordered p e ∷ after → length names ≤ length before → is_nothing cs ≡ false → IsConnectionFault names cs (at p 7)
   -- connections by order and by name: at the first that isn't as the list's first one
@@ -59,7 +59,7 @@ pub data IsConnectionFault (names : List Identifier) (cs : List Connection) : Fa
 -- the fault of a name that isn't there or was given before
 abbrev pub naming_fault : (List ℕ → Bool) → List Connection → Connection → List Fault
 naming_fault there before (Ordered p e) = []
-naming_fault there before (Named p n e) = fault_if (not (there n.name) || among (given before) n.name) p 7
+naming_fault there before (Named p n e) = fault_if (not (there n.name) || names_have (given before) n.name) p 7
 
 -- the fault of a connection by order for which no name is left
 abbrev pub past_fault : ℕ → List Connection → Connection → List Fault

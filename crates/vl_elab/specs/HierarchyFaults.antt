@@ -9,8 +9,9 @@ use Rattle.vl_source.specs.declared.tree.Instance.{Instance}
 use Rattle.vl_source.specs.declared.tree.NamedInstance.{NamedInstance}
 use Rattle.vl_source.specs.declared.tree.Connection.{Connection}
 use Rattle.vl_scope.specs.declared.fault.Fault.{Fault}
+use Rattle.vl_scope.specs.DeclarationFaults.{names_have}
 use Rattle.vl_scope.specs.Faults.{at, In, fault_if, each_after}
-use Rattle.vl_elab.specs.Modules.{among, instances, all_instances, module_number, is_instantiated, graph_of, Instantiates, Leads, is_top, has_one_input, ports, overridable}
+use Rattle.vl_elab.specs.Modules.{instances, all_instances, module_number, is_instantiated, graph_of, Instantiates, Leads, is_top, has_one_input, ports, overridable}
 use Rattle.vl_elab.specs.Walks.{is_cyclic}
 use Rattle.vl_elab.specs.Connections.{IsConnectionFault, connection_faults}
 
@@ -42,8 +43,8 @@ pub data IsHierarchyFault (s : Source) : Fault → Type 0 where
 -- the faults of the lists of connections of an instance of a module
 abbrev pub faults_of : Instance → Module → List Fault
 faults_of u m =
-    option_map_or (connection_faults (among (overridable m)) (length (overridable m))) u.overrides []
-    ++ flat_map (λ n. connection_faults (among (ports m)) (length (ports m)) n.connections) u.instances
+    option_map_or (connection_faults (names_have (overridable m)) (length (overridable m))) u.overrides []
+    ++ flat_map (λ n. connection_faults (names_have (ports m)) (length (ports m)) n.connections) u.instances
 
 -- the faults of an instance of the module of this number, if there is one
 abbrev pub faults_by : Source → Instance → Option ℕ → List Fault

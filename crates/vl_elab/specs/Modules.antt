@@ -1,6 +1,6 @@
 -- The modules of a source: what they instantiate, which are tops, their ports and their parameters (IEEE 1364-2005,
 -- clauses 4.10, 12.1, 12.2 and 12.3).
-use Rattle.std.specs.Prelude.{◌≡◌, ℕ, Bool, true, false, not, if◌then◌else◌, List, [], ◌∷◌, ◌++◌, map, flat_map, slice_get, Option, Some, None}
+use Rattle.std.specs.Prelude.{◌≡◌, ℕ, Bool, false, not, if◌then◌else◌, List, [], ◌∷◌, ◌++◌, map, flat_map, slice_get, Option, Some, None}
 use Rattle.std.specs.List.{list_any, position}
 use Rattle.std.specs.Option.{option_map_or, option_to_list}
 use Rattle.std.specs.Str.{bytes_eq}
@@ -15,15 +15,12 @@ use Rattle.vl_source.specs.declared.tree.Ports.TheVariants as p
 use Rattle.vl_source.specs.declared.tree.PortDeclaration.{PortDeclaration}
 use Rattle.vl_source.specs.declared.tree.PortDeclaration.TheVariants as d
 use Rattle.vl_source.specs.declared.tree.Direction.{Direction}
-use Rattle.vl_source.specs.declared.tree.Direction.TheVariants.{Input, Output}
+use Rattle.vl_source.specs.declared.tree.Direction.TheVariants.{Output}
 use Rattle.vl_source.specs.declared.tree.Item.{Item}
 use Rattle.vl_source.specs.declared.tree.Item.TheVariants as i
 use Rattle.vl_source.specs.declared.tree.Instance.{Instance}
+use Rattle.vl_scope.specs.DeclarationFaults.{is_input, names_have}
 use Rattle.vl_scope.specs.Faults.{In}
-
--- one of the names is spelled so
-abbrev pub among : List Identifier → List ℕ → Bool
-among names t = list_any (λ n. bytes_eq t n.name) names
 
 -- ---- what a module instantiates
 
@@ -117,13 +114,7 @@ port_declarations m = header_declarations m.ports ++ flat_map item_declarations 
 -- the direction that the first declaration of a name gives it
 abbrev pub first_direction : List PortDeclaration → List ℕ → Option Direction
 first_direction [] t = None
-first_direction (d ∷ ds) t = if among (declared_names d) t then Some (direction d) else first_direction ds t
-
--- the direction is that of an input
-abbrev pub is_input : Option Direction → Bool
-is_input (Some Input) = true
-is_input (Some Output) = false
-is_input None = false
+first_direction (d ∷ ds) t = if names_have (declared_names d) t then Some (direction d) else first_direction ds t
 
 -- these ports are one, and these declarations make it an input
 abbrev pub is_one_input : List PortDeclaration → List Identifier → Bool

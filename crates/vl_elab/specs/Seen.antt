@@ -10,10 +10,11 @@ use Rattle.vl_source.specs.declared.tree.Module.{Module}
 use Rattle.vl_source.specs.declared.tree.Instance.{Instance}
 use Rattle.vl_source.specs.declared.tree.Connection.{Connection}
 use Rattle.vl_scope.specs.declared.fault.Fault.{Fault}
+use Rattle.vl_scope.specs.DeclarationFaults.{names_have}
 use Rattle.vl_scope.specs.Faults.{at}
 use Rattle.vl_elab.specs.declared.interface.Listed.{Listed}
 use Rattle.vl_elab.specs.declared.interface.Interface.{Interface}
-use Rattle.vl_elab.specs.Modules.{among, ports, overridable}
+use Rattle.vl_elab.specs.Modules.{ports, overridable}
 use Rattle.vl_elab.specs.Connections.{connection_faults}
 
 -- what references point to
@@ -39,7 +40,7 @@ has m t = is_some (look m t)
 -- a program's list stands for these names
 pub record Lists (l : Listed) (names : List Identifier) : Type 0 where
   pub count : l.count ≡ length names
-  pub known : has l.known ≡ among names
+  pub known : has l.known ≡ names_have names
 
 -- what an instance of a module may be given
 pub record Describes (i : Interface) (m : Module) : Type 0 where

@@ -2,6 +2,7 @@
 
 ghost use Rattle.std.specs.Prelude.{◌≡◌, ◌++◌, flat_map, map, IfOk, OnOk, length};
 ghost use Rattle.std.specs.Option.{option_map_or};
+ghost use Rattle.vl_scope.specs.DeclarationFaults.{names_have};
 ghost use Rattle.vl_elab.specs.Modules as spec;
 ghost use Rattle.vl_elab.specs.Seen as seen;
 
@@ -177,7 +178,7 @@ pub fn add<'a>(known: &mut Known<'a>, name: &'a [u8]) -> Result<(), AllocError>
 /// The spellings of names.
 #[tactic(auto, using(crate::proofs::Steps::walks))]
 fn known_of<'a>(alloc: Global, names: &[&'a Identifier]) -> Result<Known<'a>, AllocError>
-    ensures { IfOk result (λ known. seen.has known ≡ spec.among (seen.nows names.now)) }
+    ensures { IfOk result (λ known. seen.has known ≡ names_have (seen.nows names.now)) }
 {
     let mut known = IndexMap::new(alloc);
     for name in names {
@@ -221,7 +222,7 @@ pub fn interfaces(alloc: Global, source: &Source) -> Result<Vec<Interface<'_>>, 
 
 /// Whether one of the names is spelled so.
 fn is_among(names: &[&Identifier], text: &[u8]) -> bool
-    ensures { result ≡ spec.among (seen.nows names.now) text.now }
+    ensures { result ≡ names_have (seen.nows names.now) text.now }
 {
     for name in names {
         if text == name.name.as_slice() {
@@ -237,7 +238,7 @@ pub fn declares(
     declaration: &PortDeclaration,
     text: &[u8],
 ) -> Result<bool, AllocError>
-    ensures { IfOk result (λ yes. yes ≡ spec.among (spec.declared_names declaration.now) text.now) }
+    ensures { IfOk result (λ yes. yes ≡ names_have (spec.declared_names declaration.now) text.now) }
 {
     let mut names = Vec::new(alloc);
     add_declared(&mut names, declaration)?;

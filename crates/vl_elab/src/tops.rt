@@ -2,6 +2,7 @@
 
 ghost use Rattle.std.specs.Prelude.{◌≡◌, ◌++◌, ◌∷◌, [], ◌||◌, not, flat_map, IfOk, OnOk};
 ghost use Rattle.std.specs.List.{list_any};
+ghost use Rattle.vl_scope.specs.DeclarationFaults.{is_input};
 ghost use Rattle.vl_scope.specs.Faults.{at, earliest, fault_if, each_after};
 ghost use Rattle.vl_elab.specs.HierarchyFaults.{is_unused, top_fault, no_top_faults};
 ghost use Rattle.vl_elab.specs.Modules as spec;
@@ -95,7 +96,7 @@ fn first_direction(
 
 /// Whether a direction is that of an input.
 fn is_input(direction: Option<Direction>) -> bool
-    ensures { result ≡ spec.is_input direction }
+    ensures { result ≡ is_input direction }
 {
     match direction {
         Some(Direction::Input) => true,

@@ -13,7 +13,6 @@ use Rattle.vl_grammar.specs.declared.tree.Binary.{Binary, out-Binary, roll-Binar
 use Rattle.vl_grammar.specs.declared.tree.Link.{Link}
 use Rattle.vl_grammar.specs.declared.tree.Unary.{Unary}
 use Rattle.vl_grammar.specs.declared.tree.Primary as p
-use Rattle.vl_grammar.specs.declared.tree.Primary.{Primary}
 use Rattle.vl_grammar.specs.declared.tree.Primary.TheVariants as v
 use Rattle.vl_grammar.specs.declared.tree.Primary.TheBlock as t
 use Rattle.vl_grammar.specs.declared.tree.Name as nm

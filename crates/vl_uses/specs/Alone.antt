@@ -4,7 +4,7 @@ use Rattle.vl_grammar.specs.declared.tree.Expression as e
 use Rattle.vl_grammar.specs.declared.tree.Expression.{Expression, out-Expression}
 use Rattle.vl_grammar.specs.declared.tree.Choice.{Choice}
 use Rattle.vl_grammar.specs.declared.tree.Binary as b
-use Rattle.vl_grammar.specs.declared.tree.Binary.{Binary, out-Binary}
+use Rattle.vl_grammar.specs.declared.tree.Binary.{out-Binary}
 use Rattle.vl_grammar.specs.declared.tree.Link.{Link}
 use Rattle.vl_grammar.specs.declared.tree.Unary.{Unary, out-Unary}
 use Rattle.vl_grammar.specs.declared.tree.UnaryMark.{UnaryMark}

@@ -21,7 +21,6 @@ use Rattle.vl_grammar.specs.declared.tree.Bound as d
 use Rattle.vl_grammar.specs.declared.tree.SystemCall as y
 use Rattle.vl_grammar.specs.declared.tree.SystemCall.{SystemCall}
 use Rattle.vl_grammar.specs.declared.tree.SystemArgument as g
-use Rattle.vl_grammar.specs.declared.tree.SystemArgument.{SystemArgument}
 use Rattle.vl_source.specs.declared.tree.Module.{Module}
 use Rattle.vl_source.specs.declared.tree.ParameterGroup.{ParameterGroup}
 use Rattle.vl_source.specs.declared.tree.ParameterType.{ParameterType}

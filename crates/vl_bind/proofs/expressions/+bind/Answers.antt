@@ -1,14 +1,13 @@
-use Rattle.std.proofs.Common.{◌≡◌, map, ap, ◌∙◌, sym, take}
+use Rattle.std.proofs.Common.{map, ap, ◌∙◌, sym, take}
 use Rattle.vl_flat.specs.Surface as x
 use Rattle.vl_flat.specs.Binding as f
-use Rattle.vl_bind.specs.declared.surface.Argument.TheBlock.{hidden-the_row-Ex-1, hidden-the_row-Select-0, hidden-the_row-Argument-2}
+use Rattle.vl_bind.specs.declared.surface.Argument.TheBlock.{hidden-the_row-Ex-1, hidden-the_row-Select-0}
 use Rattle.vl_grammar.specs.declared.tree.Name.{out-Name}
-use Rattle.vl_grammar.specs.declared.tree.SystemCall.{out-SystemCall}
-use Rattle.vl_bind.specs.Seen.{seen, row_exs, row_selects, row_args, select, argument, selects_before, args_before}
+use Rattle.vl_bind.specs.Seen.{seen, row_exs, row_selects, select, argument, selects_before, args_before}
 use Rattle.vl_bind.specs.Listed.{of_list, given}
 use Rattle.vl_bind.specs.Listed as g
 use Rattle.vl_bind.proofs.Opens.{named-opens, parenthesized-ex, concatenation-ex, call-ex, replication-ex}
-use Rattle.vl_bind.proofs.Walks.{row_exs-hidden, row_selects-hidden, row_args-hidden, selects-append, selects-more, args-append, args-more, system-is}
+use Rattle.vl_bind.proofs.Walks.{row_exs-hidden, row_selects-hidden, selects-append, selects-more, args-append, args-more, system-is}
 use Rattle.vl_bind.proofs.expressions.+bind.Goals as goal
 
 pub bind_primary-returns-in_ok-new-in-Parenthesized : goal.bind_primary-returns-in_ok-new-in-Parenthesized

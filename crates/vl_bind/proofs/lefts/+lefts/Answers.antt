@@ -1,4 +1,4 @@
-use Rattle.std.proofs.Common.{◌≡◌, map, ap, ◌∙◌, sym}
+use Rattle.std.proofs.Common.{map, ap, ◌∙◌, sym}
 use Rattle.vl_flat.specs.Surface as x
 use Rattle.vl_flat.specs.Binding as f
 use Rattle.vl_bind.specs.SeenStatements.{lefts_of}

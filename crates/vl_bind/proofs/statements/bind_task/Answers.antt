@@ -1,4 +1,4 @@
-use Rattle.std.proofs.Common.{◌≡◌, ap, ◌∙◌, sym}
+use Rattle.std.proofs.Common.{ap, ◌∙◌, sym}
 use Rattle.vl_flat.specs.Surface as x
 use Rattle.vl_bind.specs.Seen.{args_before}
 use Rattle.vl_bind.specs.Listed as g

@@ -12,7 +12,7 @@ use Rattle.vl_design.specs.Queue.{Queue, Phase, Wave, Ended, Updated, with_updat
 use Rattle.vl_design.specs.Snapshots.{Snapshot}
 use Rattle.vl_design.specs.Alone.{Origin, risen, blocks, falls}
 use Rattle.vl_design.specs.Acts as act
-use Rattle.vl_design.specs.Acts.{Pause, Through, AtCall, AtChoice, branch_of, upto, uptos, Point, Between, Inside, state_at, queue_at, awake, awake_by, Reached, Calls, Chooses, with_block, by_pause, through_blocks, reach, Calms, calm, Did, Act, of_wave, updates, Begins, from_nothing, from_snapshot, After, begins, acts, NextIs, Before, before}
+use Rattle.vl_design.specs.Acts.{Pause, Through, AtCall, AtChoice, upto, uptos, Point, Between, Inside, state_at, awake, awake_by, Reached, Calls, Chooses, with_block, by_pause, through_blocks, reach, Calms, calm, Did, Act, of_wave, updates, Begins, from_nothing, from_snapshot, After, begins, acts, NextIs, Before, before}
 use Rattle.vl_design.specs.Laws.{Grows, InRange}
 use Rattle.vl_design.proofs.OncePerAct.{after_once}
 use Rattle.vl_design.proofs.Growing.{grows_same, grows_on, exec_grows, call_grows}

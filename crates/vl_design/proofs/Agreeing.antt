@@ -15,7 +15,7 @@ use Rattle.vl_design.specs.Queue.{Queue, Phase, Wave, Ended, Updated, woken, fir
 use Rattle.vl_design.specs.Snapshots.{Snapshot}
 use Rattle.vl_design.specs.Alone.{Origin, Settles, rests, goes, Boundary, begun, ticked, start, risen, blocks, falls, all_comb, first_queue}
 use Rattle.vl_design.specs.Acts as act
-use Rattle.vl_design.specs.Acts.{Pause, Through, AtCall, AtChoice, default_body, chosen_body, branch_of, upto, uptos, Point, Between, Inside, state_at, queue_at, awake, awake_by, Reached, by_pause, through_blocks, reach, Calms, calm, Did, Act, of_wave, updates, Begins, from_nothing, from_snapshot, After, begins, acts}
+use Rattle.vl_design.specs.Acts.{Pause, AtCall, AtChoice, default_body, chosen_body, branch_of, uptos, Point, Between, Inside, state_at, queue_at, awake, awake_by, Reached, by_pause, through_blocks, reach, Calms, calm, Did, Act, of_wave, updates, Begins, from_nothing, from_snapshot, After, begins, acts}
 use Rattle.vl_design.specs.Laws.{IsUnrolledStm, AreUnrolledItems, can_act, IsUnrolled, HasQuietNets, IsReached}
 use Rattle.vl_design.proofs.Running.{some_is}
 use Rattle.vl_design.proofs.Resting.{exec_over, none_held, Rests, exec_rests, done_counts, case_done}

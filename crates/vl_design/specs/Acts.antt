@@ -1,5 +1,6 @@
 -- The run act by act: each call that does more than give a value, each choice of a branch that holds one, the end of
--- each wave and each update. This is told of designs whose loops are unrolled: a loop is one piece here.
+-- each wave and each update. This is told of designs whose loops are unrolled: a loop is one piece here
+-- (own).
 use Rattle.std.specs.Prelude.{◌≡◌, ℕ, zero, suc, false, ◌||◌, List, [], ◌∷◌, if◌then◌else◌, Option, Some, None}
 use Rattle.vl_base.specs.declared.files.File.{File}
 use Rattle.vl_design.specs.declared.design.Form.{Form}

@@ -1,4 +1,5 @@
--- The run of a design alone.
+-- The run of a design alone: from time zero or a snapshot, tick by tick, to its end (IEEE 1364-2005, clause 11; ticks and
+-- errands are own).
 use Rattle.std.specs.Prelude.{◌≡◌, ℕ, zero, suc, ◌+◌, ◌<◌, Bool, true, false, ◌&&◌, List, [], ◌∷◌, ◌++◌, if◌then◌else◌, nat_le, ◌==◌, Option, Some, None, map, filter}
 use Rattle.std.specs.List.{list_any}
 use Rattle.vl_base.specs.declared.files.File.{File}
@@ -91,10 +92,6 @@ first_tick (Some s) = s.tick
 pub data Boundary (o : Origin) : ℕ → Queue → Type 0 where
   begun : {k : ℕ} {q : Queue} → k ≡ first_tick o.resume → Settles o.flat o.files (first_queue o o.resume) q → Boundary o k q
   ticked : {k : ℕ} {before after : Queue} → Boundary o k before → Settles o.flat o.files (risen o.flat before) after → Boundary o (suc k) after
-
--- the run prints these bytes up to boundary k
-abbrev pub Prints : Origin → ℕ → List ℕ → Type 0
-Prints o k bytes = (q : Queue) × Boundary o k q × (q.state.printed ≡ bytes)
 
 -- ---- the end
 

@@ -1,5 +1,5 @@
 -- The cost of a design, over its loops turn by turn, without its initial processes (own).
-use Rattle.std.specs.Prelude.{ℕ, zero, suc, ◌+◌, ◌*◌, ◌≤◌, Bool, true, false, List, [], ◌∷◌, length, sum_by, if◌then◌else◌, slice_get, Option, Some, None}
+use Rattle.std.specs.Prelude.{ℕ, zero, suc, ◌+◌, ◌*◌, Bool, true, false, List, [], ◌∷◌, length, sum_by, if◌then◌else◌, slice_get, Option, Some, None}
 use Rattle.vl_design.specs.declared.design.SigKind.{SigKind}
 use Rattle.vl_design.specs.declared.design.SigKind.TheVariants.{Net, Var, Comb, Mem}
 use Rattle.vl_design.specs.Syntax.{Exp, Num, Label, Sig, Word, Pick, Slice, Un, Bin, Cond, Cat, Rep, Cast, Call, Time, Answer, Exps, NoExps, MoreExps, Target, Whole, WordAt, Bits, Part, Several, Targets, NoTargets, MoreTargets, Piece, Literal, Shown, Task, Print, Finish, Save, Fopen, Fread, Fgetc, Feof, Fclose, ReadHex, Stm, Nop, Then, If, Case, For, Repeat, Set, Later, Sys, Items, NoItems, Labelled, Default, Fun, Proc, Flat}
@@ -194,9 +194,3 @@ cost d =
       cells = 16 + (sum_by (λ r. row_cells r.kind) d.rows + sum_by (proc_cells scope s) d.procs);
       mem = sum_by (λ r. row_mem r.kind r.words r.width) d.rows;
     }
-
--- the costs together are at most a capacity
-pub record Fits (used more capacity : Cost) : Type 0 where
-  pub regs : used.regs + more.regs ≤ capacity.regs
-  pub cells : used.cells + more.cells ≤ capacity.cells
-  pub mem : used.mem + more.mem ≤ capacity.mem

@@ -6,7 +6,7 @@ use Rattle.vl_base.specs.Display.{LeastDecimal, Decimal, Hexadecimal}
 use Rattle.vl_design.specs.declared.design.SigKind.{SigKind}
 use Rattle.vl_design.specs.declared.design.SigKind.TheVariants.{Net, Var, Loop, Mem, Clock}
 use Rattle.vl_design.specs.declared.design.ProcKind.TheVariants.{Init, Rise, Fall, Assign}
-use Rattle.vl_design.specs.Syntax.{Exp, Num, Sig, Word, Slice, Un, Bin, Cat, Time, Answer, Exps, NoExps, MoreExps, Target, Whole, WordAt, Bits, Part, Piece, Literal, Shown, Task, Print, Finish, Fopen, Fread, Feof, Stm, Nop, Then, If, For, Set, Later, Sys, Row, Proc, Flat}
+use Rattle.vl_design.specs.Syntax.{Exp, Num, Sig, Word, Slice, Bin, Call, Time, Answer, NoExps, MoreExps, Whole, WordAt, Bits, Part, Piece, Literal, Shown, Print, Finish, Fopen, Fread, Feof, Stm, Nop, Then, If, For, Set, Later, Sys, Row, Proc, Flat}
 use Rattle.vl_design.specs.Width.{Scope}
 use Rattle.vl_design.specs.Value.{Sample}
 use Rattle.vl_design.specs.Functions.{scope_of}
@@ -141,6 +141,19 @@ mixer = flat (row (codes "t.s") Var 32 false ∷ row (codes "t.p") Var 8 false
     ∷ Later (WordAt 3 (Sig 2)) (Bin Xor (Word 3 (Slice (Sig 1) (pos 0) 8)) (Sig 1))
     ∷ Later (Whole 2) (Bin Add (Sig 2) (number 1))
     ∷ If (Bin Eq (Sig 2) (Num 255 8 false)) (show (Shown Hexadecimal (Sig 1) ∷ [])) Nop ∷ [])) ∷ [])
+
+-- function [7:0] g(input [7:0] x); g = x; endfunction
+-- function [7:0] f(input [3:0] y); f = g(8'd255); endfunction
+-- initial $display("%0d", f(0));
+abbrev pub nested_calls : Flat
+nested_calls = record {
+  rows = clock ∷ [];
+  funs =
+      record { inputs = 2 ∷ []; result = 1; locals = row (codes "m.g.g") Var 8 false ∷ row (codes "m.g.x") Var 8 false ∷ []; body = Set (Whole 1) (Sig 2) }
+      ∷ record { inputs = 2 ∷ []; result = 1; locals = row (codes "m.f.f") Var 8 false ∷ row (codes "m.f.y") Var 4 false ∷ []; body = Set (Whole 1) (Call 0 (MoreExps (Num 255 8 false) NoExps)) }
+      ∷ [];
+  procs = initial (show (Shown LeastDecimal (Call 1 (MoreExps (number 0) NoExps)) ∷ [])) ∷ [];
+}
 
 -- ---- expressions over reg [3:0] a, b, which hold 15 and 1
 

@@ -19,7 +19,8 @@ items_form scope f NoItems = f
 items_form scope f (Labelled es a others) = items_form scope (labels_form scope f es) others
 items_form scope f (Default a others) = items_form scope f others
 
--- the bits that are compared with a label of w bits in a context of more: those of care, and all above the label's
+-- the bits that are compared with a label of w bits in a context of more: those of care, and all above the label's, which
+-- extend its value (own)
 abbrev pub compared : ℕ → ℕ → ℕ → ℕ
 compared care w more = care + (2 ^ more - 2 ^ w)
 
@@ -35,7 +36,7 @@ some_match scope s c v (MoreExps e es) = label_matches scope s c v e || some_mat
 
 -- ---- loops (clause 9.6)
 
--- at most this many turns of a loop are done
+-- at most this many turns of a loop are done (own: limit 8 refuses a loop with more)
 abbrev pub most_turns : ℕ
 most_turns = 4096
 

@@ -1,8 +1,8 @@
 -- What a function gives (IEEE 1364-2005, clause 10.4).
-use Rattle.std.specs.Prelude.{ℕ, zero, suc, false, List, [], ◌∷◌, ◌++◌, length, map, replicate, slice_set, slice_get, Option, Some, None}
+use Rattle.std.specs.Prelude.{ℕ, zero, suc, false, List, [], ◌∷◌, length, map, replicate, slice_set, slice_get, Option, Some, None}
 use Rattle.vl_base.specs.declared.files.File.{File}
 use Rattle.vl_design.specs.Syntax.{Row, Fun, Flat}
-use Rattle.vl_design.specs.Width.{Scope}
+use Rattle.vl_design.specs.Width.{Scope, rows_in}
 use Rattle.vl_design.specs.Value.{value_of}
 use Rattle.vl_design.specs.State.{State}
 use Rattle.vl_design.specs.Exec.{exec}
@@ -30,9 +30,9 @@ with_inputs [] args values = values
 with_inputs (k ∷ ks) [] values = values
 with_inputs (k ∷ ks) (v ∷ vs) values = with_inputs ks vs (slice_set values k (v ∷ []))
 
--- the function's scope: its locals come behind the design's signals
+-- the scope of a function's body
 abbrev pub inner : Scope → Fun → Scope
-inner scope f = record scope { rows = scope.rows ++ f.locals }
+inner scope f = record scope { rows = rows_in scope f }
 
 -- the result: the inputs are assigned, all else is 0, and the body is executed
 abbrev pub result_of : Scope → Option Fun → List ℕ → ℕ
@@ -42,7 +42,7 @@ result_of scope (Some f) args =
 
 -- the names of a design over these files, where calls mean this
 abbrev pub scope_with : Flat → List File → (ℕ → List ℕ → ℕ) → Scope
-scope_with d files call = record { rows = d.rows; funs = d.funs; files = files; call = call }
+scope_with d files call = record { rows = d.rows; signals = d.rows; funs = d.funs; files = files; call = call }
 
 -- what calls give that nest so deep
 abbrev pub calls_within : Flat → List File → ℕ → ℕ → List ℕ → ℕ

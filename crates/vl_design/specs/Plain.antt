@@ -1,4 +1,4 @@
--- A run alone from time zero, without files.
+-- A run alone from time zero, without files (own).
 use Rattle.std.specs.Prelude.{ℕ, List, [], None}
 use Rattle.vl_design.specs.Syntax.{Row, Flat}
 use Rattle.vl_design.specs.Width.{Scope}
@@ -10,4 +10,4 @@ alone d budget = record { flat = d; files = []; plan = record { budget = budget;
 
 -- the names of a design without functions, over no files
 abbrev pub plain_scope : List Row → Scope
-plain_scope rows = record { rows = rows; funs = []; files = []; call = λ f args. 0 }
+plain_scope rows = record { rows = rows; signals = rows; funs = []; files = []; call = λ f args. 0 }

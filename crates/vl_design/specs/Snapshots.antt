@@ -1,4 +1,4 @@
--- What a snapshot holds: the variables and memories, and the open files.
+-- What a snapshot holds: the variables and memories, and the open files (own).
 use Rattle.std.specs.Prelude.{ℕ, Bool, true, false, List, [], ◌∷◌, ◌++◌, take, drop, map, filter, replicate, if◌then◌else◌}
 use Rattle.std.specs.Str.{bytes_eq}
 use Rattle.vl_base.specs.declared.files.OpenFile.{OpenFile}

@@ -1,5 +1,6 @@
--- Sound designs: each number names what it is to name, widths are from 1 to 128, and each call of a function has as
--- many arguments as the function has inputs.
+-- Sound designs: in each function and each process a number names what it is to name, widths are from 1 to 128, a call of
+-- a function has as many arguments as the function has inputs, and selects in a target stand on a variable or a word
+-- (IEEE 1364-2005, clauses 5.2, 9.2 and 10.4).
 use Rattle.std.specs.Prelude.{◌≡◌, ℕ, ◌+◌, ◌*◌, ◌^◌, ◌<◌, ◌≤◌, [], length, ⊤, All, slice_get, Option, Some, None}
 use Rattle.vl_design.specs.declared.design.SigKind.{SigKind}
 use Rattle.vl_design.specs.declared.design.SigKind.TheVariants.{Mem}
@@ -31,6 +32,10 @@ IsMem k = ⊥
 -- a net, a variable or a local, whose value can be read or written
 abbrev pub IsSignal : Scope → ℕ → Type 0
 IsSignal scope k = IsOf HasValue (slice_get scope.rows k)
+
+-- a signal of any kind
+abbrev pub IsNamed : Scope → ℕ → Type 0
+IsNamed scope k = IsOf (λ kind. ⊤) (slice_get scope.rows k)
 
 abbrev pub IsMemory : Scope → ℕ → Type 0
 IsMemory scope m = IsOf IsMem (slice_get scope.rows m)
@@ -70,12 +75,18 @@ abbrev mutual
 
 -- ---- targets and system calls
 
+-- a variable, or a word of a memory
+abbrev pub IsSoundBase : Scope → Target → Type 0
+IsSoundBase scope (Whole k) = IsSignal scope k
+IsSoundBase scope (WordAt m a) = IsMemory scope m × IsSoundExp scope a
+IsSoundBase scope t = ⊥
+
 abbrev mutual
   pub IsSoundTarget : Scope → Target → Type 0
   IsSoundTarget scope (Whole k) = IsSignal scope k
   IsSoundTarget scope (WordAt m a) = IsMemory scope m × IsSoundExp scope a
-  IsSoundTarget scope (Bits b i from w) = IsWidth w × IsSoundTarget scope b × IsSoundExp scope i
-  IsSoundTarget scope (Part b low w) = IsWidth w × IsSoundTarget scope b
+  IsSoundTarget scope (Bits b i from w) = IsWidth w × IsSoundBase scope b × IsSoundExp scope i
+  IsSoundTarget scope (Part b low w) = IsWidth w × IsSoundBase scope b
   IsSoundTarget scope (Several ts) = IsWidth (targets_width scope ts) × AreSoundTargets scope ts
 
   pub AreSoundTargets : Scope → Targets → Type 0
@@ -105,7 +116,8 @@ abbrev mutual
   IsSoundStm scope (Then a b) = IsSoundStm scope a × IsSoundStm scope b
   IsSoundStm scope (If t a b) = IsSoundExp scope t × IsSoundStm scope a × IsSoundStm scope b
   IsSoundStm scope (Case e items) = IsSoundExp scope e × AreSoundItems scope items
-  IsSoundStm scope (For k start test step a) = IsSignal scope k × IsSoundStm scope start × IsSoundExp scope test × IsSoundStm scope step × IsSoundStm scope a
+  -- of the variable of a loop only the number is used, of whatever kind it is
+  IsSoundStm scope (For k start test step a) = IsNamed scope k × IsSoundStm scope start × IsSoundExp scope test × IsSoundStm scope step × IsSoundStm scope a
   IsSoundStm scope (Repeat n a) = IsSoundStm scope a
   IsSoundStm scope (Set t e) = IsSoundTarget scope t × IsSoundExp scope e
   IsSoundStm scope (Later t e) = IsSoundTarget scope t × IsSoundExp scope e

@@ -1,4 +1,4 @@
--- The state of a run.
+-- The state of a run (IEEE 1364-2005, clause 11.3).
 use Rattle.std.specs.Prelude.{ℕ, ◌+◌, ℤ, Bool, List, [], ◌∷◌, slice_index, slice_set}
 use Rattle.vl_base.specs.declared.files.OpenFile.{OpenFile}
 use Rattle.vl_base.specs.Selects.{placed}

@@ -1,4 +1,4 @@
--- Designs as plain trees: what the definitions compute on. Places are left out.
+-- Designs as plain trees: what the definitions compute on. Places are left out (IEEE 1364-2005, clauses 5, 6, 9, 10 and 17).
 use Rattle.std.specs.Prelude.{ℕ, ℤ, Bool, List}
 use Rattle.vl_base.specs.declared.bits.UnOp.{UnOp}
 use Rattle.vl_base.specs.declared.bits.BinOp.{BinOp}

@@ -22,7 +22,8 @@ words_of values k = unwrap_or (slice_get values k) []
 abbrev pub value_of : List (List ℕ) → ℕ → ℕ
 value_of values k = slice_index (words_of values k) 0
 
--- the word of an address, from 0 at the lowest one; one past the last where there is none (clause 4.9.3)
+-- the word of an address, from 0 at the lowest one; one past the last where there is none (clause 5.2.2; that one
+-- holds 0 is own)
 abbrev pub word_at : Option Row → ℤ → ℕ
 word_at None z = 0
 word_at (Some r) z = if int_le r.lowest z && int_lt z (r.lowest +ℤ pos r.words) then unsigned_abs (z -ℤ r.lowest) else r.words

@@ -8,9 +8,11 @@ use Rattle.vl_base.specs.declared.files.File.{File}
 use Rattle.vl_design.specs.declared.design.Form.{Form}
 use Rattle.vl_design.specs.Syntax.{Exp, Num, Label, Sig, Word, Pick, Slice, Un, Bin, Cond, Cat, Rep, Cast, Call, Time, Answer, Exps, NoExps, MoreExps, Row, Fun}
 
--- what names stand for: signals, functions and files, and what a function gives for values of its inputs
+-- what numbers stand for: signals, in a function's body with its locals behind the design's; the design's signals alone;
+-- functions and files; and what a function gives for values of its inputs
 pub record Scope : Type 0 where
   pub rows : List Row
+  pub signals : List Row
   pub funs : List Fun
   pub files : List File
   pub call : ℕ → List ℕ → ℕ
@@ -31,22 +33,25 @@ row_form (Some r) = record { width = r.width; signed = r.signed }
 abbrev pub signal_form : List Row → ℕ → Form
 signal_form rows k = row_form (slice_get rows k)
 
--- the form of a function's signal: in its body its locals come behind the design's signals
-abbrev pub local_form : List Row → Option Fun → (Fun → ℕ) → Form
-local_form rows None k = bit
-local_form rows (Some f) k = signal_form (rows ++ f.locals) (k f)
+-- the signals of a function's body: its locals come behind the design's signals, whoever calls it
+abbrev pub rows_in : Scope → Fun → List Row
+rows_in scope f = scope.signals ++ f.locals
+
+abbrev pub result_form_of : Scope → Option Fun → Form
+result_form_of scope None = bit
+result_form_of scope (Some f) = signal_form (rows_in scope f) f.result
 
 -- the form of a function's result
 abbrev pub result_form : Scope → ℕ → Form
-result_form scope f = local_form scope.rows (slice_get scope.funs f) (λ g. g.result)
+result_form scope f = result_form_of scope (slice_get scope.funs f)
 
-abbrev pub widths_of : List Row → Option Fun → List ℕ
-widths_of rows None = []
-widths_of rows (Some f) = map (λ k. (signal_form (rows ++ f.locals) k).width) f.inputs
+abbrev pub input_widths_of : Scope → Option Fun → List ℕ
+input_widths_of scope None = []
+input_widths_of scope (Some f) = map (λ k. (signal_form (rows_in scope f) k).width) f.inputs
 
 -- the widths of a function's inputs
 abbrev pub input_widths : Scope → ℕ → List ℕ
-input_widths scope f = widths_of scope.rows (slice_get scope.funs f)
+input_widths scope f = input_widths_of scope (slice_get scope.funs f)
 
 -- the longer of two widths, signed where both are
 abbrev pub joined : Form → Form → Form

@@ -10,7 +10,7 @@ ghost use Rattle.vl_design.specs.Value.{value};
 ghost use Rattle.vl_design.specs.Tasks.{display_text};
 ghost use Rattle.vl_design.specs.Alone.{Shows};
 ghost use Rattle.vl_design.specs.Cost.{cost};
-ghost use Rattle.vl_design.specs.Examples.{alone, counter, exchange, bit_writes, early_index, filled, mixer, late_net, two_blocks, finishes, greets, both_edges, reads_empty, empty_file, sum, two_words, operands, fifteen_and_one, a_plus_b, number};
+ghost use Rattle.vl_design.specs.Examples.{alone, counter, exchange, bit_writes, early_index, filled, mixer, late_net, two_blocks, finishes, greets, nested_calls, both_edges, reads_empty, empty_file, sum, two_words, operands, fifteen_and_one, a_plus_b, number};
 
 /// Three ticks of a counter print the numbers 0 to 2 in 11 acts.
 pub fn three_ticks_of_a_counter()
@@ -55,6 +55,11 @@ pub fn nothing_is_done_behind_a_finish()
 /// An initial block runs at time zero.
 pub fn an_initial_block_runs_at_time_zero()
     ensures { Shows (alone [] greets) 0 (codes "hi\n") 3 }
+{}
+
+/// A call in a function has its arguments in the widths of the called function's inputs.
+pub fn a_call_in_a_function_has_the_called_ones_widths()
+    ensures { Shows (alone [] nested_calls) 0 (codes "255\n") 3 }
 {}
 
 /// The clock rises and falls in a tick.

@@ -1,4 +1,4 @@
--- The plain data of each of the grammar's trees.
+-- The plain data of each of the grammar's trees, with operators bound (IEEE 1364-2005, clause 5.1.2).
 use Rattle.std.specs.Prelude.{◌^◌, nat_le, nat_lt, Bool, true, false, ◌&&◌, List, [], ◌∷◌, if◌then◌else◌}
 use Rattle.vl_base.specs.declared.number.Number.{Number}
 use Rattle.vl_base.specs.declared.place.Place.{Place}

@@ -80,7 +80,7 @@ optional_faults above e = option_map_or (faults (plainly above)) e []
 abbrev pub override_faults : Env → Instances → List Stop
 override_faults above a = flat_map (λ q. optional_faults above q.value) a.overrides
 
--- ---- inputs: each takes its connection, or 0 (clause 12.3.9.1)
+-- ---- inputs: each takes its connection, or 0 (clause 12.3.9.2)
 
 abbrev pub place_in : NamedUnit → Option Connection → Place
 place_in u q = option_map_or (λ c. c.place) q u.name.place
@@ -158,4 +158,4 @@ output_process above env at t e =
 
 abbrev pub output_faults : Env → Place → x.Ex → List Stop
 output_faults above at e =
-    if are_nets above e then target_faults (plainly above) (left_of e) else Construct at 13 ∷ []
+    if are_nets above e then target_faults (plainly above) (left_of e) else Construct at 13 ∷ faults (plainly above) e

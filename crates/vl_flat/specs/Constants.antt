@@ -9,7 +9,7 @@ use Rattle.vl_flat.specs.Plainly.{exp}
 
 -- no signals and no functions
 abbrev pub closed : Scope
-closed = record { rows = []; funs = []; files = []; call = λ f args. 0 }
+closed = record { rows = []; signals = []; funs = []; files = []; call = λ f args. 0 }
 
 abbrev pub nothing : Sample
 nothing = record { values = []; time = 0; answer = 0 }

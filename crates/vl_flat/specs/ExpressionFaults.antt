@@ -1,4 +1,4 @@
--- The faults of expressions: refused constructs 10, 11 and 24.
+-- The faults of expressions: refused constructs 10, 11 and 24 (own; what they bound is of IEEE 1364-2005, clauses 4.2, 5.2 and 5.4).
 use Rattle.std.specs.Prelude.{ℕ, zero, suc, nat_lt, ℤ, int_lt, Bool, true, false, not, ◌&&◌, ◌||◌, List, [], ◌++◌, Option, if◌then◌else◌, codes}
 use Rattle.std.specs.Str.{bytes_eq}
 use Rattle.vl_base.specs.declared.place.Place.{Place}
@@ -30,7 +30,7 @@ abbrev mutual
   holds_long (Joined at es) = some_hold_long es
   holds_long (Repeated at n es) = holds_long n || some_hold_long es
   holds_long (Called at name es) = some_hold_long es
-  holds_long (System at name given) = args_hold_long (keeps_texts name) given
+  holds_long (System at name given) = args_hold_long given
 
   pub some_hold_long : Exs → Bool
   some_hold_long NoExs = false
@@ -41,11 +41,10 @@ abbrev mutual
   selects_hold_long (Index q i others) = holds_long i || selects_hold_long others
   selects_hold_long (Range q mark l r others) = holds_long l || (holds_long r || selects_hold_long others)
 
-  -- of some calls a bare string is no operand
-  pub args_hold_long : Bool → Args → Bool
-  args_hold_long keeps NoArgs = false
-  args_hold_long keeps (NullArg others) = args_hold_long keeps others
-  args_hold_long keeps (MoreArgs e others) = holds_long e || args_hold_long keeps others
+  pub args_hold_long : Args → Bool
+  args_hold_long NoArgs = false
+  args_hold_long (NullArg others) = args_hold_long others
+  args_hold_long (MoreArgs e others) = holds_long e || args_hold_long others
 
 -- ---- selects
 

@@ -73,7 +73,7 @@ operation bo.Or = b.Or
 operation bo.LogicalAnd = b.LogAnd
 operation bo.LogicalOr = b.LogOr
 
--- ---- strings as operands: 8 bits for each byte; the empty one is one zero byte (clause 3.6.2). One of more than 16 bytes
+-- ---- strings as operands: 8 bits for each byte; the empty one is one zero byte (clause 5.2.3). One of more than 16 bytes
 -- is a fault, and counts as one zero bit
 
 abbrev pub is_long : List ℕ → Bool

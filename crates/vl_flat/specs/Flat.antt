@@ -28,7 +28,7 @@ pub record Part : Type 0 where
 abbrev pub connection : List p.Process → List Stop → Part
 connection processes faults = record { signals = []; funcs = []; processes = processes; faults = faults; begins = [] }
 
--- the path of an instance or a signal has at most 255 bytes
+-- the path of an instance or a signal has more than 255 bytes
 abbrev pub is_long_path : List ℕ → Bool
 is_long_path path = nat_lt 255 (length path)
 

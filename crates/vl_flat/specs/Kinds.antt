@@ -82,7 +82,7 @@ item_writes t item = false
 
 -- ---- the kind of a signal
 
--- a loop variable has no value of its own, controls a `for`, and is named in such loops alone; an output that is connected
+-- a loop variable (own) has no value of its own, controls a `for`, and is named in such loops alone; an output that is connected
 -- is named there too
 abbrev pub is_loop : Module → Bool → List ℕ → Bool
 is_loop m wired t =

@@ -1,4 +1,5 @@
--- The flat design of a source, or the first fault in its order: refused constructs 10 to 13 and 24, and limits 5, 6, 7, 11.
+-- The flat design of a source, or the first fault in its order: refused constructs 10 to 13 and 24, and limits 5, 6, 7, 11
+-- (IEEE 1364-2005, clause 12; the limits and the order of faults are own).
 use Rattle.std.specs.Prelude.{ℕ, ◌+◌, min, nat_lt, Bool, true, false, ◌&&◌, ◌||◌, List, [], ◌∷◌, ◌++◌, fold, Option, Some, None, Result, Ok, Err, if◌then◌else◌}
 use Rattle.vl_base.specs.declared.place.Place.{Place}
 use Rattle.vl_source.specs.declared.tree.Source.{Source}
@@ -48,7 +49,7 @@ abbrev pub with_signal : Totals → Signal → Totals
 with_signal n r = record n { signals = (if is_counted r.kind then after n.signals else n.signals); words = min most_numbers (n.words + memory_words r) }
 
 abbrev pub with_instance : Totals → Place → Totals
-with_instance n at = record n { instances = after n.instances }
+with_instance n _ = record n { instances = after n.instances }
 
 abbrev pub with_part : Totals → Part → Totals
 with_part n a = fold with_signal (fold with_instance n a.begins) a.signals

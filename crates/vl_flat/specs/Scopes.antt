@@ -1,4 +1,4 @@
--- What names stand for.
+-- What names stand for (IEEE 1364-2005, clause 12.5).
 use Rattle.std.specs.Prelude.{ℕ, ℤ, pos, List, Option, Some, None, if◌then◌else◌}
 use Rattle.std.specs.Str.{bytes_eq}
 use Rattle.vl_design.specs.declared.design.Form.{Form}

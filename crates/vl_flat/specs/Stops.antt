@@ -1,4 +1,4 @@
--- Faults of the flat design, and which comes first.
+-- Faults of the flat design, and which comes first (own).
 use Rattle.std.specs.Prelude.{ℕ, nat_lt, Bool, ◌&&◌, ◌||◌, ◌==◌, if◌then◌else◌, List, [], ◌∷◌, Option, Some, None}
 use Rattle.vl_base.specs.declared.place.Place.{Place}
 use Rattle.vl_flat.specs.declared.stop.Stop.{Stop}

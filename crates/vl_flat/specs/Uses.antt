@@ -1,4 +1,4 @@
--- Where statements and expressions name, write, and loop over a variable.
+-- Where statements and expressions name, write, and loop over a variable (IEEE 1364-2005, clause 9.6).
 use Rattle.std.specs.Prelude.{ℕ, Bool, false, not, ◌&&◌, ◌||◌, List, codes, if◌then◌else◌}
 use Rattle.std.specs.Str.{bytes_eq}
 use Rattle.vl_flat.specs.Surface as x

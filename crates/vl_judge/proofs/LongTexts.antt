@@ -54,29 +54,23 @@ selects-more xs i y h is =
     ∙ (selects-append (take i xs) (get_or xs i y)
     ∙ ap (λ z. selects_hold_long (selects_before (take i xs) x.NoSelects) || selects_hold_long (selects_before (z ∷ []) x.NoSelects)) (sym is))
 
-first-argument : (z : Argument) (o : x.Args) → args_hold_long true (args_before (z ∷ []) o) ≡ (args_hold_long true (args_before (z ∷ []) x.NoArgs) || args_hold_long true o)
+first-argument : (z : Argument) (o : x.Args) → args_hold_long (args_before (z ∷ []) o) ≡ (args_hold_long (args_before (z ∷ []) x.NoArgs) || args_hold_long o)
 first-argument a.Null o = refl
-first-argument (a.Value e) o = ap (λ b. b || args_hold_long true o) (sym (or-none (holds_long (seen e))))
+first-argument (a.Value e) o = ap (λ b. b || args_hold_long o) (sym (or-none (holds_long (seen e))))
 
-args-append : (xs : List Argument) (y : Argument) → args_hold_long true (args_before (xs ++ y ∷ []) x.NoArgs) ≡ (args_hold_long true (args_before xs x.NoArgs) || args_hold_long true (args_before (y ∷ []) x.NoArgs))
+args-append : (xs : List Argument) (y : Argument) → args_hold_long (args_before (xs ++ y ∷ []) x.NoArgs) ≡ (args_hold_long (args_before xs x.NoArgs) || args_hold_long (args_before (y ∷ []) x.NoArgs))
 args-append [] y = refl
 args-append (z ∷ zs) y =
     first-argument z (args_before (zs ++ y ∷ []) x.NoArgs)
-    ∙ (ap (λ b. args_hold_long true (args_before (z ∷ []) x.NoArgs) || b) (args-append zs y)
-    ∙ (or-more (args_hold_long true (args_before (z ∷ []) x.NoArgs)) (args_hold_long true (args_before zs x.NoArgs)) (args_hold_long true (args_before (y ∷ []) x.NoArgs))
-    ∙ ap (λ b. b || args_hold_long true (args_before (y ∷ []) x.NoArgs)) (sym (first-argument z (args_before zs x.NoArgs)))))
+    ∙ (ap (λ b. args_hold_long (args_before (z ∷ []) x.NoArgs) || b) (args-append zs y)
+    ∙ (or-more (args_hold_long (args_before (z ∷ []) x.NoArgs)) (args_hold_long (args_before zs x.NoArgs)) (args_hold_long (args_before (y ∷ []) x.NoArgs))
+    ∙ ap (λ b. b || args_hold_long (args_before (y ∷ []) x.NoArgs)) (sym (first-argument z (args_before zs x.NoArgs)))))
 
-pub args-more : (xs : List Argument) (i : ℕ) (y : Argument) → i < length xs → y ≡ get_or xs i y → args_hold_long true (args_before (take (i + 1) xs) x.NoArgs) ≡ (args_hold_long true (args_before (take i xs) x.NoArgs) || args_hold_long true (args_before (y ∷ []) x.NoArgs))
+pub args-more : (xs : List Argument) (i : ℕ) (y : Argument) → i < length xs → y ≡ get_or xs i y → args_hold_long (args_before (take (i + 1) xs) x.NoArgs) ≡ (args_hold_long (args_before (take i xs) x.NoArgs) || args_hold_long (args_before (y ∷ []) x.NoArgs))
 args-more xs i y h is =
-    ap (λ z. args_hold_long true (args_before z x.NoArgs)) (take_more xs i y h)
+    ap (λ z. args_hold_long (args_before z x.NoArgs)) (take_more xs i y h)
     ∙ (args-append (take i xs) (get_or xs i y)
-    ∙ ap (λ z. args_hold_long true (args_before (take i xs) x.NoArgs) || args_hold_long true (args_before (z ∷ []) x.NoArgs)) (sym is))
-
--- whether strings stay as they are makes no difference
-pub keeps-alike : (k j : Bool) (as' : x.Args) → args_hold_long k as' ≡ args_hold_long j as'
-keeps-alike k j x.NoArgs = refl
-keeps-alike k j (x.NullArg others) = keeps-alike k j others
-keeps-alike k j (x.MoreArgs e others) = ap (λ b. holds_long e || b) (keeps-alike k j others)
+    ∙ ap (λ z. args_hold_long (args_before (take i xs) x.NoArgs) || args_hold_long (args_before (z ∷ []) x.NoArgs)) (sym is))
 
 pub or-last : (b : Bool) → (b || false) ≡ b
 or-last b = or-none b

@@ -81,7 +81,7 @@ fn selects_hold_long(selects: &[Select]) -> bool
 #[cycle(long)]
 #[tactic(auto, using(crate::proofs::LongTexts::longs))]
 fn argument_holds_long(a: &Argument) -> bool
-    ensures { result ≡ f.args_hold_long true (args_before (a.now ∷ []) x.NoArgs) }
+    ensures { result ≡ f.args_hold_long (args_before (a.now ∷ []) x.NoArgs) }
 {
     match a {
         Argument::Null => false,
@@ -93,7 +93,7 @@ fn argument_holds_long(a: &Argument) -> bool
 #[cycle(long)]
 #[tactic(auto, using(crate::proofs::LongTexts::longs))]
 fn args_hold_long(given: &[Argument]) -> bool
-    ensures { result ≡ f.args_hold_long true (args_before given.now x.NoArgs) }
+    ensures { result ≡ f.args_hold_long (args_before given.now x.NoArgs) }
 {
     let mut all = false;
     for a in given {

@@ -9,7 +9,7 @@ ghost use Rattle.vl_bind.specs.Listed.{of_list};
 ghost use Rattle.vl_constant.specs.Seen.{look, seen_scope};
 
 use crate::checks::node_place;
-use crate::faults::name_faults;
+use crate::faults::{faults, name_faults};
 use crate::nets::are_nets;
 use crate::stops::{construct_if, earlier};
 use vl_base::place::Place;
@@ -103,7 +103,8 @@ fn target_faults_of(best: Option<Stop>, scope: &Scope<'_, '_>, e: &Ex) -> Option
     faults_as_left(own, scope, e)
 }
 
-/// The faults of an output's connection at a place: an output is assigned to nets.
+/// The faults of an output's connection at a place: an output is assigned to nets, and what else it is connected to is
+/// judged as an expression.
 pub fn output_faults(best: Option<Stop>, names: &Names<'_>, at: Place, e: &Ex) -> Option<Stop>
     ensures { result ≡ s.earliest best (k.output_faults (look names.now) at (seen e.now)) }
 {
@@ -111,6 +112,7 @@ pub fn output_faults(best: Option<Stop>, names: &Names<'_>, at: Place, e: &Ex) -
     if are_nets(&scope, e) {
         target_faults_of(best, &scope, e)
     } else {
-        earlier(best, Stop::Construct(at, 13))
+        let first = earlier(best, Stop::Construct(at, 13));
+        faults(first, &scope, e)
     }
 }

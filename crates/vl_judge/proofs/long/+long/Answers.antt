@@ -1,12 +1,11 @@
 use Rattle.std.proofs.Common.{map, ap, ◌∙◌, sym, take, true}
 use Rattle.std.specs.Prelude.{◌||◌}
 use Rattle.vl_flat.specs.Surface as x
-use Rattle.vl_flat.specs.Expressions.{keeps_texts}
 use Rattle.vl_flat.specs.ExpressionFaults.{holds_long, some_hold_long, selects_hold_long, args_hold_long}
 use Rattle.vl_bind.specs.Seen.{seen, selects_before, args_before}
 use Rattle.vl_bind.specs.Listed.{of_list}
 use Rattle.vl_bind.proofs.Walks.{named-seen, joined-seen, called-seen, system-seen, row_exs-hidden}
-use Rattle.vl_judge.proofs.LongTexts.{keeps-alike, exs-more, selects-more, args-more, or-right}
+use Rattle.vl_judge.proofs.LongTexts.{exs-more, selects-more, args-more, or-right}
 use Rattle.vl_judge.proofs.long.+long.Goals as goal
 
 pub holds_long-returns-in-Named : goal.holds_long-returns-in-Named
@@ -37,9 +36,8 @@ holds_long-returns-in-Called t c =
 pub holds_long-returns-in-System : goal.holds_long-returns-in-System
 holds_long-returns-in-System t c =
     c.args_hold_long.ensures
-    ∙ (ap (λ g. args_hold_long true (args_before g x.NoArgs)) c.as_slice-in-System.ensures.value
-    ∙ (keeps-alike true (keeps_texts c.in-System.field-1) (args_before c.in-System.given.items x.NoArgs)
-    ∙ sym (ap holds_long (ap seen c.in-System.is ∙ system-seen c.in-System.field-0 c.in-System.field-1 c.in-System.given))))
+    ∙ (ap (λ g. args_hold_long (args_before g x.NoArgs)) c.as_slice-in-System.ensures.value
+    ∙ sym (ap holds_long (ap seen c.in-System.is ∙ system-seen c.in-System.field-0 c.in-System.field-1 c.in-System.given)))
 
 pub some_hold_long-loop-e-preserved : goal.some_hold_long-loop-e-preserved
 some_hold_long-loop-e-preserved t c =
@@ -59,5 +57,5 @@ pub args_hold_long-loop-a-preserved : goal.args_hold_long-loop-a-preserved
 args_hold_long-loop-a-preserved t c =
     c.either-next.ensures
     ∙ (ap (λ b. b || c.argument_holds_long-found.result) c.loop-a.invariant
-    ∙ (ap (λ b. args_hold_long true (args_before (take c.loop-a.a-index c.args.given.now) x.NoArgs) || b) c.argument_holds_long-found.ensures
+    ∙ (ap (λ b. args_hold_long (args_before (take c.loop-a.a-index c.args.given.now) x.NoArgs) || b) c.argument_holds_long-found.ensures
     ∙ sym (args-more c.args.given.now c.loop-a.a-index c.a-item.result c.loop-a-test.true c.a-item.is)))

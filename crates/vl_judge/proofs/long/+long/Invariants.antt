@@ -1,4 +1,4 @@
-use Rattle.std.proofs.Common.{◌≡◌, map, take, true}
+use Rattle.std.proofs.Common.{◌≡◌, map, take}
 use Rattle.vl_flat.specs.Surface as x
 use Rattle.vl_flat.specs.ExpressionFaults.{some_hold_long, selects_hold_long, args_hold_long}
 use Rattle.vl_bind.specs.Seen.{seen, selects_before, args_before}
@@ -12,4 +12,4 @@ abbrev pub invariant-selects_hold_long-loop-one : goal.invariant-selects_hold_lo
 invariant-selects_hold_long-loop-one l = l.all ≡ selects_hold_long (selects_before (take l.one-index l.selects) x.NoSelects)
 
 abbrev pub invariant-args_hold_long-loop-a : goal.invariant-args_hold_long-loop-a
-invariant-args_hold_long-loop-a l = l.all ≡ args_hold_long true (args_before (take l.a-index l.given) x.NoArgs)
+invariant-args_hold_long-loop-a l = l.all ≡ args_hold_long (args_before (take l.a-index l.given) x.NoArgs)

@@ -1,8 +1,9 @@
-use Rattle.std.proofs.Common.{◌≡◌, true, false, [], ◌∷◌, ap, ◌∙◌, sym}
+use Rattle.std.proofs.Common.{◌≡◌, true, false, ◌∷◌, ap, ◌∙◌, sym}
 use Rattle.std.specs.Prelude.{if◌then◌else◌}
 use Rattle.vl_flat.specs.declared.stop.Stop.TheVariants.{Construct}
 use Rattle.vl_flat.specs.Stops.{earliest}
 use Rattle.vl_flat.specs.Scopes.{plainly}
+use Rattle.vl_flat.specs.ExpressionFaults.{faults}
 use Rattle.vl_flat.specs.Targets.{target_faults}
 use Rattle.vl_flat.specs.Connections.{left_of, are_nets}
 use Rattle.vl_bind.specs.Seen.{seen}
@@ -17,7 +18,7 @@ returns-then-are_nets c =
     let h : are_nets n e ≡ true = sym (c.are_nets.ensures ∙ ap (λ s. are_nets s.names e) c.module_scope-scope.ensures) ∙ c.if-are_nets.true in
     c.target_faults_of.ensures
     ∙ (ap (λ s. earliest c.args.best (target_faults s (left_of e))) c.module_scope-scope.ensures
-    ∙ sym (ap (λ b. earliest c.args.best (if b then target_faults (plainly n) (left_of e) else Construct at 13 ∷ [])) h))
+    ∙ sym (ap (λ b. earliest c.args.best (if b then target_faults (plainly n) (left_of e) else Construct at 13 ∷ faults (plainly n) e)) h))
 
 pub returns-else-are_nets : goal.returns-else-are_nets
 returns-else-are_nets c =
@@ -25,5 +26,7 @@ returns-else-are_nets c =
     let e = seen c.args.e.now in
     let at = c.args.at in
     let h : are_nets n e ≡ false = sym (c.are_nets.ensures ∙ ap (λ s. are_nets s.names e) c.module_scope-scope.ensures) ∙ c.if-are_nets.false in
-    c.earlier.ensures
-    ∙ sym (ap (λ b. earliest c.args.best (if b then target_faults (plainly n) (left_of e) else Construct at 13 ∷ [])) h)
+    c.faults.ensures
+    ∙ (ap (λ s. earliest c.earlier-first.result (faults s e)) c.module_scope-scope.ensures
+    ∙ (ap (λ b. earliest b (faults (plainly n) e)) c.earlier-first.ensures
+    ∙ sym (ap (λ b. earliest c.args.best (if b then target_faults (plainly n) (left_of e) else Construct at 13 ∷ faults (plainly n) e)) h)))

@@ -1,13 +1,9 @@
--- Expressions and arguments without their places are the plain ones.
-use Rattle.std.proofs.Common.{◌≡◌, refl, ap, ◌∙◌, List, [], ◌∷◌, map}
+-- Expressions without their places are the plain ones.
+use Rattle.std.proofs.Common.{◌≡◌, refl, ap, ◌∙◌}
 use Rattle.vl_base.specs.declared.place.Place.{Place}
 use Rattle.vl_design.specs.declared.design.ExprNode as e
-use Rattle.vl_design.specs.declared.design.SysArg.{SysArg}
-use Rattle.vl_design.specs.declared.design.SysArg.TheVariants as a
 use Rattle.vl_design.specs.Syntax as d
-use Rattle.vl_design.specs.Formats.{Value}
 use Rattle.vl_design.specs.Trees as v
-use Rattle.vl_flat.specs.Placed as p
 use Rattle.vl_flat.specs.Plainly as plain
 use Rattle.vl_flat.specs.Seen as seen
 
@@ -34,14 +30,3 @@ mutual
   row-same : {m : _} (row : e.Row_of-Expr m) → v.row_exps row ≡ plain.exps (seen.row_exps row)
   row-same e.end_of-Expr = refl
   row-same (e.more_of-Expr r x rest) = ap (λ z. d.MoreExps z (v.row_exps rest)) (exp-same r x) ∙ ap (d.MoreExps (plain.exp (seen.node_exp r x))) (row-same rest)
-
-pub arg-same : (x : SysArg) (others : p.Args) → v.arg_of x ∷ plain.args others ≡ plain.args (seen.arg x others)
-arg-same a.Null others = refl
-arg-same (a.Str text) others = refl
-arg-same (a.Value' r x) others = ap (λ z. Value z ∷ plain.args others) (exp-same r x)
-
-pub args-same : (xs : List SysArg) → map v.arg_of xs ≡ plain.args (seen.args_of xs)
-args-same [] = refl
-args-same (x ∷ xs) = ap (λ z. v.arg_of x ∷ z) (args-same xs) ∙ arg-same x (seen.args_of xs)
-
-pub ruleset erased = (exp-same, args-same)

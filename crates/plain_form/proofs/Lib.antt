@@ -1,6 +1,7 @@
 pub mod Counting
 pub mod Erased
-pub mod Fine
 pub mod Numbers
+pub mod Plain
+pub mod Sound
 pub mod Tasks
 pub mod Walking

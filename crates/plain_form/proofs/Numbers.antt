@@ -1,6 +1,6 @@
 -- Numbers of 1 to 128 bits.
-use Rattle.std.proofs.Common.{◌≡◌, ◌≤◌, ◌<◌, ◌^◌, ◌*◌, ◌+◌, ℕ, Bool, true, false, refl, arith}
-use Rattle.std.specs.Prelude.{max, nat_le, nat_lt, ◌&&◌, min, ◌==◌}
+use Rattle.std.proofs.Common.{◌≡◌, ◌≤◌, ◌<◌, ◌^◌, ◌+◌, ℕ, Bool, true, refl, arith}
+use Rattle.std.specs.Prelude.{nat_le, nat_lt, ◌&&◌, min, ◌==◌}
 use Rattle.std.proofs.lemmas.Bool.Decides.{nat_tests}
 use Rattle.plain_form.specs.Running.{is_width, is_number}
 
@@ -18,15 +18,6 @@ number-fits v w h k l =
     let below : nat_lt v (2 ^ w) ≡ true = grind (arith, nat_tests) in
     both-true (is_width w) (nat_lt v (2 ^ w)) (is-width w h k) below
 
-pub number-long : (v n : ℕ) → 16 < n → is_number v (8 * max 1 n) ≡ false
-number-long v n h =
-    let past : nat_le (8 * max 1 n) 128 ≡ false = grind (arith, nat_tests) in
-    go (nat_le 1 (8 * max 1 n)) (nat_le (8 * max 1 n) 128) past
-  where
-    go : (a b : Bool) → b ≡ false → ((a && b) && nat_lt v (2 ^ (8 * max 1 n))) ≡ false
-    go true b e = rw e refl
-    go false b e = refl
-
 -- a count that is kept within one past a limit is within it just where the whole is
 pub kept-le : (limit n : ℕ) → nat_le (min (limit + 1) n) limit ≡ nat_le n limit
 kept-le limit n = grind (arith, nat_tests)
@@ -34,4 +25,4 @@ kept-le limit n = grind (arith, nat_tests)
 pub kept-one : (n : ℕ) → (min 2 n == 1) ≡ (n == 1)
 kept-one n = grind (arith, nat_tests)
 
-pub ruleset numbers = (is-width, number-fits, number-long)
+pub ruleset numbers = (is-width, number-fits)

@@ -20,16 +20,16 @@ and-all true = refl
 and-all false = refl
 
 -- one statement more
-pub all-stms : (signals : List Signal) (kind : ProcKind) (path : List ℕ) (a b : Bool) (xs : List Stmt) (i : ℕ) (x : Stmt) → i < length xs → x ≡ get_or xs i x →
-    b ≡ (a && r.is_stm signals kind path (stm_of x)) → (b && r.are_stms signals kind path (stms_of (drop (i + 1) xs))) ≡ (a && r.are_stms signals kind path (stms_of (drop i xs)))
-all-stms signals kind path a b xs i x h e is =
-    ap (λ z. z && r.are_stms signals kind path (stms_of (drop (i + 1) xs))) is
-    ∙ (sym (and-more a (r.is_stm signals kind path (stm_of x)) (r.are_stms signals kind path (stms_of (drop (i + 1) xs))))
-    ∙ ap (λ z. a && r.are_stms signals kind path z) (sym (stms-more xs i x h e)))
+pub all-stms : (signals : List Signal) (kind : ProcKind) (a b : Bool) (xs : List Stmt) (i : ℕ) (x : Stmt) → i < length xs → x ≡ get_or xs i x →
+    b ≡ (a && r.is_stm signals kind (stm_of x)) → (b && r.are_stms signals kind (stms_of (drop (i + 1) xs))) ≡ (a && r.are_stms signals kind (stms_of (drop i xs)))
+all-stms signals kind a b xs i x h e is =
+    ap (λ z. z && r.are_stms signals kind (stms_of (drop (i + 1) xs))) is
+    ∙ (sym (and-more a (r.is_stm signals kind (stm_of x)) (r.are_stms signals kind (stms_of (drop (i + 1) xs))))
+    ∙ ap (λ z. a && r.are_stms signals kind z) (sym (stms-more xs i x h e)))
 
-pub no-stms : (signals : List Signal) (kind : ProcKind) (path : List ℕ) (a : Bool) (xs : List Stmt) (i : ℕ) → length xs ≤ i →
-    (a && r.are_stms signals kind path (stms_of (drop i xs))) ≡ a
-no-stms signals kind path a xs i h = ap (λ ys. a && r.are_stms signals kind path (stms_of ys)) (drop_all i xs h) ∙ and-all a
+pub no-stms : (signals : List Signal) (kind : ProcKind) (a : Bool) (xs : List Stmt) (i : ℕ) → length xs ≤ i →
+    (a && r.are_stms signals kind (stms_of (drop i xs))) ≡ a
+no-stms signals kind a xs i h = ap (λ ys. a && r.are_stms signals kind (stms_of ys)) (drop_all i xs h) ∙ and-all a
 
 -- one item more
 pub all-more : {A B : Type 0} (p : B → Bool) (f : A → B) (a b : Bool) (xs : List A) (i : ℕ) (x : A) → i < length xs → x ≡ get_or xs i x →

@@ -1,23 +1,23 @@
 -- The designs that run: initial blocks, and one block that a clock's rise begins, of few kinds of statements over
 -- variables and nets of 1 to 128 bits (IEEE 1364-2005, clauses 4, 5.1, 9 and 17).
-use Rattle.std.specs.Prelude.{ℕ, ◌+◌, ◌^◌, nat_le, nat_lt, ◌==◌, Bool, true, false, ◌&&◌, if◌then◌else◌, List, [], ◌∷◌, option_map, slice_get, Option, Some}
+use Rattle.std.specs.Prelude.{ℕ, ◌+◌, ◌^◌, nat_le, nat_lt, ◌==◌, Bool, true, false, ◌&&◌, if◌then◌else◌, codes, List, [], ◌∷◌, option_map, slice_get, Option, Some}
 use Rattle.std.specs.List.{list_all, sum_by, count_by}
+use Rattle.std.specs.Str.{bytes_eq}
 use Rattle.vl_base.specs.declared.place.Place.{Place}
 use Rattle.vl_base.specs.declared.bits.BinOp.{BinOp}
 use Rattle.vl_base.specs.declared.bits.BinOp.TheVariants.{Add, Eq}
-use Rattle.vl_base.specs.Display.{LeastDecimal}
 use Rattle.vl_design.specs.declared.design.SigKind.{SigKind}
 use Rattle.vl_design.specs.declared.design.SigKind.TheVariants.{Net, Var, Mem, Clock}
 use Rattle.vl_design.specs.declared.design.ProcKind.{ProcKind}
 use Rattle.vl_design.specs.declared.design.ProcKind.TheVariants.{Init, Rise}
 use Rattle.vl_design.specs.declared.design.Signal.{Signal}
 use Rattle.vl_design.specs.declared.design.Event.{Event}
-use Rattle.vl_design.specs.Syntax.{Exp, Num, Sig, Bin, NoExps, Shown, Task, Print, Finish}
-use Rattle.vl_design.specs.Trees.{task_of, range_width}
+use Rattle.vl_design.specs.Syntax.{Exp, Num, Sig, Bin}
+use Rattle.vl_design.specs.Trees.{range_width}
 use Rattle.vl_design.specs.Queue.{is_init, is_rise}
 use Rattle.vl_flat.specs.Stops.{same_place}
 use Rattle.vl_flat.specs.Placed as p
-use Rattle.vl_flat.specs.Plainly.{exp, args}
+use Rattle.vl_flat.specs.Plainly.{exp}
 
 -- ---- signals (clauses 4.2 and 4.3)
 
@@ -77,11 +77,11 @@ is_name reads (Num v w signed) = is_number v w
 is_name reads (Sig k) = reads k
 is_name reads e = false
 
--- `$display("%0d", NAME)`, and `$finish` without an argument (clauses 17.1 and 17.4.1)
-abbrev pub is_task : (ℕ → Bool) → Task → Bool
-is_task reads (Print (Shown LeastDecimal e ∷ []) true) = is_name reads e
-is_task reads (Finish NoExps) = true
-is_task reads task = false
+-- `$display("%0d", NAME)` and `$finish` (clauses 17.1 and 17.4.1), by their names and arguments
+abbrev pub is_task : (ℕ → Bool) → List ℕ → p.Args → Bool
+is_task reads name (p.TextArg text (p.ValueArg e p.NoArgs)) = bytes_eq name (codes "$display") && (bytes_eq text (codes "%0d") && is_name reads (exp e))
+is_task reads name p.NoArgs = bytes_eq name (codes "$finish")
+is_task reads name given = false
 
 -- a whole variable
 abbrev pub is_target : List Signal → p.Target → Bool
@@ -93,20 +93,20 @@ abbrev pub reads : List Signal → ProcKind → ℕ → Bool
 reads signals kind k = is_readable kind (kind_of signals k)
 
 abbrev mutual
-  -- a statement of a process of this kind, in an instance of this path
-  pub is_stm : List Signal → ProcKind → List ℕ → p.Stm → Bool
-  is_stm signals kind path (p.Nop at) = true
-  is_stm signals kind path (p.Seq at as') = are_stms signals kind path as'
-  is_stm signals kind path (p.If at t a b) = is_exp (reads signals kind) (exp t) && (is_stm signals kind path a && is_stm signals kind path b)
+  -- a statement of a process of this kind
+  pub is_stm : List Signal → ProcKind → p.Stm → Bool
+  is_stm signals kind (p.Nop at) = true
+  is_stm signals kind (p.Seq at as') = are_stms signals kind as'
+  is_stm signals kind (p.If at t a b) = is_exp (reads signals kind) (exp t) && (is_stm signals kind a && is_stm signals kind b)
   -- in initial processes alone
-  is_stm signals kind path (p.Set at t e) = is_init kind && (is_target signals t && is_exp (reads signals kind) (exp e))
-  is_stm signals kind path (p.Later at t e) = is_target signals t && is_exp (reads signals kind) (exp e)
-  is_stm signals kind path (p.Task at name given) = is_task (reads signals kind) (task_of path name (args given))
-  is_stm signals kind path a = false
+  is_stm signals kind (p.Set at t e) = is_init kind && (is_target signals t && is_exp (reads signals kind) (exp e))
+  is_stm signals kind (p.Later at t e) = is_target signals t && is_exp (reads signals kind) (exp e)
+  is_stm signals kind (p.Task at name given) = is_task (reads signals kind) name given
+  is_stm signals kind a = false
 
-  pub are_stms : List Signal → ProcKind → List ℕ → p.Stms → Bool
-  are_stms signals kind path p.NoStms = true
-  are_stms signals kind path (p.MoreStms a as') = is_stm signals kind path a && are_stms signals kind path as'
+  pub are_stms : List Signal → ProcKind → p.Stms → Bool
+  are_stms signals kind p.NoStms = true
+  are_stms signals kind (p.MoreStms a as') = is_stm signals kind a && are_stms signals kind as'
 
 -- ---- processes (clauses 9.7 and 9.9)
 
@@ -122,7 +122,7 @@ is_begun signals Rise events = is_posedge signals events
 is_begun signals kind events = false
 
 abbrev pub is_process : List Signal → p.Process → Bool
-is_process signals a = is_begun signals a.kind a.events && is_stm signals a.kind a.path a.body
+is_process signals a = is_begun signals a.kind a.events && is_stm signals a.kind a.body
 
 -- ---- limits
 

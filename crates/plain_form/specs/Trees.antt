@@ -1,14 +1,9 @@
--- Lists of the program's statements as placed ones, and a test. Contracts of private functions and proofs cite them.
-use Rattle.std.specs.Prelude.{Bool, true, false, List, [], ◌∷◌}
+-- Lists of the program's statements as placed ones. Proofs cite them.
+use Rattle.std.specs.Prelude.{List, [], ◌∷◌}
 use Rattle.vl_design.specs.declared.design.Stmt.{Stmt}
-use Rattle.vl_design.specs.Syntax.{Exps, NoExps, MoreExps}
 use Rattle.vl_flat.specs.Placed as p
 use Rattle.vl_flat.specs.Seen.{stm_of}
 
 abbrev pub stms_of : List Stmt → p.Stms
 stms_of [] = p.NoStms
 stms_of (x ∷ xs) = p.MoreStms (stm_of x) (stms_of xs)
-
-abbrev pub is_no_exps : Exps → Bool
-is_no_exps NoExps = true
-is_no_exps (MoreExps e es) = false

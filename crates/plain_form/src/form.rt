@@ -10,7 +10,7 @@ ghost use Rattle.plain_run.specs.Plain.{IsPlain};
 ghost use Rattle.plain_form.specs.Running as r;
 
 use crate::counts::{with_nodes, with_statements};
-use crate::names::{both, is_clock};
+use crate::names::is_clock;
 use crate::statements::is_stm;
 use vl_design::design::{Design, Event, ProcKind, Process, SigKind, Signal};
 
@@ -31,9 +31,7 @@ fn are_signals(signals: &[Signal]) -> bool
 {
     let mut all = true;
     for signal in signals {
-        let one = is_signal(signal);
-        let next = both(all, one);
-        all = next;
+        all &= is_signal(signal);
     }
     all
 }
@@ -45,7 +43,7 @@ fn is_posedge(signals: &[Signal], events: &[Event]) -> bool
     match events {
         [event] => {
             let clock = is_clock(signals, event.signal);
-            both(event.edge == 1, clock)
+            (event.edge == 1) & clock
         }
         _ => false,
     }
@@ -68,7 +66,7 @@ fn is_process(signals: &[Signal], process: &Process) -> bool
 {
     let begun = is_begun(signals, process.kind, process.events.as_slice());
     let body = is_stm(signals, process.kind, &process.body);
-    both(begun, body)
+    begun & body
 }
 
 /// Whether all processes are such.
@@ -77,9 +75,7 @@ fn are_processes(signals: &[Signal], processes: &[Process]) -> bool
 {
     let mut all = true;
     for process in processes {
-        let one = is_process(signals, process);
-        let next = both(all, one);
-        all = next;
+        all &= is_process(signals, process);
     }
     all
 }
@@ -160,12 +156,9 @@ fn is_running(design: &Design) -> bool
     let signals = design.signals.as_slice();
     let processes = design.processes.as_slice();
     let no_functions = design.funcs.as_slice().is_empty();
-    let few = both(has_few_statements(processes), has_few_nodes(processes));
-    let forms = both(
-        are_processes(signals, processes),
-        both(has_one_clocked(processes), few),
-    );
-    both(no_functions, both(are_signals(signals), forms))
+    let few = has_few_statements(processes) & has_few_nodes(processes);
+    let forms = are_signals(signals) & are_processes(signals, processes);
+    no_functions & forms & has_one_clocked(processes) & few
 }
 
 /// Whether a design is of the forms that run: it has no function and no memory, each signal has from 1 to 128 bits, one
@@ -173,7 +166,7 @@ fn is_running(design: &Design) -> bool
 /// are at most 100,000 statements and 1,000,000 nodes of expressions.
 pub fn runs(design: &Design) -> bool
     ensures same { result ≡ r.is_running (placed design.now) }
-    ensures plain { result ≡ true → IsPlain (flat_of design.now) }
+    ensures plain { result ≡ true → IsPlain design.now }
     ensures sound { result ≡ true → IsSound (flat_of design.now) }
 {
     is_running(design)

@@ -1,51 +1,27 @@
 //! Statements of the forms that run.
 
-ghost use Rattle.std.specs.Prelude.{◌≡◌, ◌&&◌, ℕ, List, map, true};
-ghost use Rattle.vl_design.specs.Syntax.{Print};
-ghost use Rattle.vl_design.specs.Formats.{pieces_from};
+ghost use Rattle.std.specs.Prelude.{◌≡◌};
 ghost use Rattle.vl_design.specs.Queue as q;
-ghost use Rattle.vl_design.specs.Trees.{task_of, arg_of, finish_of};
-ghost use Rattle.plain_form.specs.Trees.{is_no_exps};
-ghost use Rattle.vl_flat.specs.Plainly.{args};
 ghost use Rattle.vl_flat.specs.Seen.{args_of, stm_of};
 ghost use Rattle.plain_form.specs.Running as r;
 
-use crate::names::{both, is_exp, is_target, shows_name_at};
-use plain_run::shown::sole_place;
+use crate::names::{is_exp, is_name, is_target};
 use vl_design::design::{ProcKind, Signal, Stmt, StmtNode, SysArg, SysCall};
 
-/// Whether no argument has a value.
-fn have_no_value(args: &[SysArg]) -> bool
-    ensures { result ≡ is_no_exps (finish_of (map arg_of args.now)) }
-{
-    for arg in args {
-        if let SysArg::Value(_) = arg {
-            return false;
-        }
-    }
-    true
-}
-
-/// Whether a display shows one name by `%0d` and nothing else.
-fn shows_one(signals: &[Signal], kind: ProcKind, args: &[SysArg]) -> bool
-    ensures { (path : List ℕ) → result ≡ r.is_task (r.reads signals.now kind) (Print (pieces_from path 0 (map arg_of args.now)) true) }
-{
-    match sole_place(args) {
-        Some(place) => shows_name_at(signals, kind, args, place),
-        None => false,
-    }
-}
-
-/// Whether a call of a system task is of the forms that run.
+/// Whether a call of a system task is `$display("%0d", NAME)` or `$finish`.
+#[tactic(auto, using(crate::proofs::Tasks::task_rules))]
 fn is_task(signals: &[Signal], kind: ProcKind, call: &SysCall) -> bool
-    ensures { (path : List ℕ) → result ≡ r.is_task (r.reads signals.now kind) (task_of path call.now.name (args (args_of call.now.args.items))) }
+    ensures { result ≡ r.is_task (r.reads signals.now kind) call.now.name (args_of call.now.args.items) }
 {
-    if call.name.as_slice() == b"$display".as_slice() {
-        shows_one(signals, kind, &call.args)
-    } else if call.name.as_slice() == b"$finish".as_slice() {
-        have_no_value(&call.args)
-    } else {
-        false
+    let name = call.name.as_slice();
+    match call.args.as_slice() {
+        [SysArg::Str(text), SysArg::Value(e)] => {
+            let is_display = name == b"$display".as_slice();
+            let is_decimal = text.as_slice() == b"%0d".as_slice();
+            is_display & is_decimal & is_name(signals, kind, e)
+        }
+        [] => name == b"$finish".as_slice(),
+        _ => false,
     }
 }
 
@@ -58,33 +34,31 @@ fn is_init(kind: ProcKind) -> bool
 
 /// Whether a statement of a process of a kind is of the forms that run.
 pub fn is_stm(signals: &[Signal], kind: ProcKind, s: &Stmt) -> bool
-    ensures { (path : List ℕ) → result ≡ r.is_stm signals.now kind path (stm_of s.now) }
+    ensures { result ≡ r.is_stm signals.now kind (stm_of s.now) }
 {
     match &s.node {
         StmtNode::Nop => true,
         StmtNode::Seq(list) => {
             let mut all = true;
             for item in list {
-                let one = is_stm(signals, kind, item);
-                let next = both(all, one);
-                all = next;
+                all &= is_stm(signals, kind, item);
             }
             all
         }
         StmtNode::If(test, first, second) => {
             let a = is_stm(signals, kind, first);
             let b = is_stm(signals, kind, second);
-            both(is_exp(signals, kind, test), both(a, b))
+            is_exp(signals, kind, test) & a & b
         }
         StmtNode::Set(target, e) => {
             let at = is_target(signals, target);
             let of = is_exp(signals, kind, e);
-            both(is_init(kind), both(at, of))
+            is_init(kind) & at & of
         }
         StmtNode::Later(target, e) => {
             let at = is_target(signals, target);
             let of = is_exp(signals, kind, e);
-            both(at, of)
+            at & of
         }
         StmtNode::Sys(call) => is_task(signals, kind, call),
         _ => false,

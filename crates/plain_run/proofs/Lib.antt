@@ -1,7 +1,6 @@
-pub mod ByteNumbers
 pub mod Doing
+pub mod Listed
 pub mod Sampling
-pub mod Scanning
 pub mod Shows
 pub mod Uncalled
 pub mod Updates

@@ -7,6 +7,7 @@ use Rattle.std.proofs.Math.ListN.{get_or-map}
 use Rattle.std.proofs.lemmas.Bool.{ltb-true, ltb-false, le-leb}
 use Rattle.std.proofs.lemmas.Bool.Decides.{nat_tests}
 use Rattle.std.proofs.lemmas.List.Elements.{recursion_from_All}
+use Rattle.vl_design.specs.declared.design.Design.{Design}
 use Rattle.vl_design.specs.declared.design.Process.{Process}
 use Rattle.vl_design.specs.declared.design.ProcKind.{ProcKind}
 use Rattle.vl_design.specs.declared.design.ProcKind.TheVariants.{Init, Rise}
@@ -18,7 +19,7 @@ use Rattle.vl_design.specs.Functions.{scope_of}
 use Rattle.vl_design.specs.Queue.{Queue, Phase, Wave, Ended, Updated, next, woken, first_pending, with_updates, is_comb, is_fall}
 use Rattle.vl_design.specs.Alone.{Settles, rests, goes, Boundary, begun, ticked, start, risen, blocks, all_comb, reason_at}
 use Rattle.vl_design.specs.Sound.{IsSound, IsSoundStm}
-use Rattle.vl_design.specs.Trees.{stm_of, proc_of}
+use Rattle.vl_design.specs.Trees.{stm_of, proc_of, flat_of}
 use Rattle.vl_design.proofs.Settling.{boundary_once}
 use Rattle.plain_run.specs.declared.machine.Machine.{Machine}
 use Rattle.vl_design.specs.Plain.{alone, plain_scope}
@@ -27,6 +28,25 @@ use Rattle.plain_run.specs.Machines.{state_of, Does}
 use Rattle.plain_run.specs.Runs.{queue_of, wave_of, Reaches, RunsWave, IsQuiet, SettlesAs, StandsAt, GoesOn}
 
 -- ---- plain designs have no pending processes, no waves of the fall, and no functions
+
+-- only initial blocks and blocks of the clock's rise
+abbrev pub AreBegun : List Proc → Type 0
+AreBegun ps = AllByRecursion (λ p. IsPlainProcKind p.kind) ps
+
+-- of such blocks, and without functions
+pub record IsClocked (d : Flat) : Type 0 where
+  pub procs : AreBegun d.procs
+  pub funs : d.funs ≡ []
+
+procs-begun : (ps : List Process) → AllByRecursion IsPlainProc ps → AreBegun (map proc_of ps)
+procs-begun [] h = tt
+procs-begun (p ∷ ps) h = (h.0.kind, procs-begun ps h.1)
+
+pub clocked : (x : Design) → IsPlain x → IsClocked (flat_of x)
+clocked x p = record {
+  procs = procs-begun x.processes (recursion_from_All IsPlainProc x.processes p.processes);
+  funs = rw (p.funcs) refl;
+}
 
 not-comb : (k : ProcKind) → IsPlainProcKind k → is_comb k ≡ false
 not-comb Init h = refl
@@ -38,22 +58,19 @@ not-fall Init h = refl
 not-fall Rise h = refl
 not-fall k h = absurd h
 
-woken-none : (t : ℕ → Bool) (ps : List Proc) → AllByRecursion IsPlainProc ps → woken t ps (all_comb ps) ≡ all_comb ps
+woken-none : (t : ℕ → Bool) (ps : List Proc) → AreBegun ps → woken t ps (all_comb ps) ≡ all_comb ps
 woken-none t [] h = refl
-woken-none t (p ∷ ps) h = rw (not-comb p.kind h.0.kind, woken-none t ps h.1) refl
+woken-none t (p ∷ ps) h = rw (not-comb p.kind h.0, woken-none t ps h.1) refl
 
-first-none : (ps : List Proc) → AllByRecursion IsPlainProc ps → first_pending ps (all_comb ps) ≡ None
+first-none : (ps : List Proc) → AreBegun ps → first_pending ps (all_comb ps) ≡ None
 first-none [] h = refl
-first-none (p ∷ ps) h = rw (not-comb p.kind h.0.kind) (first-none ps h.1)
+first-none (p ∷ ps) h = rw (not-comb p.kind h.0) (first-none ps h.1)
 
-falls-none : (ps : List Proc) → AllByRecursion IsPlainProc ps → blocks is_fall ps ≡ []
+falls-none : (ps : List Proc) → AreBegun ps → blocks is_fall ps ≡ []
 falls-none [] h = refl
-falls-none (p ∷ ps) h = rw (not-fall p.kind h.0.kind) (falls-none ps h.1)
+falls-none (p ∷ ps) h = rw (not-fall p.kind h.0) (falls-none ps h.1)
 
-plain-procs : (d : Flat) → IsPlain d → AllByRecursion IsPlainProc d.procs
-plain-procs d p = recursion_from_All IsPlainProc d.procs p.procs
-
-pub scope-plain : (d : Flat) → IsPlain d → scope_of d [] ≡ plain_scope d.rows
+scope-plain : (d : Flat) → IsClocked d → scope_of d [] ≡ plain_scope d.rows
 scope-plain d p = rw (p.funs) refl
 
 -- ---- one event
@@ -62,22 +79,22 @@ scope-plain d p = rw (p.funs) refl
 abbrev calm : Flat → Phase → State → Queue
 calm d phase s = record { state = s; phase = phase; ahead = []; pending = all_comb d.procs }
 
-next-block : (d : Flat) (b : Stm) (bs : List Stm) (s : State) → IsPlain d → s.finished ≡ false → next d [] (calm d (Wave (b ∷ bs)) s) ≡ Some (calm d (Wave bs) (exec (plain_scope d.rows) b s))
-next-block d b bs s p f = rw (f, woken-none _ d.procs (plain-procs d p), scope-plain d p) refl
+next-block : (d : Flat) (b : Stm) (bs : List Stm) (s : State) → IsClocked d → s.finished ≡ false → next d [] (calm d (Wave (b ∷ bs)) s) ≡ Some (calm d (Wave bs) (exec (plain_scope d.rows) b s))
+next-block d b bs s p f = rw (f, woken-none _ d.procs (p.procs), scope-plain d p) refl
 
 next-end : (d : Flat) (s : State) → s.finished ≡ false → next d [] (calm d (Wave []) s) ≡ Some (calm d Ended (counted s))
 next-end d s f = rw f refl
 
-next-update : (d : Flat) (s : State) → IsPlain d → s.finished ≡ false → next d [] (calm d Ended s) ≡ Some (calm d Updated (counted (with_updates d.rows s)))
-next-update d s p f = rw (f, first-none d.procs (plain-procs d p), woken-none _ d.procs (plain-procs d p)) refl
+next-update : (d : Flat) (s : State) → IsClocked d → s.finished ≡ false → next d [] (calm d Ended s) ≡ Some (calm d Updated (counted (with_updates d.rows s)))
+next-update d s p f = rw (f, first-none d.procs (p.procs), woken-none _ d.procs (p.procs)) refl
 
-next-none : (d : Flat) (s : State) → IsPlain d → s.finished ≡ false → next d [] (calm d Updated s) ≡ None
-next-none d s p f = rw (f, first-none d.procs (plain-procs d p)) refl
+next-none : (d : Flat) (s : State) → IsClocked d → s.finished ≡ false → next d [] (calm d Updated s) ≡ None
+next-none d s p f = rw (f, first-none d.procs (p.procs)) refl
 
 finished-none : (d : Flat) (q : Queue) → q.state.finished ≡ true → next d [] q ≡ None
 finished-none d q f = rw f refl
 
-calm-settles : (d : Flat) (s : State) → IsPlain d → s.finished ≡ false → Settles d [] (calm d (Wave []) s) (calm d Updated (counted (with_updates d.rows (counted s))))
+calm-settles : (d : Flat) (s : State) → IsClocked d → s.finished ≡ false → Settles d [] (calm d (Wave []) s) (calm d Updated (counted (with_updates d.rows (counted s))))
 calm-settles d s p f = goes (next-end d s f) (goes (next-update d (counted s) p f) (rests (next-none d _ p f)))
 
 -- ---- waves
@@ -85,7 +102,7 @@ calm-settles d s p f = goes (next-end d s f) (goes (next-update d (counted s) p 
 pub reaches-here : (d : Flat) (bs : List Stm) (m : Machine) → Reaches d bs m bs m
 reaches-here d bs m = record { leads = λ c. (c, λ q h. h) }
 
-pub reaches-more : (d : Flat) (from : List Stm) (m : Machine) (b : Stm) (bs : List Stm) (n n' : Machine) → IsPlain d → n.finished ≡ false → Reaches d from m (b ∷ bs) n → Does d.rows b n n' → Reaches d from m bs n'
+pub reaches-more : (d : Flat) (from : List Stm) (m : Machine) (b : Stm) (bs : List Stm) (n n' : Machine) → IsClocked d → n.finished ≡ false → Reaches d from m (b ∷ bs) n → Does d.rows b n n' → Reaches d from m bs n'
 reaches-more d from m b bs n n' p f h does = record {
   leads = λ c.
       let x = h.leads c in
@@ -105,12 +122,7 @@ blocks-taken p x xs h = rw h refl
 blocks-passed : (p : ProcKind → Bool) (x : Proc) (xs : List Proc) → p x.kind ≡ false → blocks p (x ∷ xs) ≡ blocks p xs
 blocks-passed p x xs h = rw h refl
 
-pub plain-at : (xs : List Process) (i : ℕ) (x : Process) → All IsPlainProc (map proc_of xs) → i < length xs → x ≡ get_or xs i x → IsPlainProc (proc_of x)
-plain-at xs i x all h e =
-    let there : i < length (map proc_of xs) = omega (arith, length-map xs proc_of) in
-    subst IsPlainProc (get_or-map proc_of xs i x ∙ ap proc_of (sym e)) (all i (proc_of x) there)
-
-pub sound-at : (d : Flat) (xs : List Process) (i : ℕ) (x : Process) → IsPlain d → IsSound d → d.procs ≡ map proc_of xs → i < length xs → x ≡ get_or xs i x → IsSoundStm (plain_scope d.rows) (stm_of x.path x.body)
+pub sound-at : (d : Flat) (xs : List Process) (i : ℕ) (x : Process) → IsClocked d → IsSound d → d.procs ≡ map proc_of xs → i < length xs → x ≡ get_or xs i x → IsSoundStm (plain_scope d.rows) (stm_of x.path x.body)
 sound-at d xs i x p s g h e =
     let all : All (λ y. IsSoundStm (plain_scope d.rows) y.body) (map proc_of xs) = rw (← g, ← scope-plain d p) s.procs in
     let there : i < length (map proc_of xs) = omega (arith, length-map xs proc_of) in
@@ -123,14 +135,14 @@ wave-passed d t xs i x from m n h e f l =
     subst (λ (w : List Stm). Reaches d from m w n) same l
 
 -- one that belongs to it is run
-pub wave-run : (d : Flat) (t : ProcKind → Bool) (xs : List Process) (i : ℕ) (x : Process) (from : List Stm) (m n n' : Machine) → IsPlain d → n.finished ≡ false → i < length xs → x ≡ get_or xs i x → t x.kind ≡ true → Reaches d from m (blocks t (map proc_of (drop i xs))) n → Does d.rows (stm_of x.path x.body) n n' → Reaches d from m (blocks t (map proc_of (drop (i + 1) xs))) n'
+pub wave-run : (d : Flat) (t : ProcKind → Bool) (xs : List Process) (i : ℕ) (x : Process) (from : List Stm) (m n n' : Machine) → IsClocked d → n.finished ≡ false → i < length xs → x ≡ get_or xs i x → t x.kind ≡ true → Reaches d from m (blocks t (map proc_of (drop i xs))) n → Does d.rows (stm_of x.path x.body) n n' → Reaches d from m (blocks t (map proc_of (drop (i + 1) xs))) n'
 wave-run d t xs i x from m n n' p go h e is l does =
     let same = blocks-more t xs i x h e ∙ blocks-taken t (proc_of x) (map proc_of (drop (i + 1) xs)) is in
     let here = subst (λ (w : List Stm). Reaches d from m w n) same l in
     reaches-more d from m _ _ n n' p go here does
 
 -- a wave that is over settles with the updates made
-pub settles-updated : (d : Flat) (from : List Stm) (m n n' : Machine) → IsPlain d → n.finished ≡ false → RunsWave d from m n → ((c : ℕ) → with_updates d.rows (state_of d.rows n c) ≡ state_of d.rows n' c) → SettlesAs d from m n'
+pub settles-updated : (d : Flat) (from : List Stm) (m n n' : Machine) → IsClocked d → n.finished ≡ false → RunsWave d from m n → ((c : ℕ) → with_updates d.rows (state_of d.rows n c) ≡ state_of d.rows n' c) → SettlesAs d from m n'
 settles-updated d from m n n' p f w u = record {
   leads = λ c.
       let x = w.reaches.leads c in
@@ -153,10 +165,10 @@ settles-finished d from m n f w = record {
 -- ---- boundaries
 
 -- the clock rises
-rises : (d : Flat) (m : Machine) (c : ℕ) → IsPlain d → m.finished ≡ false → risen d (queue_of d Updated m c) ≡ queue_of d (Wave (wave_of d Rise)) (record m { ticks = m.ticks + 1 }) c
-rises d m c p f = rw (f, falls-none d.procs (plain-procs d p)) refl
+rises : (d : Flat) (m : Machine) (c : ℕ) → IsClocked d → m.finished ≡ false → risen d (queue_of d Updated m c) ≡ queue_of d (Wave (wave_of d Rise)) (record m { ticks = m.ticks + 1 }) c
+rises d m c p f = rw (f, falls-none d.procs (p.procs)) refl
 
-pub ticked-once : (d : Flat) (budget k : ℕ) (m n : Machine) → IsPlain d → m.finished ≡ false → SettlesAs d (wave_of d Rise) (record m { ticks = m.ticks + 1 }) n → StandsAt d budget k m → StandsAt d budget (suc k) n
+pub ticked-once : (d : Flat) (budget k : ℕ) (m n : Machine) → IsClocked d → m.finished ≡ false → SettlesAs d (wave_of d Rise) (record m { ticks = m.ticks + 1 }) n → StandsAt d budget k m → StandsAt d budget (suc k) n
 ticked-once d budget k m n p f h (q, b, quiet) =
     let x = h.leads quiet.count in
     let up : risen d q ≡ queue_of d (Wave (wave_of d Rise)) (record m { ticks = m.ticks + 1 }) quiet.count = ap (risen d) (quiet.quiet f) ∙ rises d m quiet.count p f in

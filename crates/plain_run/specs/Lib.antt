@@ -2,5 +2,3 @@ pub mod Machines
 pub mod Plain
 pub mod Reading
 pub mod Runs
-pub mod Scans
-pub mod Shown

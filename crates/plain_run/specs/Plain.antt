@@ -1,12 +1,18 @@
--- Designs of the plain forms that the runner takes: one clock whose rises run blocks, signals of one word, and few
--- statements.
-use Rattle.std.specs.Prelude.{◌≡◌, true, List, [], ◌∷◌, ⊤, All}
+-- Designs of the plain forms that the runner takes (IEEE 1364-2005): one clock whose rises run blocks, signals of one
+-- word, and few statements.
+use Rattle.std.specs.Prelude.{◌≡◌, ℕ, List, [], ◌∷◌, ⊤, All, codes}
 use Rattle.vl_base.specs.declared.bits.BinOp.{BinOp}
 use Rattle.vl_base.specs.declared.bits.BinOp.TheVariants.{Add, Eq}
-use Rattle.vl_base.specs.Display.{LeastDecimal}
 use Rattle.vl_design.specs.declared.design.ProcKind.{ProcKind}
 use Rattle.vl_design.specs.declared.design.ProcKind.TheVariants.{Init, Rise}
-use Rattle.vl_design.specs.Syntax.{Exp, Num, Sig, Bin, Target, Whole, Piece, Shown, Task, Print, Finish, Stm, Nop, Then, If, Set, Later, Sys, Row, Proc, Flat}
+use Rattle.vl_design.specs.declared.design.Design.{Design}
+use Rattle.vl_design.specs.declared.design.Process.{Process}
+use Rattle.vl_design.specs.declared.design.Stmt.{Stmt}
+use Rattle.vl_design.specs.declared.design.StmtNode as s
+use Rattle.vl_design.specs.declared.design.SysArg.{SysArg}
+use Rattle.vl_design.specs.declared.design.SysArg.TheVariants as a
+use Rattle.vl_design.specs.Syntax.{Exp, Num, Sig, Bin, Target, Whole}
+use Rattle.vl_design.specs.Trees.{node_exp, exp_of, target_of}
 use Rattle.vl_design.specs.Sound.{HasValue}
 
 -- sums and comparisons for equality
@@ -15,7 +21,7 @@ IsPlainOp Add = ⊤
 IsPlainOp Eq = ⊤
 IsPlainOp op = ⊥
 
--- numbers, signals, sums and comparisons
+-- numbers, signals, sums and comparisons (clause 5)
 abbrev pub IsPlainExp : Exp → Type 0
 IsPlainExp (Num v w signed) = ⊤
 IsPlainExp (Sig k) = ⊤
@@ -27,43 +33,42 @@ abbrev pub IsPlainTarget : Target → Type 0
 IsPlainTarget (Whole k) = ⊤
 IsPlainTarget t = ⊥
 
--- one `%0d` of a plain expression
-abbrev pub ArePlainPieces : List Piece → Type 0
-ArePlainPieces (Shown LeastDecimal e ∷ []) = IsPlainExp e
-ArePlainPieces pieces = ⊥
+-- `$display("%0d", x)` and `$finish` (clauses 17.1 and 17.4.1), by their names and arguments
+abbrev pub IsPlainTask : List ℕ → List SysArg → Type 0
+IsPlainTask name (a.Str text ∷ a.Value' _ x ∷ []) = (name ≡ codes "$display") × (text ≡ codes "%0d") × IsPlainExp (node_exp x)
+IsPlainTask name [] = name ≡ codes "$finish"
+IsPlainTask name args = ⊥
 
--- `$display` and `$finish`
-abbrev pub IsPlainTask : Task → Type 0
-IsPlainTask (Print pieces newline) = ArePlainPieces pieces × (newline ≡ true)
-IsPlainTask (Finish es) = ⊤
-IsPlainTask task = ⊥
+abbrev mutual
+  -- sequences, choices, assignments of whole variables, and those tasks (clause 9)
+  pub IsPlainNode : s.StmtNode → Type 0
+  IsPlainNode s.Nop = ⊤
+  IsPlainNode (s.Seq' _ row) = ArePlainNodes row
+  IsPlainNode (s.If' test _ _ a _ _ b) = IsPlainExp (exp_of test) × IsPlainNode a × IsPlainNode b
+  IsPlainNode (s.Set target source) = IsPlainTarget (target_of target) × IsPlainExp (exp_of source)
+  IsPlainNode (s.Later target source) = IsPlainTarget (target_of target) × IsPlainExp (exp_of source)
+  IsPlainNode (s.Sys call) = IsPlainTask call.name call.args.items
+  IsPlainNode node = ⊥
 
--- sequences, choices, assignments of whole variables, and those tasks
-abbrev pub IsPlainStm : Stm → Type 0
-IsPlainStm Nop = ⊤
-IsPlainStm (Then a b) = IsPlainStm a × IsPlainStm b
-IsPlainStm (If t a b) = IsPlainExp t × IsPlainStm a × IsPlainStm b
-IsPlainStm (Set t e) = IsPlainTarget t × IsPlainExp e
-IsPlainStm (Later t e) = IsPlainTarget t × IsPlainExp e
-IsPlainStm (Sys task) = IsPlainTask task
-IsPlainStm a = ⊥
+  pub ArePlainNodes : {m : _} → s.Row_of-Stmt m → Type 0
+  ArePlainNodes s.end_of-Stmt = ⊤
+  ArePlainNodes (s.more_of-Stmt _ x rest) = IsPlainNode x × ArePlainNodes rest
 
--- a signal of one word that is no memory: a variable, the clock, or a net, which stays 0 where nothing drives it
-pub record IsPlainRow (r : Row) : Type 0 where
-  pub kind : HasValue r.kind
-  pub words : r.words ≡ 1
+abbrev pub IsPlainStm : Stmt → Type 0
+IsPlainStm x = IsPlainNode x.node
 
--- initial blocks, and those that wait for the clock's rise
+-- initial blocks, and those that wait for the clock's rise (clause 9.9)
 abbrev pub IsPlainProcKind : ProcKind → Type 0
 IsPlainProcKind Init = ⊤
 IsPlainProcKind Rise = ⊤
 IsPlainProcKind kind = ⊥
 
-pub record IsPlainProc (p : Proc) : Type 0 where
+pub record IsPlainProc (p : Process) : Type 0 where
   pub kind : IsPlainProcKind p.kind
   pub body : IsPlainStm p.body
 
-pub record IsPlain (d : Flat) : Type 0 where
-  pub rows : All IsPlainRow d.rows
-  pub funs : d.funs ≡ []
-  pub procs : All IsPlainProc d.procs
+pub record IsPlain (d : Design) : Type 0 where
+  -- no memory: variables, the clock, and nets, which stay 0 where nothing drives them
+  pub signals : All (λ s. HasValue s.kind) d.signals
+  pub funcs : d.funcs ≡ []
+  pub processes : All IsPlainProc d.processes

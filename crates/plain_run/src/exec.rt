@@ -1,26 +1,19 @@
 //! What statements do.
 
-ghost use Rattle.std.specs.Prelude.{◌≡◌, ◌<◌, ◌≤◌, ◌++◌, ◌∷◌, [], ◌^◌, ◌%◌, map, length, OnOk, IfOk, codes, List, ℕ, ◌+◌, All, true, false};
+ghost use Rattle.std.specs.Prelude.{◌≡◌, ◌<◌, ◌++◌, ◌∷◌, [], ◌+◌, ◌^◌, map, OnOk, true};
 ghost use Rattle.vl_base.specs.Display.{item_text, LeastDecimal};
-ghost use Rattle.vl_base.specs.Value as a;
 ghost use Rattle.vl_design.specs.Syntax as y;
 ghost use Rattle.vl_design.specs.Trees.{exp_of, stm_of, row_of, target_of, arg_of, task_of};
-ghost use Rattle.vl_design.specs.Sound.{IsSoundTarget, IsSoundExp, IsSoundStm, IsSoundTask};
-ghost use Rattle.vl_design.specs.Width as w;
+ghost use Rattle.vl_design.specs.Sound.{IsSoundTarget, IsSoundStm, IsSoundTask};
 ghost use Rattle.vl_design.specs.Targets as t;
-ghost use Rattle.vl_design.specs.Formats.{operand};
 ghost use Rattle.vl_design.specs.Tasks.{display_text};
 ghost use Rattle.vl_design.specs.Plain.{plain_scope};
 ghost use Rattle.plain_run.specs.Plain.{IsPlainTarget, IsPlainStm, IsPlainTask};
 ghost use Rattle.plain_run.specs.Reading.{sample_of, HaveRange, IsUsable};
 ghost use Rattle.plain_run.specs.Machines.{update_of, IsUpdate, IsMachine, Does};
-ghost use Rattle.vl_design.specs.Value as v;
-ghost use Rattle.plain_run.specs.Shown.{shown_at};
 
 use crate::eval::{eval, form_of, own_value, signal_form};
 use crate::machine::{Machine, Update};
-use crate::shown::sole_place;
-use crate::texts::text_bits;
 use std::alloc::{AllocError, Global};
 use vl_base::bits::{Bits, resize};
 use vl_design::design::{Expr, Form, Signal, Stmt, StmtNode, SysArg, SysCall, Target, TargetNode};
@@ -56,84 +49,26 @@ fn negated(value: Bits) -> u128
     }
 }
 
-/// A value and its sign.
-#[derive(Clone, Copy)]
-struct Shown {
-    /// The value.
-    bits: Bits,
-    /// It is signed.
-    signed: bool,
-}
-
-/// One bit, which is 0.
-fn zero() -> Shown
-    ensures value { result.bits.value ≡ 0 }
-    ensures width { result.bits.width ≡ 1 }
-    ensures signed { result.signed ≡ false }
-{
-    Shown {
-        bits: Bits { value: 0, width: 1 },
-        signed: false,
-    }
-}
-
-/// The value of an argument: of an expression or a string, or 0 where it is a null one.
-fn argument_value(signals: &[Signal], values: &[u128], arg: &SysArg) -> Shown
-    requires usable { IsUsable (map row_of signals.now) (operand (arg_of arg.now ∷ [])) }
-    requires values { HaveRange (map row_of signals.now) values.now }
-    ensures value { result.bits.value ≡ v.own_value (plain_scope (map row_of signals.now)) (sample_of values.now) (operand (arg_of arg.now ∷ [])) }
-    ensures width { result.bits.width ≡ (w.form (plain_scope (map row_of signals.now)) (operand (arg_of arg.now ∷ []))).width }
-    ensures signed { result.signed ≡ (w.form (plain_scope (map row_of signals.now)) (operand (arg_of arg.now ∷ []))).signed }
-{
-    match arg {
-        SysArg::Value(e) => Shown {
-            bits: own_value(signals, values, e),
-            signed: form_of(signals, e).signed,
-        },
-        SysArg::Str(text) => Shown {
-            bits: text_bits(text.as_slice()),
-            signed: false,
-        },
-        SysArg::Null => zero(),
-    }
-}
-
-/// The value of the argument of a place; 0 where there is none.
-fn shown_value(signals: &[Signal], values: &[u128], args: &[SysArg], place: usize) -> Shown
-    requires usable { IsUsable (map row_of signals.now) (shown_at place (map arg_of args.now)) }
-    requires values { HaveRange (map row_of signals.now) values.now }
-    ensures value { result.bits.value ≡ v.own_value (plain_scope (map row_of signals.now)) (sample_of values.now) (shown_at place (map arg_of args.now)) }
-    ensures width { result.bits.width ≡ (w.form (plain_scope (map row_of signals.now)) (shown_at place (map arg_of args.now))).width }
-    ensures signed { result.signed ≡ (w.form (plain_scope (map row_of signals.now)) (shown_at place (map arg_of args.now))).signed }
-{
-    if place < args.len() {
-        argument_value(signals, values, &args[place])
-    } else {
-        zero()
-    }
-}
-
-/// Adds what a display of the argument of a place by `%0d` prints.
-fn show(
+/// Adds what a display of a value by `%0d` prints.
+fn display(
     alloc: Global,
     signals: &[Signal],
     values: &[u128],
-    args: &[SysArg],
-    place: usize,
+    e: &Expr,
     printed: &mut Vec<u8>,
 ) -> Result<(), AllocError>
-    requires usable { IsUsable (map row_of signals.now) (shown_at place (map arg_of args.now)) }
+    requires usable { IsUsable (map row_of signals.now) (exp_of e.now) }
     requires values { HaveRange (map row_of signals.now) values.now }
     ensures { OnOk result (printed.new.items ≡ printed.old.items
-        ++ display_text (plain_scope (map row_of signals.now)) (sample_of values.now) (y.Shown LeastDecimal (shown_at place (map arg_of args.now)) ∷ []) true) }
+        ++ display_text (plain_scope (map row_of signals.now)) (sample_of values.now) (y.Shown LeastDecimal (exp_of e.now) ∷ []) true) }
 {
-    let shown = shown_value(signals, values, args, place);
-    push_decimal(alloc, shown.bits, shown.signed, printed)?;
+    let value = own_value(signals, values, e);
+    push_decimal(alloc, value, form_of(signals, e).signed, printed)?;
     printed.push(b'\n')?;
     Ok(())
 }
 
-/// Does a call of a system task.
+/// Does a call of a system task: `$display("%0d", x)`, or `$finish`.
 fn task(
     alloc: Global,
     signals: &[Signal],
@@ -141,7 +76,7 @@ fn task(
     call: &SysCall,
     m: &mut Machine,
 ) -> Result<(), AllocError>
-    requires plain { IsPlainTask (task_of _path.now call.now.name (map arg_of call.now.args.items)) }
+    requires plain { IsPlainTask call.now.name call.now.args.items }
     requires sound { IsSoundTask (plain_scope (map row_of signals.now)) (task_of _path.now call.now.name (map arg_of call.now.args.items)) }
     requires machine { IsMachine (map row_of signals.now) m.old }
     ensures does { OnOk result (Does (map row_of signals.now)
@@ -152,12 +87,16 @@ fn task(
     if m.finished {
         return Ok(());
     }
-    if call.name.as_slice() == b"$finish".as_slice() {
-        m.finished = true;
-    } else if let Some(place) = sole_place(&call.args) {
-        show(alloc, signals, &m.values, &call.args, place, &mut m.printed)?;
+    match call.args.as_slice() {
+        [SysArg::Str(_), SysArg::Value(e)] => {
+            display(alloc, signals, &m.values, e, &mut m.printed)
+        }
+        [] => {
+            m.finished = true;
+            Ok(())
+        }
+        _ => unreachable!(),
     }
-    Ok(())
 }
 
 /// The update that an assignment makes.
@@ -233,7 +172,7 @@ pub fn exec(
     s: &Stmt,
     m: &mut Machine,
 ) -> Result<(), AllocError>
-    requires plain { IsPlainStm (stm_of path.now s.now) }
+    requires plain { IsPlainStm s.now }
     requires sound { IsSoundStm (plain_scope (map row_of signals.now)) (stm_of path.now s.now) }
     requires machine { IsMachine (map row_of signals.now) m.old }
     ensures does { OnOk result (Does (map row_of signals.now) (stm_of path.now s.now) m.old m.new) }

@@ -5,5 +5,3 @@ pub mod eval;
 pub mod exec;
 pub mod machine;
 pub mod run;
-pub mod shown;
-pub mod texts;

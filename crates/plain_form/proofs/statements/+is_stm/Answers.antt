@@ -10,4 +10,4 @@ loop-item-init t c =
     let s = c.args.s.now in
     let e : stm_of s ≡ p.Seq s.place (stms_of c.deref-item-items.result.now) =
     stm_of-Seq s c.in-Seq.list c.in-Seq.is ∙ ap (λ ys. p.Seq s.place (stms_of ys)) (sym c.deref-item-items.ensures.value) in
-    record { leads = λ path. rw e refl }
+    record { leads = rw e refl }

@@ -1,4 +1,4 @@
-use Rattle.std.proofs.Common.{◌≡◌, ℕ, List, drop}
+use Rattle.std.proofs.Common.{◌≡◌, drop}
 use Rattle.std.specs.Prelude.{◌&&◌}
 use Rattle.vl_flat.specs.Seen.{stm_of}
 use Rattle.plain_form.specs.Running.{is_stm, are_stms}
@@ -8,5 +8,5 @@ use Rattle.plain_form.proofs.statements.+is_stm.Given as goal
 -- those so far and the rest are the whole
 abbrev pub invariant-loop-item : goal.invariant-loop-item
 invariant-loop-item l = record {
-  leads : (path : List ℕ) → (l.all && are_stms l.signals l.kind path (stms_of (drop l.item-index l.item-items))) ≡ is_stm l.signals l.kind path (stm_of l.s);
+  leads : (l.all && are_stms l.signals l.kind (stms_of (drop l.item-index l.item-items))) ≡ is_stm l.signals l.kind (stm_of l.s);
 }

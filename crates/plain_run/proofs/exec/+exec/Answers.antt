@@ -10,6 +10,7 @@ use Rattle.plain_run.specs.Machines.{Does}
 use Rattle.plain_run.proofs.Doing.{does-nop, does-then, does-first, does-second}
 use Rattle.vl_design.proofs.TreeLemmas.{stm_of-Seq, then-more}
 use Rattle.plain_run.proofs.Uncalled.{called-plain}
+use Rattle.plain_run.proofs.Listed.{list-plain}
 use Rattle.plain_run.proofs.exec.+exec.Goals as goal
 
 pub loop-item-init : goal.loop-item-init
@@ -20,7 +21,7 @@ loop-item-init t c =
     record {
       machine = c.requires.machine;
       ticks = refl;
-      plain = rw e at c.requires.plain;
+      plain = rw c.deref-item-items.ensures.value (list-plain c.in-Seq.list (rw c.in-Seq.is at c.requires.plain));
       sound = rw e at c.requires.sound;
       leads = λ m h. rw e h;
     }
@@ -35,7 +36,7 @@ loop-item-preserved t c =
     record {
       machine = done.machine;
       ticks = done.ticks ∙ l.ticks;
-      plain = (rw e at l.plain).1;
+      plain = l.plain;
       sound = (rw e at l.sound).1;
       leads = λ m h. l.leads m (rw e (does-then rows _ _ _ _ _ done.does h));
     }
@@ -55,13 +56,12 @@ returns-then-own_value-eq0-clause-does t c =
     let i = c.in-If in
     let plain = rw i.is at c.requires.plain in
     let e : stm_of path c.args.s.now ≡ If (exp_of i.test) (stm_of path i.first.value) (stm_of path i.second.value) =
-    ap (node_stm path) i.is ∙ called-plain path i.test.node _ (λ p. p.0) plain in
-    let test = rw e at c.requires.plain in
+    ap (node_stm path) i.is ∙ called-plain path i.test.node _ plain.0 in
     let zero : own_value (plain_scope rows) (sample_of c.args.m.now.values.items) (exp_of i.test) ≡ 0 = rw (← c.deref.ensures.value) (sym c.own_value.ensures.value ∙ c.if-own_value-eq0.true) in
     let m = c.args.m.now in
     let m' = c.exec-then-own_value-eq0.new.m in
     let whole : Does rows (stm_of path c.deref-then-own_value-eq0.result.now) m m' → Does rows (stm_of path c.args.s.now) m m' =
-    λ d. rw e (does-second rows (exp_of i.test) _ _ m m' test.0 zero (rw c.deref-then-own_value-eq0.ensures at d)) in
+    λ d. rw e (does-second rows (exp_of i.test) _ _ m m' plain.0 zero (rw c.deref-then-own_value-eq0.ensures at d)) in
     on_ok_weaker _ whole c.exec-then-own_value-eq0.ensures.does
 
 pub returns-else-own_value-eq0-clause-does : goal.returns-else-own_value-eq0-clause-does
@@ -71,11 +71,10 @@ returns-else-own_value-eq0-clause-does t c =
     let i = c.in-If in
     let plain = rw i.is at c.requires.plain in
     let e : stm_of path c.args.s.now ≡ If (exp_of i.test) (stm_of path i.first.value) (stm_of path i.second.value) =
-    ap (node_stm path) i.is ∙ called-plain path i.test.node _ (λ p. p.0) plain in
-    let test = rw e at c.requires.plain in
+    ap (node_stm path) i.is ∙ called-plain path i.test.node _ plain.0 in
     let some : ¬ (own_value (plain_scope rows) (sample_of c.args.m.now.values.items) (exp_of i.test) ≡ 0) = λ z. c.if-own_value-eq0.false (c.own_value.ensures.value ∙ rw c.deref.ensures.value z) in
     let m = c.args.m.now in
     let m' = c.exec-else-own_value-eq0.new.m in
     let whole : Does rows (stm_of path c.deref-else-own_value-eq0.result.now) m m' → Does rows (stm_of path c.args.s.now) m m' =
-    λ d. rw e (does-first rows (exp_of i.test) _ _ m m' test.0 some (rw c.deref-else-own_value-eq0.ensures at d)) in
+    λ d. rw e (does-first rows (exp_of i.test) _ _ m m' plain.0 some (rw c.deref-else-own_value-eq0.ensures at d)) in
     on_ok_weaker _ whole c.exec-else-own_value-eq0.ensures.does

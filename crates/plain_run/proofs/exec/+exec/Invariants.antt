@@ -1,4 +1,5 @@
 use Rattle.std.proofs.Common.{◌≡◌, map, drop}
+use Rattle.std.specs.Prelude.{All}
 use Rattle.vl_design.specs.Trees.{stm_of, row_of, then_of}
 use Rattle.vl_design.specs.Sound.{IsSoundStm}
 use Rattle.plain_run.specs.declared.machine.Machine.{Machine}
@@ -15,7 +16,7 @@ invariant-loop-item l =
     record {
       machine : IsMachine rows l.m;
       ticks : l.m.ticks ≡ l.initial.m.ticks;
-      plain : IsPlainStm left;
+      plain : All IsPlainStm l.item-items;
       sound : IsSoundStm (plain_scope rows) left;
       leads : (m : Machine) → Does rows left l.m m → Does rows (stm_of l.path l.s) l.initial.m m;
     }

@@ -10,7 +10,7 @@ returns-clause-machine c =
     let signals = c.args.design.now.signals in
     let zeros = c.in_ok-vec.ensures.items_if_clones_equal (λ y e. e) in
     record {
-      held = rw (zeros, c.as_slice-signals.ensures) (zeros-range row_of signals);
+      held = rw (zeros, c.as_slice-signals.ensures) (zeros-range signals);
       later = rw c.new.ensures.items (All-nil (IsUpdate (map row_of signals)));
     }
 
@@ -18,4 +18,4 @@ pub returns-clause-start : goal.returns-clause-start
 returns-clause-start c =
     let signals = c.args.design.now.signals in
     let zeros = c.in_ok-vec.ensures.items_if_clones_equal (λ y e. e) in
-    rw (zeros, c.as_slice-signals.ensures, c.new.ensures.items, c.new-2.ensures.items, zeros-words row_of signals c.requires.rows) refl
+    rw (zeros, c.as_slice-signals.ensures, c.new.ensures.items, c.new-2.ensures.items, zeros-words signals c.requires.signals) refl

@@ -1,7 +1,8 @@
-use Rattle.std.proofs.Common.{◌≡◌, true, false, refl, sym, ◌∙◌, map}
+use Rattle.std.proofs.Common.{◌≡◌, true, false, refl, sym, ◌∙◌, map, subst}
 use Rattle.vl_design.specs.Trees.{flat_of, proc_of}
+use Rattle.plain_run.specs.Plain.{IsPlainProc}
 use Rattle.plain_run.specs.Runs.{is_of}
-use Rattle.plain_run.proofs.Waves.{reaches-here, wave-passed, wave-run, plain-at, sound-at}
+use Rattle.plain_run.proofs.Waves.{reaches-here, wave-passed, wave-run, clocked, sound-at}
 use Rattle.plain_run.proofs.run.run_wave.Goals as goal
 use Rattle.plain_run.proofs.run.run_wave.Goals.{then-belongs+in_ok-exec, else-belongs}
 
@@ -15,8 +16,9 @@ loop-process-init c = record {
 pub exec-requires-clause-plain : goal.exec-requires-clause-plain
 exec-requires-clause-plain c =
     let xs = c.as_slice-process-items.result.now in
-    let plain = rw (← c.as_slice-process-items.ensures) at c.requires.plain.procs in
-    rw c.as_slice-then-belongs.ensures (plain-at xs c.loop-process.process-index c.process-item.result plain c.loop-process-test.true c.process-item.is).body
+    let all = rw (← c.as_slice-process-items.ensures) at c.requires.plain.processes in
+    let here = all c.loop-process.process-index c.process-item.result c.loop-process-test.true in
+    (subst IsPlainProc (sym c.process-item.is) here).body
 
 pub exec-requires-clause-sound : goal.exec-requires-clause-sound
 exec-requires-clause-sound c =
@@ -24,7 +26,7 @@ exec-requires-clause-sound c =
     let d = flat_of c.args.design.now in
     let procs : d.procs ≡ map proc_of xs = rw c.as_slice-process-items.ensures refl in
     rw (c.as_slice.ensures, c.as_slice-then-belongs.ensures)
-    (sound-at d xs c.loop-process.process-index c.process-item.result c.requires.plain c.requires.sound procs c.loop-process-test.true c.process-item.is)
+    (sound-at d xs c.loop-process.process-index c.process-item.result (clocked c.args.design.now c.requires.plain) c.requires.sound procs c.loop-process-test.true c.process-item.is)
 
 pub loop-process-preserved : goal.loop-process-preserved
 loop-process-preserved c =
@@ -40,7 +42,7 @@ loop-process-preserved c =
           record {
             machine = rw w.m-is done.machine;
             ticks = rw w.m-is (done.ticks ∙ l.ticks);
-            reaches = rw w.m-is (wave-run d (is_of c.args.wave) xs i x _ _ c.loop-process.m _ c.requires.plain c.if-m.false c.loop-process-test.true c.process-item.is at l.reaches done.does);
+            reaches = rw w.m-is (wave-run d (is_of c.args.wave) xs i x _ _ c.loop-process.m _ (clocked c.args.design.now c.requires.plain) c.if-m.false c.loop-process-test.true c.process-item.is at l.reaches done.does);
           }
       | else-belongs w ↦
           let at : is_of c.args.wave x.kind ≡ false = sym c.belongs.ensures ∙ w.if-belongs.false in

@@ -1,3 +1,3 @@
-pub mod OneDesign
+pub mod OneAnswer
 pub mod Outcomes
 pub mod Takings

@@ -1,6 +1,6 @@
 -- From what is made to the design.
-use Rattle.std.proofs.Common.{◌≡◌, refl, ap, sym, ◌∙◌, subst, ℕ, List, map}
-use Rattle.std.specs.Prelude.{Result, Ok, Err, None, Some, flat_map}
+use Rattle.std.proofs.Common.{◌≡◌, ap, sym, ◌∙◌, subst, ℕ, List}
+use Rattle.std.specs.Prelude.{Result, Ok, Err, None, Some}
 use Rattle.std.specs.Result.{IsErr, IsErrAnd}
 use Rattle.vl_source.specs.declared.tree.Source.{Source}
 use Rattle.vl_base.specs.declared.place.Place.{Place}
@@ -14,7 +14,7 @@ use Rattle.vl_flat.specs.declared.stop.Stop.{Stop}
 use Rattle.vl_flat.specs.declared.stop.Stop.TheVariants.{Construct, Limit, Memory}
 use Rattle.vl_flat.specs.Items as x
 use Rattle.vl_flat.specs.Placed as p
-use Rattle.vl_flat.specs.Flat.{Part, parts_from, design_of}
+use Rattle.vl_flat.specs.Flat.{parts_from, design_of}
 use Rattle.vl_flat.specs.Outcome as o
 use Rattle.vl_flat.specs.Outcome.{◌>>=◌}
 use Rattle.vl_flatten.specs.Growing.{Makes}

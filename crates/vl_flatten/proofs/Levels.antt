@@ -1,5 +1,5 @@
 -- An instance one level down.
-use Rattle.std.proofs.Common.{◌≡◌, refl, ap, sym, ◌∙◌, subst, ℕ, zero, suc, ◌-◌, ◌++◌, List, [], ◌∷◌, arith}
+use Rattle.std.proofs.Common.{◌≡◌, refl, ap, sym, ◌∙◌, ℕ, zero, suc, ◌-◌, ◌++◌, List, [], ◌∷◌, arith}
 use Rattle.std.specs.Prelude.{flat_map}
 use Rattle.vl_flat.specs.Items.{Module, Instances, NamedUnit}
 use Rattle.vl_flat.specs.Processes.{Here}

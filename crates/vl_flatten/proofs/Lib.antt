@@ -10,3 +10,6 @@ pub mod Places
 pub mod Ours
 pub mod Tops
 pub mod Ends
+pub mod Once
+pub mod Bound
+pub mod Widths

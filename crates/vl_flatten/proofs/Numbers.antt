@@ -1,5 +1,5 @@
 -- How many signals an item adds.
-use Rattle.std.proofs.Common.{◌≡◌, refl, ap, sym, ◌∙◌, ℕ, ◌+◌, ◌-◌, ◌≤◌, ◌++◌, List, [], length, arith}
+use Rattle.std.proofs.Common.{◌≡◌, ap, ◌∙◌, ℕ, ◌+◌, ◌-◌, ◌≤◌, ◌++◌, List, [], length, arith}
 use Rattle.std.proofs.lemmas.List.{length-append}
 
 pub no-fewer : {A : Type 0} (old new more : List A) (m n : ℕ) → m ≡ length old → n ≡ length new → new ≡ old ++ more → m ≤ n

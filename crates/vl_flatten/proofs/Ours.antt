@@ -1,6 +1,6 @@
 -- Items that are no instance, and modules by name.
-use Rattle.std.proofs.Common.{◌≡◌, refl, ap, sym, ◌∙◌, ℕ, ◌<◌, ◌≤◌, List, [], ◌∷◌, length, get_or, inl, inr, arith}
-use Rattle.std.specs.Prelude.{◌⊎◌, Some, None, Option, slice_get}
+use Rattle.std.proofs.Common.{◌≡◌, refl, ◌∙◌, ℕ, ◌<◌, ◌≤◌, List, [], ◌∷◌, length, get_or, inl, inr, arith}
+use Rattle.std.specs.Prelude.{◌⊎◌, Some, None, slice_get}
 use Rattle.std.proofs.lemmas.Option.{slice_get_cases}
 use Rattle.vl_flat.specs.Items.{Module, Item, Parameters, Signals, Assigns, Initial, Always, Functions, Instantiates}
 use Rattle.vl_flat.specs.Environments.{Counts, Given, module_named}

@@ -1,5 +1,5 @@
 -- What stands at a place in two lists.
-use Rattle.std.proofs.Common.{◌≡◌, refl, ap, sym, ◌∙◌, ℕ, ◌<◌, ◌≤◌, List, map, length, get_or, inl, inr, true≢false}
+use Rattle.std.proofs.Common.{◌≡◌, ap, sym, ◌∙◌, ℕ, ◌<◌, ◌≤◌, List, map, length, get_or, inl, inr, true≢false}
 use Rattle.std.specs.Prelude.{◌⊎◌, Option, Some, None, is_some, option_map, slice_get}
 use Rattle.std.proofs.lemmas.Option.{slice_get-map, slice_get_cases, get_or_from_slice_get}
 

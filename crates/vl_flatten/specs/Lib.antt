@@ -3,3 +3,4 @@ pub mod Standing
 pub mod Parts
 pub mod Libraries
 pub mod Meeting
+pub mod Terms

@@ -1,5 +1,5 @@
 -- What came of a flattening and of an elaboration, beside what is defined.
-use Rattle.std.specs.Prelude.{◌≡◌, Result, Ok, Err, Some, None, List}
+use Rattle.std.specs.Prelude.{◌≡◌, Result, Ok, Err, Some, None}
 use Rattle.vl_source.specs.declared.tree.Source.{Source}
 use Rattle.vl_scope.specs.declared.fault.Fault.{Fault}
 use Rattle.vl_scope.specs.Faults.{IsFirst}

@@ -1,6 +1,5 @@
 -- Parts of the flat design, each by what it has.
-use Rattle.std.specs.Prelude.{ℤ, int_le, Bool, true, false, not, ◌&&◌, List, [], ◌∷◌, ⊤}
-use Rattle.vl_base.specs.declared.place.Place.{Place}
+use Rattle.std.specs.Prelude.{ℤ, int_le, Bool, true, false, not, ◌&&◌, List, [], ⊤}
 use Rattle.vl_design.specs.declared.design.Signal.{Signal}
 use Rattle.vl_flat.specs.declared.stop.Stop.{Stop}
 use Rattle.vl_flat.specs.Placed as p

@@ -5,7 +5,7 @@ use Rattle.vl_flat.specs.Outcome as o
 use Rattle.vl_flat.specs.Outcome.{◌>>=◌}
 use Rattle.vl_flat.specs.Seen.{func_of, process_of}
 use Rattle.vl_items.specs.SeenItems.{seen_module}
-use Rattle.vl_flatten.specs.Growing.{IsMade, Makes}
+use Rattle.vl_flatten.specs.Growing.{IsMade}
 use Rattle.vl_flatten.specs.Meeting.{Meets}
 use Rattle.vl_flatten.proofs.Ends.{same-design, ends, met}
 use Rattle.vl_flatten.proofs.elaborate.flatten_from.Goals as goal

@@ -1,11 +1,9 @@
-use Rattle.std.proofs.Common.{◌≡◌, refl, ap, sym, ◌∙◌, subst, ℕ, [], map, arith}
-use Rattle.vl_flat.specs.Items as x
+use Rattle.std.proofs.Common.{refl, ap, sym, ◌∙◌, subst, map, arith}
 use Rattle.vl_flat.specs.Environments as e
 use Rattle.vl_flat.specs.Flat as f
 use Rattle.vl_items.specs.SeenItems.{seen_item, seen_module}
 use Rattle.vl_constant.specs.Seen.{look}
 use Rattle.vl_kinds.specs.Facts.{facts}
-use Rattle.vl_kinds.specs.Sized.{counts_of}
 use Rattle.vl_flatten.specs.Growing.{Grows, Stops, IsMade, Makes}
 use Rattle.vl_flatten.specs.Libraries.{modules_of}
 use Rattle.vl_flatten.proofs.Growth.{made-all, made-stops, made-handed}

@@ -1,4 +1,4 @@
-use Rattle.std.proofs.Common.{◌≡◌, ap, sym, ◌∙◌, ◌++◌}
+use Rattle.std.proofs.Common.{ap, sym, ◌∙◌, ◌++◌}
 use Rattle.vl_flat.specs.ExpressionFaults.{faults}
 use Rattle.vl_flat.specs.Targets.{target_faults}
 use Rattle.vl_flat.specs.Stops.{earliest}

@@ -1,4 +1,4 @@
-use Rattle.std.proofs.Common.{◌≡◌, ap, ◌∙◌, map}
+use Rattle.std.proofs.Common.{ap, ◌∙◌, map}
 use Rattle.vl_flat.specs.Functions as f
 use Rattle.vl_flat.specs.Statements.{statement}
 use Rattle.vl_flat.specs.Seen.{stm_of}

@@ -1,4 +1,4 @@
-use Rattle.std.proofs.Common.{◌≡◌, ap, sym, ◌∙◌, List, map}
+use Rattle.std.proofs.Common.{ap, sym, ◌∙◌, List, map}
 use Rattle.std.specs.Prelude.{flat_map}
 use Rattle.vl_flat.specs.declared.stop.Stop.{Stop}
 use Rattle.vl_flat.specs.Items.{Local}

@@ -1,8 +1,7 @@
-use Rattle.std.proofs.Common.{◌≡◌, refl, ap, sym, ◌∙◌, subst, ℕ, ◌+◌, ◌-◌, ◌++◌, List, [], ◌∷◌, map, drop, length, arith}
-use Rattle.std.specs.Prelude.{Some, slice_get, flat_map}
+use Rattle.std.proofs.Common.{refl, ap, sym, ◌∙◌, subst, ◌+◌, ◌-◌, ◌++◌, [], ◌∷◌, map, drop, arith}
+use Rattle.std.specs.Prelude.{flat_map}
 use Rattle.std.specs.Option.{option_map_or}
 use Rattle.std.proofs.lemmas.List.{at_drop_more}
-use Rattle.vl_flat.specs.Items as x
 use Rattle.vl_flat.specs.Environments as e
 use Rattle.vl_flat.specs.Environments.{module_named}
 use Rattle.vl_flat.specs.Flat as f
@@ -18,7 +17,7 @@ use Rattle.vl_constant.specs.Seen.{look}
 use Rattle.vl_kinds.specs.Facts.{facts}
 use Rattle.vl_instance.specs.declared.given.Surroundings.{Surroundings}
 use Rattle.vl_instance.proofs.Givens.{given-same}
-use Rattle.vl_flatten.proofs.Growth.{Done, done-start, done-left, done-more, done-stops, done-last, grows-nothing, stops-left, handed-on}
+use Rattle.vl_flatten.proofs.Growth.{done-start, done-left, done-more, done-stops, done-last, grows-nothing, stops-left, handed-on}
 use Rattle.vl_flatten.proofs.Levels.{no-level, its-level}
 use Rattle.vl_flatten.proofs.Joints.{is-joined}
 use Rattle.vl_flatten.proofs.Ours.{own-part, named-there}

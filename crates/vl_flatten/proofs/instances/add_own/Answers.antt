@@ -1,8 +1,7 @@
-use Rattle.std.proofs.Common.{◌≡◌, refl, ap, sym, ◌∙◌, ℕ, false, List, [], length}
+use Rattle.std.proofs.Common.{refl, ap, ◌∙◌, ℕ, false, List, [], length}
 use Rattle.std.specs.Prelude.{Option}
 use Rattle.vl_flat.specs.Placed.{Exp}
 use Rattle.vl_flat.specs.Environments as e
-use Rattle.vl_flat.specs.Flat as f
 use Rattle.vl_flat.specs.Kinds.{signals_in}
 use Rattle.vl_flat.specs.Processes.{signals}
 use Rattle.vl_items.specs.SeenItems.{seen_item}

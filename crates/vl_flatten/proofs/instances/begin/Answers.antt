@@ -1,4 +1,4 @@
-use Rattle.std.proofs.Common.{◌≡◌, refl, ap, sym, ◌∙◌, ◌++◌, ◌∷◌, [], map}
+use Rattle.std.proofs.Common.{ap, sym, ◌∙◌, ◌++◌, ◌∷◌, [], map}
 use Rattle.std.specs.Prelude.{None, flat_map}
 use Rattle.vl_flat.specs.Connections.{override_faults, optional_faults}
 use Rattle.vl_flat.specs.Flat as f

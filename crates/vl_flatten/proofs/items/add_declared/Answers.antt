@@ -1,5 +1,5 @@
-use Rattle.std.proofs.Common.{◌≡◌, ap, sym, ◌∙◌, ◌++◌, [], map, refl, fold}
-use Rattle.std.specs.Prelude.{None, Some, flat_map}
+use Rattle.std.proofs.Common.{ap, sym, ◌∙◌, ◌++◌, [], map, fold}
+use Rattle.std.specs.Prelude.{None, flat_map}
 use Rattle.vl_flat.specs.Processes as p
 use Rattle.vl_flat.specs.Outcome as o
 use Rattle.vl_flat.specs.Stops.{earliest}

@@ -1,4 +1,4 @@
-use Rattle.std.proofs.Common.{◌≡◌, refl, ap, sym, ◌∙◌, ◌∷◌, [], List, map}
+use Rattle.std.proofs.Common.{sym, ◌∙◌}
 use Rattle.vl_items.specs.SeenItems.{seen_module}
 use Rattle.vl_kinds.specs.Facts.{facts}
 use Rattle.vl_flatten.proofs.Steps.{map-twice}

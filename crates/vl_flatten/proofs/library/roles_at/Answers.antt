@@ -1,4 +1,4 @@
-use Rattle.std.proofs.Common.{◌≡◌, ap, ◌∙◌}
+use Rattle.std.proofs.Common.{ap, ◌∙◌}
 use Rattle.vl_kinds.specs.Facts.{facts, facts_of}
 use Rattle.vl_flatten.specs.Libraries.{modules_of}
 use Rattle.vl_flatten.proofs.Places.{at-place}

@@ -1,4 +1,4 @@
-use Rattle.std.proofs.Common.{◌≡◌, ap, sym, ◌∙◌, fold, take}
+use Rattle.std.proofs.Common.{ap, sym, ◌∙◌, fold, take}
 use Rattle.std.proofs.lemmas.List.{take_all}
 use Rattle.vl_flat.specs.Outcome as o
 use Rattle.vl_flat.specs.Stops.{earliest}

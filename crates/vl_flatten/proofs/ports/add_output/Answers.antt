@@ -1,5 +1,5 @@
-use Rattle.std.proofs.Common.{◌≡◌, ap, sym, ◌∙◌, subst, ◌∷◌, []}
-use Rattle.std.specs.Prelude.{option_map, Some}
+use Rattle.std.proofs.Common.{ap, sym, ◌∙◌, subst}
+use Rattle.std.specs.Prelude.{option_map}
 use Rattle.vl_flat.specs.Connections as k
 use Rattle.vl_items.specs.SeenItems.{seen_unit}
 use Rattle.vl_bind.specs.Seen.{seen}

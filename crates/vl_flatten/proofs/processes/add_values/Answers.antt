@@ -1,4 +1,4 @@
-use Rattle.std.proofs.Common.{◌≡◌, ap, sym, ◌∙◌, ◌++◌, ◌∷◌, [], map}
+use Rattle.std.proofs.Common.{ap, ◌∙◌, ◌++◌, ◌∷◌, [], map}
 use Rattle.std.specs.Option.{option_map_or}
 use Rattle.vl_flat.specs.Processes as p
 use Rattle.vl_flat.specs.Seen.{process_of}

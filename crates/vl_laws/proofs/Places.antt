@@ -1,0 +1,196 @@
+-- In a flat design the signals of each instance stand together, from its first number on.
+use Rattle.std.proofs.Common.{◌≡◌, ℕ, suc, ◌+◌, ◌*◌, ◌<◌, ◌≤◌, List, [], ◌∷◌, ◌++◌, length, Option, Some, Ok, refl, sym, ap, ◌∙◌, subst, arith}
+use Rattle.std.specs.Prelude.{slice_get, fold, All}
+use Rattle.std.specs.Option.{option_map_or}
+use Rattle.std.specs.Str.{bytes_eq}
+use Rattle.std.proofs.lemmas.Grind.{flat_map-append}
+use Rattle.std.proofs.lemmas.List.Sums.{fold-append}
+use Rattle.std.proofs.lemmas.List.{append_assoc, length-append, get_or-append-add}
+use Rattle.std.proofs.lemmas.Option.{slice_get-get_or, slice_get_within}
+use Rattle.std.proofs.Math.Nat.{suc-mul}
+use Rattle.vl_grammar.specs.declared.tree.Identifier.{Identifier}
+use Rattle.vl_design.specs.declared.design.Signal.{Signal}
+use Rattle.vl_flat.specs.declared.binding.Binding.TheVariants as b
+use Rattle.vl_flat.specs.declared.binding.Shape.{Shape}
+use Rattle.vl_flat.specs.Scopes.{none}
+use Rattle.vl_flat.specs.Items as x
+use Rattle.vl_flat.specs.Kinds.{signals_in, signals_of}
+use Rattle.vl_flat.specs.Environments.{Counts, Given, Known, after, plus, most_numbers, new_ones, module_counts, module_named, size, environment, with_item}
+use Rattle.vl_flat.specs.Functions.{signal}
+use Rattle.vl_flat.specs.Processes.{Here}
+use Rattle.vl_flat.specs.Connections.{given}
+use Rattle.vl_flat.specs.Flat.{instance}
+use Rattle.vl_flat.specs.Flat as f
+use Rattle.vl_flat.specs.Placed as p
+use Rattle.vl_flat.specs.Outcome as o
+use Rattle.vl_laws.proofs.Lists.{Each, each-from, each-left, each-right, found-holds}
+use Rattle.vl_laws.specs.Apart.{IsApart, AreApart}
+use Rattle.vl_laws.specs.Instances.{IsInstance, of_top, of_item, here_of}
+use Rattle.vl_laws.proofs.Numbers.{all-items, body-adds, counts-fold, design-is, here, Inside, instance-adds, instance-sigs, insts, insts-append, items-between, items-stay, left-signal, news, news-is, seen, sigs, size-absent, size-named, units-add}
+
+right-signal : (pre more : List Signal) (i : ℕ) (r : Signal) → slice_get more i ≡ Some r → slice_get (pre ++ more) (length pre + i) ≡ Some r
+right-signal pre more i r h =
+    let lt = slice_get_within more i r h in
+    slice_get-get_or (pre ++ more) (length pre + i) r (omega (arith, lt, length-append pre more))
+    ∙ (ap (λ (z : Signal). Some z) (get_or-append-add pre more i r) ∙ (sym (slice_get-get_or more i r lt) ∙ h))
+
+Stands-at : List Signal → ℕ → List Signal → Type 0
+Stands-at whole o xs = (i : ℕ) (r : Signal) → slice_get xs i ≡ Some r → slice_get whole (o + i) ≡ Some r
+
+stands-part : (whole pre xs more : List Signal) (o p : ℕ) → Stands-at whole o (pre ++ (xs ++ more)) → p ≡ o + length pre → Stands-at whole p xs
+unfolding Stands-at
+stands-part whole pre xs more o p h is i r e =
+    let there = h (length pre + i) r (right-signal pre (xs ++ more) i r (left-signal xs more i r e)) in
+    let same : o + (length pre + i) ≡ p + i = omega (arith, is) in
+    ap (slice_get whole) (sym same) ∙ there
+
+news-append : (known : List (List ℕ)) (xs ys : List x.Item) → news known xs ≤ news known (xs ++ ys)
+unfolding news
+news-append known [] ys = omega arith
+news-append known (item ∷ xs) ys = let rest = news-append (seen known (signals_in item)) xs ys in omega (arith, rest)
+
+items-append : (inner : f.Inner) (sizes : List ℕ → Counts) (ms : List x.Module) (spot : Here) (g : Given) (next : Counts) (xs ys : List x.Item)
+    → f.items_parts inner sizes ms spot g next (xs ++ ys) ≡ f.items_parts inner sizes ms spot g next xs ++ f.items_parts inner sizes ms spot g (fold (f.behind_item sizes spot) next xs) ys
+items-append inner sizes ms spot g next [] ys = refl
+items-append inner sizes ms spot g next (item ∷ xs) ys =
+    ap (λ z. f.item_parts inner sizes ms spot g next item ++ z) (items-append inner sizes ms spot g (f.behind_item sizes spot next item) xs ys)
+    ∙ sym (append_assoc (f.item_parts inner sizes ms spot g next item) (f.items_parts inner sizes ms spot g (f.behind_item sizes spot next item) xs)
+    (f.items_parts inner sizes ms spot g (fold (f.behind_item sizes spot) (f.behind_item sizes spot next item) xs) ys))
+
+units-append : (inner : f.Inner) (spot : Here) (base : Counts) (us : x.Instances) (m : x.Module) (counts : Counts) (xs ys : List x.NamedUnit)
+    → f.instances inner spot base us m counts (xs ++ ys) ≡ f.instances inner spot base us m counts xs ++ f.instances inner spot (fold (λ z v. plus z counts) base xs) us m counts ys
+units-append inner spot base us m counts [] ys = refl
+units-append inner spot base us m counts (u ∷ xs) ys =
+    ap (λ z. inner spot base us u m ++ z) (units-append inner spot (plus base counts) us m counts xs ys)
+    ∙ sym (append_assoc (inner spot base us u m) (f.instances inner spot (plus base counts) us m counts xs) (f.instances inner spot (fold (λ z v. plus z counts) (plus base counts) xs) us m counts ys))
+
+base-units : (counts : Counts) (xs : List x.NamedUnit) (base : Counts) → base.signals + length xs * counts.signals < most_numbers
+    → (fold (λ (z : Counts) (v : x.NamedUnit). plus z counts) base xs).signals ≡ base.signals + length xs * counts.signals
+base-units counts [] base room = omega arith
+base-units counts (u ∷ xs) base room =
+    let step = suc-mul (length xs) counts.signals in
+    let rest = base-units counts xs (plus base counts) (omega (arith, room, step)) in
+    omega (arith, rest, room, step)
+
+sigs-append : (xs ys : List f.Part) → sigs (xs ++ ys) ≡ sigs xs ++ sigs ys
+sigs-append xs ys = flat_map-append (λ (a : f.Part). a.signals) xs ys
+
+split-count : (first others : List x.NamedUnit) (u : x.NamedUnit) (n : ℕ) → length (first ++ u ∷ others) * n ≡ length first * n + (n + length others * n)
+split-count [] others u n = let e = suc-mul (length others) n in omega (arith, e)
+split-count (v ∷ first) others u n =
+    let rest = split-count first others u n in
+    let a = suc-mul (length (first ++ u ∷ others)) n in
+    let c = suc-mul (length first) n in
+    omega (arith, rest, a, c)
+
+module _ (ms : List x.Module) (top : x.Module) (whole : List Signal) (apart : All AreApart ms) where
+  behind-all : ℕ
+  behind-all = (size (suc f.deepest) ms top.name.name).signals
+
+  body-of : ℕ → Given → x.Module → List f.Part
+  body-of n g m = f.body (f.instance n ms) (size n ms) ms behind-all (environment (size n ms) g m) g m
+
+  -- an instance's signals stand together
+  record Together (n : ℕ) (g : Given) (m : x.Module) : Type 0 where
+    own-names : AreApart m
+    room : g.base.signals + (module_counts (size n ms) m).signals < most_numbers
+    stands : Stands-at whole g.base.signals (sigs (body-of n g m))
+
+  -- where a unit's signals are among those of the instance around it
+  pieces : (p q e y more : List Signal) → p ++ ((q ++ (e ++ y)) ++ more) ≡ (p ++ q) ++ (e ++ (y ++ more))
+  pieces p q e y more =
+      ap (λ z. p ++ z) (append_assoc q (e ++ y) more ∙ ap (λ z. q ++ z) (append_assoc e y more))
+      ∙ sym (append_assoc p q (e ++ (y ++ more)))
+
+  unit-together : (n : ℕ) (g : Given) (m of : x.Module) (before after : List x.Item) (us : x.Instances) (first others : List x.NamedUnit) (u : x.NamedUnit)
+      → Together (suc n) g m → m.items ≡ before ++ x.Instantiates us ∷ after → us.units ≡ first ++ u ∷ others → module_named ms us.definition ≡ Some of
+      → Together n (given (here_of (suc n) ms top g m)
+      (fold (λ (z : Counts) (v : x.NamedUnit). plus z (size (suc n) ms us.definition)) (fold (f.behind_item (size (suc n) ms) (here_of (suc n) ms top g m)) g.base before) first) us u of) of
+  unfolding behind-all body-of here
+  unit-together n g m of before after us first others u h is split named =
+      let sizes = size (suc n) ms in
+      let env = environment sizes g m in
+      let spot = here_of (suc n) ms top g m in
+      let inner = f.instance (suc n) ms in
+      let c = (sizes us.definition).signals in
+      let added = instance-adds (suc n) ms apart spot in
+      let absent = size-absent (suc n) ms in
+      let next = fold (f.behind_item sizes spot) g.base before in
+      let base = fold (λ (z : Counts) (v : x.NamedUnit). plus z (sizes us.definition)) next first in
+      let start : Known = record { env = none; next = g.base } in
+      let counted = counts-fold sizes g m env behind-all ms inner added absent m.items (record { signals = length (new_ones [] (signals_of m)); functions = 0 }) (omega (arith, h.room)) in
+      let declared-ones = news-is [] m.items in
+      let news-front : news [] before ≤ news [] m.items = subst (λ z. news [] before ≤ news [] z) (sym is) (news-append [] before (x.Instantiates us ∷ after)) in
+      let insts-all : insts sizes g m env behind-all ms inner added absent m.items ≡ insts sizes g m env behind-all ms inner added absent (before ++ x.Instantiates us ∷ after) = ap (insts sizes g m env behind-all ms inner added absent) is in
+      let insts-split = insts-append sizes g m env behind-all ms inner added absent before us after in
+      let units : length us.units * c ≡ length first * c + (c + length others * c) = ap (λ (z : List x.NamedUnit). length z * c) split ∙ split-count first others u c in
+      let front = all-items sizes g m env behind-all ms inner added absent before g.base.signals [] [] start g.base refl
+      (each-left (IsApart (signals_of m)) before (x.Instantiates us ∷ after) (subst (λ z. Each (IsApart (signals_of m)) z) is (each-from (IsApart (signals_of m)) m.items h.own-names)))
+      (each-left (λ item. Each (λ d. Inside sizes g m d.name.name) (signals_in item)) before (x.Instantiates us ∷ after)
+      (subst (λ z. Each (λ item. Each (λ d. Inside sizes g m d.name.name) (signals_in item)) z) is (items-between [] m.items)))
+      (omega (arith, h.room, counted, declared-ones, news-front, insts-all, insts-split))
+      (record { len = omega arith; at = λ t k s e. absurd cc; only = λ t i y e. absurd cc; names = λ t i. refl })
+      (λ t i y e. subst (λ (z : List x.Item). (fold (with_item sizes g m) start z).env t ≡ Some y) (sym is)
+      (subst (λ (z : Known). z.env t ≡ Some y) (sym (fold-append (with_item sizes g m) start before (x.Instantiates us ∷ after)))
+      (items-stay sizes g m env behind-all ms inner added absent (x.Instantiates us ∷ after) (fold (with_item sizes g m) start before)
+      (each-right (IsApart (signals_of m)) before (x.Instantiates us ∷ after) (subst (λ z. Each (IsApart (signals_of m)) z) is (each-from (IsApart (signals_of m)) m.items h.own-names))) t i y e))) in
+      let P = f.items_parts inner sizes ms spot g g.base before in
+      let R = f.items_parts inner sizes ms spot g (f.behind_item sizes spot next (x.Instantiates us)) after in
+      let F = f.instances inner spot next us of (sizes us.definition) first in
+      let X = inner spot base us u of in
+      let O = f.instances inner spot (plus base (sizes us.definition)) us of (sizes us.definition) others in
+      let front-length : length (sigs P) ≡ length front.own = ap (length {A = Signal}) front.emits in
+      let next-is : next.signals ≡ g.base.signals + length (sigs P) = omega (arith, front.next-are, front.stands.len, front-length) in
+      let room-first : next.signals + length first * c < most_numbers = omega (arith, next-is, front-length, front.counts, h.room, counted, declared-ones, news-front, insts-all, insts-split, units) in
+      let first-length = units-add sizes g m env behind-all ms inner added absent us of named first next room-first in
+      let base-is = base-units (sizes us.definition) first next room-first in
+      let named-parts : f.item_parts inner sizes ms spot g next (x.Instantiates us) ≡ f.instances inner spot next us of (sizes us.definition) us.units =
+      ap (λ (q : Option x.Module). option_map_or (λ w. f.instances inner spot next us w (sizes us.definition) us.units) q []) named in
+      let split-parts : f.instances inner spot next us of (sizes us.definition) us.units ≡ F ++ (X ++ O) =
+      ap (λ z. f.instances inner spot next us of (sizes us.definition) z) split ∙ units-append inner spot next us of (sizes us.definition) first (u ∷ others) in
+      let shape : sigs (body-of (suc n) g m) ≡ (sigs P ++ sigs F) ++ (sigs X ++ (sigs O ++ sigs R)) =
+      ap (λ z. sigs (f.items_parts inner sizes ms spot g g.base z)) is
+      ∙ (ap (λ z. sigs z) (items-append inner sizes ms spot g g.base before (x.Instantiates us ∷ after))
+      ∙ (ap (λ z. sigs (P ++ (z ++ R))) (named-parts ∙ split-parts)
+      ∙ (sigs-append P ((F ++ (X ++ O)) ++ R)
+      ∙ (ap (λ z. sigs P ++ z) (sigs-append (F ++ (X ++ O)) R ∙ ap (λ z. z ++ sigs R) (sigs-append F (X ++ O) ∙ ap (λ z. sigs F ++ z) (sigs-append X O)))
+      ∙ pieces (sigs P) (sigs F) (sigs X) (sigs O) (sigs R))))) in
+      let counted-of = size-named n ms us.definition of named in
+      record {
+        own-names = found-holds AreApart (λ z. bytes_eq us.definition z.name.name) ms of apart named;
+        room = omega (arith, base-is, counted-of, next-is, front-length, front.counts, h.room, counted, declared-ones, news-front, insts-all, insts-split, units);
+        stands = subst (λ z. Stands-at whole base.signals z) (instance-sigs n ms spot base us u of)
+            (stands-part whole (sigs P ++ sigs F) (sigs X) (sigs O ++ sigs R) g.base.signals base.signals (subst (λ z. Stands-at whole g.base.signals z) shape h.stands)
+            (omega (arith, base-is, next-is, first-length, length-append (sigs P) (sigs F))));
+      }
+
+  all-together : Together f.deepest (f.top_given top) top → (n : ℕ) (g : Given) (m : x.Module) → IsInstance ms top n g m → Together n g m
+  all-together start n g m of_top = start
+  all-together start n g m (of_item n' g' m' of' before after us first others u h is split named) =
+      unit-together n' g' m' of' before after us first others u (all-together start (suc n') g' m' h) is split named
+
+  place-of : (n : ℕ) (g : Given) (m : x.Module) → Together n g m → (t : List ℕ) (k : ℕ) (s : Shape) → environment (size n ms) g m t ≡ Some (b.Signal k s)
+      → (name : Identifier) × (name.name ≡ t) × (slice_get whole k ≡ Some (signal g.path name s))
+  unfolding behind-all body-of Stands-at
+  place-of n g m h t k s e =
+      let body = body-adds n ms behind-all g m h.own-names h.room (instance-adds n ms apart) in
+      let at = body.at t k s e in
+      let there : slice_get (sigs (body-of n g m)) at.i ≡ Some (signal g.path at.name s) = ap (λ z. slice_get z at.i) body.emits ∙ at.there in
+      (at.name, at.spelt, ap (slice_get whole) at.is ∙ h.stands at.i (signal g.path at.name s) there)
+
+-- in the flat design each instance's names stand where their numbers say
+pub places : (ms : List x.Module) (top : x.Module) → All AreApart ms → AreApart top → (module_counts (size f.deepest ms) top).signals < most_numbers
+    → (d : p.Design) → o.flattened_from ms top ≡ Ok d → (n : ℕ) (g : Given) (m : x.Module) → IsInstance ms top n g m
+    → (t : List ℕ) (k : ℕ) (s : Shape) → environment (size n ms) g m t ≡ Some (b.Signal k s)
+    → (name : Identifier) × (name.name ≡ t) × (slice_get d.signals k ≡ Some (signal g.path name s))
+unfolding behind-all body-of Stands-at
+places ms top apart own room d is n g m h =
+    let parts = f.parts_from ms top in
+    let design = design-is (o.judged o.nothing_yet parts) (f.design_of top parts) d is in
+    let start : Together ms top d.signals apart f.deepest (f.top_given top) top = record {
+      own-names = own;
+      room = omega (arith, room);
+      stands = λ i r e. let zero-first : i ≡ 0 + i = omega arith in
+          subst (λ z. slice_get d.signals z ≡ Some r) zero-first (subst (λ (z : p.Design). slice_get z.signals i ≡ Some r) design e);
+    } in
+    place-of ms top d.signals apart n g m (all-together ms top d.signals apart start n g m h)

@@ -1,0 +1,4 @@
+pub mod Apart
+pub mod Instances
+pub mod Levels
+pub mod Naming

@@ -1,0 +1,71 @@
+//! What the readers of flat designs may count on. Each function does nothing; its contract is the law.
+
+ghost use Rattle.std.specs.Prelude.{◌≡◌, ℕ, ◌+◌, ◌<◌, ◌≤◌, List, length, flat_map, slice_get, All, Some, Ok};
+ghost use Rattle.vl_grammar.specs.declared.tree.Identifier.{Identifier};
+ghost use Rattle.vl_source.specs.declared.tree.Source.{Source};
+ghost use Rattle.vl_scope.specs.declared.fault.Fault.{Fault};
+ghost use Rattle.vl_scope.specs.DeclarationFaults.{IsDeclarationFault};
+ghost use Rattle.vl_design.specs.Width as width;
+ghost use Rattle.vl_design.specs.Functions.{inner};
+ghost use Rattle.vl_flat.specs.declared.binding.Binding.TheVariants.{Signal};
+ghost use Rattle.vl_flat.specs.declared.binding.Shape.{Shape};
+ghost use Rattle.vl_flat.specs.Surface.{Ex};
+ghost use Rattle.vl_flat.specs.Items as items;
+ghost use Rattle.vl_flat.specs.Placed as placed;
+ghost use Rattle.vl_flat.specs.Declarations.{modules};
+ghost use Rattle.vl_flat.specs.Scopes.{Env, Scope, plainly};
+ghost use Rattle.vl_flat.specs.Environments.{Counts, Given, most_numbers, module_counts, module_named, size, environment};
+ghost use Rattle.vl_flat.specs.Functions.{function, function_scope, signal};
+ghost use Rattle.vl_flat.specs.Processes.{Here};
+ghost use Rattle.vl_flat.specs.Flat as flat;
+ghost use Rattle.vl_flat.specs.Outcome.{flattened};
+ghost use Rattle.vl_flat.specs.Expressions as expressions;
+ghost use Rattle.vl_flat.specs.Plainly as plain;
+ghost use Rattle.vl_laws.specs.Apart.{AreApart};
+ghost use Rattle.vl_laws.specs.Instances.{IsInstance};
+ghost use Rattle.vl_laws.specs.Levels.{AreSpelt, parts_at};
+ghost use Rattle.vl_laws.specs.Naming.{StandsIn, IsNamed};
+
+/// An expression has in the design the width and the sign by which it is judged.
+pub fn an_expression_has_the_width_by_which_it_is_judged()
+    ensures { (scope : Scope) (design : width.Scope) → StandsIn scope design → (e : Ex) → IsNamed scope e →
+        width.form design (plain.exp (expressions.exp scope e)) ≡ expressions.form scope e }
+{}
+
+/// Where the names of a module stand in a design for what they are, so do those of a function's body, behind whose signals
+/// its locals come: also where it calls another function.
+pub fn a_function_stands_in_the_design_as_its_module_does()
+    ensures { (design : width.Scope) (env : Env) (path : List ℕ) (a : items.Function) → design.rows ≡ design.signals
+        → length design.signals + length a.locals ≤ most_numbers → StandsIn (plainly env) design
+        → StandsIn (function_scope (length design.signals) env a) (inner design (plain.fun (function (length design.signals) env path a))) }
+{}
+
+/// Where declarations have no fault, no parameter and no function has a signal's name.
+pub fn signals_have_names_of_their_own()
+    ensures { (s : Source) → ((f : Fault) → IsDeclarationFault s f → ⊥) → All AreApart (modules s) }
+{}
+
+/// An instance has as many signals in the flat design as its module's size says.
+pub fn an_instance_has_as_many_signals_as_its_size_says()
+    ensures { (s : Source) → ((f : Fault) → IsDeclarationFault s f → ⊥)
+        → (n : ℕ) (above : Here) (base : Counts) (us : items.Instances) (u : items.NamedUnit) (m : items.Module) → module_named (modules s) us.definition ≡ Some m
+        → base.signals + (size n (modules s) us.definition).signals < most_numbers
+        → length (flat_map (λ (a : flat.Part). a.signals) (flat.instance n (modules s) above base us u m)) ≡ (size n (modules s) us.definition).signals }
+{}
+
+/// In the flat design the number of each name of an instance is the place of its signal, which is called so behind the instance's
+/// path.
+pub fn the_number_of_a_name_is_the_place_of_its_signal()
+    ensures { (s : Source) → ((f : Fault) → IsDeclarationFault s f → ⊥)
+        → (top : items.Module) → flat.top_of (modules s) ≡ Some top → (module_counts (size flat.deepest (modules s)) top).signals < most_numbers
+        → (d : placed.Design) → flattened s ≡ Ok d → (n : ℕ) (g : Given) (m : items.Module) → IsInstance (modules s) top n g m
+        → (t : List ℕ) (k : ℕ) (r : Shape) → environment (size n (modules s)) g m t ≡ Some (Signal k r)
+        → (name : Identifier) × (name.name ≡ t) × (slice_get d.signals k ≡ Some (signal g.path name r)) }
+{}
+
+/// A flat design has no more than 128 levels of instances: with more, nothing would stand in it that doesn't. Names have a byte at
+/// least.
+pub fn a_flat_design_has_no_more_than_128_levels()
+    ensures { (s : Source) → All AreSpelt (modules s) → (top : items.Module) → flat.top_of (modules s) ≡ Some top → 0 < length top.name.name
+        → (d : placed.Design) → flattened s ≡ Ok d → (n : ℕ) → flat.deepest ≤ n → parts_at n (modules s) top ≡ flat.parts_from (modules s) top }
+{}

@@ -1,0 +1,4 @@
+//! Laws of the definitions of flat designs.
+#![tactic(auto)]
+
+pub mod laws;

@@ -2,6 +2,7 @@ pub mod Bodies
 pub mod Declared
 pub mod Depth
 pub mod Forms
+pub mod Functions
 pub mod Lists
 pub mod Numbers
 pub mod Places

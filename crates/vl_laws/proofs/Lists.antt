@@ -1,6 +1,9 @@
 -- What holds of each element of a list.
-use Rattle.std.proofs.Common.{◌≡◌, Bool, true, false, if◌then◌else◌, List, [], ◌∷◌, ◌++◌, Option, Some, subst}
-use Rattle.std.specs.Prelude.{find, All}
+use Rattle.std.proofs.Common.{◌≡◌, ℕ, ◌+◌, Bool, true, false, if◌then◌else◌, List, [], ◌∷◌, ◌++◌, length, Option, Some, sym, ap, ◌∙◌, subst, arith}
+use Rattle.std.specs.Prelude.{find, slice_get, All}
+use Rattle.std.proofs.lemmas.List.{append_assoc, length-append, get_or_append_left, get_or-append-add}
+use Rattle.std.proofs.lemmas.Option.{slice_get-get_or, slice_get_within}
+use Rattle.std.proofs.Math.Seq.{get_or-append_seam}
 use Rattle.std.proofs.lemmas.List.Elements.{All-head, All-tail}
 
 unfoldable pub Each : {A : Type 0} → (A → Type 0) → List A → Type 0
@@ -33,3 +36,38 @@ found-holds P test (z ∷ ys) y h e = by (test z) (λ q. found-holds P test ys y
     by : (c : Bool) → (find test ys ≡ Some y → P y) → (if c then Some z else find test ys) ≡ Some y → P y
     by true rest q = subst P (some_is q) (All-head P z ys h)
     by false rest q = rest q
+
+-- ---- elements by their places
+
+pub left-part : {A : Type 0} (pre more : List A) (k : ℕ) (r : A) → slice_get pre k ≡ Some r → slice_get (pre ++ more) k ≡ Some r
+left-part {A} pre more k r h =
+    let lt = slice_get_within pre k r h in
+    slice_get-get_or (pre ++ more) k r (omega (arith, lt, length-append pre more))
+    ∙ (ap (λ (z : A). Some z) (get_or_append_left pre more r k lt) ∙ (sym (slice_get-get_or pre k r lt) ∙ h))
+
+pub right-part : {A : Type 0} (pre more : List A) (i : ℕ) (r : A) → slice_get more i ≡ Some r → slice_get (pre ++ more) (length pre + i) ≡ Some r
+right-part {A} pre more i r h =
+    let lt = slice_get_within more i r h in
+    slice_get-get_or (pre ++ more) (length pre + i) r (omega (arith, lt, length-append pre more))
+    ∙ (ap (λ (z : A). Some z) (get_or-append-add pre more i r) ∙ (sym (slice_get-get_or more i r lt) ∙ h))
+
+pub seam-part : {A : Type 0} (pre : List A) (r : A) → slice_get (pre ++ r ∷ []) (length pre) ≡ Some r
+seam-part {A} pre r =
+    slice_get-get_or (pre ++ r ∷ []) (length pre) r (omega (arith, length-append pre (r ∷ [])))
+    ∙ ap (λ (z : A). Some z) (get_or-append_seam pre r [] r)
+
+-- these stand in the whole from a place on
+abbrev pub Stands-at : {A : Type 0} → List A → ℕ → List A → Type 0
+Stands-at {A} whole o xs = (i : ℕ) (r : A) → slice_get xs i ≡ Some r → slice_get whole (o + i) ≡ Some r
+
+pub stands-part : {A : Type 0} (whole pre xs more : List A) (o q : ℕ) → Stands-at whole o (pre ++ (xs ++ more)) → q ≡ o + length pre → Stands-at whole q xs
+stands-part whole pre xs more o q h is i r e =
+    let there = h (length pre + i) r (right-part pre (xs ++ more) i r (left-part xs more i r e)) in
+    let same : o + (length pre + i) ≡ q + i = omega (arith, is) in
+    ap (slice_get whole) (sym same) ∙ there
+
+-- an inner part between others
+pub pieces : {A : Type 0} (a b c d e : List A) → a ++ ((b ++ (c ++ d)) ++ e) ≡ (a ++ b) ++ (c ++ (d ++ e))
+pieces a b c d e =
+    ap (λ z. a ++ z) (append_assoc b (c ++ d) e ∙ ap (λ z. b ++ z) (append_assoc c d e))
+    ∙ sym (append_assoc a b (c ++ (d ++ e)))

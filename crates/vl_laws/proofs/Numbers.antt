@@ -7,11 +7,10 @@ use Rattle.std.specs.Str.{bytes_eq}
 use Rattle.std.proofs.lemmas.Bool.Decides.{nat_tests}
 use Rattle.std.proofs.lemmas.Slice.Eq.{bytes_eq-Decides}
 use Rattle.std.proofs.lemmas.Grind.{flat_map-append}
-use Rattle.std.proofs.lemmas.List.{append_assoc, append-nil, length-append, get_or_append_left}
+use Rattle.std.proofs.lemmas.List.{append_assoc, append-nil, length-append}
 use Rattle.std.proofs.lemmas.List.Elements.{All-head, All-tail}
-use Rattle.std.proofs.lemmas.Option.{slice_get-get_or, slice_get_within}
+use Rattle.std.proofs.lemmas.Option.{slice_get_within}
 use Rattle.std.proofs.Math.Nat.{suc-mul}
-use Rattle.std.proofs.Math.Seq.{get_or-append_seam}
 use Rattle.vl_grammar.specs.declared.tree.Identifier.{Identifier}
 use Rattle.vl_design.specs.declared.design.Signal.{Signal}
 use Rattle.vl_flat.specs.declared.binding.Binding.{Binding}
@@ -31,7 +30,7 @@ use Rattle.vl_flat.specs.declared.stop.Stop.{Stop}
 use Rattle.vl_flat.specs.Placed as p
 use Rattle.vl_flat.specs.Outcome as o
 use Rattle.vl_flat.specs.Outcome.{◌>>=◌}
-use Rattle.vl_laws.proofs.Lists.{Each, each-from, found-holds}
+use Rattle.vl_laws.proofs.Lists.{left-part, seam-part, Each, each-from, found-holds}
 use Rattle.vl_laws.specs.Apart.{declared, IsApart, AreApart}
 
 -- ---- texts and lists
@@ -50,17 +49,6 @@ text-turned a c = by (bytes_eq a c) (bytes_eq c a) refl refl
     by false false h k = refl
     by true false h k = absurd (true≢false (sym (text-same c) ∙ (ap (λ z. bytes_eq c z) (sym (same-text a c h)) ∙ k)))
     by false true h k = absurd (true≢false (sym (text-same a) ∙ (ap (λ z. bytes_eq a z) (sym (same-text c a k)) ∙ h)))
-
-pub left-signal : (pre more : List Signal) (k : ℕ) (r : Signal) → slice_get pre k ≡ Some r → slice_get (pre ++ more) k ≡ Some r
-left-signal pre more k r h =
-    let lt = slice_get_within pre k r h in
-    slice_get-get_or (pre ++ more) k r (omega (arith, lt, length-append pre more))
-    ∙ (ap (λ (z : Signal). Some z) (get_or_append_left pre more r k lt) ∙ (sym (slice_get-get_or pre k r lt) ∙ h))
-
-seam-signal : (pre : List Signal) (r : Signal) → slice_get (pre ++ r ∷ []) (length pre) ≡ Some r
-seam-signal pre r =
-    slice_get-get_or (pre ++ r ∷ []) (length pre) r (omega (arith, length-append pre (r ∷ [])))
-    ∙ ap (λ (z : Signal). Some z) (get_or-append_seam pre r [] r)
 
 number-unlike : (n k : ℕ) → n < k → (n == k) ≡ false
 number-unlike n k h = grind (arith, nat_tests)
@@ -96,7 +84,7 @@ module _ (sizes : List ℕ → Counts) (g : Given) (m : x.Module) where
     pub there : slice_get xs i ≡ Some (signal g.path name s)
 
   where-more : (o : ℕ) (xs ys : List Signal) (t : List ℕ) (n : ℕ) (s : Shape) → Where o xs t n s → Where o (xs ++ ys) t n s
-  where-more o xs ys t n s h = record { i = h.i; is = h.is; name = h.name; spelt = h.spelt; there = left-signal xs ys h.i _ h.there }
+  where-more o xs ys t n s h = record { i = h.i; is = h.is; name = h.name; spelt = h.spelt; there = left-part xs ys h.i _ h.there }
 
   abbrev pub IsSignalBinding : Binding → Type 0
   IsSignalBinding (b.Signal n s) = Unit {0}
@@ -184,7 +172,7 @@ module _ (sizes : List ℕ → Counts) (g : Given) (m : x.Module) where
         is = sym (signal-number k.next.signals n (shape-of k d) s e) ∙ h.len;
         name = d.name;
         spelt = same-text d.name.name u q;
-        there = seam-signal xs r' ∙ ap (λ z. Some (signal g.path d.name z)) (signal-shape k.next.signals n (shape-of k d) s e);
+        there = seam-part xs r' ∙ ap (λ z. Some (signal g.path d.name z)) (signal-shape k.next.signals n (shape-of k d) s e);
       }
       at u n s false q e = where-more o xs (r' ∷ []) u n s (h.at u n s e)
 

@@ -5,8 +5,7 @@ use Rattle.std.specs.Option.{option_map_or}
 use Rattle.std.specs.Str.{bytes_eq}
 use Rattle.std.proofs.lemmas.Grind.{flat_map-append}
 use Rattle.std.proofs.lemmas.List.Sums.{fold-append}
-use Rattle.std.proofs.lemmas.List.{append_assoc, length-append, get_or-append-add}
-use Rattle.std.proofs.lemmas.Option.{slice_get-get_or, slice_get_within}
+use Rattle.std.proofs.lemmas.List.{append_assoc, length-append}
 use Rattle.std.proofs.Math.Nat.{suc-mul}
 use Rattle.vl_grammar.specs.declared.tree.Identifier.{Identifier}
 use Rattle.vl_design.specs.declared.design.Signal.{Signal}
@@ -23,33 +22,17 @@ use Rattle.vl_flat.specs.Flat.{instance}
 use Rattle.vl_flat.specs.Flat as f
 use Rattle.vl_flat.specs.Placed as p
 use Rattle.vl_flat.specs.Outcome as o
-use Rattle.vl_laws.proofs.Lists.{Each, each-from, each-left, each-right, found-holds}
+use Rattle.vl_laws.proofs.Lists.{Stands-at, stands-part, pieces, Each, each-from, each-left, each-right, found-holds}
 use Rattle.vl_laws.specs.Apart.{IsApart, AreApart}
 use Rattle.vl_laws.specs.Instances.{IsInstance, of_top, of_item, here_of}
-use Rattle.vl_laws.proofs.Numbers.{all-items, body-adds, counts-fold, design-is, here, Inside, instance-adds, instance-sigs, insts, insts-append, items-between, items-stay, left-signal, news, news-is, seen, sigs, size-absent, size-named, units-add}
-
-right-signal : (pre more : List Signal) (i : ℕ) (r : Signal) → slice_get more i ≡ Some r → slice_get (pre ++ more) (length pre + i) ≡ Some r
-right-signal pre more i r h =
-    let lt = slice_get_within more i r h in
-    slice_get-get_or (pre ++ more) (length pre + i) r (omega (arith, lt, length-append pre more))
-    ∙ (ap (λ (z : Signal). Some z) (get_or-append-add pre more i r) ∙ (sym (slice_get-get_or more i r lt) ∙ h))
-
-Stands-at : List Signal → ℕ → List Signal → Type 0
-Stands-at whole o xs = (i : ℕ) (r : Signal) → slice_get xs i ≡ Some r → slice_get whole (o + i) ≡ Some r
-
-stands-part : (whole pre xs more : List Signal) (o p : ℕ) → Stands-at whole o (pre ++ (xs ++ more)) → p ≡ o + length pre → Stands-at whole p xs
-unfolding Stands-at
-stands-part whole pre xs more o p h is i r e =
-    let there = h (length pre + i) r (right-signal pre (xs ++ more) i r (left-signal xs more i r e)) in
-    let same : o + (length pre + i) ≡ p + i = omega (arith, is) in
-    ap (slice_get whole) (sym same) ∙ there
+use Rattle.vl_laws.proofs.Numbers.{all-items, body-adds, counts-fold, design-is, here, Inside, instance-adds, instance-sigs, insts, insts-append, items-between, items-stay, news, news-is, seen, sigs, size-absent, size-named, units-add}
 
 news-append : (known : List (List ℕ)) (xs ys : List x.Item) → news known xs ≤ news known (xs ++ ys)
 unfolding news
 news-append known [] ys = omega arith
 news-append known (item ∷ xs) ys = let rest = news-append (seen known (signals_in item)) xs ys in omega (arith, rest)
 
-items-append : (inner : f.Inner) (sizes : List ℕ → Counts) (ms : List x.Module) (spot : Here) (g : Given) (next : Counts) (xs ys : List x.Item)
+pub items-append : (inner : f.Inner) (sizes : List ℕ → Counts) (ms : List x.Module) (spot : Here) (g : Given) (next : Counts) (xs ys : List x.Item)
     → f.items_parts inner sizes ms spot g next (xs ++ ys) ≡ f.items_parts inner sizes ms spot g next xs ++ f.items_parts inner sizes ms spot g (fold (f.behind_item sizes spot) next xs) ys
 items-append inner sizes ms spot g next [] ys = refl
 items-append inner sizes ms spot g next (item ∷ xs) ys =
@@ -57,7 +40,7 @@ items-append inner sizes ms spot g next (item ∷ xs) ys =
     ∙ sym (append_assoc (f.item_parts inner sizes ms spot g next item) (f.items_parts inner sizes ms spot g (f.behind_item sizes spot next item) xs)
     (f.items_parts inner sizes ms spot g (fold (f.behind_item sizes spot) (f.behind_item sizes spot next item) xs) ys))
 
-units-append : (inner : f.Inner) (spot : Here) (base : Counts) (us : x.Instances) (m : x.Module) (counts : Counts) (xs ys : List x.NamedUnit)
+pub units-append : (inner : f.Inner) (spot : Here) (base : Counts) (us : x.Instances) (m : x.Module) (counts : Counts) (xs ys : List x.NamedUnit)
     → f.instances inner spot base us m counts (xs ++ ys) ≡ f.instances inner spot base us m counts xs ++ f.instances inner spot (fold (λ z v. plus z counts) base xs) us m counts ys
 units-append inner spot base us m counts [] ys = refl
 units-append inner spot base us m counts (u ∷ xs) ys =
@@ -75,7 +58,7 @@ base-units counts (u ∷ xs) base room =
 sigs-append : (xs ys : List f.Part) → sigs (xs ++ ys) ≡ sigs xs ++ sigs ys
 sigs-append xs ys = flat_map-append (λ (a : f.Part). a.signals) xs ys
 
-split-count : (first others : List x.NamedUnit) (u : x.NamedUnit) (n : ℕ) → length (first ++ u ∷ others) * n ≡ length first * n + (n + length others * n)
+pub split-count : (first others : List x.NamedUnit) (u : x.NamedUnit) (n : ℕ) → length (first ++ u ∷ others) * n ≡ length first * n + (n + length others * n)
 split-count [] others u n = let e = suc-mul (length others) n in omega (arith, e)
 split-count (v ∷ first) others u n =
     let rest = split-count first others u n in
@@ -95,12 +78,6 @@ module _ (ms : List x.Module) (top : x.Module) (whole : List Signal) (apart : Al
     own-names : AreApart m
     room : g.base.signals + (module_counts (size n ms) m).signals < most_numbers
     stands : Stands-at whole g.base.signals (sigs (body-of n g m))
-
-  -- where a unit's signals are among those of the instance around it
-  pieces : (p q e y more : List Signal) → p ++ ((q ++ (e ++ y)) ++ more) ≡ (p ++ q) ++ (e ++ (y ++ more))
-  pieces p q e y more =
-      ap (λ z. p ++ z) (append_assoc q (e ++ y) more ∙ ap (λ z. q ++ z) (append_assoc e y more))
-      ∙ sym (append_assoc p q (e ++ (y ++ more)))
 
   unit-together : (n : ℕ) (g : Given) (m of : x.Module) (before after : List x.Item) (us : x.Instances) (first others : List x.NamedUnit) (u : x.NamedUnit)
       → Together (suc n) g m → m.items ≡ before ++ x.Instantiates us ∷ after → us.units ≡ first ++ u ∷ others → module_named ms us.definition ≡ Some of
@@ -171,7 +148,7 @@ module _ (ms : List x.Module) (top : x.Module) (whole : List Signal) (apart : Al
 
   place-of : (n : ℕ) (g : Given) (m : x.Module) → Together n g m → (t : List ℕ) (k : ℕ) (s : Shape) → environment (size n ms) g m t ≡ Some (b.Signal k s)
       → (name : Identifier) × (name.name ≡ t) × (slice_get whole k ≡ Some (signal g.path name s))
-  unfolding behind-all body-of Stands-at
+  unfolding behind-all body-of
   place-of n g m h t k s e =
       let body = body-adds n ms behind-all g m h.own-names h.room (instance-adds n ms apart) in
       let at = body.at t k s e in
@@ -183,7 +160,7 @@ pub places : (ms : List x.Module) (top : x.Module) → All AreApart ms → AreAp
     → (d : p.Design) → o.flattened_from ms top ≡ Ok d → (n : ℕ) (g : Given) (m : x.Module) → IsInstance ms top n g m
     → (t : List ℕ) (k : ℕ) (s : Shape) → environment (size n ms) g m t ≡ Some (b.Signal k s)
     → (name : Identifier) × (name.name ≡ t) × (slice_get d.signals k ≡ Some (signal g.path name s))
-unfolding behind-all body-of Stands-at
+unfolding behind-all body-of
 places ms top apart own room d is n g m h =
     let parts = f.parts_from ms top in
     let design = design-is (o.judged o.nothing_yet parts) (f.design_of top parts) d is in

@@ -1,17 +1,18 @@
 -- The laws on numbers, of sources whose declarations have no fault.
-use Rattle.std.proofs.Common.{◌≡◌, ℕ, ◌<◌, ◌≤◌, length, List, Some, Ok, sym, ap, ◌∙◌}
+use Rattle.std.proofs.Common.{◌≡◌, ℕ, suc, ◌<◌, ◌≤◌, length, List, Some, Ok, sym, ap, ◌∙◌}
 use Rattle.std.specs.Prelude.{slice_get, All}
 use Rattle.vl_grammar.specs.declared.tree.Identifier.{Identifier}
 use Rattle.vl_source.specs.declared.tree.Source.{Source}
 use Rattle.vl_scope.specs.declared.fault.Fault.{Fault}
 use Rattle.vl_scope.specs.DeclarationFaults.{IsDeclarationFault}
-use Rattle.vl_flat.specs.declared.binding.Binding.TheVariants.{Signal}
+use Rattle.vl_design.specs.declared.design.Form.{Form}
+use Rattle.vl_flat.specs.declared.binding.Binding.TheVariants.{Signal, Function}
 use Rattle.vl_flat.specs.declared.binding.Shape.{Shape}
 use Rattle.vl_flat.specs.Items as x
 use Rattle.vl_flat.specs.Placed as p
 use Rattle.vl_flat.specs.Declarations.{modules}
 use Rattle.vl_flat.specs.Environments.{Given, module_counts, size, environment, most_numbers}
-use Rattle.vl_flat.specs.Functions.{signal}
+use Rattle.vl_flat.specs.Functions.{signal, function}
 use Rattle.vl_flat.specs.Flat as f
 use Rattle.vl_flat.specs.Outcome.{flattened, flattened_by}
 use Rattle.vl_laws.specs.Apart.{AreApart}
@@ -21,6 +22,7 @@ use Rattle.vl_laws.proofs.Declared.{all-apart}
 use Rattle.vl_laws.specs.Levels.{parts_at, AreSpelt}
 use Rattle.vl_laws.proofs.Depth.{enough-levels}
 use Rattle.vl_laws.proofs.Places.{places}
+use Rattle.vl_laws.proofs.Functions.{function-places}
 
 pub source-places : (s : Source) → ((e : Fault) → IsDeclarationFault s e → ⊥) → (top : x.Module) → f.top_of (modules s) ≡ Some top
     → (module_counts (size f.deepest (modules s)) top).signals < most_numbers → (d : p.Design) → flattened s ≡ Ok d
@@ -29,6 +31,13 @@ pub source-places : (s : Source) → ((e : Fault) → IsDeclarationFault s e →
 source-places s none top is room d e n g m h t k r at =
     let apart = all-apart s none in
     places (modules s) top apart (found-holds AreApart (f.is_top (modules s)) (modules s) top apart is) room d (ap (flattened_by (modules s)) (sym is) ∙ e) n g m h t k r at
+
+pub source-functions : (s : Source) → (top : x.Module) → f.top_of (modules s) ≡ Some top
+    → (module_counts (size f.deepest (modules s)) top).functions < most_numbers → (d : p.Design) → flattened s ≡ Ok d
+    → (n : ℕ) (g : Given) (m : x.Module) → IsInstance (modules s) top n g m → (t : List ℕ) (k : ℕ) (c : Form) → environment (size n (modules s)) g m t ≡ Some (Function k c)
+    → (a : x.Function) × (a.name.name ≡ t)
+    × (slice_get d.funcs k ≡ Some (function (size (suc f.deepest) (modules s) top.name.name).signals (environment (size n (modules s)) g m) g.path a))
+source-functions s top is room d e n g m h t k c at = function-places (modules s) top room d (ap (flattened_by (modules s)) (sym is) ∙ e) n g m h t k c at
 
 pub source-levels : (s : Source) → All AreSpelt (modules s) → (top : x.Module) → f.top_of (modules s) ≡ Some top → 0 < length top.name.name → (d : p.Design) → flattened s ≡ Ok d
     → (n : ℕ) → f.deepest ≤ n → parts_at n (modules s) top ≡ f.parts_from (modules s) top

@@ -1,13 +1,14 @@
 //! What the readers of flat designs may count on. Each function does nothing; its contract is the law.
 
-ghost use Rattle.std.specs.Prelude.{◌≡◌, ℕ, ◌+◌, ◌<◌, ◌≤◌, List, length, flat_map, slice_get, All, Some, Ok};
+ghost use Rattle.std.specs.Prelude.{◌≡◌, ℕ, suc, ◌+◌, ◌<◌, ◌≤◌, List, length, flat_map, slice_get, All, Some, Ok};
 ghost use Rattle.vl_grammar.specs.declared.tree.Identifier.{Identifier};
 ghost use Rattle.vl_source.specs.declared.tree.Source.{Source};
 ghost use Rattle.vl_scope.specs.declared.fault.Fault.{Fault};
 ghost use Rattle.vl_scope.specs.DeclarationFaults.{IsDeclarationFault};
+ghost use Rattle.vl_design.specs.declared.design.Form.{Form};
 ghost use Rattle.vl_design.specs.Width as width;
 ghost use Rattle.vl_design.specs.Functions.{inner};
-ghost use Rattle.vl_flat.specs.declared.binding.Binding.TheVariants.{Signal};
+ghost use Rattle.vl_flat.specs.declared.binding.Binding.TheVariants.{Signal, Function};
 ghost use Rattle.vl_flat.specs.declared.binding.Shape.{Shape};
 ghost use Rattle.vl_flat.specs.Surface.{Ex};
 ghost use Rattle.vl_flat.specs.Items as items;
@@ -61,6 +62,18 @@ pub fn the_number_of_a_name_is_the_place_of_its_signal()
         → (d : placed.Design) → flattened s ≡ Ok d → (n : ℕ) (g : Given) (m : items.Module) → IsInstance (modules s) top n g m
         → (t : List ℕ) (k : ℕ) (r : Shape) → environment (size n (modules s)) g m t ≡ Some (Signal k r)
         → (name : Identifier) × (name.name ≡ t) × (slice_get d.signals k ≡ Some (signal g.path name r)) }
+{}
+
+/// In the flat design the number of a function's name is the place of its function, in the names and behind the path of the
+/// instance that declares it. Its locals come behind all the design's signals.
+pub fn the_number_of_a_function_is_its_place()
+    ensures { (s : Source) → (top : items.Module) → flat.top_of (modules s) ≡ Some top
+        → (module_counts (size flat.deepest (modules s)) top).functions < most_numbers
+        → (d : placed.Design) → flattened s ≡ Ok d → (n : ℕ) (g : Given) (m : items.Module) → IsInstance (modules s) top n g m
+        → (t : List ℕ) (k : ℕ) (c : Form) → environment (size n (modules s)) g m t ≡ Some (Function k c)
+        → (a : items.Function) × (a.name.name ≡ t)
+        × (slice_get d.funcs k
+        ≡ Some (function (size (suc flat.deepest) (modules s) top.name.name).signals (environment (size n (modules s)) g m) g.path a)) }
 {}
 
 /// A flat design has no more than 128 levels of instances: with more, nothing would stand in it that doesn't. Names have a byte at

@@ -17,7 +17,7 @@ use Rattle.vl_flat.specs.Plainly as plain
 use Rattle.vl_flat.specs.Scopes.{Scope, form_of, shape_form, range_of, number_of}
 use Rattle.vl_flat.specs.Constants.{count_of}
 use Rattle.vl_flat.specs.Expressions as e
-use Rattle.vl_laws.specs.Naming.{StandsIn, IsValue, IsCalled, IsNamed, AreNamed, AreNamedArgs}
+use Rattle.vl_laws.specs.Naming.{StandsIn, IsValue, IsCalled, IsResolved, AreResolved, AreResolvedArgs}
 
 module _ (scope : Scope) (design : w.Scope) (stands : StandsIn scope design) where
   -- the form of a placed expression in the design
@@ -109,7 +109,7 @@ module _ (scope : Scope) (design : w.Scope) (stands : StandsIn scope design) whe
   -- ---- expressions
 
   mutual
-    pub form-same : (a : x.Ex) → IsNamed scope a → form-of (e.exp scope a) ≡ e.form scope a
+    pub form-same : (a : x.Ex) → IsResolved scope a → form-of (e.exp scope a) ≡ e.form scope a
     form-same (x.Number at n) v = refl
     form-same (x.Text at text) v = text-same at text
     form-same (x.Named at t ss) v = named-same at (scope.names t) ss v.0 (λ k s h. stands.signals t k s h)
@@ -124,12 +124,12 @@ module _ (scope : Scope) (design : w.Scope) (stands : StandsIn scope design) whe
     form-same (x.System at name given) v =
         system-same at name (e.first_of scope at given) (e.first_form scope given) (e.args scope (e.keeps_texts name) given) (first-same at given v)
 
-    total-same : (es : x.Exs) → AreNamed scope es → w.total_width design (plain.exps (e.exps scope es)) ≡ e.total_width scope es
+    total-same : (es : x.Exs) → AreResolved scope es → w.total_width design (plain.exps (e.exps scope es)) ≡ e.total_width scope es
     total-same x.NoExs v = refl
     total-same (x.MoreExs a es) v =
         ap (λ (z : Form). z.width + w.total_width design (plain.exps (e.exps scope es))) (form-same a v.0) ∙ ap (λ z. (e.form scope a).width + z) (total-same es v.1)
 
-    first-same : (at : Place) (given : x.Args) → AreNamedArgs scope given → form-of (e.first_of scope at given) ≡ e.first_form scope given
+    first-same : (at : Place) (given : x.Args) → AreResolvedArgs scope given → form-of (e.first_of scope at given) ≡ e.first_form scope given
     first-same at x.NoArgs v = refl
     first-same at (x.NullArg others) v = refl
     first-same at (x.MoreArgs a others) v = form-same a v.0

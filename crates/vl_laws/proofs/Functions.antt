@@ -24,9 +24,9 @@ use Rattle.vl_flat.specs.Connections.{given, port_connection, place_in, expressi
 use Rattle.vl_flat.specs.Flat as f
 use Rattle.vl_flat.specs.Flat.{instance}
 use Rattle.vl_flat.specs.Outcome as o
-use Rattle.vl_laws.proofs.Lists.{left-part, seam-part, Stands-at, stands-part, pieces}
+use Rattle.vl_laws.proofs.Lists.{left-part, seam-part, Stands-at, stands-part}
 use Rattle.vl_laws.proofs.Numbers.{design-is}
-use Rattle.vl_laws.proofs.Places.{items-append, units-append, split-count}
+use Rattle.vl_laws.proofs.Splits.{base-units, split-count, split-parts}
 use Rattle.vl_laws.specs.Instances.{IsInstance, of_top, of_item, here_of}
 
 abbrev pub funs : List f.Part → List p.Func
@@ -305,18 +305,7 @@ behind-functions sizes ms place (item ∷ items) next room =
     let rest = behind-functions sizes ms place items (f.behind_item sizes place next item) (omega (arith, room, item-count sizes ms item)) in
     omega (arith, rest, room, item-count sizes ms item)
 
-base-units : (counts : Counts) (xs : List x.NamedUnit) (base : Counts) → base.functions + length xs * counts.functions < most_numbers
-    → (fold (λ (z : Counts) (v : x.NamedUnit). plus z counts) base xs).functions ≡ base.functions + length xs * counts.functions
-base-units counts [] base room = omega arith
-base-units counts (u ∷ xs) base room =
-    let step = suc-mul (length xs) counts.functions in
-    let rest = base-units counts xs (plus base counts) (omega (arith, room, step)) in
-    omega (arith, rest, room, step)
-
 -- ---- the instances of a design: each one's functions stand together, from its first number on
-
-funs-append : (xs ys : List f.Part) → funs (xs ++ ys) ≡ funs xs ++ funs ys
-funs-append xs ys = flat_map-append (λ (a : f.Part). a.funcs) xs ys
 
 module _ (ms : List x.Module) (top : x.Module) (whole : List p.Func) where
   abbrev behind-all : ℕ
@@ -354,18 +343,8 @@ module _ (ms : List x.Module) (top : x.Module) (whole : List p.Func) where
       let front-length = items-add sizes ms inner place g m added absent before g.base (omega (arith, h.room, counted, insts-all, insts-split)) in
       let next-is = behind-functions sizes ms place before g.base (omega (arith, h.room, counted, insts-all, insts-split)) in
       let first-length = units-add sizes ms inner place g m added absent us of named first next (omega (arith, h.room, counted, insts-all, insts-split, units)) in
-      let base-is = base-units (sizes us.definition) first next (omega (arith, next-is, h.room, counted, insts-all, insts-split, units)) in
-      let named-parts : f.item_parts inner sizes ms place g next (x.Instantiates us) ≡ f.instances inner place next us of (sizes us.definition) us.units =
-      ap (λ (q : Option x.Module). option_map_or (λ w. f.instances inner place next us w (sizes us.definition) us.units) q []) named in
-      let split-parts : f.instances inner place next us of (sizes us.definition) us.units ≡ F ++ (X ++ O) =
-      ap (λ z. f.instances inner place next us of (sizes us.definition) z) split ∙ units-append inner place next us of (sizes us.definition) first (u ∷ others) in
-      let shape : funs (body-of (suc n) g m) ≡ (funs P ++ funs F) ++ (funs X ++ (funs O ++ funs R)) =
-      ap (λ z. funs (f.items_parts inner sizes ms place g g.base z)) is
-      ∙ (ap (λ z. funs z) (items-append inner sizes ms place g g.base before (x.Instantiates us ∷ after))
-      ∙ (ap (λ z. funs (P ++ (z ++ R))) (named-parts ∙ split-parts)
-      ∙ (funs-append P ((F ++ (X ++ O)) ++ R)
-      ∙ (ap (λ z. funs P ++ z) (funs-append (F ++ (X ++ O)) R ∙ ap (λ z. z ++ funs R) (funs-append F (X ++ O) ∙ ap (λ z. funs F ++ z) (funs-append X O)))
-      ∙ pieces (funs P) (funs F) (funs X) (funs O) (funs R))))) in
+      let base-is = base-units (λ (c : Counts). c.functions) (λ a c room. omega (arith, room)) (sizes us.definition) first next (omega (arith, next-is, h.room, counted, insts-all, insts-split, units)) in
+      let shape = split-parts (λ (a : f.Part). a.funcs) inner sizes ms place g before after us of first others u m.items is split named in
       let counted-of = size-named n ms us.definition of named in
       record {
         room = omega (arith, base-is, counted-of, next-is, h.room, counted, insts-all, insts-split, units);

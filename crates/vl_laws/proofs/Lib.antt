@@ -7,3 +7,4 @@ pub mod Lists
 pub mod Numbers
 pub mod Places
 pub mod Sources
+pub mod Splits

@@ -1,12 +1,9 @@
 -- In a flat design the signals of each instance stand together, from its first number on.
-use Rattle.std.proofs.Common.{◌≡◌, ℕ, suc, ◌+◌, ◌*◌, ◌<◌, ◌≤◌, List, [], ◌∷◌, ◌++◌, length, Option, Some, Ok, refl, sym, ap, ◌∙◌, subst, arith}
+use Rattle.std.proofs.Common.{◌≡◌, ℕ, suc, ◌+◌, ◌*◌, ◌<◌, ◌≤◌, List, [], ◌∷◌, ◌++◌, length, Some, Ok, refl, sym, ap, ◌∙◌, subst, arith}
 use Rattle.std.specs.Prelude.{slice_get, fold, All}
-use Rattle.std.specs.Option.{option_map_or}
 use Rattle.std.specs.Str.{bytes_eq}
-use Rattle.std.proofs.lemmas.Grind.{flat_map-append}
 use Rattle.std.proofs.lemmas.List.Sums.{fold-append}
-use Rattle.std.proofs.lemmas.List.{append_assoc, length-append}
-use Rattle.std.proofs.Math.Nat.{suc-mul}
+use Rattle.std.proofs.lemmas.List.{length-append}
 use Rattle.vl_grammar.specs.declared.tree.Identifier.{Identifier}
 use Rattle.vl_design.specs.declared.design.Signal.{Signal}
 use Rattle.vl_flat.specs.declared.binding.Binding.TheVariants as b
@@ -16,13 +13,13 @@ use Rattle.vl_flat.specs.Items as x
 use Rattle.vl_flat.specs.Kinds.{signals_in, signals_of}
 use Rattle.vl_flat.specs.Environments.{Counts, Given, Known, after, plus, most_numbers, new_ones, module_counts, module_named, size, environment, with_item}
 use Rattle.vl_flat.specs.Functions.{signal}
-use Rattle.vl_flat.specs.Processes.{Here}
 use Rattle.vl_flat.specs.Connections.{given}
 use Rattle.vl_flat.specs.Flat.{instance}
 use Rattle.vl_flat.specs.Flat as f
 use Rattle.vl_flat.specs.Placed as p
 use Rattle.vl_flat.specs.Outcome as o
-use Rattle.vl_laws.proofs.Lists.{Stands-at, stands-part, pieces, Each, each-from, each-left, each-right, found-holds}
+use Rattle.vl_laws.proofs.Lists.{Stands-at, stands-part, Each, each-from, each-left, each-right, found-holds}
+use Rattle.vl_laws.proofs.Splits.{base-units, split-count, split-parts}
 use Rattle.vl_laws.specs.Apart.{IsApart, AreApart}
 use Rattle.vl_laws.specs.Instances.{IsInstance, of_top, of_item, here_of}
 use Rattle.vl_laws.proofs.Numbers.{all-items, body-adds, counts-fold, design-is, here, Inside, instance-adds, instance-sigs, insts, insts-append, items-between, items-stay, news, news-is, seen, sigs, size-absent, size-named, units-add}
@@ -31,40 +28,6 @@ news-append : (known : List (List ℕ)) (xs ys : List x.Item) → news known xs 
 unfolding news
 news-append known [] ys = omega arith
 news-append known (item ∷ xs) ys = let rest = news-append (seen known (signals_in item)) xs ys in omega (arith, rest)
-
-pub items-append : (inner : f.Inner) (sizes : List ℕ → Counts) (ms : List x.Module) (spot : Here) (g : Given) (next : Counts) (xs ys : List x.Item)
-    → f.items_parts inner sizes ms spot g next (xs ++ ys) ≡ f.items_parts inner sizes ms spot g next xs ++ f.items_parts inner sizes ms spot g (fold (f.behind_item sizes spot) next xs) ys
-items-append inner sizes ms spot g next [] ys = refl
-items-append inner sizes ms spot g next (item ∷ xs) ys =
-    ap (λ z. f.item_parts inner sizes ms spot g next item ++ z) (items-append inner sizes ms spot g (f.behind_item sizes spot next item) xs ys)
-    ∙ sym (append_assoc (f.item_parts inner sizes ms spot g next item) (f.items_parts inner sizes ms spot g (f.behind_item sizes spot next item) xs)
-    (f.items_parts inner sizes ms spot g (fold (f.behind_item sizes spot) (f.behind_item sizes spot next item) xs) ys))
-
-pub units-append : (inner : f.Inner) (spot : Here) (base : Counts) (us : x.Instances) (m : x.Module) (counts : Counts) (xs ys : List x.NamedUnit)
-    → f.instances inner spot base us m counts (xs ++ ys) ≡ f.instances inner spot base us m counts xs ++ f.instances inner spot (fold (λ z v. plus z counts) base xs) us m counts ys
-units-append inner spot base us m counts [] ys = refl
-units-append inner spot base us m counts (u ∷ xs) ys =
-    ap (λ z. inner spot base us u m ++ z) (units-append inner spot (plus base counts) us m counts xs ys)
-    ∙ sym (append_assoc (inner spot base us u m) (f.instances inner spot (plus base counts) us m counts xs) (f.instances inner spot (fold (λ z v. plus z counts) (plus base counts) xs) us m counts ys))
-
-base-units : (counts : Counts) (xs : List x.NamedUnit) (base : Counts) → base.signals + length xs * counts.signals < most_numbers
-    → (fold (λ (z : Counts) (v : x.NamedUnit). plus z counts) base xs).signals ≡ base.signals + length xs * counts.signals
-base-units counts [] base room = omega arith
-base-units counts (u ∷ xs) base room =
-    let step = suc-mul (length xs) counts.signals in
-    let rest = base-units counts xs (plus base counts) (omega (arith, room, step)) in
-    omega (arith, rest, room, step)
-
-sigs-append : (xs ys : List f.Part) → sigs (xs ++ ys) ≡ sigs xs ++ sigs ys
-sigs-append xs ys = flat_map-append (λ (a : f.Part). a.signals) xs ys
-
-pub split-count : (first others : List x.NamedUnit) (u : x.NamedUnit) (n : ℕ) → length (first ++ u ∷ others) * n ≡ length first * n + (n + length others * n)
-split-count [] others u n = let e = suc-mul (length others) n in omega (arith, e)
-split-count (v ∷ first) others u n =
-    let rest = split-count first others u n in
-    let a = suc-mul (length (first ++ u ∷ others)) n in
-    let c = suc-mul (length first) n in
-    omega (arith, rest, a, c)
 
 module _ (ms : List x.Module) (top : x.Module) (whole : List Signal) (apart : All AreApart ms) where
   behind-all : ℕ
@@ -120,18 +83,8 @@ module _ (ms : List x.Module) (top : x.Module) (whole : List Signal) (apart : Al
       let next-is : next.signals ≡ g.base.signals + length (sigs P) = omega (arith, front.next-are, front.stands.len, front-length) in
       let room-first : next.signals + length first * c < most_numbers = omega (arith, next-is, front-length, front.counts, h.room, counted, declared-ones, news-front, insts-all, insts-split, units) in
       let first-length = units-add sizes g m env behind-all ms inner added absent us of named first next room-first in
-      let base-is = base-units (sizes us.definition) first next room-first in
-      let named-parts : f.item_parts inner sizes ms spot g next (x.Instantiates us) ≡ f.instances inner spot next us of (sizes us.definition) us.units =
-      ap (λ (q : Option x.Module). option_map_or (λ w. f.instances inner spot next us w (sizes us.definition) us.units) q []) named in
-      let split-parts : f.instances inner spot next us of (sizes us.definition) us.units ≡ F ++ (X ++ O) =
-      ap (λ z. f.instances inner spot next us of (sizes us.definition) z) split ∙ units-append inner spot next us of (sizes us.definition) first (u ∷ others) in
-      let shape : sigs (body-of (suc n) g m) ≡ (sigs P ++ sigs F) ++ (sigs X ++ (sigs O ++ sigs R)) =
-      ap (λ z. sigs (f.items_parts inner sizes ms spot g g.base z)) is
-      ∙ (ap (λ z. sigs z) (items-append inner sizes ms spot g g.base before (x.Instantiates us ∷ after))
-      ∙ (ap (λ z. sigs (P ++ (z ++ R))) (named-parts ∙ split-parts)
-      ∙ (sigs-append P ((F ++ (X ++ O)) ++ R)
-      ∙ (ap (λ z. sigs P ++ z) (sigs-append (F ++ (X ++ O)) R ∙ ap (λ z. z ++ sigs R) (sigs-append F (X ++ O) ∙ ap (λ z. sigs F ++ z) (sigs-append X O)))
-      ∙ pieces (sigs P) (sigs F) (sigs X) (sigs O) (sigs R))))) in
+      let base-is = base-units (λ (c : Counts). c.signals) (λ a c room. omega (arith, room)) (sizes us.definition) first next room-first in
+      let shape = split-parts (λ (a : f.Part). a.signals) inner sizes ms spot g before after us of first others u m.items is split named in
       let counted-of = size-named n ms us.definition of named in
       record {
         own-names = found-holds AreApart (λ z. bytes_eq us.definition z.name.name) ms of apart named;

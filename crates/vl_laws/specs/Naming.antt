@@ -28,29 +28,29 @@ IsCalled b = ⊥
 module _ (scope : Scope) where
   abbrev mutual
     -- each name of the expression stands for what it is used as
-    pub IsNamed : x.Ex → Type 0
-    IsNamed (x.Number at n) = ⊤
-    IsNamed (x.Text at text) = ⊤
-    IsNamed (x.Named at t ss) = IsValue (scope.names t) × AreNamedSelects ss
-    IsNamed (x.Paren at a) = IsNamed a
-    IsNamed (x.Unary at op a) = IsNamed a
-    IsNamed (x.Binary at op a b) = IsNamed a × IsNamed b
-    IsNamed (x.Choice at t a b) = IsNamed t × IsNamed a × IsNamed b
-    IsNamed (x.Joined at es) = AreNamed es
-    IsNamed (x.Repeated at n es) = IsNamed n × AreNamed es
-    IsNamed (x.Called at t es) = IsCalled (scope.calls t) × AreNamed es
-    IsNamed (x.System at name given) = AreNamedArgs given
+    pub IsResolved : x.Ex → Type 0
+    IsResolved (x.Number at n) = ⊤
+    IsResolved (x.Text at text) = ⊤
+    IsResolved (x.Named at t ss) = IsValue (scope.names t) × AreResolvedSelects ss
+    IsResolved (x.Paren at a) = IsResolved a
+    IsResolved (x.Unary at op a) = IsResolved a
+    IsResolved (x.Binary at op a b) = IsResolved a × IsResolved b
+    IsResolved (x.Choice at t a b) = IsResolved t × IsResolved a × IsResolved b
+    IsResolved (x.Joined at es) = AreResolved es
+    IsResolved (x.Repeated at n es) = IsResolved n × AreResolved es
+    IsResolved (x.Called at t es) = IsCalled (scope.calls t) × AreResolved es
+    IsResolved (x.System at name given) = AreResolvedArgs given
 
-    pub AreNamed : x.Exs → Type 0
-    AreNamed x.NoExs = ⊤
-    AreNamed (x.MoreExs e es) = IsNamed e × AreNamed es
+    pub AreResolved : x.Exs → Type 0
+    AreResolved x.NoExs = ⊤
+    AreResolved (x.MoreExs e es) = IsResolved e × AreResolved es
 
-    pub AreNamedSelects : x.Selects → Type 0
-    AreNamedSelects x.NoSelects = ⊤
-    AreNamedSelects (x.Index at i others) = IsNamed i × AreNamedSelects others
-    AreNamedSelects (x.Range at mark l r others) = IsNamed l × IsNamed r × AreNamedSelects others
+    pub AreResolvedSelects : x.Selects → Type 0
+    AreResolvedSelects x.NoSelects = ⊤
+    AreResolvedSelects (x.Index at i others) = IsResolved i × AreResolvedSelects others
+    AreResolvedSelects (x.Range at mark l r others) = IsResolved l × IsResolved r × AreResolvedSelects others
 
-    pub AreNamedArgs : x.Args → Type 0
-    AreNamedArgs x.NoArgs = ⊤
-    AreNamedArgs (x.NullArg others) = AreNamedArgs others
-    AreNamedArgs (x.MoreArgs e others) = IsNamed e × AreNamedArgs others
+    pub AreResolvedArgs : x.Args → Type 0
+    AreResolvedArgs x.NoArgs = ⊤
+    AreResolvedArgs (x.NullArg others) = AreResolvedArgs others
+    AreResolvedArgs (x.MoreArgs e others) = IsResolved e × AreResolvedArgs others

@@ -25,11 +25,11 @@ ghost use Rattle.vl_flat.specs.Plainly as plain;
 ghost use Rattle.vl_laws.specs.Apart.{AreApart};
 ghost use Rattle.vl_laws.specs.Instances.{IsInstance};
 ghost use Rattle.vl_laws.specs.Levels.{AreSpelt, parts_at};
-ghost use Rattle.vl_laws.specs.Naming.{StandsIn, IsNamed};
+ghost use Rattle.vl_laws.specs.Naming.{StandsIn, IsResolved};
 
 /// An expression has in the design the width and the sign by which it is judged.
 pub fn an_expression_has_the_width_by_which_it_is_judged()
-    ensures { (scope : Scope) (design : width.Scope) → StandsIn scope design → (e : Ex) → IsNamed scope e →
+    ensures { (scope : Scope) (design : width.Scope) → StandsIn scope design → (e : Ex) → IsResolved scope e →
         width.form design (plain.exp (expressions.exp scope e)) ≡ expressions.form scope e }
 {}
 

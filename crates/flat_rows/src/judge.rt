@@ -3,7 +3,7 @@
 use crate::table::table;
 use std::alloc::{AllocError, Global};
 use vl_base::place::Place;
-use vl_flat::stop::Stop;
+use vl_design::stop::Stop;
 use vl_flatten::elaborate::elaborate;
 use vl_lex::lex::lex;
 use vl_parse::parse;

@@ -20,10 +20,10 @@ use Rattle.vl_design.specs.Queue.{Queue}
 use Rattle.vl_design.specs.Alone.{Ends}
 use Rattle.vl_design.specs.Plain.{alone}
 use Rattle.vl_design.proofs.Settling.{ends_once}
-use Rattle.vl_flat.specs.declared.stop.Stop.{Stop}
-use Rattle.vl_flat.specs.declared.stop.Stop.TheVariants as stop
-use Rattle.vl_flat.specs.Placed as p
-use Rattle.vl_flat.specs.Plainly as plain
+use Rattle.vl_design.specs.declared.stop.Stop.{Stop}
+use Rattle.vl_design.specs.declared.stop.Stop.TheVariants as stop
+use Rattle.vl_design.specs.Placed as p
+use Rattle.vl_design.specs.Plainly as plain
 use Rattle.vl_flatten.specs.Meeting.{IsElaboration}
 use Rattle.vl_flatten.proofs.Once.{elaborated_once}
 use Rattle.plain_form.specs.Running.{is_running}

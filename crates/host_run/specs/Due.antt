@@ -16,9 +16,9 @@ use Rattle.vl_design.specs.Syntax.{Flat}
 use Rattle.vl_design.specs.Queue.{Queue}
 use Rattle.vl_design.specs.Alone.{Ends}
 use Rattle.vl_design.specs.Plain.{alone}
-use Rattle.vl_flat.specs.declared.stop.Stop.TheVariants.{Construct, Limit}
-use Rattle.vl_flat.specs.Placed as p
-use Rattle.vl_flat.specs.Plainly as plain
+use Rattle.vl_design.specs.declared.stop.Stop.TheVariants.{Construct, Limit}
+use Rattle.vl_design.specs.Placed as p
+use Rattle.vl_design.specs.Plainly as plain
 use Rattle.vl_flatten.specs.Meeting.{IsElaboration}
 use Rattle.plain_form.specs.Running.{is_running}
 use Rattle.host_run.specs.Taking.{Takes}

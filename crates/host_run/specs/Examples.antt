@@ -15,7 +15,7 @@ use Rattle.vl_source.specs.declared.tree.Lvalue as l
 use Rattle.vl_source.specs.declared.tree.AssignMark.TheVariants.{Nonblocking}
 use Rattle.vl_design.specs.declared.design.SigKind.TheVariants.{Var, Clock}
 use Rattle.vl_design.specs.declared.design.ProcKind.TheVariants.{Rise}
-use Rattle.vl_flat.specs.Placed as p
+use Rattle.vl_design.specs.Placed as p
 use Rattle.vl_flat.specs.Examples.{at, called, alone, joined, plain, name, named, system, two, range, bits}
 
 -- module m(input wire clk);

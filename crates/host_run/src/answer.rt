@@ -3,7 +3,7 @@
 ghost use Rattle.std.specs.Prelude.{◌≡◌, ℕ, List, IfOk, Ok};
 ghost use Rattle.vl_tree.specs.Faults.{IsRead};
 ghost use Rattle.vl_source.specs.declared.tree.Source.{Source as Tree};
-ghost use Rattle.vl_flat.specs.Seen.{placed};
+ghost use Rattle.vl_design.specs.Seen.{placed};
 ghost use Rattle.vl_flatten.specs.Meeting.{IsElaboration};
 ghost use Rattle.host_run.specs.Due.{end_of as end_of_lem};
 ghost use Rattle.host_run.specs.Answers.{IsAnswer, IsTreeOf};
@@ -15,7 +15,7 @@ use plain_run::run::run;
 use std::alloc::{AllocError, Global};
 use vl_base::place::Place;
 use vl_design::design::Design;
-use vl_flat::stop::Stop;
+use vl_design::stop::Stop;
 use vl_flatten::elaborate::elaborate;
 use vl_lex::lex::{LexFault, lex};
 use vl_parse::{ParseFault, parse};

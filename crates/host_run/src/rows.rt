@@ -7,7 +7,7 @@ ghost use Rattle.vl_design.specs.Alone.{Ends};
 ghost use Rattle.vl_design.specs.Plain.{alone};
 ghost use Rattle.vl_design.specs.Examples.{counter};
 ghost use Rattle.vl_flat.specs.Outcome.{flattened};
-ghost use Rattle.vl_flat.specs.Plainly.{flat};
+ghost use Rattle.vl_design.specs.Plainly.{flat};
 ghost use Rattle.plain_form.specs.Running.{is_running};
 ghost use Rattle.host_run.specs.Examples.{counter_source, counter_design};
 ghost use Rattle.host_run.specs.Report.{block};

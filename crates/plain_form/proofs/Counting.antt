@@ -11,8 +11,8 @@ use Rattle.vl_design.specs.declared.design.StmtNode as s
 use Rattle.vl_design.specs.declared.design.StmtNode.TheBlock as sb
 use Rattle.vl_design.specs.declared.design.SysArg.{SysArg}
 use Rattle.vl_design.specs.declared.design.Process.{Process}
-use Rattle.vl_flat.specs.Placed as p
-use Rattle.vl_flat.specs.Seen.{stm_of, row_stms, args_of, arg, process_of}
+use Rattle.vl_design.specs.Placed as p
+use Rattle.vl_design.specs.Seen.{stm_of, row_stms, args_of, arg, process_of}
 use Rattle.plain_form.specs.Trees.{stms_of}
 
 -- ---- lists of statements

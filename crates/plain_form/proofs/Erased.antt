@@ -4,8 +4,8 @@ use Rattle.vl_base.specs.declared.place.Place.{Place}
 use Rattle.vl_design.specs.declared.design.ExprNode as e
 use Rattle.vl_design.specs.Syntax as d
 use Rattle.vl_design.specs.Trees as v
-use Rattle.vl_flat.specs.Plainly as plain
-use Rattle.vl_flat.specs.Seen as seen
+use Rattle.vl_design.specs.Plainly as plain
+use Rattle.vl_design.specs.Seen as seen
 
 mutual
   pub exp-same : (q : Place) (x : e.ExprNode) → v.node_exp x ≡ plain.exp (seen.node_exp q x)

@@ -29,8 +29,8 @@ use Rattle.vl_design.specs.Syntax as d
 use Rattle.vl_design.specs.Trees as v
 use Rattle.vl_design.specs.Sound.{HasValue}
 use Rattle.vl_design.specs.Queue.{is_init}
-use Rattle.vl_flat.specs.Plainly as plain
-use Rattle.vl_flat.specs.Seen as seen
+use Rattle.vl_design.specs.Plainly as plain
+use Rattle.vl_design.specs.Seen as seen
 use Rattle.plain_run.specs.Plain.{IsPlainExp, IsPlainOp, IsPlainTarget, IsPlainProcKind, IsPlainTask, IsPlainNode, ArePlainNodes, IsPlainProc, IsPlain}
 use Rattle.plain_form.specs.Running as r
 use Rattle.plain_form.proofs.Erased.{exp-same}

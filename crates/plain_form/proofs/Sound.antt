@@ -22,8 +22,8 @@ use Rattle.vl_design.specs.Functions.{scope_of}
 use Rattle.vl_design.specs.Sound.{IsWidth, IsOf, HasValue, IsSignal, IsSoundExp, IsSoundTarget, IsSoundPiece, IsSoundTask, IsSoundStm, IsSoundFun, IsSound}
 use Rattle.vl_design.specs.Queue.{is_init}
 use Rattle.vl_design.specs.Plain.{plain_scope}
-use Rattle.vl_flat.specs.Placed as p
-use Rattle.vl_flat.specs.Plainly as plain
+use Rattle.vl_design.specs.Placed as p
+use Rattle.vl_design.specs.Plainly as plain
 use Rattle.plain_form.specs.Running as r
 
 -- ---- signals

@@ -2,7 +2,7 @@
 use Rattle.std.proofs.Common.{◌≡◌, ◌<◌, ℕ, Bool, false, List, [], ◌∷◌, length, refl, arith}
 use Rattle.vl_design.specs.declared.design.SysArg.{SysArg}
 use Rattle.vl_design.specs.declared.design.SysArg.TheVariants as a
-use Rattle.vl_flat.specs.Seen.{args_of}
+use Rattle.vl_design.specs.Seen.{args_of}
 use Rattle.plain_form.specs.Running.{is_task}
 
 pub other-count : (reads : ℕ → Bool) (name : List ℕ) (xs : List SysArg) → 0 < length xs → (length xs ≡ 2 → ⊥) → false ≡ is_task reads name (args_of xs)

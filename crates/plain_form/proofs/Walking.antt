@@ -6,7 +6,7 @@ use Rattle.std.proofs.lemmas.List.{at_drop_more, drop_all}
 use Rattle.vl_design.specs.declared.design.Stmt.{Stmt}
 use Rattle.vl_design.specs.declared.design.Signal.{Signal}
 use Rattle.vl_design.specs.declared.design.ProcKind.{ProcKind}
-use Rattle.vl_flat.specs.Seen.{stm_of}
+use Rattle.vl_design.specs.Seen.{stm_of}
 use Rattle.plain_form.specs.Running as r
 use Rattle.plain_form.specs.Trees.{stms_of}
 use Rattle.plain_form.proofs.Counting.{stms-more}

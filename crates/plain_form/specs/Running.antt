@@ -15,9 +15,9 @@ use Rattle.vl_design.specs.declared.design.Event.{Event}
 use Rattle.vl_design.specs.Syntax.{Exp, Num, Sig, Bin}
 use Rattle.vl_design.specs.Trees.{range_width}
 use Rattle.vl_design.specs.Queue.{is_init, is_rise}
-use Rattle.vl_flat.specs.Stops.{same_place}
-use Rattle.vl_flat.specs.Placed as p
-use Rattle.vl_flat.specs.Plainly.{exp}
+use Rattle.vl_design.specs.Stops.{same_place}
+use Rattle.vl_design.specs.Placed as p
+use Rattle.vl_design.specs.Plainly.{exp}
 
 -- ---- signals (clauses 4.2 and 4.3)
 

@@ -1,9 +1,9 @@
 //! Counts of statements and of nodes, kept within one past their limits.
 
 ghost use Rattle.std.specs.Prelude.{◌≡◌, ◌+◌, ◌≤◌, min, map};
-ghost use Rattle.vl_flat.specs.Placed as p;
-ghost use Rattle.vl_flat.specs.Plainly.{exp};
-ghost use Rattle.vl_flat.specs.Seen.{exp_of, stm_of, arg, args_of};
+ghost use Rattle.vl_design.specs.Placed as p;
+ghost use Rattle.vl_design.specs.Plainly.{exp};
+ghost use Rattle.vl_design.specs.Seen.{exp_of, stm_of, arg, args_of};
 ghost use Rattle.plain_form.specs.Running as r;
 
 use vl_base::place::Place;

@@ -5,7 +5,7 @@ ghost use Rattle.std.specs.List.{list_all, sum_by, count_by};
 ghost use Rattle.vl_design.specs.Queue.{is_rise};
 ghost use Rattle.vl_design.specs.Sound.{IsSound};
 ghost use Rattle.vl_design.specs.Trees.{flat_of};
-ghost use Rattle.vl_flat.specs.Seen.{process_of, placed};
+ghost use Rattle.vl_design.specs.Seen.{process_of, placed};
 ghost use Rattle.plain_run.specs.Plain.{IsPlain};
 ghost use Rattle.plain_form.specs.Running as r;
 

@@ -3,9 +3,9 @@
 ghost use Rattle.std.specs.Prelude.{◌≡◌, true};
 ghost use Rattle.vl_design.specs.declared.design.Design.{Design};
 ghost use Rattle.vl_design.specs.Sound.{IsSound};
-ghost use Rattle.vl_flat.specs.Placed as p;
-ghost use Rattle.vl_flat.specs.Seen.{placed};
-ghost use Rattle.vl_flat.specs.Plainly.{flat};
+ghost use Rattle.vl_design.specs.Placed as p;
+ghost use Rattle.vl_design.specs.Seen.{placed};
+ghost use Rattle.vl_design.specs.Plainly.{flat};
 ghost use Rattle.plain_run.specs.Plain.{IsPlain};
 ghost use Rattle.plain_form.specs.Running.{is_running};
 

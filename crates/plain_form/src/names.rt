@@ -1,8 +1,8 @@
 //! Signals by their numbers, and expressions.
 
 ghost use Rattle.std.specs.Prelude.{◌≡◌};
-ghost use Rattle.vl_flat.specs.Plainly.{exp};
-ghost use Rattle.vl_flat.specs.Seen.{exp_of, target_of};
+ghost use Rattle.vl_design.specs.Plainly.{exp};
+ghost use Rattle.vl_design.specs.Seen.{exp_of, target_of};
 ghost use Rattle.plain_form.specs.Running as r;
 
 use vl_base::bits::{BinOp, Bits};

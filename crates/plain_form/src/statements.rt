@@ -2,7 +2,7 @@
 
 ghost use Rattle.std.specs.Prelude.{◌≡◌};
 ghost use Rattle.vl_design.specs.Queue as q;
-ghost use Rattle.vl_flat.specs.Seen.{args_of, stm_of};
+ghost use Rattle.vl_design.specs.Seen.{args_of, stm_of};
 ghost use Rattle.plain_form.specs.Running as r;
 
 use crate::names::{is_exp, is_name, is_target};

@@ -11,8 +11,8 @@ use Rattle.vl_design.specs.Value.{value}
 use Rattle.vl_flat.specs.declared.binding.Binding.{Binding}
 use Rattle.vl_flat.specs.declared.binding.Binding.TheVariants.{Constant, Signal, Function}
 use Rattle.vl_flat.specs.Surface.{Ex, Number, Text, Named, Paren, Unary, Binary, Choice, Joined, Repeated, Called, System, NoSelects, Index, Range}
-use Rattle.vl_flat.specs.Placed as p
-use Rattle.vl_flat.specs.Plainly as plain
+use Rattle.vl_design.specs.Placed as p
+use Rattle.vl_design.specs.Plainly as plain
 use Rattle.vl_flat.specs.Scopes.{Scope}
 use Rattle.vl_flat.specs.Constants.{closed, nothing, constant_form, constant_value}
 use Rattle.vl_flat.specs.Expressions.{is_constant, is_parameter, is_long, whole, operand, marked, unary_of, operation, text_form, exp, marked_form as form_marked}

@@ -8,12 +8,12 @@ use Rattle.std.proofs.Math.Nat.{mod-eq_of_lt}
 use Rattle.vl_base.specs.Value.{reading, is_negative}
 use Rattle.vl_design.specs.Value.{value}
 use Rattle.vl_design.specs.Width.{assigned}
-use Rattle.vl_flat.specs.Plainly as plain
+use Rattle.vl_design.specs.Plainly as plain
 use Rattle.vl_flat.specs.Constants.{closed, nothing, is_within, lowest, highest, constant_form, constant_value, assigned_value, constant_reading}
 use Rattle.vl_constant.specs.Wholes.{turns}
 use Rattle.vl_flat.specs.Scopes.{Scope}
 use Rattle.vl_flat.specs.Surface.{Ex, place_of}
-use Rattle.vl_flat.specs.Placed as p
+use Rattle.vl_design.specs.Placed as p
 use Rattle.vl_flat.specs.Expressions.{is_constant, constant, exp}
 use Rattle.vl_constant.specs.Folded.{folded, folded_form}
 use Rattle.vl_constant.proofs.Folding.{own-form, own-value, folded-value}

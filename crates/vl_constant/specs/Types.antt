@@ -1,7 +1,7 @@
 -- The plain data of types and ranges.
 use Rattle.std.specs.Prelude.{nat_lt, ℤ, pos, ◌-ℤ◌, Bool, ◌||◌, if◌then◌else◌}
 use Rattle.vl_flat.specs.declared.binding.Constant.{Constant}
-use Rattle.vl_flat.specs.Placed.{Exp}
+use Rattle.vl_design.specs.Placed.{Exp}
 use Rattle.vl_flat.specs.Constants.{constant_form, constant_value}
 use Rattle.vl_flat.specs.Expressions.{falls}
 use Rattle.vl_flat.specs.Ranges.{bits_in}

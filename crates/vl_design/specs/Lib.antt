@@ -1,6 +1,10 @@
 pub mod Syntax
 pub mod Formats
 pub mod Trees
+pub mod Placed
+pub mod Plainly
+pub mod Seen
+pub mod Stops
 pub mod Sized
 pub mod Width
 pub mod Value

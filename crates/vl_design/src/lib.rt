@@ -5,3 +5,4 @@ pub mod design;
 pub mod laws;
 pub mod rows;
 pub mod sized;
+pub mod stop;

@@ -11,11 +11,11 @@ use Rattle.vl_design.specs.declared.design.CaseItem.{CaseItem}
 use Rattle.vl_design.specs.declared.design.StmtNode as d
 use Rattle.vl_design.specs.declared.design.StmtNode.TheBlock as blk
 use Rattle.vl_flat.specs.Surface as x
-use Rattle.vl_flat.specs.Placed as p
+use Rattle.vl_design.specs.Placed as p
 use Rattle.vl_flat.specs.Scopes.{Scope}
 use Rattle.vl_flat.specs.Expressions as flat
 use Rattle.vl_flat.specs.Statements as spec
-use Rattle.vl_flat.specs.Seen.{exp_of, exps_of, arg, args_of, node_stm, row_stms, row_items, stm_of}
+use Rattle.vl_design.specs.Seen.{exp_of, exps_of, arg, args_of, node_stm, row_stms, row_items, stm_of}
 use Rattle.vl_bind.specs.declared.surface.Ex as e
 use Rattle.vl_bind.specs.declared.surface.Left as l
 use Rattle.vl_bind.specs.declared.surface.Statement as s

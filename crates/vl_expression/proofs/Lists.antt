@@ -12,11 +12,11 @@ use Rattle.vl_design.specs.declared.design.SysArg.{SysArg}
 use Rattle.vl_design.specs.declared.design.ExprNode as d
 use Rattle.vl_design.specs.declared.design.ExprNode.TheBlock as blk
 use Rattle.vl_flat.specs.Surface as x
-use Rattle.vl_flat.specs.Placed as p
+use Rattle.vl_design.specs.Placed as p
 use Rattle.vl_flat.specs.Scopes.{Scope, range_of}
 use Rattle.vl_flat.specs.declared.binding.Binding.{Binding}
 use Rattle.vl_flat.specs.Expressions.{is_memory, whole, called_system}
-use Rattle.vl_flat.specs.Seen.{exp_of, arg, node_exp, row_exps, row_args}
+use Rattle.vl_design.specs.Seen.{exp_of, arg, node_exp, row_exps, row_args}
 use Rattle.vl_bind.specs.declared.surface.Ex.{Ex}
 use Rattle.vl_bind.specs.declared.surface.Select.{Select}
 use Rattle.vl_bind.specs.declared.surface.Argument.{Argument}

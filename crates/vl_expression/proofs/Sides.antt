@@ -8,13 +8,13 @@ use Rattle.vl_design.specs.declared.design.Target.{Target}
 use Rattle.vl_design.specs.declared.design.TargetNode as d
 use Rattle.vl_design.specs.declared.design.TargetNode.TheBlock as blk
 use Rattle.vl_flat.specs.Surface as x
-use Rattle.vl_flat.specs.Placed as p
+use Rattle.vl_design.specs.Placed as p
 use Rattle.vl_flat.specs.Scopes.{Scope, range_of, number_of}
 use Rattle.vl_flat.specs.declared.binding.Binding.{Binding}
 use Rattle.vl_flat.specs.Expressions.{is_memory}
 use Rattle.vl_flat.specs.Targets as lefts
 use Rattle.vl_flat.specs.Connections as conn
-use Rattle.vl_flat.specs.Seen.{node_target, row_targets, target_of}
+use Rattle.vl_design.specs.Seen.{node_target, row_targets, target_of}
 use Rattle.vl_bind.specs.declared.surface.Ex as e
 use Rattle.vl_bind.specs.declared.surface.Left as l
 use Rattle.vl_bind.specs.Seen.{seen}

@@ -1,8 +1,8 @@
 -- Expressions and arguments of the design one after another.
 use Rattle.std.specs.Prelude.{List, [], ◌∷◌}
 use Rattle.vl_design.specs.declared.design.SysArg.{SysArg}
-use Rattle.vl_flat.specs.Placed as p
-use Rattle.vl_flat.specs.Seen.{arg}
+use Rattle.vl_design.specs.Placed as p
+use Rattle.vl_design.specs.Seen.{arg}
 use Rattle.vl_flat.specs.Scopes.{Scope}
 use Rattle.vl_flat.specs.Expressions.{exp}
 use Rattle.vl_bind.specs.declared.surface.Ex.{Ex as Bound}

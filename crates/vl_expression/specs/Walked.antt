@@ -1,13 +1,13 @@
 -- Labels, left sides, statements and items of cases in the design, one after another.
 use Rattle.std.specs.Prelude.{List, [], ◌∷◌, Bool}
 use Rattle.vl_design.specs.declared.design.CaseItem.{CaseItem}
-use Rattle.vl_flat.specs.Placed as p
+use Rattle.vl_design.specs.Placed as p
 use Rattle.vl_flat.specs.Scopes.{Scope}
 use Rattle.vl_flat.specs.Expressions.{label}
 use Rattle.vl_flat.specs.Targets.{target}
 use Rattle.vl_flat.specs.Statements.{statement}
 use Rattle.vl_flat.specs.Connections.{left_of}
-use Rattle.vl_flat.specs.Seen.{exps_of, stm_of}
+use Rattle.vl_design.specs.Seen.{exps_of, stm_of}
 use Rattle.vl_bind.specs.declared.surface.Ex.{Ex}
 use Rattle.vl_bind.specs.declared.surface.Left.{Left}
 use Rattle.vl_bind.specs.declared.surface.Statement.{Statement}

@@ -2,7 +2,7 @@
 
 ghost use Rattle.std.specs.Prelude.{◌≡◌, map, IfOk, true};
 ghost use Rattle.vl_flat.specs.Expressions as flat;
-ghost use Rattle.vl_flat.specs.Seen.{exp_of};
+ghost use Rattle.vl_design.specs.Seen.{exp_of};
 ghost use Rattle.vl_bind.specs.Seen.{seen, number_of};
 ghost use Rattle.vl_constant.specs.Seen.{seen_scope};
 ghost use Rattle.vl_expression.specs.Walked as n;

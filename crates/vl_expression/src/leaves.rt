@@ -2,7 +2,7 @@
 
 ghost use Rattle.std.specs.Prelude.{◌≡◌, option_map};
 ghost use Rattle.vl_flat.specs.Expressions as flat;
-ghost use Rattle.vl_flat.specs.Seen.{exp_of};
+ghost use Rattle.vl_design.specs.Seen.{exp_of};
 ghost use Rattle.vl_constant.specs.Seen.{binding_of};
 
 use vl_base::bits::Bits;

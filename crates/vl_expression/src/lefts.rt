@@ -2,11 +2,11 @@
 
 ghost use Rattle.std.specs.Prelude.{◌≡◌, option_map, IfOk, true};
 ghost use Rattle.vl_flat.specs.Surface as x;
-ghost use Rattle.vl_flat.specs.Placed as p;
+ghost use Rattle.vl_design.specs.Placed as p;
 ghost use Rattle.vl_flat.specs.Scopes as scopes;
 ghost use Rattle.vl_flat.specs.Expressions as flat;
 ghost use Rattle.vl_flat.specs.Targets as lefts;
-ghost use Rattle.vl_flat.specs.Seen.{exp_of, target_of};
+ghost use Rattle.vl_design.specs.Seen.{exp_of, target_of};
 ghost use Rattle.vl_bind.specs.Seen.{seen, select, selects_before};
 ghost use Rattle.vl_constant.specs.Seen.{seen_scope, binding_of};
 ghost use Rattle.vl_constant.specs.Types.{numbers};

@@ -2,11 +2,11 @@
 
 ghost use Rattle.std.specs.Prelude.{◌≡◌, map, IfOk};
 ghost use Rattle.vl_flat.specs.Surface as x;
-ghost use Rattle.vl_flat.specs.Placed as p;
+ghost use Rattle.vl_design.specs.Placed as p;
 ghost use Rattle.vl_flat.specs.Scopes as scopes;
 ghost use Rattle.vl_flat.specs.Expressions as flat;
 ghost use Rattle.vl_flat.specs.Statements as spec;
-ghost use Rattle.vl_flat.specs.Seen.{exp_of, stm_of};
+ghost use Rattle.vl_design.specs.Seen.{exp_of, stm_of};
 ghost use Rattle.vl_bind.specs.Seen.{seen, args_before};
 ghost use Rattle.vl_bind.specs.SeenStatements.{seen_left, seen_statement, item, items_before};
 ghost use Rattle.vl_constant.specs.Seen.{seen_scope};

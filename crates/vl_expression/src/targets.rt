@@ -1,10 +1,10 @@
 //! Left sides in the design, and what outputs are connected to (IEEE 1364-2005, clauses 6.1, 9.2 and 12.3.9.2).
 
 ghost use Rattle.std.specs.Prelude.{◌≡◌, map, IfOk};
-ghost use Rattle.vl_flat.specs.Placed as p;
+ghost use Rattle.vl_design.specs.Placed as p;
 ghost use Rattle.vl_flat.specs.Targets as lefts;
 ghost use Rattle.vl_flat.specs.Connections.{left_of};
-ghost use Rattle.vl_flat.specs.Seen.{target_of};
+ghost use Rattle.vl_design.specs.Seen.{target_of};
 ghost use Rattle.vl_bind.specs.Seen.{seen};
 ghost use Rattle.vl_bind.specs.SeenStatements.{seen_left};
 ghost use Rattle.vl_constant.specs.Seen.{seen_scope};

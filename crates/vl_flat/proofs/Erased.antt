@@ -14,9 +14,9 @@ use Rattle.vl_design.specs.declared.design.Design.{Design}
 use Rattle.vl_design.specs.Syntax as d
 use Rattle.vl_design.specs.Formats.{Value}
 use Rattle.vl_design.specs.Trees as v
-use Rattle.vl_flat.specs.Placed as p
-use Rattle.vl_flat.specs.Plainly as plain
-use Rattle.vl_flat.specs.Seen as seen
+use Rattle.vl_design.specs.Placed as p
+use Rattle.vl_design.specs.Plainly as plain
+use Rattle.vl_design.specs.Seen as seen
 
 mutual
   exp-same : (q : Place) (x : e.ExprNode) → v.node_exp x ≡ plain.exp (seen.node_exp q x)

@@ -1,7 +1,7 @@
 -- Worked rows, by computing.
 use Rattle.std.proofs.Common.{◌≡◌, refl}
 use Rattle.std.specs.Prelude.{Ok, Err}
-use Rattle.vl_flat.specs.declared.stop.Stop.TheVariants.{Construct}
+use Rattle.vl_design.specs.declared.stop.Stop.TheVariants.{Construct}
 use Rattle.vl_flat.specs.Examples.{at, stepped_source, stepped, two_wide}
 use Rattle.vl_flat.specs.Environments.{size}
 use Rattle.vl_flat.specs.Flat.{instance}

@@ -4,8 +4,8 @@ use Rattle.std.specs.Int.RustNames.{unsigned_abs}
 use Rattle.vl_design.specs.declared.design.Form.{Form}
 use Rattle.vl_design.specs.Width.{Scope, form, assigned}
 use Rattle.vl_design.specs.Value.{Sample, value, own_value, own_reading}
-use Rattle.vl_flat.specs.Placed.{Exp}
-use Rattle.vl_flat.specs.Plainly.{exp}
+use Rattle.vl_design.specs.Placed.{Exp}
+use Rattle.vl_design.specs.Plainly.{exp}
 
 -- no signals and no functions
 abbrev pub closed : Scope

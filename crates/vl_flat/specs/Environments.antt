@@ -6,7 +6,7 @@ use Rattle.std.specs.Str.{bytes_eq}
 use Rattle.vl_design.specs.declared.design.SigKind.{SigKind}
 use Rattle.vl_flat.specs.declared.binding.Binding.TheVariants as b
 use Rattle.vl_flat.specs.declared.binding.Shape.{Shape}
-use Rattle.vl_flat.specs.Placed.{Exp}
+use Rattle.vl_design.specs.Placed.{Exp}
 use Rattle.vl_flat.specs.Scopes.{Env, none, bind}
 use Rattle.vl_flat.specs.Items.{DataType, Declared, Parameter, Item, Parameters, Signals, Functions, Instantiates, Module}
 use Rattle.vl_flat.specs.Kinds.{kind_of, signals_of}

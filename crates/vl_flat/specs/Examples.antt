@@ -33,7 +33,7 @@ use Rattle.vl_design.specs.declared.design.SigKind.{SigKind}
 use Rattle.vl_design.specs.declared.design.SigKind.TheVariants.{Var, Clock}
 use Rattle.vl_design.specs.declared.design.ProcKind.TheVariants.{Init, Rise}
 use Rattle.vl_design.specs.declared.design.Signal.{Signal}
-use Rattle.vl_flat.specs.Placed as f
+use Rattle.vl_design.specs.Placed as f
 
 -- ---- parts of trees
 

@@ -7,10 +7,10 @@ use Rattle.vl_grammar.specs.declared.tree.SelectMark.TheVariants as m
 use Rattle.vl_design.specs.Formats.{Between, format_pieces}
 use Rattle.vl_design.specs.Formats as formats
 use Rattle.vl_flat.specs.declared.binding.Binding.{Binding}
-use Rattle.vl_flat.specs.declared.stop.Stop.{Stop}
+use Rattle.vl_design.specs.declared.stop.Stop.{Stop}
 use Rattle.vl_flat.specs.Surface.{Ex, Exs, Selects, Args, Number, Text, Named, Paren, Unary, Binary, Choice, Joined, Repeated, Called, System, NoExs, MoreExs, NoSelects, Index, Range, NoArgs, NullArg, MoreArgs, node_place}
-use Rattle.vl_flat.specs.Placed.{Exp}
-use Rattle.vl_flat.specs.Stops.{construct_if}
+use Rattle.vl_design.specs.Placed.{Exp}
+use Rattle.vl_design.specs.Stops.{construct_if}
 use Rattle.vl_flat.specs.Scopes.{Scope, range_of}
 use Rattle.vl_flat.specs.Constants.{is_bound, is_count, is_width, bound_of}
 use Rattle.vl_flat.specs.Expressions.{is_long, is_memory, falls, bits_of, constant, taken, form, keeps_texts}

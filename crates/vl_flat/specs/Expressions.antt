@@ -22,7 +22,7 @@ use Rattle.vl_design.specs.Width.{unsigned, joined, unary_form, binary_form}
 use Rattle.vl_flat.specs.declared.binding.Binding.{Binding}
 use Rattle.vl_flat.specs.declared.binding.Binding.TheVariants.{Constant, Signal, Function}
 use Rattle.vl_flat.specs.Surface.{Ex, Exs, Selects, Args, Number, Text, Named, Paren, Unary, Binary, Choice, Joined, Repeated, Called, System, NoExs, MoreExs, NoSelects, Index, Range, NoArgs, NullArg, MoreArgs, place_of}
-use Rattle.vl_flat.specs.Placed as p
+use Rattle.vl_design.specs.Placed as p
 use Rattle.vl_flat.specs.Scopes.{Env, Scope, form_of, range_of, number_of}
 use Rattle.vl_flat.specs.Constants.{bound_of, count_of, width_of, clamped}
 

@@ -6,9 +6,9 @@ use Rattle.std.specs.Option.{option_map_or}
 use Rattle.std.specs.Str.{bytes_eq}
 use Rattle.vl_base.specs.declared.place.Place.{Place}
 use Rattle.vl_design.specs.declared.design.Signal.{Signal}
-use Rattle.vl_flat.specs.declared.stop.Stop.{Stop}
-use Rattle.vl_flat.specs.Placed as p
-use Rattle.vl_flat.specs.Stops.{limit_if}
+use Rattle.vl_design.specs.declared.stop.Stop.{Stop}
+use Rattle.vl_design.specs.Placed as p
+use Rattle.vl_design.specs.Stops.{limit_if}
 use Rattle.vl_flat.specs.Scopes.{Env}
 use Rattle.vl_flat.specs.Items.{NamedUnit, Instances, Item, Instantiates, Module}
 use Rattle.vl_flat.specs.Kinds.{signals_in, is_input}

@@ -6,9 +6,9 @@ use Rattle.vl_design.specs.declared.design.SigKind.{SigKind}
 use Rattle.vl_design.specs.declared.design.SigKind.TheVariants.{Var, Loop}
 use Rattle.vl_flat.specs.declared.binding.Binding.TheVariants as b
 use Rattle.vl_flat.specs.declared.binding.Shape.{Shape}
-use Rattle.vl_flat.specs.declared.stop.Stop.{Stop}
+use Rattle.vl_design.specs.declared.stop.Stop.{Stop}
 use Rattle.vl_flat.specs.Items.{Local, Function}
-use Rattle.vl_flat.specs.Placed.{Func}
+use Rattle.vl_design.specs.Placed.{Func}
 use Rattle.vl_flat.specs.Scopes.{Env, Scope, bind}
 use Rattle.vl_flat.specs.Uses.{controls, strays}
 use Rattle.vl_flat.specs.Environments.{after}

@@ -1,9 +1,5 @@
 pub mod Surface
 pub mod Binding
-pub mod Placed
-pub mod Plainly
-pub mod Seen
-pub mod Stops
 pub mod Scopes
 pub mod Constants
 pub mod Expressions

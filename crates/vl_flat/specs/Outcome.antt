@@ -7,11 +7,11 @@ use Rattle.vl_design.specs.declared.design.Signal.{Signal}
 use Rattle.vl_design.specs.declared.design.SigKind.{SigKind}
 use Rattle.vl_design.specs.declared.design.SigKind.TheVariants.{Loop, Clock}
 use Rattle.vl_design.specs.Trees.{words_of_kind}
-use Rattle.vl_flat.specs.declared.stop.Stop.{Stop}
-use Rattle.vl_flat.specs.declared.stop.Stop.TheVariants.{Memory}
+use Rattle.vl_design.specs.declared.stop.Stop.{Stop}
+use Rattle.vl_design.specs.declared.stop.Stop.TheVariants.{Memory}
 use Rattle.vl_flat.specs.Expressions.{is_mem}
-use Rattle.vl_flat.specs.Placed as p
-use Rattle.vl_flat.specs.Stops.{limit_if, earliest}
+use Rattle.vl_design.specs.Placed as p
+use Rattle.vl_design.specs.Stops.{limit_if, earliest}
 use Rattle.vl_flat.specs.Environments.{after, most_numbers}
 use Rattle.vl_flat.specs.Items.{Module}
 use Rattle.vl_flat.specs.Declarations.{modules}

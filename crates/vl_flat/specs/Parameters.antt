@@ -1,9 +1,9 @@
 -- The values of parameters (IEEE 1364-2005, clauses 4.10 and 12.2).
 use Rattle.std.specs.Prelude.{ℕ, ℤ, pos, ◌-ℤ◌, Bool, ◌||◌, List, [], ◌++◌, Option, Some, None}
 use Rattle.vl_flat.specs.declared.binding.Constant.{Constant}
-use Rattle.vl_flat.specs.declared.stop.Stop.{Stop}
+use Rattle.vl_design.specs.declared.stop.Stop.{Stop}
 use Rattle.vl_flat.specs.Items.{DataType, Vector, Parameter}
-use Rattle.vl_flat.specs.Placed.{Exp}
+use Rattle.vl_design.specs.Placed.{Exp}
 use Rattle.vl_flat.specs.Scopes.{Env, plainly}
 use Rattle.vl_flat.specs.Constants.{constant_form, constant_value, assigned_value}
 use Rattle.vl_flat.specs.Expressions.{constant}

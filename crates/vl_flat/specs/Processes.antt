@@ -16,11 +16,11 @@ use Rattle.vl_design.specs.declared.design.SigKind.{SigKind}
 use Rattle.vl_design.specs.declared.design.SigKind.TheVariants.{Clock}
 use Rattle.vl_flat.specs.declared.binding.Binding.{Binding}
 use Rattle.vl_flat.specs.declared.binding.Binding.TheVariants as b
-use Rattle.vl_flat.specs.declared.stop.Stop.{Stop}
+use Rattle.vl_design.specs.declared.stop.Stop.{Stop}
 use Rattle.vl_flat.specs.Surface.{Ex, left_place}
 use Rattle.vl_flat.specs.Items.{Declared, Setting, Item, Parameters, Signals, Assigns, Initial, Always, Functions, Instantiates}
-use Rattle.vl_flat.specs.Placed as p
-use Rattle.vl_flat.specs.Stops.{construct_if}
+use Rattle.vl_design.specs.Placed as p
+use Rattle.vl_design.specs.Stops.{construct_if}
 use Rattle.vl_flat.specs.Scopes.{Env, plainly, number_of}
 use Rattle.vl_flat.specs.Expressions.{exp}
 use Rattle.vl_flat.specs.ExpressionFaults.{faults}

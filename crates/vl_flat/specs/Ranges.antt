@@ -4,10 +4,10 @@ use Rattle.std.specs.Prelude.{ℕ, nat_lt, ℤ, pos, Bool, true, List, [], ◌++
 use Rattle.vl_base.specs.declared.place.Place.{Place}
 use Rattle.vl_design.specs.declared.design.Form.{Form}
 use Rattle.vl_design.specs.Trees.{range_width}
-use Rattle.vl_flat.specs.declared.stop.Stop.{Stop}
+use Rattle.vl_design.specs.declared.stop.Stop.{Stop}
 use Rattle.vl_flat.specs.Surface.{Ex}
 use Rattle.vl_flat.specs.Items.{Bounds, DataType, Integer, Vector}
-use Rattle.vl_flat.specs.Stops.{construct_if}
+use Rattle.vl_design.specs.Stops.{construct_if}
 use Rattle.vl_flat.specs.Scopes.{Env, plainly}
 use Rattle.vl_flat.specs.Constants.{is_bound, bound_of}
 use Rattle.vl_flat.specs.Expressions.{constant}

@@ -1,8 +1,8 @@
 -- The statements of an instance in its design, and their faults (IEEE 1364-2005, clause 9).
 use Rattle.std.specs.Prelude.{ℕ, Bool, true, false, List, [], ◌++◌}
-use Rattle.vl_flat.specs.declared.stop.Stop.{Stop}
+use Rattle.vl_design.specs.declared.stop.Stop.{Stop}
 use Rattle.vl_flat.specs.Surface as x
-use Rattle.vl_flat.specs.Placed as p
+use Rattle.vl_design.specs.Placed as p
 use Rattle.vl_flat.specs.Scopes.{Scope, number_of}
 use Rattle.vl_flat.specs.Constants.{turns_of}
 use Rattle.vl_flat.specs.Expressions.{exp, constant, labels, keeps_texts, args}

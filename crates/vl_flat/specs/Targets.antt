@@ -4,10 +4,10 @@ use Rattle.vl_base.specs.declared.place.Place.{Place}
 use Rattle.vl_grammar.specs.declared.tree.SelectMark.{SelectMark}
 use Rattle.vl_grammar.specs.declared.tree.SelectMark.TheVariants as m
 use Rattle.vl_flat.specs.declared.binding.Binding.{Binding}
-use Rattle.vl_flat.specs.declared.stop.Stop.{Stop}
+use Rattle.vl_design.specs.declared.stop.Stop.{Stop}
 use Rattle.vl_flat.specs.Surface.{Selects, NoSelects, Index, Range, Left, Lefts, LeftName, LeftList, NoLefts, MoreLefts, left_place}
-use Rattle.vl_flat.specs.Placed as p
-use Rattle.vl_flat.specs.Stops.{construct_if}
+use Rattle.vl_design.specs.Placed as p
+use Rattle.vl_design.specs.Stops.{construct_if}
 use Rattle.vl_flat.specs.Scopes.{Scope, range_of, number_of}
 use Rattle.vl_flat.specs.Constants.{bound_of}
 use Rattle.vl_flat.specs.Expressions.{is_memory, bits_of, part_low, from_lowest, from_highest, exp, constant, taken, named_form}

@@ -2,8 +2,8 @@
 
 ghost use Rattle.std.specs.Prelude.{◌≡◌};
 ghost use Rattle.vl_design.specs.Trees.{flat_of};
-ghost use Rattle.vl_flat.specs.Plainly.{flat};
-ghost use Rattle.vl_flat.specs.Seen.{placed};
+ghost use Rattle.vl_design.specs.Plainly.{flat};
+ghost use Rattle.vl_design.specs.Seen.{placed};
 
 use vl_design::design::Design;
 

@@ -4,4 +4,3 @@
 pub mod binding;
 pub mod laws;
 pub mod rows;
-pub mod stop;

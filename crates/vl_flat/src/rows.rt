@@ -1,7 +1,7 @@
 //! Worked rows of the definitions.
 
 ghost use Rattle.std.specs.Prelude.{◌≡◌, Ok, Err};
-ghost use Rattle.vl_flat.specs.declared.stop.Stop.TheVariants.{Construct};
+ghost use Rattle.vl_design.specs.declared.stop.Stop.TheVariants.{Construct};
 ghost use Rattle.vl_flat.specs.Examples.{at, stepped_source, stepped, two_wide};
 ghost use Rattle.vl_flat.specs.Outcome.{flattened};
 

@@ -4,9 +4,9 @@ use Rattle.std.specs.Prelude.{Option}
 use Rattle.std.proofs.lemmas.Grind.{common_steps, fold-append}
 use Rattle.std.proofs.lemmas.List.{take_more, append_assoc}
 use Rattle.vl_design.specs.declared.design.Signal.{Signal}
-use Rattle.vl_flat.specs.declared.stop.Stop.{Stop}
+use Rattle.vl_design.specs.declared.stop.Stop.{Stop}
 use Rattle.vl_flat.specs.Outcome as o
-use Rattle.vl_flat.specs.Stops.{earliest}
+use Rattle.vl_design.specs.Stops.{earliest}
 use Rattle.vl_judge.proofs.Earliest.{earliest-append}
 
 limits-append : (n : o.Totals) (xs : List Signal) (r : Signal) → o.signals_limits n (xs ++ r ∷ []) ≡ o.signals_limits n xs ++ o.signal_limits (o.with_signal (fold o.with_signal n xs) r) r

@@ -4,12 +4,12 @@ use Rattle.std.specs.Prelude.{Result, Ok, Err, Some, None, flat_map}
 use Rattle.std.specs.Result.{IsErr, IsErrAnd}
 use Rattle.std.proofs.lemmas.List.{append_assoc, take_more, take-append-drop}
 use Rattle.std.proofs.lemmas.Grind.{flat_map-append}
-use Rattle.vl_flat.specs.declared.stop.Stop.{Stop}
-use Rattle.vl_flat.specs.declared.stop.Stop.TheVariants.{Construct, Limit, Memory}
+use Rattle.vl_design.specs.declared.stop.Stop.{Stop}
+use Rattle.vl_design.specs.declared.stop.Stop.TheVariants.{Construct, Limit, Memory}
 use Rattle.vl_flat.specs.Flat.{Part}
 use Rattle.vl_flat.specs.Outcome as o
 use Rattle.vl_flat.specs.Outcome.{◌>>=◌}
-use Rattle.vl_flat.specs.Seen.{func_of, process_of}
+use Rattle.vl_design.specs.Seen.{func_of, process_of}
 use Rattle.vl_flatten.specs.declared.making.Making.{Making}
 use Rattle.vl_flatten.specs.declared.making.Totals.{Totals}
 use Rattle.vl_flatten.specs.Growing.{totals_of, Grows, Stops, Adds, IsMade, Makes}

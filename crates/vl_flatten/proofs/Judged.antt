@@ -1,7 +1,7 @@
 -- Parameters whose defaults are judged.
 use Rattle.std.proofs.Common.{◌≡◌, refl, false, true≢false}
 use Rattle.std.specs.Prelude.{Option, Some, None, is_some}
-use Rattle.vl_flat.specs.Placed.{Exp}
+use Rattle.vl_design.specs.Placed.{Exp}
 use Rattle.vl_flat.specs.Items.{Parameter}
 use Rattle.vl_flat.specs.Scopes.{Env, plainly}
 use Rattle.vl_flat.specs.ExpressionFaults.{faults}

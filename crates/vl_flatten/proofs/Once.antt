@@ -4,9 +4,9 @@ use Rattle.std.proofs.lemmas.Bool.Decides.{nat_tests}
 use Rattle.vl_source.specs.declared.tree.Source.{Source}
 use Rattle.vl_scope.specs.declared.fault.Fault.{Fault}
 use Rattle.vl_scope.specs.Faults.{is_before, IsFirst}
-use Rattle.vl_flat.specs.declared.stop.Stop.{Stop}
-use Rattle.vl_flat.specs.declared.stop.Stop.TheVariants.{Construct}
-use Rattle.vl_flat.specs.Placed as p
+use Rattle.vl_design.specs.declared.stop.Stop.{Stop}
+use Rattle.vl_design.specs.declared.stop.Stop.TheVariants.{Construct}
+use Rattle.vl_design.specs.Placed as p
 use Rattle.vl_flatten.specs.Meeting.{IsElaboration, misnamed, named}
 
 -- two faults of which neither comes before the other are one

@@ -2,7 +2,7 @@
 use Rattle.std.proofs.Common.{◌≡◌, ap, ◌∙◌, ℕ, List}
 use Rattle.vl_base.specs.declared.place.Place.{Place}
 use Rattle.vl_design.specs.declared.design.Signal.{Signal}
-use Rattle.vl_flat.specs.Placed.{Func, Stm}
+use Rattle.vl_design.specs.Placed.{Func, Stm}
 
 abbrev pub made : Place → ℕ → List ℕ → List ℕ → List Signal → Stm → Func
 made at result name inputs locals body = record { name = name; place = at; inputs = inputs; result = result; locals = locals; body = body }

@@ -3,8 +3,8 @@ use Rattle.std.proofs.Common.{◌≡◌, refl, ap, sym, ◌∙◌, ℕ, ◌+◌,
 use Rattle.std.specs.Prelude.{flat_map, Option}
 use Rattle.std.proofs.lemmas.Grind.{common_steps}
 use Rattle.std.proofs.lemmas.List.{take_more, map-append, flat_map_more}
-use Rattle.vl_flat.specs.declared.stop.Stop.{Stop}
-use Rattle.vl_flat.specs.Stops.{earliest}
+use Rattle.vl_design.specs.declared.stop.Stop.{Stop}
+use Rattle.vl_design.specs.Stops.{earliest}
 use Rattle.vl_judge.proofs.Earliest.{earliest-append}
 
 pub map-more : {A B : Type 0} (g : A → B) (xs : List A) (i : ℕ) (y : A) → i < length xs → y ≡ get_or xs i y → map g (take (i + 1) xs) ≡ map g (take i xs) ++ g y ∷ []

@@ -12,12 +12,12 @@ use Rattle.vl_design.specs.Sound.{IsWidth}
 use Rattle.vl_flat.specs.declared.binding.Binding.{Binding}
 use Rattle.vl_flat.specs.declared.binding.Binding.TheVariants as b
 use Rattle.vl_flat.specs.declared.binding.Shape.{Shape}
-use Rattle.vl_flat.specs.declared.stop.Stop.{Stop}
+use Rattle.vl_design.specs.declared.stop.Stop.{Stop}
 use Rattle.vl_flat.specs.Scopes.{Env, bind}
 use Rattle.vl_flat.specs.Items as x
 use Rattle.vl_flat.specs.Surface.{Ex}
 use Rattle.vl_flat.specs.Kinds.{signals_in, kind_of, is_input}
-use Rattle.vl_flat.specs.Placed as p
+use Rattle.vl_design.specs.Placed as p
 use Rattle.vl_flat.specs.Ranges.{type_range, written, is_wide, bits_in}
 use Rattle.vl_flat.specs.Environments.{Counts, Given, Known, after, shape, with_signal, with_parameter, with_item, environment, module_named, size, plus}
 use Rattle.vl_flat.specs.Processes.{Here, is_first, signal_of, signals, functions}

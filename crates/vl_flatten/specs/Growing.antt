@@ -1,10 +1,10 @@
 -- A design in the making, part by part.
 use Rattle.std.specs.Prelude.{◌≡◌, Result, Ok, Err, List, ◌++◌, map, flat_map}
-use Rattle.vl_flat.specs.declared.stop.Stop.{Stop}
-use Rattle.vl_flat.specs.declared.stop.Stop.TheVariants.{Construct, Limit, Memory}
+use Rattle.vl_design.specs.declared.stop.Stop.{Stop}
+use Rattle.vl_design.specs.declared.stop.Stop.TheVariants.{Construct, Limit, Memory}
 use Rattle.vl_flat.specs.Flat.{Part}
 use Rattle.vl_flat.specs.Outcome as o
-use Rattle.vl_flat.specs.Seen.{func_of, process_of}
+use Rattle.vl_design.specs.Seen.{func_of, process_of}
 use Rattle.vl_flatten.specs.declared.making.Making.{Making}
 use Rattle.vl_flatten.specs.declared.making.Totals.{Totals}
 

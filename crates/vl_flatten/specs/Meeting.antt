@@ -7,10 +7,10 @@ use Rattle.vl_elab.specs.NameFaults.{IsNameFault}
 use Rattle.vl_elab.specs.declared.names.NamesFault.{NamesFault}
 use Rattle.vl_elab.specs.declared.names.NamesFault.TheVariants as n
 use Rattle.vl_design.specs.declared.design.Design.{Design}
-use Rattle.vl_flat.specs.declared.stop.Stop.{Stop}
-use Rattle.vl_flat.specs.declared.stop.Stop.TheVariants.{Construct, Limit, Memory}
-use Rattle.vl_flat.specs.Placed as p
-use Rattle.vl_flat.specs.Seen.{placed}
+use Rattle.vl_design.specs.declared.stop.Stop.{Stop}
+use Rattle.vl_design.specs.declared.stop.Stop.TheVariants.{Construct, Limit, Memory}
+use Rattle.vl_design.specs.Placed as p
+use Rattle.vl_design.specs.Seen.{placed}
 use Rattle.vl_flat.specs.Outcome.{flattened}
 
 -- the design, or the first fault; want of memory says nothing

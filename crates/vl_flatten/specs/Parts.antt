@@ -1,8 +1,8 @@
 -- Parts of the flat design, each by what it has.
 use Rattle.std.specs.Prelude.{ℤ, int_le, Bool, true, false, not, ◌&&◌, List, [], ⊤}
 use Rattle.vl_design.specs.declared.design.Signal.{Signal}
-use Rattle.vl_flat.specs.declared.stop.Stop.{Stop}
-use Rattle.vl_flat.specs.Placed as p
+use Rattle.vl_design.specs.declared.stop.Stop.{Stop}
+use Rattle.vl_design.specs.Placed as p
 use Rattle.vl_flat.specs.Flat.{Part}
 use Rattle.vl_flat.specs.Items.{Item, Instantiates}
 use Rattle.vl_flat.specs.declared.binding.Shape.{Shape}

@@ -18,7 +18,7 @@ use vl_base::items::Items;
 use vl_design::design::Design;
 use vl_elab::names::{NamesFault, names};
 use vl_expression::expressions::copied;
-use vl_flat::stop::Stop;
+use vl_design::stop::Stop;
 use vl_instance::environment::environment;
 use vl_instance::given::Above;
 use vl_instance::tops::top_of;

@@ -2,11 +2,11 @@
 
 ghost use Rattle.std.specs.Prelude.{◌≡◌, map, flat_map, option_map, is_some, Option};
 ghost use Rattle.vl_flat.specs.Items as x;
-ghost use Rattle.vl_flat.specs.Placed.{Exp};
+ghost use Rattle.vl_design.specs.Placed.{Exp};
 ghost use Rattle.vl_flat.specs.Scopes.{plainly};
 ghost use Rattle.vl_flat.specs.Processes as p;
 ghost use Rattle.vl_flat.specs.Parameters as q;
-ghost use Rattle.vl_flat.specs.Stops.{earliest};
+ghost use Rattle.vl_design.specs.Stops.{earliest};
 ghost use Rattle.vl_bind.specs.Seen.{seen};
 ghost use Rattle.vl_items.specs.SeenItems.{seen_type, seen_declared, seen_parameter, seen_setting, seen_connection};
 ghost use Rattle.vl_constant.specs.Seen.{look, binding_of};
@@ -20,7 +20,7 @@ use vl_bind::surface::Ex;
 use vl_constant::ranges::{Range, bits_in, is_signed, type_range};
 use vl_constant::scope::{Known, Names, found_in, module_scope};
 use vl_flat::binding::Shape;
-use vl_flat::stop::Stop;
+use vl_design::stop::Stop;
 use vl_instance::connections::expression;
 use vl_instance::given::Above;
 use vl_instance::scope::is_clock;

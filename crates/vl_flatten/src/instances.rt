@@ -23,7 +23,7 @@ use crate::making::Making;
 use crate::ports::{Ports, add_inputs, add_outputs};
 use std::alloc::Global;
 use vl_constant::scope::Names;
-use vl_flat::stop::Stop;
+use vl_design::stop::Stop;
 use vl_instance::connections::{overrides, port_connections};
 use vl_instance::environment::environment;
 use vl_instance::functions::dotted;

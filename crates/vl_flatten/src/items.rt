@@ -29,7 +29,7 @@ use std::alloc::Global;
 use vl_base::place::Place;
 use vl_bind::surface::Statement;
 use vl_constant::scope::module_scope;
-use vl_flat::stop::Stop;
+use vl_design::stop::Stop;
 use vl_instance::given::Above;
 use vl_instance::variables::frame_of;
 use vl_items::items::{DataType, Declared, Function, Item, Parameter, Setting};

@@ -6,13 +6,13 @@ ghost use Rattle.vl_flat.specs.Expressions as e;
 ghost use Rattle.vl_flat.specs.Outcome as o;
 ghost use Rattle.vl_flat.specs.Flat as f;
 ghost use Rattle.vl_flat.specs.Environments.{after, most_numbers};
-ghost use Rattle.vl_flat.specs.Stops.{earliest};
+ghost use Rattle.vl_design.specs.Stops.{earliest};
 ghost use Rattle.vl_flatten.specs.Growing.{totals_of};
 
 use crate::making::Totals;
 use vl_base::place::Place;
 use vl_design::design::{SigKind, Signal};
-use vl_flat::stop::Stop;
+use vl_design::stop::Stop;
 use vl_judge::stops::limit_if;
 
 /// The most instances.

@@ -3,9 +3,9 @@
 ghost use Rattle.std.specs.Prelude.{◌≡◌, ◌++◌, ◌∷◌, [], map, option_map, IfOk, OnOk};
 ghost use Rattle.std.specs.Option.{option_map_or};
 ghost use Rattle.vl_flat.specs.Items as x;
-ghost use Rattle.vl_flat.specs.Placed as placed;
+ghost use Rattle.vl_design.specs.Placed as placed;
 ghost use Rattle.vl_flat.specs.Processes as p;
-ghost use Rattle.vl_flat.specs.Seen.{exp_of, target_of, stm_of, process_of};
+ghost use Rattle.vl_design.specs.Seen.{exp_of, target_of, stm_of, process_of};
 ghost use Rattle.vl_flat.specs.Statements.{statement as spec_statement};
 ghost use Rattle.vl_flat.specs.Scopes.{plainly};
 ghost use Rattle.vl_flat.specs.Scopes as s;

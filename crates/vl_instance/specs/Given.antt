@@ -2,7 +2,7 @@
 use Rattle.std.specs.Prelude.{ℕ, Bool, false, not, ◌&&◌, List, Option, None, is_some, option_map}
 use Rattle.std.specs.Option.{option_map_or}
 use Rattle.vl_flat.specs.Items as x
-use Rattle.vl_flat.specs.Placed.{Exp}
+use Rattle.vl_design.specs.Placed.{Exp}
 use Rattle.vl_flat.specs.Scopes.{plainly}
 use Rattle.vl_flat.specs.Expressions.{constant}
 use Rattle.vl_flat.specs.Kinds.{is_input}

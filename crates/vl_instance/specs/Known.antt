@@ -5,7 +5,7 @@ use Rattle.indexmap.specs.IndexMap.{IndexMap}
 use Rattle.vl_design.specs.declared.design.SigKind.{SigKind}
 use Rattle.vl_flat.specs.declared.binding.Binding.TheVariants as b
 use Rattle.vl_flat.specs.Items as x
-use Rattle.vl_flat.specs.Placed.{Exp}
+use Rattle.vl_design.specs.Placed.{Exp}
 use Rattle.vl_flat.specs.Scopes.{Env, none, bind, plainly}
 use Rattle.vl_flat.specs.Expressions.{constant}
 use Rattle.vl_flat.specs.Kinds.{kind_of}

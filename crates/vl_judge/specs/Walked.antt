@@ -4,7 +4,7 @@ use Rattle.std.specs.Str.{bytes_eq}
 use Rattle.vl_base.specs.Display.{lower_case}
 use Rattle.vl_design.specs.Formats.{Reading}
 use Rattle.vl_design.specs.Formats as r
-use Rattle.vl_flat.specs.declared.stop.Stop.{Stop}
+use Rattle.vl_design.specs.declared.stop.Stop.{Stop}
 use Rattle.vl_flat.specs.Surface.{Ex, Text, Selects, NoSelects, Index, Range}
 use Rattle.vl_flat.specs.Scopes.{Scope}
 use Rattle.vl_flat.specs.Expressions.{bits_of, taken}

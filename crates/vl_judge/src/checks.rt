@@ -4,7 +4,7 @@ ghost use Rattle.std.specs.Prelude.{◌≡◌, ◌&&◌, nat_lt};
 ghost use Rattle.vl_flat.specs.Constants as c;
 ghost use Rattle.vl_flat.specs.Expressions as flat;
 ghost use Rattle.vl_flat.specs.ExpressionFaults as f;
-ghost use Rattle.vl_flat.specs.Stops as s;
+ghost use Rattle.vl_design.specs.Stops as s;
 ghost use Rattle.vl_flat.specs.Surface as x;
 ghost use Rattle.vl_bind.specs.Seen.{seen};
 ghost use Rattle.vl_constant.specs.Seen.{seen_scope};
@@ -20,7 +20,7 @@ use vl_constant::ranges::Range;
 use vl_constant::scope::Scope;
 use vl_constant::selects::falls;
 use vl_constant::whole::{bound, bound_in, count_in, reading, width_in};
-use vl_flat::stop::Stop;
+use vl_design::stop::Stop;
 use vl_grammar::tree::SelectMark;
 
 /// The place of a node: parentheses around it are passed over.

@@ -2,7 +2,7 @@
 
 ghost use Rattle.std.specs.Prelude.{◌≡◌, ◌-◌};
 ghost use Rattle.vl_flat.specs.ExpressionFaults as f;
-ghost use Rattle.vl_flat.specs.Stops as s;
+ghost use Rattle.vl_design.specs.Stops as s;
 ghost use Rattle.vl_flat.specs.Surface as x;
 ghost use Rattle.vl_bind.specs.Seen.{seen, argument, args_before};
 ghost use Rattle.vl_constant.specs.Seen.{seen_scope};
@@ -14,7 +14,7 @@ use crate::formats::{is_display, items_in};
 use vl_bind::surface::{Argument, Ex};
 use vl_constant::form::keeps_texts;
 use vl_constant::scope::Scope;
-use vl_flat::stop::Stop;
+use vl_design::stop::Stop;
 
 /// The first fault so far, and how many of the next arguments are taken by items.
 #[derive(Clone, Copy)]

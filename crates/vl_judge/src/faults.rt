@@ -3,7 +3,7 @@
 ghost use Rattle.std.specs.Prelude.{◌≡◌, map, option_map};
 ghost use Rattle.vl_flat.specs.ExpressionFaults as f;
 ghost use Rattle.vl_flat.specs.Scopes.{plainly, none};
-ghost use Rattle.vl_flat.specs.Stops as s;
+ghost use Rattle.vl_design.specs.Stops as s;
 ghost use Rattle.vl_flat.specs.Surface as x;
 ghost use Rattle.vl_bind.specs.Seen.{seen, select, argument, selects_before, args_before};
 ghost use Rattle.vl_bind.specs.Listed.{of_list};
@@ -18,7 +18,7 @@ use vl_constant::form::{is_memory, keeps_texts, taken};
 use vl_constant::ranges::Range;
 use vl_constant::scope::{Known, Scope, meaning};
 use vl_constant::selects::{bits_of, range_of};
-use vl_flat::stop::Stop;
+use vl_design::stop::Stop;
 
 /// The numbers of the bits of what the first index behind a name chooses: those of a memory's words, or one bit.
 fn index_range(known: Option<Known>) -> Range

@@ -1,7 +1,7 @@
 //! The faults of left sides: at most 128 bits are written (IEEE 1364-2005, clauses 6.1 and 9.2).
 
 ghost use Rattle.std.specs.Prelude.{◌≡◌, nat_lt, min, map};
-ghost use Rattle.vl_flat.specs.Stops as s;
+ghost use Rattle.vl_design.specs.Stops as s;
 ghost use Rattle.vl_flat.specs.Surface as x;
 ghost use Rattle.vl_flat.specs.Targets as t;
 ghost use Rattle.vl_bind.specs.SeenStatements.{seen_left, lefts_of};
@@ -13,7 +13,7 @@ use vl_base::place::Place;
 use vl_bind::surface::Left;
 use vl_constant::form::named_form;
 use vl_constant::scope::{Scope, meaning};
-use vl_flat::stop::Stop;
+use vl_design::stop::Stop;
 
 /// The place of a left side's first token.
 fn left_place(l: &Left) -> Place

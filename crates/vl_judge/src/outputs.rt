@@ -2,7 +2,7 @@
 
 ghost use Rattle.std.specs.Prelude.{◌≡◌, nat_lt, min, map};
 ghost use Rattle.vl_flat.specs.Connections as k;
-ghost use Rattle.vl_flat.specs.Stops as s;
+ghost use Rattle.vl_design.specs.Stops as s;
 ghost use Rattle.vl_flat.specs.Targets as t;
 ghost use Rattle.vl_bind.specs.Seen.{seen};
 ghost use Rattle.vl_bind.specs.Listed.{of_list};
@@ -16,7 +16,7 @@ use vl_base::place::Place;
 use vl_bind::surface::Ex;
 use vl_constant::form::named_form;
 use vl_constant::scope::{Names, Scope, meaning, module_scope};
-use vl_flat::stop::Stop;
+use vl_design::stop::Stop;
 
 /// How many bits an expression has as a left side, kept within 129.
 #[cycle(widths)]

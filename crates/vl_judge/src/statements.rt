@@ -2,7 +2,7 @@
 
 ghost use Rattle.std.specs.Prelude.{◌≡◌, map};
 ghost use Rattle.vl_flat.specs.Statements as f;
-ghost use Rattle.vl_flat.specs.Stops as s;
+ghost use Rattle.vl_design.specs.Stops as s;
 ghost use Rattle.vl_flat.specs.Surface as x;
 ghost use Rattle.vl_bind.specs.Seen.{seen};
 ghost use Rattle.vl_bind.specs.SeenStatements.{seen_left, seen_statement, statements_of, item, items_before};
@@ -13,7 +13,7 @@ use crate::faults::{all_faults, faults};
 use crate::lefts::target_faults;
 use vl_bind::surface::{CaseItem, Ex, Left, Statement};
 use vl_constant::scope::Scope;
-use vl_flat::stop::Stop;
+use vl_design::stop::Stop;
 
 /// The faults of the two sides of an assignment.
 fn set_faults(best: Option<Stop>, scope: &Scope<'_, '_>, l: &Left, e: &Ex) -> Option<Stop>

@@ -1,10 +1,10 @@
 //! Which fault comes first.
 
 ghost use Rattle.std.specs.Prelude.{◌≡◌};
-ghost use Rattle.vl_flat.specs.Stops as s;
+ghost use Rattle.vl_design.specs.Stops as s;
 
 use vl_base::place::Place;
-use vl_flat::stop::Stop;
+use vl_design::stop::Stop;
 
 /// The place of a fault.
 fn place_of(a: Stop) -> Place

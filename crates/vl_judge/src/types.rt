@@ -2,7 +2,7 @@
 
 ghost use Rattle.std.specs.Prelude.{◌≡◌, option_map};
 ghost use Rattle.vl_flat.specs.Ranges as r;
-ghost use Rattle.vl_flat.specs.Stops as s;
+ghost use Rattle.vl_design.specs.Stops as s;
 ghost use Rattle.vl_bind.specs.Seen.{seen};
 ghost use Rattle.vl_constant.specs.Seen.{look, seen_scope};
 ghost use Rattle.vl_items.specs.SeenItems.{seen_bounds, seen_type};
@@ -14,7 +14,7 @@ use vl_base::place::Place;
 use vl_bind::surface::Ex;
 use vl_constant::ranges::is_wide;
 use vl_constant::scope::{Names, module_scope};
-use vl_flat::stop::Stop;
+use vl_design::stop::Stop;
 use vl_items::items::{Bounds, DataType};
 
 /// The faults of a bound of a range.

@@ -13,7 +13,7 @@ use Rattle.vl_flat.specs.declared.binding.Binding.{Binding}
 use Rattle.vl_flat.specs.declared.binding.Binding.TheVariants.{Signal}
 use Rattle.vl_flat.specs.declared.binding.Shape.{Shape}
 use Rattle.vl_flat.specs.Items as x
-use Rattle.vl_flat.specs.Plainly as plain
+use Rattle.vl_design.specs.Plainly as plain
 use Rattle.vl_flat.specs.Scopes.{Env, plainly, bind, shape_form}
 use Rattle.vl_flat.specs.Environments.{after, most_numbers}
 use Rattle.vl_flat.specs.Functions.{local_shape, with_locals, function_scope, function, signal, dotted}

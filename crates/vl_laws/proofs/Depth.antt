@@ -9,10 +9,10 @@ use Rattle.std.proofs.lemmas.Slice.Eq.{bytes_eq-Decides}
 use Rattle.std.proofs.lemmas.List.{length-append}
 use Rattle.std.proofs.lemmas.List.Elements.{All-head, All-tail}
 use Rattle.vl_base.specs.declared.place.Place.{Place}
-use Rattle.vl_flat.specs.declared.stop.Stop.{Stop}
+use Rattle.vl_design.specs.declared.stop.Stop.{Stop}
 use Rattle.vl_flat.specs.Items as x
-use Rattle.vl_flat.specs.Placed as p
-use Rattle.vl_flat.specs.Stops.{limit_if, is_before, earliest}
+use Rattle.vl_design.specs.Placed as p
+use Rattle.vl_design.specs.Stops.{limit_if, is_before, earliest}
 use Rattle.vl_flat.specs.Scopes.{Env, none}
 use Rattle.vl_flat.specs.Environments.{Counts, Given, Known, plus, times, most_numbers, no_more, new_ones, item_counts, module_counts, module_named, size, environment, with_item}
 use Rattle.vl_flat.specs.Kinds.{signals_in, signals_of}

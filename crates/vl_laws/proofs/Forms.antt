@@ -12,8 +12,8 @@ use Rattle.vl_flat.specs.declared.binding.Binding.{Binding}
 use Rattle.vl_flat.specs.declared.binding.Binding.TheVariants.{Constant, Signal, Function}
 use Rattle.vl_flat.specs.declared.binding.Shape.{Shape}
 use Rattle.vl_flat.specs.Surface as x
-use Rattle.vl_flat.specs.Placed as p
-use Rattle.vl_flat.specs.Plainly as plain
+use Rattle.vl_design.specs.Placed as p
+use Rattle.vl_design.specs.Plainly as plain
 use Rattle.vl_flat.specs.Scopes.{Scope, form_of, shape_form, range_of, number_of}
 use Rattle.vl_flat.specs.Constants.{count_of}
 use Rattle.vl_flat.specs.Expressions as e

@@ -14,7 +14,7 @@ use Rattle.vl_flat.specs.Scopes.{Env, none, bind}
 use Rattle.vl_flat.specs.Surface.{Ex}
 use Rattle.vl_grammar.specs.declared.tree.Identifier.{Identifier}
 use Rattle.vl_flat.specs.Items as x
-use Rattle.vl_flat.specs.Placed as p
+use Rattle.vl_design.specs.Placed as p
 use Rattle.vl_flat.specs.Kinds.{signals_of, kind_of, is_input}
 use Rattle.vl_flat.specs.Environments.{Counts, Given, Known, plus, most_numbers, no_more, new_ones, item_counts, module_counts, module_named, size, environment, shape, with_signal, with_parameter, with_item}
 use Rattle.vl_flat.specs.Functions.{function}

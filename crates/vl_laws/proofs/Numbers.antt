@@ -26,8 +26,8 @@ use Rattle.vl_flat.specs.Surface.{Ex}
 use Rattle.vl_flat.specs.Connections.{given, port_connection, place_in, expression_of, is_clock_binding, input_process, input_faults, output_process, output_faults}
 use Rattle.vl_flat.specs.Flat.{instance}
 use Rattle.vl_flat.specs.Flat as f
-use Rattle.vl_flat.specs.declared.stop.Stop.{Stop}
-use Rattle.vl_flat.specs.Placed as p
+use Rattle.vl_design.specs.declared.stop.Stop.{Stop}
+use Rattle.vl_design.specs.Placed as p
 use Rattle.vl_flat.specs.Outcome as o
 use Rattle.vl_flat.specs.Outcome.{◌>>=◌}
 use Rattle.vl_laws.proofs.Lists.{left-part, seam-part, Each, each-from, found-holds}

@@ -16,7 +16,7 @@ use Rattle.vl_flat.specs.Functions.{signal}
 use Rattle.vl_flat.specs.Connections.{given}
 use Rattle.vl_flat.specs.Flat.{instance}
 use Rattle.vl_flat.specs.Flat as f
-use Rattle.vl_flat.specs.Placed as p
+use Rattle.vl_design.specs.Placed as p
 use Rattle.vl_flat.specs.Outcome as o
 use Rattle.vl_laws.proofs.Lists.{Stands-at, stands-part, Each, each-from, each-left, each-right, found-holds}
 use Rattle.vl_laws.proofs.Splits.{base-units, split-count, split-parts}

@@ -9,7 +9,7 @@ use Rattle.vl_design.specs.declared.design.Form.{Form}
 use Rattle.vl_flat.specs.declared.binding.Binding.TheVariants.{Signal, Function}
 use Rattle.vl_flat.specs.declared.binding.Shape.{Shape}
 use Rattle.vl_flat.specs.Items as x
-use Rattle.vl_flat.specs.Placed as p
+use Rattle.vl_design.specs.Placed as p
 use Rattle.vl_flat.specs.Declarations.{modules}
 use Rattle.vl_flat.specs.Environments.{Given, module_counts, size, environment, most_numbers}
 use Rattle.vl_flat.specs.Functions.{signal, function}

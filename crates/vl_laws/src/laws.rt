@@ -12,7 +12,7 @@ ghost use Rattle.vl_flat.specs.declared.binding.Binding.TheVariants.{Signal, Fun
 ghost use Rattle.vl_flat.specs.declared.binding.Shape.{Shape};
 ghost use Rattle.vl_flat.specs.Surface.{Ex};
 ghost use Rattle.vl_flat.specs.Items as items;
-ghost use Rattle.vl_flat.specs.Placed as placed;
+ghost use Rattle.vl_design.specs.Placed as placed;
 ghost use Rattle.vl_flat.specs.Declarations.{modules};
 ghost use Rattle.vl_flat.specs.Scopes.{Env, Scope, plainly};
 ghost use Rattle.vl_flat.specs.Environments.{Counts, Given, most_numbers, module_counts, module_named, size, environment};
@@ -21,7 +21,7 @@ ghost use Rattle.vl_flat.specs.Processes.{Here};
 ghost use Rattle.vl_flat.specs.Flat as flat;
 ghost use Rattle.vl_flat.specs.Outcome.{flattened};
 ghost use Rattle.vl_flat.specs.Expressions as expressions;
-ghost use Rattle.vl_flat.specs.Plainly as plain;
+ghost use Rattle.vl_design.specs.Plainly as plain;
 ghost use Rattle.vl_laws.specs.Apart.{AreApart};
 ghost use Rattle.vl_laws.specs.Instances.{IsInstance};
 ghost use Rattle.vl_laws.specs.Levels.{AreSpelt, parts_at};

@@ -1,6 +1,6 @@
 use Rattle.std.proofs.Common.{sym, ◌∙◌}
 use Rattle.vl_design.specs.Trees.{flat_of}
-use Rattle.vl_flat.specs.Seen.{placed}
+use Rattle.vl_design.specs.Seen.{placed}
 use Rattle.vl_flat.proofs.Erased.{flat-same}
 use Rattle.host_run.specs.Due.{unbuilt}
 use Rattle.host_run.proofs.answer.answer_to_design.Goals as goal

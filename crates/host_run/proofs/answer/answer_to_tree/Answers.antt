@@ -1,6 +1,6 @@
 use Rattle.std.proofs.Common.{ℕ, List, Ok, Err, Result, IfOk}
 use Rattle.vl_source.specs.declared.tree.Source.{Source}
-use Rattle.vl_flat.specs.Seen.{placed}
+use Rattle.vl_design.specs.Seen.{placed}
 use Rattle.vl_flatten.specs.Meeting.{IsElaboration}
 use Rattle.host_run.specs.Due.{misbuilt, outgrown}
 use Rattle.host_run.specs.Answers.{IsAnswer, IsTreeOf}

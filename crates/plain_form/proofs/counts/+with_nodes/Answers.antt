@@ -1,6 +1,6 @@
 use Rattle.std.proofs.Common.{◌≡◌, refl, sym, ap, ◌∙◌}
-use Rattle.vl_flat.specs.Placed as p
-use Rattle.vl_flat.specs.Seen.{stm_of}
+use Rattle.vl_design.specs.Placed as p
+use Rattle.vl_design.specs.Seen.{stm_of}
 use Rattle.plain_form.specs.Trees.{stms_of}
 use Rattle.plain_form.proofs.Counting.{stm_of-Seq}
 use Rattle.plain_form.proofs.counts.+with_nodes.Goals as goal

@@ -1,6 +1,6 @@
 use Rattle.std.proofs.Common.{◌≡◌, ◌≤◌, ◌+◌, drop}
 use Rattle.std.specs.Prelude.{min}
-use Rattle.vl_flat.specs.Seen.{args_of}
+use Rattle.vl_design.specs.Seen.{args_of}
 use Rattle.plain_form.specs.Running.{args_nodes}
 use Rattle.plain_form.proofs.counts.with_args.Given as goal
 

@@ -1,7 +1,7 @@
 use Rattle.std.proofs.Common.{◌≡◌, drop, map}
 use Rattle.std.specs.Prelude.{◌&&◌}
 use Rattle.std.specs.List.{list_all}
-use Rattle.vl_flat.specs.Seen.{process_of}
+use Rattle.vl_design.specs.Seen.{process_of}
 use Rattle.plain_form.specs.Running.{is_process}
 use Rattle.plain_form.proofs.form.are_processes.Given as goal
 

@@ -2,8 +2,8 @@ use Rattle.std.proofs.Common.{◌≡◌, ◌≤◌, ◌+◌, drop, map, cond}
 use Rattle.std.specs.Prelude.{min}
 use Rattle.std.specs.List.{sum_by}
 use Rattle.vl_design.specs.Queue.{is_rise}
-use Rattle.vl_flat.specs.Placed as p
-use Rattle.vl_flat.specs.Seen.{process_of}
+use Rattle.vl_design.specs.Placed as p
+use Rattle.vl_design.specs.Seen.{process_of}
 use Rattle.plain_form.proofs.form.clocked.Given as goal
 
 -- so many with those of the rest are those of the whole

@@ -1,6 +1,6 @@
 use Rattle.std.proofs.Common.{sym, ◌∙◌, subst}
 use Rattle.vl_design.specs.Sound.{IsSound}
-use Rattle.vl_flat.specs.Seen.{placed}
+use Rattle.vl_design.specs.Seen.{placed}
 use Rattle.vl_flat.proofs.Erased.{flat-same}
 use Rattle.plain_form.proofs.Plain.{running-plain}
 use Rattle.plain_form.proofs.Sound.{running-sound}

@@ -1,8 +1,8 @@
 use Rattle.std.proofs.Common.{◌≡◌, ◌≤◌, ◌+◌, drop, map}
 use Rattle.std.specs.Prelude.{min}
 use Rattle.std.specs.List.{sum_by}
-use Rattle.vl_flat.specs.Placed as p
-use Rattle.vl_flat.specs.Seen.{process_of}
+use Rattle.vl_design.specs.Placed as p
+use Rattle.vl_design.specs.Seen.{process_of}
 use Rattle.plain_form.specs.Running as r
 use Rattle.plain_form.proofs.form.statements_in.Given as goal
 

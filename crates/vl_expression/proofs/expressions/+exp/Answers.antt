@@ -2,11 +2,11 @@ use Rattle.std.proofs.Common.{◌≡◌, map, ap, ◌∙◌, sym, subst, drop, �
 use Rattle.std.specs.Prelude.{IfOk, option_map, codes}
 use Rattle.vl_design.specs.declared.design.ExprNode.TheBlock.{hidden-the_row-Expr-0, hidden-the_row-SysArg-1}
 use Rattle.vl_flat.specs.Surface as x
-use Rattle.vl_flat.specs.Placed as p
+use Rattle.vl_design.specs.Placed as p
 use Rattle.vl_flat.specs.Scopes.{number_of, range_of}
 use Rattle.vl_flat.specs.Constants.{count_of}
 use Rattle.vl_flat.specs.Expressions.{constant, keeps_texts}
-use Rattle.vl_flat.specs.Seen.{exp_of, row_exps, row_args}
+use Rattle.vl_design.specs.Seen.{exp_of, row_exps, row_args}
 use Rattle.vl_bind.specs.Seen.{seen, selects_before, args_before, argument}
 use Rattle.vl_bind.proofs.Walks.{named-seen, joined-seen, called-seen, system-seen}
 use Rattle.vl_bind.proofs.Walks as walks

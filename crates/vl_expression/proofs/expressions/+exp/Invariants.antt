@@ -1,6 +1,6 @@
 use Rattle.std.proofs.Common.{◌≡◌, map, take, drop}
 use Rattle.vl_flat.specs.Surface as x
-use Rattle.vl_flat.specs.Seen.{exp_of}
+use Rattle.vl_design.specs.Seen.{exp_of}
 use Rattle.vl_bind.specs.Seen.{selects_before, args_before}
 use Rattle.vl_constant.specs.Seen.{seen_scope}
 use Rattle.vl_constant.specs.Types.{numbers}

@@ -1,5 +1,5 @@
 use Rattle.std.proofs.Common.{◌≡◌, map, take}
-use Rattle.vl_flat.specs.Seen.{exp_of}
+use Rattle.vl_design.specs.Seen.{exp_of}
 use Rattle.vl_constant.specs.Seen.{seen_scope}
 use Rattle.vl_expression.specs.Walked as n
 use Rattle.vl_expression.proofs.labels.labels.Given as goal

@@ -1,7 +1,7 @@
 use Rattle.std.proofs.Common.{◌≡◌, drop}
 use Rattle.vl_flat.specs.Surface as x
 use Rattle.vl_flat.specs.Targets as lefts
-use Rattle.vl_flat.specs.Seen.{target_of}
+use Rattle.vl_design.specs.Seen.{target_of}
 use Rattle.vl_bind.specs.Seen.{selects_before}
 use Rattle.vl_constant.specs.Seen.{seen_scope}
 use Rattle.vl_constant.specs.Types.{numbers}

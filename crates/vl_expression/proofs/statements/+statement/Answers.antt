@@ -1,10 +1,10 @@
 use Rattle.std.proofs.Common.{map, ap, ◌∙◌, sym}
 use Rattle.vl_design.specs.declared.design.StmtNode.TheBlock.{hidden-the_row-CaseItem-1}
 use Rattle.vl_flat.specs.Surface as x
-use Rattle.vl_flat.specs.Placed as p
+use Rattle.vl_design.specs.Placed as p
 use Rattle.vl_flat.specs.Expressions as flat
 use Rattle.vl_flat.specs.Statements as spec
-use Rattle.vl_flat.specs.Seen.{exps_of, stm_of, row_items}
+use Rattle.vl_design.specs.Seen.{exps_of, stm_of, row_items}
 use Rattle.vl_bind.specs.Seen.{seen}
 use Rattle.vl_bind.specs.SeenStatements.{seen_statement, item, items_before}
 use Rattle.vl_bind.specs.Listed.{of_list}

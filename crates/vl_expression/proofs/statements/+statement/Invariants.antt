@@ -1,7 +1,7 @@
 use Rattle.std.proofs.Common.{◌≡◌, map, take}
 use Rattle.vl_flat.specs.Surface as x
 use Rattle.vl_flat.specs.Statements as spec
-use Rattle.vl_flat.specs.Seen.{stm_of}
+use Rattle.vl_design.specs.Seen.{stm_of}
 use Rattle.vl_bind.specs.SeenStatements.{items_before}
 use Rattle.vl_constant.specs.Seen.{seen_scope}
 use Rattle.vl_expression.specs.Walked as n

@@ -1,8 +1,8 @@
 use Rattle.std.proofs.Common.{ap, ◌∙◌}
 use Rattle.vl_flat.specs.Surface as x
-use Rattle.vl_flat.specs.Placed as p
+use Rattle.vl_design.specs.Placed as p
 use Rattle.vl_flat.specs.Expressions as flat
-use Rattle.vl_flat.specs.Seen.{args_of}
+use Rattle.vl_design.specs.Seen.{args_of}
 use Rattle.vl_bind.specs.Seen.{args_before}
 use Rattle.vl_constant.specs.Seen.{seen_scope}
 use Rattle.vl_expression.proofs.Bodies.{args-are}

@@ -1,10 +1,10 @@
 use Rattle.std.proofs.Common.{◌≡◌, map, ap, ◌∙◌, sym, subst}
 use Rattle.std.specs.Prelude.{IfOk}
 use Rattle.vl_flat.specs.Surface as x
-use Rattle.vl_flat.specs.Placed as p
+use Rattle.vl_design.specs.Placed as p
 use Rattle.vl_flat.specs.Targets as lefts
 use Rattle.vl_flat.specs.Connections.{left_of}
-use Rattle.vl_flat.specs.Seen.{target_of}
+use Rattle.vl_design.specs.Seen.{target_of}
 use Rattle.vl_bind.specs.Seen.{seen, selects_before}
 use Rattle.vl_bind.proofs.Walks.{named-seen, joined-seen}
 use Rattle.vl_constant.specs.Seen.{seen_scope}

@@ -1,5 +1,5 @@
 use Rattle.std.proofs.Common.{ap}
-use Rattle.vl_flat.specs.Placed as p
+use Rattle.vl_design.specs.Placed as p
 use Rattle.vl_expression.proofs.Sides.{row-nothing}
 use Rattle.vl_expression.proofs.targets.nothing.Goals as goal
 

@@ -3,7 +3,7 @@ use Rattle.std.specs.Prelude.{Ok, Err, Some, slice_get, flat_map}
 use Rattle.vl_flat.specs.Flat as f
 use Rattle.vl_flat.specs.Outcome as o
 use Rattle.vl_flat.specs.Outcome.{◌>>=◌}
-use Rattle.vl_flat.specs.Seen.{func_of, process_of}
+use Rattle.vl_design.specs.Seen.{func_of, process_of}
 use Rattle.vl_items.specs.SeenItems.{seen_module}
 use Rattle.vl_flatten.specs.Growing.{IsMade}
 use Rattle.vl_flatten.specs.Meeting.{Meets}

@@ -1,6 +1,6 @@
 use Rattle.std.proofs.Common.{◌≡◌, map, take}
 use Rattle.std.specs.Prelude.{flat_map}
-use Rattle.vl_flat.specs.Stops.{earliest}
+use Rattle.vl_design.specs.Stops.{earliest}
 use Rattle.vl_flat.specs.Processes as p
 use Rattle.vl_items.specs.SeenItems.{seen_setting}
 use Rattle.vl_constant.specs.Seen.{look}

@@ -1,7 +1,7 @@
 use Rattle.std.proofs.Common.{ap, sym, ◌∙◌, ◌++◌}
 use Rattle.vl_flat.specs.ExpressionFaults.{faults}
 use Rattle.vl_flat.specs.Targets.{target_faults}
-use Rattle.vl_flat.specs.Stops.{earliest}
+use Rattle.vl_design.specs.Stops.{earliest}
 use Rattle.vl_bind.specs.Seen.{seen}
 use Rattle.vl_bind.specs.SeenStatements.{seen_left}
 use Rattle.vl_constant.specs.Seen.{seen_scope}

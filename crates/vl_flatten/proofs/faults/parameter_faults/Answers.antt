@@ -2,7 +2,7 @@ use Rattle.std.proofs.Common.{ap, sym, ◌∙◌, ◌++◌}
 use Rattle.vl_flat.specs.ExpressionFaults.{faults}
 use Rattle.vl_flat.specs.Ranges.{type_faults}
 use Rattle.vl_flat.specs.Scopes.{plainly}
-use Rattle.vl_flat.specs.Stops.{earliest}
+use Rattle.vl_design.specs.Stops.{earliest}
 use Rattle.vl_items.specs.SeenItems.{seen_type, seen_parameter}
 use Rattle.vl_constant.specs.Seen.{look}
 use Rattle.vl_judge.proofs.Earliest.{earliest-append}

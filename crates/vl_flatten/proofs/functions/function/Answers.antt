@@ -1,7 +1,7 @@
 use Rattle.std.proofs.Common.{ap, ◌∙◌, map}
 use Rattle.vl_flat.specs.Functions as f
 use Rattle.vl_flat.specs.Statements.{statement}
-use Rattle.vl_flat.specs.Seen.{stm_of}
+use Rattle.vl_design.specs.Seen.{stm_of}
 use Rattle.vl_bind.specs.SeenStatements.{seen_statement}
 use Rattle.vl_items.specs.SeenItems.{seen_function}
 use Rattle.vl_constant.specs.Seen.{look}

@@ -1,11 +1,11 @@
 use Rattle.std.proofs.Common.{ap, sym, ◌∙◌, List, map}
 use Rattle.std.specs.Prelude.{flat_map}
-use Rattle.vl_flat.specs.declared.stop.Stop.{Stop}
+use Rattle.vl_design.specs.declared.stop.Stop.{Stop}
 use Rattle.vl_flat.specs.Items.{Local}
 use Rattle.vl_flat.specs.Functions as f
 use Rattle.vl_flat.specs.Ranges.{type_faults}
 use Rattle.vl_flat.specs.Statements.{statement_faults}
-use Rattle.vl_flat.specs.Stops.{earliest}
+use Rattle.vl_design.specs.Stops.{earliest}
 use Rattle.vl_items.specs.SeenItems.{seen_function}
 use Rattle.vl_constant.specs.Seen.{look}
 use Rattle.vl_instance.specs.Variables.{seen_variable}

@@ -1,7 +1,7 @@
 use Rattle.std.proofs.Common.{◌≡◌, map, take}
 use Rattle.std.specs.Prelude.{flat_map}
 use Rattle.vl_flat.specs.Ranges.{type_faults}
-use Rattle.vl_flat.specs.Stops.{earliest}
+use Rattle.vl_design.specs.Stops.{earliest}
 use Rattle.vl_constant.specs.Seen.{look}
 use Rattle.vl_instance.specs.Variables.{seen_variable}
 use Rattle.vl_flatten.proofs.functions.variables_faults.Given as goal

@@ -1,6 +1,6 @@
 use Rattle.std.proofs.Common.{refl, ap, ◌∙◌, ℕ, false, List, [], length}
 use Rattle.std.specs.Prelude.{Option}
-use Rattle.vl_flat.specs.Placed.{Exp}
+use Rattle.vl_design.specs.Placed.{Exp}
 use Rattle.vl_flat.specs.Environments as e
 use Rattle.vl_flat.specs.Kinds.{signals_in}
 use Rattle.vl_flat.specs.Processes.{signals}

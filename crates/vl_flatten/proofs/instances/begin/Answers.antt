@@ -3,8 +3,8 @@ use Rattle.std.specs.Prelude.{None, flat_map}
 use Rattle.vl_flat.specs.Connections.{override_faults, optional_faults}
 use Rattle.vl_flat.specs.Flat as f
 use Rattle.vl_flat.specs.Outcome as o
-use Rattle.vl_flat.specs.Stops.{earliest, limit_if}
-use Rattle.vl_flat.specs.Seen.{func_of, process_of}
+use Rattle.vl_design.specs.Stops.{earliest, limit_if}
+use Rattle.vl_design.specs.Seen.{func_of, process_of}
 use Rattle.vl_items.specs.SeenItems.{seen_connection, seen_instances}
 use Rattle.vl_constant.specs.Seen.{look}
 use Rattle.vl_judge.proofs.Earliest.{earliest-append}

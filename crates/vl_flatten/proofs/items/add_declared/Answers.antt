@@ -2,8 +2,8 @@ use Rattle.std.proofs.Common.{ap, sym, ◌∙◌, ◌++◌, [], map, fold}
 use Rattle.std.specs.Prelude.{None, flat_map}
 use Rattle.vl_flat.specs.Processes as p
 use Rattle.vl_flat.specs.Outcome as o
-use Rattle.vl_flat.specs.Stops.{earliest}
-use Rattle.vl_flat.specs.Seen.{func_of}
+use Rattle.vl_design.specs.Stops.{earliest}
+use Rattle.vl_design.specs.Seen.{func_of}
 use Rattle.vl_items.specs.SeenItems.{seen_type, seen_declared}
 use Rattle.vl_constant.specs.Seen.{look}
 use Rattle.vl_judge.proofs.Earliest.{earliest-append}

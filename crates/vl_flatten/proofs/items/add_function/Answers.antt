@@ -1,7 +1,7 @@
 use Rattle.std.proofs.Common.{refl, ap, sym, ◌∙◌, ◌++◌, ◌∷◌, [], map}
 use Rattle.std.proofs.lemmas.List.{map-append}
 use Rattle.vl_flat.specs.Functions as f
-use Rattle.vl_flat.specs.Seen.{func_of, process_of}
+use Rattle.vl_design.specs.Seen.{func_of, process_of}
 use Rattle.vl_items.specs.SeenItems.{seen_function}
 use Rattle.vl_constant.specs.Seen.{look}
 use Rattle.vl_flatten.specs.Parts.{part}

@@ -1,7 +1,7 @@
 use Rattle.std.proofs.Common.{ap, sym, ◌∙◌, fold, take}
 use Rattle.std.proofs.lemmas.List.{take_all}
 use Rattle.vl_flat.specs.Outcome as o
-use Rattle.vl_flat.specs.Stops.{earliest}
+use Rattle.vl_design.specs.Stops.{earliest}
 use Rattle.vl_flatten.specs.Growing.{totals_of}
 use Rattle.vl_flatten.proofs.Counting.{limits-more, totals-more}
 use Rattle.vl_flatten.proofs.limits.signals_limits.Goals as goal

@@ -1,6 +1,6 @@
 use Rattle.std.proofs.Common.{◌≡◌, fold, take}
 use Rattle.vl_flat.specs.Outcome as o
-use Rattle.vl_flat.specs.Stops.{earliest}
+use Rattle.vl_design.specs.Stops.{earliest}
 use Rattle.vl_flatten.specs.Growing.{totals_of}
 use Rattle.vl_flatten.proofs.limits.signals_limits.Given as goal
 

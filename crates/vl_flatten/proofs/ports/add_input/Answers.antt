@@ -3,8 +3,8 @@ use Rattle.std.specs.Prelude.{None}
 use Rattle.std.proofs.lemmas.List.{map-append}
 use Rattle.vl_flat.specs.Connections as k
 use Rattle.vl_flat.specs.Flat as f
-use Rattle.vl_flat.specs.Stops.{earliest}
-use Rattle.vl_flat.specs.Seen.{func_of, process_of}
+use Rattle.vl_design.specs.Stops.{earliest}
+use Rattle.vl_design.specs.Seen.{func_of, process_of}
 use Rattle.vl_items.specs.SeenItems.{seen_unit}
 use Rattle.vl_constant.specs.Seen.{look}
 use Rattle.vl_flatten.specs.Standing.{seen_here}

@@ -2,7 +2,7 @@ use Rattle.std.proofs.Common.{ap, sym, ◌∙◌}
 use Rattle.std.specs.Prelude.{option_map}
 use Rattle.vl_flat.specs.ExpressionFaults.{faults}
 use Rattle.vl_flat.specs.Connections.{optional_faults}
-use Rattle.vl_flat.specs.Stops.{earliest}
+use Rattle.vl_design.specs.Stops.{earliest}
 use Rattle.vl_bind.specs.Seen.{seen}
 use Rattle.vl_constant.specs.Seen.{look}
 use Rattle.vl_flatten.proofs.ports.source_faults.Goals as goal

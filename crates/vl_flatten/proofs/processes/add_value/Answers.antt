@@ -3,7 +3,7 @@ use Rattle.std.specs.Prelude.{option_map}
 use Rattle.std.specs.Option.{option_map_or}
 use Rattle.std.proofs.lemmas.List.{map-append}
 use Rattle.vl_flat.specs.Processes as p
-use Rattle.vl_flat.specs.Seen.{process_of}
+use Rattle.vl_design.specs.Seen.{process_of}
 use Rattle.vl_bind.specs.Seen.{seen}
 use Rattle.vl_items.specs.SeenItems.{seen_declared}
 use Rattle.vl_flatten.specs.Standing.{seen_here}

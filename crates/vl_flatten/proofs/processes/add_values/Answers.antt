@@ -1,7 +1,7 @@
 use Rattle.std.proofs.Common.{ap, ◌∙◌, ◌++◌, ◌∷◌, [], map}
 use Rattle.std.specs.Option.{option_map_or}
 use Rattle.vl_flat.specs.Processes as p
-use Rattle.vl_flat.specs.Seen.{process_of}
+use Rattle.vl_design.specs.Seen.{process_of}
 use Rattle.vl_items.specs.SeenItems.{seen_declared}
 use Rattle.vl_flatten.specs.Standing.{seen_here}
 use Rattle.vl_flatten.proofs.Steps.{each-more}

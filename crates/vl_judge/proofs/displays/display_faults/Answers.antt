@@ -1,6 +1,6 @@
 use Rattle.std.proofs.Common.{drop, ◌+◌}
 use Rattle.vl_flat.specs.Surface as x
-use Rattle.vl_flat.specs.Stops.{earliest}
+use Rattle.vl_design.specs.Stops.{earliest}
 use Rattle.vl_flat.specs.ExpressionFaults.{display_faults}
 use Rattle.vl_bind.specs.Seen.{args_before}
 use Rattle.vl_constant.specs.Seen.{seen_scope}

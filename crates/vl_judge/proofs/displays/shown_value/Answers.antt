@@ -1,5 +1,5 @@
 use Rattle.std.proofs.Common.{◌≤◌, ◌-◌, arith, ap, ◌∙◌, sym}
-use Rattle.vl_flat.specs.Stops.{earliest}
+use Rattle.vl_design.specs.Stops.{earliest}
 use Rattle.vl_flat.specs.ExpressionFaults.{faults, display_faults}
 use Rattle.vl_bind.specs.Seen.{seen}
 use Rattle.vl_constant.specs.Seen.{seen_scope}

@@ -1,7 +1,7 @@
 use Rattle.std.proofs.Common.{ap, ◌∙◌, sym}
 use Rattle.std.specs.Prelude.{if◌then◌else◌}
 use Rattle.vl_flat.specs.Surface as x
-use Rattle.vl_flat.specs.Stops.{earliest}
+use Rattle.vl_design.specs.Stops.{earliest}
 use Rattle.vl_flat.specs.Expressions.{keeps_texts}
 use Rattle.vl_flat.specs.ExpressionFaults.{display_faults, args_faults}
 use Rattle.vl_bind.specs.Seen.{args_before}

@@ -1,7 +1,7 @@
 use Rattle.std.proofs.Common.{refl, map, drop, ap, ◌∙◌, sym, ◌+◌, ◌++◌}
 use Rattle.std.specs.Prelude.{option_map}
 use Rattle.vl_flat.specs.Surface as x
-use Rattle.vl_flat.specs.Stops.{earliest}
+use Rattle.vl_design.specs.Stops.{earliest}
 use Rattle.vl_flat.specs.Scopes.{range_of}
 use Rattle.vl_flat.specs.Constants.{is_count}
 use Rattle.vl_flat.specs.Expressions.{keeps_texts, bits_of, taken}

@@ -1,6 +1,6 @@
 use Rattle.std.proofs.Common.{◌≡◌, map, drop}
 use Rattle.vl_flat.specs.Surface as x
-use Rattle.vl_flat.specs.Stops.{earliest}
+use Rattle.vl_design.specs.Stops.{earliest}
 use Rattle.vl_flat.specs.ExpressionFaults.{all_faults, args_faults}
 use Rattle.vl_bind.specs.Seen.{seen, selects_before, args_before}
 use Rattle.vl_bind.specs.Listed.{of_list}

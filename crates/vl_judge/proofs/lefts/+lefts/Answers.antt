@@ -1,6 +1,6 @@
 use Rattle.std.proofs.Common.{map, refl, ap, ◌∙◌, sym}
 use Rattle.vl_flat.specs.Surface as x
-use Rattle.vl_flat.specs.Stops.{earliest}
+use Rattle.vl_design.specs.Stops.{earliest}
 use Rattle.vl_flat.specs.ExpressionFaults.{name_faults}
 use Rattle.vl_flat.specs.Targets.{left_faults, lefts_faults}
 use Rattle.vl_bind.specs.Seen.{selects_before}

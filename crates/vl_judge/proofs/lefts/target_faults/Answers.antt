@@ -1,5 +1,5 @@
 use Rattle.std.proofs.Common.{nat_lt, ap, ◌∙◌}
-use Rattle.vl_flat.specs.Stops.{earliest, construct_if}
+use Rattle.vl_design.specs.Stops.{earliest, construct_if}
 use Rattle.vl_flat.specs.Surface.{left_place}
 use Rattle.vl_flat.specs.Targets.{left_width, left_faults}
 use Rattle.vl_bind.specs.SeenStatements.{seen_left}

@@ -1,5 +1,5 @@
 use Rattle.std.proofs.Common.{◌≡◌, map, drop}
-use Rattle.vl_flat.specs.Stops.{earliest}
+use Rattle.vl_design.specs.Stops.{earliest}
 use Rattle.vl_flat.specs.Targets.{lefts_faults}
 use Rattle.vl_flat.specs.Connections.{lefts_of}
 use Rattle.vl_bind.specs.Seen.{seen}

@@ -1,7 +1,7 @@
 use Rattle.std.proofs.Common.{◌≡◌, true, false, ◌∷◌, ap, ◌∙◌, sym}
 use Rattle.std.specs.Prelude.{if◌then◌else◌}
-use Rattle.vl_flat.specs.declared.stop.Stop.TheVariants.{Construct}
-use Rattle.vl_flat.specs.Stops.{earliest}
+use Rattle.vl_design.specs.declared.stop.Stop.TheVariants.{Construct}
+use Rattle.vl_design.specs.Stops.{earliest}
 use Rattle.vl_flat.specs.Scopes.{plainly}
 use Rattle.vl_flat.specs.ExpressionFaults.{faults}
 use Rattle.vl_flat.specs.Targets.{target_faults}

@@ -1,6 +1,6 @@
 use Rattle.std.proofs.Common.{map, drop, refl, ap, ◌∙◌, sym, ◌+◌, ◌++◌}
 use Rattle.vl_flat.specs.Surface as x
-use Rattle.vl_flat.specs.Stops.{earliest}
+use Rattle.vl_design.specs.Stops.{earliest}
 use Rattle.vl_flat.specs.ExpressionFaults.{faults, all_faults, task_faults}
 use Rattle.vl_flat.specs.Statements.{set_faults, statement_faults, statements_faults, items_faults}
 use Rattle.vl_bind.specs.Seen.{seen, args_before}

@@ -1,6 +1,6 @@
 use Rattle.std.proofs.Common.{◌≡◌, map, drop}
 use Rattle.vl_flat.specs.Surface as x
-use Rattle.vl_flat.specs.Stops.{earliest}
+use Rattle.vl_design.specs.Stops.{earliest}
 use Rattle.vl_flat.specs.Statements.{statements_faults, items_faults}
 use Rattle.vl_bind.specs.SeenStatements.{seen_statement, statements_of, items_before}
 use Rattle.vl_constant.specs.Seen.{seen_scope}

@@ -1,5 +1,5 @@
 use Rattle.std.proofs.Common.{◌++◌, ap, ◌∙◌}
-use Rattle.vl_flat.specs.Stops.{earliest}
+use Rattle.vl_design.specs.Stops.{earliest}
 use Rattle.vl_flat.specs.Constants.{is_bound}
 use Rattle.vl_flat.specs.ExpressionFaults.{faults, constant_must}
 use Rattle.vl_bind.specs.Seen.{seen}

@@ -1,6 +1,6 @@
 use Rattle.std.proofs.Common.{ap, ◌∙◌, sym}
 use Rattle.std.specs.Prelude.{option_map}
-use Rattle.vl_flat.specs.Stops.{earliest}
+use Rattle.vl_design.specs.Stops.{earliest}
 use Rattle.vl_flat.specs.Ranges.{bound_faults, range_faults}
 use Rattle.vl_bind.specs.Seen.{seen}
 use Rattle.vl_constant.specs.Seen.{look}

@@ -1,5 +1,5 @@
 use Rattle.std.proofs.Common.{ap, ◌∙◌}
-use Rattle.vl_flat.specs.Stops.{earliest, construct_if}
+use Rattle.vl_design.specs.Stops.{earliest, construct_if}
 use Rattle.vl_flat.specs.Ranges.{range_faults, range_in, is_wide}
 use Rattle.vl_constant.specs.Seen.{look}
 use Rattle.vl_items.specs.SeenItems.{seen_type}

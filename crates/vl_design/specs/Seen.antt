@@ -12,7 +12,7 @@ use Rattle.vl_design.specs.declared.design.TargetNode as t
 use Rattle.vl_design.specs.declared.design.Func.{Func}
 use Rattle.vl_design.specs.declared.design.Process.{Process}
 use Rattle.vl_design.specs.declared.design.Design.{Design}
-use Rattle.vl_flat.specs.Placed as p
+use Rattle.vl_design.specs.Placed as p
 
 abbrev mutual
   pub node_exp : Place → e.ExprNode → p.Exp

@@ -17,7 +17,7 @@ pub enum Stop {
 }
 
 impl From<AllocError> for Stop {
-    ghost use Rattle.vl_flat.specs.declared.stop.Stop.TheVariants.{Memory};
+    ghost use Rattle.vl_design.specs.declared.stop.Stop.TheVariants.{Memory};
 
     ghost from_gives = { λ _ e. e ≡ Memory };
 
@@ -27,7 +27,7 @@ impl From<AllocError> for Stop {
 }
 
 impl<T: Drop> From<AllocFailed<T>> for Stop {
-    ghost use Rattle.vl_flat.specs.declared.stop.Stop.TheVariants.{Memory};
+    ghost use Rattle.vl_design.specs.declared.stop.Stop.TheVariants.{Memory};
 
     ghost from_gives = { λ _ e. e ≡ Memory };
 

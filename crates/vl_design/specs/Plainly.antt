@@ -4,7 +4,7 @@ use Rattle.vl_base.specs.declared.bits.UnOp.TheVariants.{LogNot}
 use Rattle.vl_design.specs.Syntax as d
 use Rattle.vl_design.specs.Formats as f
 use Rattle.vl_design.specs.Trees.{task_of, row_of}
-use Rattle.vl_flat.specs.Placed as p
+use Rattle.vl_design.specs.Placed as p
 
 abbrev mutual
   pub exp : p.Exp → d.Exp

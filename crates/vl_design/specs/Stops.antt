@@ -1,8 +1,8 @@
 -- Faults of the flat design, and which comes first (own).
 use Rattle.std.specs.Prelude.{ℕ, nat_lt, Bool, ◌&&◌, ◌||◌, ◌==◌, if◌then◌else◌, List, [], ◌∷◌, Option, Some, None}
 use Rattle.vl_base.specs.declared.place.Place.{Place}
-use Rattle.vl_flat.specs.declared.stop.Stop.{Stop}
-use Rattle.vl_flat.specs.declared.stop.Stop.TheVariants.{Construct, Limit, Memory}
+use Rattle.vl_design.specs.declared.stop.Stop.{Stop}
+use Rattle.vl_design.specs.declared.stop.Stop.TheVariants.{Construct, Limit, Memory}
 
 -- a refused construct, or a passed limit, at a place where a test holds
 abbrev pub construct_if : Bool → Place → ℕ → List Stop

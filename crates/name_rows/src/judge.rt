@@ -2,7 +2,7 @@
 
 use std::alloc::{AllocError, Global};
 use vl_base::place::Place;
-use vl_elab::names::{NamesFault, names};
+use vl_names::names::{NamesFault, names};
 use vl_lex::lex::lex;
 use vl_parse::parse;
 

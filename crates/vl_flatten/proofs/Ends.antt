@@ -5,9 +5,9 @@ use Rattle.std.specs.Result.{IsErr, IsErrAnd}
 use Rattle.vl_source.specs.declared.tree.Source.{Source}
 use Rattle.vl_base.specs.declared.place.Place.{Place}
 use Rattle.vl_scope.specs.Faults.{IsFirst, at}
-use Rattle.vl_elab.specs.declared.names.NamesFault.{NamesFault}
-use Rattle.vl_elab.specs.declared.names.NamesFault.TheVariants as n
-use Rattle.vl_elab.specs.NameFaults.{IsNameFault}
+use Rattle.vl_names.specs.declared.names.NamesFault.{NamesFault}
+use Rattle.vl_names.specs.declared.names.NamesFault.TheVariants as n
+use Rattle.vl_names.specs.NameFaults.{IsNameFault}
 use Rattle.vl_design.specs.declared.design.Design.{Design}
 use Rattle.vl_design.specs.declared.design.Signal.{Signal}
 use Rattle.vl_design.specs.declared.stop.Stop.{Stop}

@@ -13,8 +13,8 @@ use Rattle.vl_source.specs.declared.tree.Module.{Module as ModuleTree}
 use Rattle.vl_source.specs.declared.tree.ParameterGroup.{ParameterGroup}
 use Rattle.vl_source.specs.declared.tree.Source.{Source}
 use Rattle.vl_scope.specs.declared.fault.Fault.{Fault}
-use Rattle.vl_elab.specs.Modules as e
-use Rattle.vl_elab.specs.HierarchyFaults.{IsHierarchyFault, no_top}
+use Rattle.vl_names.specs.Modules as e
+use Rattle.vl_names.specs.HierarchyFaults.{IsHierarchyFault, no_top}
 use Rattle.vl_flat.specs.Items as x
 use Rattle.vl_flat.specs.Declarations.{module', modules, item, header_parameters, header_ports, ports_in}
 use Rattle.vl_flat.specs.Flat.{instantiates, is_top, top_of}

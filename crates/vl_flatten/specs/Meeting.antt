@@ -3,9 +3,9 @@ use Rattle.std.specs.Prelude.{◌≡◌, Result, Ok, Err, Some, None}
 use Rattle.vl_source.specs.declared.tree.Source.{Source}
 use Rattle.vl_scope.specs.declared.fault.Fault.{Fault}
 use Rattle.vl_scope.specs.Faults.{IsFirst}
-use Rattle.vl_elab.specs.NameFaults.{IsNameFault}
-use Rattle.vl_elab.specs.declared.names.NamesFault.{NamesFault}
-use Rattle.vl_elab.specs.declared.names.NamesFault.TheVariants as n
+use Rattle.vl_names.specs.NameFaults.{IsNameFault}
+use Rattle.vl_names.specs.declared.names.NamesFault.{NamesFault}
+use Rattle.vl_names.specs.declared.names.NamesFault.TheVariants as n
 use Rattle.vl_design.specs.declared.design.Design.{Design}
 use Rattle.vl_design.specs.declared.stop.Stop.{Stop}
 use Rattle.vl_design.specs.declared.stop.Stop.TheVariants.{Construct, Limit, Memory}

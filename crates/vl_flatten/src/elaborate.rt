@@ -16,7 +16,7 @@ use crate::making::{Making, nothing_yet};
 use std::alloc::Global;
 use vl_base::items::Items;
 use vl_design::design::Design;
-use vl_elab::names::{NamesFault, names};
+use vl_names::names::{NamesFault, names};
 use vl_expression::expressions::copied;
 use vl_design::stop::Stop;
 use vl_instance::environment::environment;

@@ -6,7 +6,7 @@ ghost use Rattle.vl_grammar.specs.Binding.{term_of};
 ghost use Rattle.vl_source.specs.declared.tree.Module.{Module};
 ghost use Rattle.vl_source.specs.declared.tree.Source.{Source};
 ghost use Rattle.vl_scope.specs.declared.fault.Fault.{Fault};
-ghost use Rattle.vl_elab.specs.NameFaults.{IsNameFault};
+ghost use Rattle.vl_names.specs.NameFaults.{IsNameFault};
 ghost use Rattle.vl_design.specs.declared.design.Signal.{Signal};
 ghost use Rattle.vl_design.specs.Trees.{range_width};
 ghost use Rattle.vl_design.specs.Sound.{IsWidth};

@@ -1,4 +1,4 @@
-use Rattle.vl_elab.specs.NameFaults.{of_modules}
+use Rattle.vl_names.specs.NameFaults.{of_modules}
 use Rattle.vl_flatten.proofs.Tops.{top-there}
 use Rattle.vl_flatten.proofs.laws.a_source_without_faults_of_names_has_a_top.Goals as goal
 

@@ -1,6 +1,0 @@
-use Rattle.std.proofs.Common.{take}
-use Rattle.vl_elab.specs.Walks as spec
-use Rattle.vl_elab.proofs.cycle.visit_all.Given as goal
-
-abbrev pub invariant-loop-node : goal.invariant-loop-node
-invariant-loop-node l = spec.Visits (take l.node-index l.nodes) l.initial.marks.items l.initial.pile.items l.marks.items l.pile.items

@@ -1,7 +1,0 @@
-use Rattle.std.proofs.Common.{◌≡◌, flat_map, take}
-use Rattle.vl_scope.specs.Faults.{earliest}
-use Rattle.vl_elab.specs.Seen as seen
-use Rattle.vl_elab.proofs.instances.note_instances.Given as goal
-
-abbrev pub invariant-loop-instance : goal.invariant-loop-instance
-invariant-loop-instance l = l.best ≡ earliest l.initial.best (flat_map (seen.faults_in (seen.look l.numbers) l.interfaces) (seen.nows (take l.instance-index l.instances)))

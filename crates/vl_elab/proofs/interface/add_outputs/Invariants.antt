@@ -1,6 +1,0 @@
-use Rattle.std.proofs.Common.{◌≡◌, ◌++◌, map, take}
-use Rattle.vl_elab.specs.Seen as seen
-use Rattle.vl_elab.proofs.interface.add_outputs.Given as goal
-
-abbrev pub invariant-loop-output : goal.invariant-loop-output
-invariant-loop-output l = seen.nows l.names.items ≡ seen.nows l.initial.names.items ++ map (λ a. a.name) (take l.output-index l.more)

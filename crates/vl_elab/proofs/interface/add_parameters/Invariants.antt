@@ -1,7 +1,0 @@
-use Rattle.std.proofs.Common.{◌≡◌, ◌++◌, take}
-use Rattle.vl_elab.specs.Modules as spec
-use Rattle.vl_elab.specs.Seen as seen
-use Rattle.vl_elab.proofs.interface.add_parameters.Given as goal
-
-abbrev pub invariant-loop-parameter : goal.invariant-loop-parameter
-invariant-loop-parameter l = seen.nows l.names.items ≡ seen.nows l.initial.names.items ++ spec.assigned (take l.parameter-index l.more)

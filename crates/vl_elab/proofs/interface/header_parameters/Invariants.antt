@@ -1,7 +1,0 @@
-use Rattle.std.proofs.Common.{◌≡◌, flat_map, take}
-use Rattle.vl_elab.specs.Modules as spec
-use Rattle.vl_elab.specs.Seen as seen
-use Rattle.vl_elab.proofs.interface.header_parameters.Given as goal
-
-abbrev pub invariant-loop-group : goal.invariant-loop-group
-invariant-loop-group l = seen.nows l.names.items ≡ flat_map (λ g. spec.assigned g.assignments) (take l.group-index l.groups)

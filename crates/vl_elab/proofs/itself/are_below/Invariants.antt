@@ -1,7 +1,0 @@
-use Rattle.std.proofs.Common.{ℕ, ◌<◌, take}
-use Rattle.vl_scope.specs.Faults.{In}
-use Rattle.vl_elab.specs.Walks as spec
-use Rattle.vl_elab.proofs.itself.are_below.Given as goal
-
-abbrev pub invariant-loop-node : goal.invariant-loop-node
-invariant-loop-node l = (k : ℕ) → In k (take l.node-index l.nodes) → spec.rank l.ranks k < l.limit

@@ -1,7 +1,0 @@
-use Rattle.std.proofs.Common.{◌≡◌, map, take}
-use Rattle.vl_elab.specs.Modules as spec
-use Rattle.vl_elab.specs.Seen as seen
-use Rattle.vl_elab.proofs.numbers.graph.Given as goal
-
-abbrev pub invariant-loop-tree : goal.invariant-loop-tree
-invariant-loop-tree l = l.graph.items ≡ map (spec.steps_of (seen.look l.numbers)) (take l.tree-index l.tree-items)

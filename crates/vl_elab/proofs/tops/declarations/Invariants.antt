@@ -1,7 +1,0 @@
-use Rattle.std.proofs.Common.{◌≡◌, ◌++◌, flat_map, take}
-use Rattle.vl_elab.specs.Modules as spec
-use Rattle.vl_elab.specs.Seen as seen
-use Rattle.vl_elab.proofs.tops.declarations.Given as goal
-
-abbrev pub invariant-loop-item : goal.invariant-loop-item
-invariant-loop-item l = seen.nows l.all.items ≡ seen.nows l.initial.all.items ++ flat_map spec.item_declarations (take l.item-index l.item-items)

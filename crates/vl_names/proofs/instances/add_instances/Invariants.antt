@@ -1,0 +1,7 @@
+use Rattle.std.proofs.Common.{◌≡◌, ◌++◌, flat_map, take}
+use Rattle.vl_names.specs.Modules as spec
+use Rattle.vl_names.specs.Seen as seen
+use Rattle.vl_names.proofs.instances.add_instances.Given as goal
+
+abbrev pub invariant-loop-item : goal.invariant-loop-item
+invariant-loop-item l = seen.nows l.all.items ≡ seen.nows l.initial.all.items ++ flat_map spec.item_instances (take l.item-index l.item-items)

@@ -15,3 +15,6 @@ pub mod Counting
 pub mod Acting
 pub mod Rising
 pub mod Returning
+pub mod Alike
+pub mod Nothing
+pub mod Ranked

@@ -1,6 +1,6 @@
 //! What the definitions say of every run.
 
-ghost use Rattle.std.specs.Prelude.{◌≡◌, ◌+◌, ◌≤◌, ◌<◌, ◌^◌, ℕ, suc, Bool, true, false, List, [], codes, None};
+ghost use Rattle.std.specs.Prelude.{◌≡◌, ◌+◌, ◌≤◌, ◌<◌, ◌^◌, ℕ, suc, Bool, true, false, List, [], codes, None, slice_get};
 ghost use Rattle.vl_base.specs.declared.files.File.{File};
 ghost use Rattle.vl_design.specs.declared.design.End.{End as Reason};
 ghost use Rattle.vl_design.specs.declared.design.Form.{Form as Context};
@@ -9,12 +9,13 @@ ghost use Rattle.vl_design.specs.Width.{Scope};
 ghost use Rattle.vl_design.specs.Value.{Sample, value, words_of};
 ghost use Rattle.vl_design.specs.State.{State, sample};
 ghost use Rattle.vl_design.specs.Exec.{exec, counted_if, items_hold};
-ghost use Rattle.vl_design.specs.Reads.{reads, stm_writes};
-ghost use Rattle.vl_design.specs.Functions.{scope_of};
+ghost use Rattle.vl_design.specs.Reads.{reads, stm_reads, stm_writes};
+ghost use Rattle.vl_design.specs.Nesting.{AreRanked};
+ghost use Rattle.vl_design.specs.Functions.{scope_of, result_of};
 ghost use Rattle.vl_design.specs.Tasks.{called};
 ghost use Rattle.vl_base.specs.Value.{reading, resized};
 ghost use Rattle.vl_design.specs.Queue.{Queue};
-ghost use Rattle.vl_design.specs.Laws.{DifferIn, Grows, Adds, InRange, can_act, IsUnrolled, HasQuietNets, IsReached};
+ghost use Rattle.vl_design.specs.Laws.{DifferIn, StatesDifferIn, Grows, Adds, InRange, can_act, IsUnrolled, HasQuietNets, IsReached};
 ghost use Rattle.vl_design.specs.Examples.{alone, counter};
 ghost use Rattle.vl_design.specs.Alone.{Origin, Settles, Boundary, Ends};
 ghost use Rattle.vl_design.specs.Acts.{Point, After, Before, state_at, queue_at, at_boundary, tick_of, branch_of};
@@ -39,6 +40,19 @@ pub fn ends_once()
 pub fn unread_signals_do_not_matter()
     ensures { (scope : Scope) (p : ℕ → Bool) (s t : Sample) → DifferIn p s t →
         (e : Exp) → reads p e ≡ false → (c : Context) → value scope s e c ≡ value scope t e c }
+{}
+
+/// What a statement does depends only on the signals that it reads: states that differ only in others differ only in these
+/// behind it.
+pub fn unread_signals_do_not_matter_to_statements()
+    ensures { (scope : Scope) (p : ℕ → Bool) (a : Stm) → stm_reads p a ≡ false →
+        (s t : State) → StatesDifferIn p s t → StatesDifferIn p (exec scope a s) (exec scope a t) }
+{}
+
+/// In a design without recursion a call gives what the function's body gives, however deep calls nest.
+pub fn a_call_gives_what_the_body_gives()
+    ensures { (d : Flat) (rank : ℕ → ℕ) (files : List File) (f : ℕ) (args : List ℕ) → AreRanked d rank →
+        (scope_of d files).call f args ≡ result_of (scope_of d files) (slice_get d.funs f) args }
 {}
 
 /// A statement changes only signals that it writes.

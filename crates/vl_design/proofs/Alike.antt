@@ -1,8 +1,7 @@
 -- What statements do that read no signal, and call no function, in which two scopes and states differ.
-use Rattle.std.proofs.Common.{◌≡◌, ◌≢◌, ℕ, zero, suc, ◌+◌, ◌<◌, ◌≤◌, nat_lt, arith, Bool, true, false, List, [], ◌∷◌, ◌++◌, map, length, Option, Some, None, refl, sym, ◌∙◌, ap, subst}
+use Rattle.std.proofs.Common.{◌≡◌, ◌≢◌, ℕ, zero, suc, ◌+◌, ◌<◌, ◌≤◌, nat_lt, arith, Bool, true, false, List, [], ◌∷◌, ◌++◌, length, Option, Some, None, refl, sym, ◌∙◌, ap, subst}
 use Rattle.std.specs.Prelude.{◌||◌, ◌&&◌, not, if◌then◌else◌, nat_eq, slice_set, slice_get, codes}
-use Rattle.std.proofs.lemmas.List.{length-set, get_or-set_same, get_or_past}
-use Rattle.std.proofs.lemmas.Option.{unwrap_or-slice_get}
+use Rattle.std.proofs.lemmas.List.{length-set}
 use Rattle.std.proofs.lemmas.Bool.{ltb-true, ltb-false, eqb-true, eq-eqb}
 use Rattle.vl_base.specs.declared.files.File.{File}
 use Rattle.vl_base.specs.Files as file
@@ -12,13 +11,13 @@ use Rattle.vl_design.specs.Width.{Names, Scope, form, signal_form, assigned}
 use Rattle.vl_design.specs.Value.{Sample, value, side_by_side, arguments, words_of, value_of}
 use Rattle.vl_design.specs.State.{State, Update, sample, counted, with_update, all_updated}
 use Rattle.vl_design.specs.Targets.{spots, all_spots, assignment, target_width}
-use Rattle.vl_design.specs.Tasks.{piece_text, pieces_text, descriptor_of, called, memory_read}
-use Rattle.vl_design.specs.Exec.{exec, exec_items, exec_default, turns, some_turn, times, restored, counted_if, label_matches, some_match, is_true, goes_on, most_turns, holds, items_hold, items_form, asks}
+use Rattle.vl_design.specs.Tasks.{pieces_text, descriptor_of, called, memory_read}
+use Rattle.vl_design.specs.Exec.{exec, exec_items, exec_default, turns, some_turn, times, counted_if, label_matches, some_match, is_true, goes_on, most_turns, holds, items_hold, items_form, asks}
 use Rattle.vl_design.specs.Reads.{reads, some_reads, target_reads, targets_read, pieces_read, task_reads, stm_reads, items_read}
 use Rattle.vl_design.specs.Nesting.{calls, some_calls, target_calls, targets_call, pieces_call, task_calls, stm_calls, items_call}
 use Rattle.vl_design.specs.Laws.{DifferIn, ValuesDifferIn, StatesDifferIn}
 use Rattle.vl_design.proofs.Unread.{or_false}
-use Rattle.vl_design.proofs.Kept.{words_other}
+use Rattle.vl_design.proofs.Kept.{words_set, words_past, words_other}
 use Rattle.vl_design.proofs.Nothing.{stm_calls_none}
 
 module _ (names : Names) (files : List File) (call other : ℕ → List ℕ → ℕ) (p q : ℕ → Bool) (same : (f : ℕ) → q f ≡ false → (args : List ℕ) → call f args ≡ other f args) where
@@ -136,12 +135,6 @@ module _ (names : Names) (files : List File) (call other : ℕ → List ℕ → 
 
 -- ---- values
 
-pub words_set : (v : List (List ℕ)) (k : ℕ) (ws : List ℕ) → k < length v → words_of (slice_set v k ws) k ≡ ws
-words_set v k ws i = unwrap_or-slice_get (slice_set v k ws) k [] ∙ get_or-set_same v k ws [] i
-
-pub words_past : (v : List (List ℕ)) (k : ℕ) → length v ≤ k → words_of v k ≡ []
-words_past v k i = unwrap_or-slice_get v k [] ∙ get_or_past v k [] i
-
 pub set_alike : (p : ℕ → Bool) (v w : List (List ℕ)) (k : ℕ) (ws xs : List ℕ) → ValuesDifferIn p v w → (p k ≡ false → ws ≡ xs) → ValuesDifferIn p (slice_set v k ws) (slice_set w k xs)
 set_alike p v w k ws xs d e = record { many = length-set v k ws ∙ (d.many ∙ sym (length-set w k xs)); words = λ j h. at j h (nat_eq j k) refl }
   where
@@ -257,7 +250,7 @@ module _ (names : Names) (files : List File) (call other : ℕ → List ℕ → 
       let e : file.read files s.table (descriptor_of first (sample s) fd) (signal_form names.rows k).width (value_of s.values k) ≡ file.read files t.table (descriptor_of second (sample t) fd) (signal_form names.rows k).width (value_of t.values k) =
       rw (table, d.values.words k g.0, descriptor_alike names files call other p q same (sample s) (sample t) (sample_alike p d) fd g.1 i) refl in
       record {
-        values = set_alike p s.values t.values k _ _ d.values (λ z. ap (λ r. r.value ∷ []) e);
+        values = set_alike p s.values t.values k _ _ d.values (λ z. rw (e, d.values.words k z) refl);
         others = rw e (ap (λ (z : State). record z {
           table = (file.read files t.table (descriptor_of second (sample t) fd) (signal_form names.rows k).width (value_of t.values k)).table;
           answer = (file.read files t.table (descriptor_of second (sample t) fd) (signal_form names.rows k).width (value_of t.values k)).count;

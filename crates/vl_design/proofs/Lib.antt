@@ -18,3 +18,5 @@ pub mod Returning
 pub mod Alike
 pub mod Nothing
 pub mod Ranked
+pub mod Shaping
+pub mod Fine

@@ -1,12 +1,12 @@
 -- In a design without recursion a call gives what the function's body gives, however deep calls nest.
-use Rattle.std.proofs.Common.{◌≡◌, ℕ, zero, suc, ◌+◌, ◌<◌, ◌≤◌, nat_lt, Bool, true, false, List, [], ◌∷◌, length, Option, Some, None, refl, sym, ◌∙◌, ap, subst, arith}
+use Rattle.std.proofs.Common.{◌≡◌, ℕ, zero, suc, ◌<◌, nat_lt, Bool, true, false, List, length, Option, Some, None, refl, sym, ◌∙◌, ap, arith}
 use Rattle.std.specs.Prelude.{not, slice_get, slice_index}
 use Rattle.std.proofs.lemmas.Bool.{ltb-true}
 use Rattle.vl_base.specs.declared.files.File.{File}
 use Rattle.vl_design.specs.Syntax.{Fun, Flat}
-use Rattle.vl_design.specs.Width.{Scope, names_in, names_of}
+use Rattle.vl_design.specs.Width.{names_in, names_of}
 use Rattle.vl_design.specs.State.{State}
-use Rattle.vl_design.specs.Functions.{zeros, fresh, with_inputs, inner, result_of, scope_with, calls_within, scope_of}
+use Rattle.vl_design.specs.Functions.{zeros, fresh, with_inputs, result_of, scope_with, calls_within, scope_of}
 use Rattle.vl_design.specs.Nesting.{stm_calls, AreRanked}
 use Rattle.vl_design.specs.Laws.{StatesDifferIn}
 use Rattle.vl_design.proofs.Nothing.{stm_reads_none}

@@ -1,9 +1,9 @@
 -- The run by events is at each boundary that the run act by act comes to.
-use Rattle.std.proofs.Common.{◌≡◌, ℕ, zero, suc, ◌+◌, Bool, true, false, List, [], ◌∷◌, Option, Some, None, refl, sym, ◌∙◌, ap, subst, add-one}
+use Rattle.std.proofs.Common.{◌≡◌, ℕ, suc, ◌+◌, Bool, true, false, List, [], ◌∷◌, Option, Some, None, refl, sym, ◌∙◌, ap, subst, add-one}
 use Rattle.std.specs.Prelude.{⊤, ◌||◌, if◌then◌else◌, All, slice_get}
 use Rattle.std.proofs.lemmas.List.Elements.{All-nil, All-cons, All-head, All-tail}
 use Rattle.vl_base.specs.Files as file
-use Rattle.vl_design.specs.Syntax.{Task, Print, Finish, Save, Fopen, Fread, Fgetc, Feof, Fclose, ReadHex, Stm, Nop, Then, If, Case, For, Repeat, Set, Later, Sys, Row, Proc, Flat}
+use Rattle.vl_design.specs.Syntax.{Task, Print, Finish, Save, Fopen, Fread, Fgetc, Feof, Fclose, ReadHex, Stm, Nop, Then, If, Case, For, Repeat, Set, Later, Sys, Row, Proc}
 use Rattle.vl_design.specs.Width.{Scope}
 use Rattle.vl_design.specs.State.{State, sample, counted}
 use Rattle.vl_design.specs.Tasks.{called, memory_read}
@@ -11,7 +11,7 @@ use Rattle.vl_design.specs.Exec.{exec, is_true, holds, items_hold, asks}
 use Rattle.vl_design.specs.Functions.{scope_of}
 use Rattle.vl_design.specs.Queue.{Queue, Phase, Wave, Ended, Updated, first_pending, evaluated, executed, wave_ended, updates_done, next_phase, next_pending, next_event, next, is_rise, is_fall}
 use Rattle.vl_design.specs.Snapshots.{Snapshot}
-use Rattle.vl_design.specs.Alone.{Origin, Settles, rests, goes, Boundary, begun, ticked, start, risen, blocks, falls, first_queue, first_tick}
+use Rattle.vl_design.specs.Alone.{Origin, Settles, rests, goes, Boundary, begun, ticked, risen, blocks, falls, first_queue, first_tick}
 use Rattle.vl_design.specs.Acts as act
 use Rattle.vl_design.specs.Acts.{Pause, Through, AtCall, AtChoice, branch_of, upto, uptos, Point, Between, Inside, state_at, queue_at, at_boundary, is_last, tick_of, entered, entered_by, Reached, Calls, Chooses, with_block, by_pause, through_blocks, reach, Calms, calm, Did, Act, of_wave, updates, Begins, from_nothing, from_snapshot, After, begins, acts}
 use Rattle.vl_design.specs.Laws.{IsUnrolledStm, IsUnrolled, HasQuietNets}

@@ -31,9 +31,9 @@ descriptor_of scope s fd = let f = form scope.names fd in resized f.signed f.wid
 abbrev pub answered : State → file.Answer → State
 answered s a = record s { table = a.table; answer = a.answer }
 
--- `$fread` into a variable
+-- `$fread` into a variable, which has one word
 abbrev pub variable_read : ℕ → State → file.Reading → State
-variable_read k s r = record s { values = slice_set s.values k (r.value ∷ []); table = r.table; answer = r.count }
+variable_read k s r = record s { values = slice_set s.values k (slice_set (words_of s.values k) 0 r.value); table = r.table; answer = r.count }
 
 abbrev pub memory_read : ℕ → Option Row → Option (List ℕ) → State → State
 memory_read m None text s = s

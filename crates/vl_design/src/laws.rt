@@ -1,10 +1,11 @@
 //! What the definitions say of every run.
 
-ghost use Rattle.std.specs.Prelude.{◌≡◌, ◌+◌, ◌≤◌, ◌<◌, ◌^◌, ℕ, suc, Bool, true, false, List, [], codes, None, slice_get};
+ghost use Rattle.std.specs.Prelude.{◌≡◌, ◌+◌, ◌≤◌, ◌<◌, ◌^◌, ℕ, suc, Bool, true, false, List, [], codes, slice_get};
 ghost use Rattle.vl_base.specs.declared.files.File.{File};
 ghost use Rattle.vl_design.specs.declared.design.End.{End as Reason};
 ghost use Rattle.vl_design.specs.declared.design.Form.{Form as Context};
-ghost use Rattle.vl_design.specs.Syntax.{Flat, Exp, Stm, Case, Items, Task};
+ghost use Rattle.vl_design.specs.Snapshots.{snapshot_of, kept_values};
+ghost use Rattle.vl_design.specs.Syntax.{Row, Flat, Exp, Stm, Case, Items, Task};
 ghost use Rattle.vl_design.specs.Width.{Scope};
 ghost use Rattle.vl_design.specs.Value.{Sample, value, words_of};
 ghost use Rattle.vl_design.specs.State.{State, sample};
@@ -15,7 +16,7 @@ ghost use Rattle.vl_design.specs.Functions.{scope_of, result_of};
 ghost use Rattle.vl_design.specs.Tasks.{called};
 ghost use Rattle.vl_base.specs.Value.{reading, resized};
 ghost use Rattle.vl_design.specs.Queue.{Queue};
-ghost use Rattle.vl_design.specs.Laws.{DifferIn, StatesDifferIn, Grows, Adds, InRange, can_act, IsUnrolled, HasQuietNets, IsReached};
+ghost use Rattle.vl_design.specs.Laws.{DifferIn, StatesDifferIn, Grows, Adds, InRange, SameShape, IsFine, StartsFine, can_act, IsUnrolled, HasQuietNets, IsReached};
 ghost use Rattle.vl_design.specs.Examples.{alone, counter};
 ghost use Rattle.vl_design.specs.Alone.{Origin, Settles, Boundary, Ends};
 ghost use Rattle.vl_design.specs.Acts.{Point, After, Before, state_at, queue_at, at_boundary, tick_of, branch_of};
@@ -71,14 +72,25 @@ pub fn a_finished_run_stays()
     ensures { (o : Origin) (k : ℕ) (q : Queue) → Boundary o k q → q.state.finished ≡ true → Boundary o (suc k) q }
 {}
 
-/// At each boundary of a run from nothing each word of a signal is below 2 to the signal's width.
+/// At each boundary each signal has as many words as the design says, each below 2 to the signal's width: from nothing, and
+/// from a snapshot whose words are so.
 pub fn values_stay_in_range()
-    ensures { (o : Origin) (k : ℕ) (q : Queue) → o.resume ≡ None → Boundary o k q → InRange o.flat.rows q.state.values }
+    ensures { (o : Origin) (k : ℕ) (q : Queue) → StartsFine o.flat.rows o.resume → Boundary o k q → IsFine o.flat.rows q.state.values }
+{}
+
+/// A snapshot of such values gives such values.
+pub fn snapshots_keep_the_range()
+    ensures { (rows : List Row) (s : State) → IsFine rows s.values → IsFine rows (kept_values rows (snapshot_of rows s).words) }
 {}
 
 /// A statement keeps each word of a signal below 2 to the signal's width.
 pub fn statements_keep_the_range()
     ensures { (scope : Scope) (a : Stm) (s : State) → InRange scope.names.rows s.values → InRange scope.names.rows (exec scope a s).values }
+{}
+
+/// A statement leaves as many words of each signal.
+pub fn statements_keep_the_words()
+    ensures { (scope : Scope) (a : Stm) (s : State) → SameShape (exec scope a s).values s.values }
 {}
 
 /// The run right after an act is one.
@@ -124,10 +136,12 @@ pub fn printed_text_only_grows_act_by_act()
     ensures { (o : Origin) (b c : ℕ) (p r : Point) → After o b p → After o c r → b ≤ c → Grows (state_at p) (state_at r) }
 {}
 
-/// After each act of a run from nothing, and before each call, each word of a signal is below 2 to the signal's width.
+/// After each act, and before each call, each signal has as many words as the design says, each below 2 to the signal's
+/// width.
 pub fn values_stay_in_range_act_by_act()
-    ensures after { (o : Origin) (c : ℕ) (p : Point) → o.resume ≡ None → After o c p → InRange o.flat.rows (state_at p).values }
-    ensures before { (o : Origin) (c : ℕ) (task : Task) (p : Point) → o.resume ≡ None → Before o c task p → InRange o.flat.rows (state_at p).values }
+    ensures after { (o : Origin) (c : ℕ) (p : Point) → StartsFine o.flat.rows o.resume → After o c p → IsFine o.flat.rows (state_at p).values }
+    ensures before { (o : Origin) (c : ℕ) (task : Task) (p : Point) → StartsFine o.flat.rows o.resume → Before o c task p →
+        IsFine o.flat.rows (state_at p).values }
 {}
 
 /// A case does what the branch does that it takes; the choice is counted where the case holds a call.

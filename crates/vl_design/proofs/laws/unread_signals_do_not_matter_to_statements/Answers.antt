@@ -1,4 +1,3 @@
-use Rattle.std.proofs.Common.{refl}
 use Rattle.vl_design.proofs.Alike.{exec_unread}
 use Rattle.vl_design.proofs.laws.unread_signals_do_not_matter_to_statements.Goals as goal
 

@@ -1,5 +1,5 @@
 -- The arguments of plain tasks, and what they are tasks of.
-use Rattle.std.proofs.Common.{◌≡◌, ◌≤◌, ◌<◌, ℕ, true, List, [], ◌∷◌, length, refl, arith}
+use Rattle.std.proofs.Common.{◌≡◌, ◌≤◌, ◌<◌, ℕ, Bool, true, false, List, [], ◌∷◌, length, refl, arith}
 use Rattle.vl_base.specs.declared.place.Place.{Place}
 use Rattle.vl_base.specs.Display.{LeastDecimal}
 use Rattle.vl_design.specs.declared.design.ExprNode.{ExprNode}
@@ -39,13 +39,26 @@ pub finish-task : (path name : List ℕ) (xs : List SysArg) → IsPlainTask name
 finish-task path name [] h none = rw h refl
 finish-task path name (x ∷ xs) h none = absurd (omega arith)
 
--- there are no others
-pub no-other : (name : List ℕ) (xs : List SysArg) → IsPlainTask name (seen.args_of xs) → 0 < length xs → (length xs ≡ 2 → ⊥) → ⊥
-no-other name [] h some two = omega arith
-no-other name (x ∷ y ∷ []) h some two = two refl
-no-other name (a.Str text ∷ a.Value' q x ∷ a.Null ∷ xs) h some two = h
-no-other name (a.Str text ∷ a.Value' q x ∷ a.Str y ∷ xs) h some two = h
-no-other name (a.Str text ∷ a.Value' q x ∷ a.Value' r y ∷ xs) h some two = h
-no-other name xs h some two = absurd h
+-- a call with one argument, or with more than two, is none of them
+pub other-count : (name : List ℕ) (xs : List SysArg) → IsPlainTask name (seen.args_of xs) → 0 < length xs → (length xs ≡ 2 → ⊥) → ⊥
+other-count name [] h some two = omega arith
+other-count name (x ∷ y ∷ []) h some two = two refl
+other-count name (a.Str text ∷ []) h some two = h
+other-count name (a.Str text ∷ a.Value' q x ∷ a.Null ∷ xs) h some two = h
+other-count name (a.Str text ∷ a.Value' q x ∷ a.Str y ∷ xs) h some two = h
+other-count name (a.Str text ∷ a.Value' q x ∷ a.Value' r y ∷ xs) h some two = h
+other-count name (a.Str text ∷ y ∷ z ∷ xs) h some two = h
+other-count name (x ∷ xs) h some two = h
 
-pub ruleset task_rules = (no-other)
+-- a format and a value
+abbrev pub is_shown : List SysArg → Bool
+is_shown (a.Str text ∷ a.Value' q x ∷ []) = true
+is_shown xs = false
+
+-- a call with two arguments that aren't these is none of them
+pub shown-or-none : (name : List ℕ) (xs : List SysArg) → IsPlainTask name (seen.args_of xs) → length xs ≡ 2 → is_shown xs ≡ false → ⊥
+shown-or-none name [] h two isnt = omega arith
+shown-or-none name (x ∷ []) h two isnt = omega arith
+shown-or-none name (a.Str text ∷ a.Value' q x ∷ []) h two isnt = cc
+shown-or-none name (x ∷ y ∷ z ∷ xs) h two isnt = omega arith
+shown-or-none name (x ∷ y ∷ []) h two isnt = h

@@ -3,7 +3,7 @@ use Rattle.std.proofs.lemmas.List.{drop_all}
 use Rattle.std.proofs.lemmas.Result.{on_ok_weaker}
 use Rattle.vl_design.specs.Syntax.{If}
 use Rattle.vl_design.specs.Value.{own_value}
-use Rattle.vl_design.specs.Trees.{exp_of, stm_of, then_of, row_of}
+use Rattle.vl_design.specs.Trees.{exp_of, stm_of, row_of}
 use Rattle.vl_design.specs.Plain.{plain_scope}
 use Rattle.vl_design.specs.Placed as p
 use Rattle.vl_design.specs.Plainly as plain

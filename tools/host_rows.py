@@ -7,6 +7,8 @@ TOOLS = pathlib.Path(__file__).resolve().parent
 TOP = TOOLS.parent
 FOLDER = TOP / "crates" / "host_rows"
 MARK = "«"
+USAGE = "usage: fabhost run SOURCE TICKS"
+COUNTER = (TOP / "examples" / "counter.v").read_text().rstrip("\n")
 BLOCK = "module m(input wire k); reg [7:0] a; always @(posedge k) begin {} end endmodule"
 
 
@@ -36,12 +38,19 @@ def refused(kind, source):
 
 
 def rows_of(head, rest):
-    """The rows of a case: ticks, what is wanted, and a source."""
+    """The rows of a case: the lines before what is wanted, what is wanted, and a source."""
     words = head.split()
     if words[0] == "run":
         printed, source = ("\n" + rest).split("\n\n", 1)
         wanted = ran(words[1], " ".join(words[2:]), printed.split("\n")[1:])
-        return [(words[1], wanted, expanded(source))]
+        return [([f"@ run m.v {words[1]}"], wanted, expanded(source))]
+    if words[0] == "usage":
+        return [([f"@ {line}"], ["status 2", USAGE], COUNTER) for line in rest.split("\n")]
+    if words[0] in ("calls", "bytes"):
+        called, status, *printed = rest.split("\n")
+        wanted = [status] + printed + [""] * (status == "status 0")
+        numbers = words[1:] if words[0] == "calls" else ["4096", "0", "0", str(int(words[1]) - len(COUNTER))]
+        return [([f"@ {called}", f"! {' '.join(numbers)}"], wanted, COUNTER)]
     if words[0] == "refused":
         sources = [expanded(rest)]
     elif words[0] == "sources":
@@ -50,7 +59,7 @@ def rows_of(head, rest):
         assert words[0] == "blocks", head
         sources = [BLOCK.format(expanded(line)) for line in rest.split("\n")]
     kind = " ".join(words[1:] if words[0] == "refused" else words[2:])
-    return [("3", *refused(kind, source)) for source in sources]
+    return [(["@ run m.v 3"], *refused(kind, source)) for source in sources]
 
 
 def cases(text):
@@ -90,6 +99,6 @@ def large():
 
 table = (TOOLS / "host_rows.txt").read_text()
 rows = [row for case in [*cases(table), *large()] for row in rows_of(*case)]
-shown = ["\n".join([f"@ {ticks}"] + [f"= {line}" for line in wanted]) + "\n" + source for ticks, wanted, source in rows]
+shown = ["\n".join(head + [f"= {line}" for line in wanted]) + "\n" + source for head, wanted, source in rows]
 (FOLDER / "stdin").write_text("\n".join(shown) + "\n")
 (FOLDER / "stdout").write_text("ok\n" * len(shown))

@@ -1,5 +1,6 @@
-//! What the host answers to a source.
+//! What the host answers to a row.
 
+use crate::row::Row;
 use fab_io::gate::NoGate;
 use fab_io::mem_sink::MemSink;
 use fab_io::mem_store::MemStore;
@@ -8,28 +9,34 @@ use std::alloc::{AllocError, Global};
 use std::sync::Wait;
 use std::thread::Threads;
 
-/// The words of a run of `m.v` for so many ticks.
-fn words_of(alloc: Global, ticks: &str) -> Result<Vec<String>, AllocError> {
+/// The words of a line: a blank stands between two.
+fn words_of(alloc: Global, line: &str) -> Result<Vec<String>, AllocError> {
     let mut words = Vec::new(alloc);
-    words.push(String::from_str(alloc, "run")?)?;
-    words.push(String::from_str(alloc, "m.v")?)?;
-    words.push(String::from_str(alloc, ticks)?)?;
+    for word in line.split(' ') {
+        words.push(String::from_str(alloc, word)?)?;
+    }
     Ok(words)
 }
 
-/// The status in a line, and what the host prints.
+/// The bytes of a row's source, behind its blanks.
+fn source_of(alloc: Global, row: &Row) -> Result<Vec<u8>, AllocError> {
+    let mut source = vec![in alloc; b' '; row.blanks]?;
+    source.extend_from_slice(row.source.as_bytes())?;
+    Ok(source)
+}
+
+/// The status in a line, and what the host prints, over a store whose file `m.v` is the source.
 fn answer<R: Threads + Wait + Sync>(
     rt: &R,
     alloc: Global,
-    ticks: &str,
-    source: &str,
+    row: &Row,
 ) -> Result<String, AllocError> {
-    let words = words_of(alloc, ticks)?;
+    let words = words_of(alloc, row.words.as_str())?;
     let mut store = MemStore::new(alloc);
-    if store.add("m.v", source.as_bytes()).is_err() {
-        return Err(AllocError);
-    }
-    let mut sink = MemSink::new(alloc, 4096);
+    store.add("m.v", source_of(alloc, row)?.as_slice())?;
+    store.fail_call(row.failing_read)?;
+    let mut sink = MemSink::new(alloc, row.piece.max(1));
+    sink.fail_call(row.failing_write)?;
     let status = host(rt, alloc, words.as_slice(), &mut store, &mut sink, &NoGate);
     let text = String::from_utf8_lossy(alloc, sink.taken())?;
     format!(in alloc; "status {status}\n{text}")
@@ -39,11 +46,10 @@ fn answer<R: Threads + Wait + Sync>(
 pub fn compared<R: Threads + Wait + Sync>(
     rt: &R,
     alloc: Global,
-    ticks: &str,
-    wanted: &str,
-    source: &str,
+    row: &Row,
 ) -> Result<String, AllocError> {
-    let answer = answer(rt, alloc, ticks, source)?;
+    let answer = answer(rt, alloc, row)?;
+    let (wanted, source) = (row.wanted.as_str(), row.source.as_str());
     if answer.as_str() == wanted {
         return String::from_str(alloc, "ok");
     }

@@ -25,43 +25,43 @@ module _ (told : Option Files) (old new : Counts) (words : List (List ℕ)) (bef
   has_run z o = go (taken (λ e. omega arith) (λ e. omega arith) o)
     where
       go : (text : List ℕ) × IsDue told old new words r text × Takes before after text → HasRun told words before after
-      go (text, ran {path = p} {source = x} {budget = b} e c t f, w) = record { path = p; budget = b; source = x; report = text; command = c; read = t; reports = f; takes = w }
+      go (text, ran {path = p} {source = x} {budget = b} e c t l f, w) = record { path = p; budget = b; source = x; report = text; command = c; read = t; short = l; reports = f; takes = w }
       go (text, misused e c f, w) = absurd (omega arith)
-      go (text, refused e c t f, w) = absurd (omega arith)
+      go (text, refused e c t l f, w) = absurd (omega arith)
       go (text, missed y e c t f, w) = absurd (omega arith)
 
   pub is_misused : r ≡ 2 → Outcome told old new words before after quiet loud r → IsMisused words before after
   is_misused z o = go (taken (λ e. omega arith) (λ e. omega arith) o)
     where
       go : (text : List ℕ) × IsDue told old new words r text × Takes before after text → IsMisused words before after
-      go (text, ran e c t f, w) = absurd (omega arith)
+      go (text, ran e c t l f, w) = absurd (omega arith)
       go (text, misused e c f, w) = record { command = c; takes = subst (Takes before after) f w }
-      go (text, refused e c t f, w) = absurd (omega arith)
+      go (text, refused e c t l f, w) = absurd (omega arith)
       go (text, missed y e c t f, w) = absurd (omega arith)
 
   pub has_refused : r ≡ 3 → Outcome told old new words before after quiet loud r → HasRefused told words before after
   has_refused z o = go (taken (λ e. omega arith) (λ e. omega arith) o)
     where
       go : (text : List ℕ) × IsDue told old new words r text × Takes before after text → HasRefused told words before after
-      go (text, ran e c t f, w) = absurd (omega arith)
+      go (text, ran e c t l f, w) = absurd (omega arith)
       go (text, misused e c f, w) = absurd (omega arith)
-      go (text, refused {path = p} {source = x} {budget = b} e c t f, w) = record { path = p; budget = b; source = x; line = text; command = c; read = t; refuses = f; takes = w }
+      go (text, refused {path = p} {source = x} {budget = b} e c t l f, w) = record { path = p; budget = b; source = x; line = text; command = c; read = t; short = l; refuses = f; takes = w }
       go (text, missed y e c t f, w) = absurd (omega arith)
 
   pub has_missed : r ≡ 5 → Outcome told old new words before after quiet loud r → HasMissed told old new words before after
   has_missed z o = go (taken (λ e. omega arith) (λ e. omega arith) o)
     where
       go : (text : List ℕ) × IsDue told old new words r text × Takes before after text → HasMissed told old new words before after
-      go (text, ran e c t f, w) = absurd (omega arith)
+      go (text, ran e c t l f, w) = absurd (omega arith)
       go (text, misused e c f, w) = absurd (omega arith)
-      go (text, refused e c t f, w) = absurd (omega arith)
+      go (text, refused e c t l f, w) = absurd (omega arith)
       go (text, missed {path = p} {budget = b} y e c t f, w) = record { path = p; budget = b; why = y; command = c; cause = t; takes = subst (Takes before after) f w }
 
   -- a text that was due has one of four statuses
   due_status : {s : ℕ} {text : List ℕ} → IsDue told old new words s text → (s ≡ 6 → ⊥) × (s ≡ 7 → ⊥)
-  due_status (ran e c t f) = (λ h. omega arith, λ h. omega arith)
+  due_status (ran e c t l f) = (λ h. omega arith, λ h. omega arith)
   due_status (misused e c f) = (λ h. omega arith, λ h. omega arith)
-  due_status (refused e c t f) = (λ h. omega arith, λ h. omega arith)
+  due_status (refused e c t l f) = (λ h. omega arith, λ h. omega arith)
   due_status (missed y e c t f) = (λ h. omega arith, λ h. omega arith)
 
   pub has_failed : r ≡ 6 → Outcome told old new words before after quiet loud r → HasRisen quiet loud
@@ -93,8 +93,8 @@ module _ (told : Option Files) (old new : Counts) (words : List (List ℕ)) (bef
 
   -- words that are no command are answered by the usage, or the sink failed, or memory
   pub is_usage : command_of words ≡ None → Outcome told old new words before after quiet loud r → (r ≡ 2) ⊎ ((r ≡ 6) ⊎ (r ≡ 7))
-  is_usage none (wrote (ran e c t f) w) = absurd cc
-  is_usage none (wrote (refused e c t f) w) = absurd cc
+  is_usage none (wrote (ran e c t l f) w) = absurd cc
+  is_usage none (wrote (refused e c t l f) w) = absurd cc
   is_usage none (wrote (missed y e c t f) w) = absurd cc
   is_usage none (wrote (misused e c f) (whole d t)) = inl (d ∙ e)
   is_usage none (wrote (misused e c f) (cut n d h t)) = inr (inl d)
@@ -121,9 +121,9 @@ module _ (told : Option Files) (old new : Counts) (words : List (List ℕ)) (bef
   is_complete s f a k (wrote due (cut n d h t)) = absurd (k h)
   is_complete s f a k (wrote due (short n d t)) = inr (inr d)
   is_complete s f a k (starved e t) = inr (inr e)
-  is_complete s f a k (wrote (ran e c t g) (whole d w)) = inl (d ∙ e)
+  is_complete s f a k (wrote (ran e c t l g) (whole d w)) = inl (d ∙ e)
   is_complete s f a k (wrote (misused e c g) (whole d w)) = let command = s.command in absurd cc
-  is_complete s f a k (wrote (refused e c t g) (whole d w)) = inr (inl (d ∙ e))
+  is_complete s f a k (wrote (refused e c t l g) (whole d w)) = inr (inl (d ∙ e))
   is_complete s f a k (wrote (missed {path = p} {budget = b} y e c t g) (whole d w)) =
       let command = s.command in
       let pair : ◌≡◌ {A = List ℕ × ℕ} (p, b) (s.path, s.budget) = cc in
@@ -132,9 +132,9 @@ module _ (told : Option Files) (old new : Counts) (words : List (List ℕ)) (bef
 
   -- the statuses that there are
   pub is_status : Outcome told old new words before after quiet loud r → (r ≡ 0) ⊎ ((r ≡ 2) ⊎ ((r ≡ 3) ⊎ ((r ≡ 5) ⊎ ((r ≡ 6) ⊎ (r ≡ 7)))))
-  is_status (wrote (ran e c t f) (whole d w)) = inl (d ∙ e)
+  is_status (wrote (ran e c t l f) (whole d w)) = inl (d ∙ e)
   is_status (wrote (misused e c f) (whole d w)) = inr (inl (d ∙ e))
-  is_status (wrote (refused e c t f) (whole d w)) = inr (inr (inl (d ∙ e)))
+  is_status (wrote (refused e c t l f) (whole d w)) = inr (inr (inl (d ∙ e)))
   is_status (wrote (missed y e c t f) (whole d w)) = inr (inr (inr (inl (d ∙ e))))
   is_status (wrote due (cut n d h t)) = inr (inr (inr (inr (inl d))))
   is_status (wrote due (short n d t)) = inr (inr (inr (inr (inr d))))

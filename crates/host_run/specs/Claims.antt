@@ -7,7 +7,7 @@ use Rattle.host_run.specs.Words.{command_of}
 use Rattle.host_run.specs.Report.{usage, unread}
 use Rattle.host_run.specs.Due.{Counts, IsCause, IsDue, Reports, Refuses, most_source}
 
--- status 0: the sink has taken the block of the run alone of the told source
+-- status 0: the sink has taken the block of the run alone of the told source, which is within the limit of what is read
 pub record HasRun (told : Option Files) (words : List (List ℕ)) (before after : Option (List ℕ)) : Type 0 where
   pub path : List ℕ
   pub budget : ℕ
@@ -15,6 +15,7 @@ pub record HasRun (told : Option Files) (words : List (List ℕ)) (before after 
   pub report : List ℕ
   pub command : command_of words ≡ Some (path, budget)
   pub read : IsTold told path source
+  pub short : length source ≤ most_source
   pub reports : Reports source budget report
   pub takes : Takes before after report
 
@@ -23,7 +24,7 @@ pub record IsMisused (words : List (List ℕ)) (before after : Option (List ℕ)
   pub command : command_of words ≡ None
   pub takes : Takes before after usage
 
--- status 3: the sink has taken the line by which the told source is refused
+-- status 3: the sink has taken the line by which the told source is refused, which is within that limit
 pub record HasRefused (told : Option Files) (words : List (List ℕ)) (before after : Option (List ℕ)) : Type 0 where
   pub path : List ℕ
   pub budget : ℕ
@@ -31,6 +32,7 @@ pub record HasRefused (told : Option Files) (words : List (List ℕ)) (before af
   pub line : List ℕ
   pub command : command_of words ≡ Some (path, budget)
   pub read : IsTold told path source
+  pub short : length source ≤ most_source
   pub refuses : Refuses source line
   pub takes : Takes before after line
 

@@ -1,5 +1,5 @@
 -- What the host is due to print, and with which status.
-use Rattle.std.specs.Prelude.{◌≡◌, ℕ, true, false, List, [], take, Option, Some, None, Ok, Err, ◌⊎◌}
+use Rattle.std.specs.Prelude.{◌≡◌, ℕ, ◌≤◌, true, false, List, [], length, take, Option, Some, None, Ok, Err, ◌⊎◌}
 use Rattle.fab_io.specs.declared.store.ReadError.{ReadError}
 use Rattle.fab_io.specs.declared.store.ReadError.TheVariants as read
 use Rattle.fab_io.specs.Outside.{Files, HasRisen, IsAbsent, IsTooLong, IsTold}
@@ -85,10 +85,10 @@ IsCause told old new path read.Memory = ⊥
 -- what is due with which status, for these words, over a store that tells these files
 pub data IsDue (told : Option Files) (old new : Counts) (words : List (List ℕ)) (status : ℕ) (text : List ℕ) : Type 0 where
   ran : {path source : List ℕ} {budget : ℕ} → status ≡ 0 → command_of words ≡ Some (path, budget) → IsTold told path source →
-      Reports source budget text → IsDue told old new words status text
+      length source ≤ most_source → Reports source budget text → IsDue told old new words status text
   misused : status ≡ 2 → command_of words ≡ None → text ≡ usage → IsDue told old new words status text
   refused : {path source : List ℕ} {budget : ℕ} → status ≡ 3 → command_of words ≡ Some (path, budget) → IsTold told path source →
-      Refuses source text → IsDue told old new words status text
+      length source ≤ most_source → Refuses source text → IsDue told old new words status text
   missed : {path : List ℕ} {budget : ℕ} (why : ReadError) → status ≡ 5 → command_of words ≡ Some (path, budget) →
       IsCause told old new path why → text ≡ unread path why → IsDue told old new words status text
 

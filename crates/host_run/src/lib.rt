@@ -1,13 +1,11 @@
 //! The host: from the words of the command line to the bytes of the report.
 #![tactic(auto)]
 
-pub mod answer;
-pub mod end;
+mod answer;
+mod end;
 pub mod host;
 pub mod laws;
-pub mod put;
-pub mod report;
+mod put;
+mod report;
 pub mod rows;
-#[cfg(test)]
-mod tests;
-pub mod words;
+mod words;

@@ -1,35 +1,15 @@
 -- Counts that are kept within one past a limit.
-use Rattle.std.proofs.Common.{◌≡◌, ◌≤◌, ◌<◌, ◌+◌, ℕ, List, ◌∷◌, map, length, drop, get_or, refl, sym, ap, ◌∙◌, arith}
+use Rattle.std.proofs.Common.{◌≡◌, ◌≤◌, ◌<◌, ◌+◌, ℕ, List, ◌∷◌, map, length, drop, get_or, sym, ap, ◌∙◌, arith}
 use Rattle.std.specs.Prelude.{min}
 use Rattle.std.specs.List.{sum_by}
 use Rattle.std.proofs.lemmas.List.{at_drop_more, drop_all}
 use Rattle.std.proofs.lemmas.List.Sums.{sum_by-cons}
-use Rattle.std.specs.declared.alloc.Global.{Global}
-use Rattle.std.specs.declared.vec.Vec.{Vec}
-use Rattle.vl_design.specs.declared.design.Stmt.{Stmt}
-use Rattle.vl_design.specs.declared.design.StmtNode as s
-use Rattle.vl_design.specs.declared.design.StmtNode.TheBlock as sb
 use Rattle.vl_design.specs.declared.design.SysArg.{SysArg}
 use Rattle.vl_design.specs.declared.design.Process.{Process}
 use Rattle.vl_design.specs.Placed as p
-use Rattle.vl_design.specs.Seen.{stm_of, row_stms, args_of, arg, process_of}
-use Rattle.plain_form.specs.Trees.{stms_of}
+use Rattle.vl_design.specs.Seen.{args_of, arg, process_of}
 
--- ---- lists of statements
-
-row_stms-items : {n : _} (k : s.Row_of-Stmt n) → row_stms k ≡ stms_of (s.items-the_row-Stmt n k)
-row_stms-items s.end_of-Stmt = refl
-row_stms-items (s.more_of-Stmt q x rest) = ap (p.MoreStms (stm_of (record { place = q; node = x }))) (row_stms-items rest)
-
--- a statement whose node is a list is that of the list
-pub stm_of-Seq : (x : Stmt) (v : Vec Stmt Global) → x.node ≡ s.Seq v → stm_of x ≡ p.Seq x.place (stms_of v.items)
-stm_of-Seq x v h =
-    ap (λ z. stm_of (record { place = x.place; node = z })) h
-    ∙ ap (p.Seq x.place) (row_stms-items (sb.hidden-the_row-Stmt-0 v) ∙ ap stms_of (s.items_hidden-the_row-Stmt-0 v))
-
--- the rest of a list begins with the next one
-pub stms-more : (xs : List Stmt) (i : ℕ) (x : Stmt) → i < length xs → x ≡ get_or xs i x → stms_of (drop i xs) ≡ p.MoreStms (stm_of x) (stms_of (drop (i + 1) xs))
-stms-more xs i x h e = at_drop_more stms_of xs i x h ∙ ap (λ y. p.MoreStms (stm_of y) (stms_of (drop (i + 1) xs))) (sym e)
+-- ---- lists
 
 pub args-more : (xs : List SysArg) (i : ℕ) (x : SysArg) → i < length xs → x ≡ get_or xs i x → args_of (drop i xs) ≡ arg x (args_of (drop (i + 1) xs))
 args-more xs i x h e = at_drop_more args_of xs i x h ∙ ap (λ y. arg y (args_of (drop (i + 1) xs))) (sym e)

@@ -1,5 +1,4 @@
 pub mod Counting
-pub mod Erased
 pub mod Numbers
 pub mod Plain
 pub mod Sound

@@ -6,10 +6,9 @@ use Rattle.std.proofs.lemmas.List.{at_drop_more, drop_all}
 use Rattle.vl_design.specs.declared.design.Stmt.{Stmt}
 use Rattle.vl_design.specs.declared.design.Signal.{Signal}
 use Rattle.vl_design.specs.declared.design.ProcKind.{ProcKind}
-use Rattle.vl_design.specs.Seen.{stm_of}
+use Rattle.vl_design.specs.Seen.{stm_of, stms_of}
 use Rattle.plain_form.specs.Running as r
-use Rattle.plain_form.specs.Trees.{stms_of}
-use Rattle.plain_form.proofs.Counting.{stms-more}
+use Rattle.plain_run.proofs.Listed.{stms-more}
 
 and-more : (a b c : Bool) → (a && (b && c)) ≡ ((a && b) && c)
 and-more true b c = refl

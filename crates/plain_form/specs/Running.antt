@@ -13,9 +13,9 @@ use Rattle.vl_design.specs.declared.design.ProcKind.TheVariants.{Init, Rise}
 use Rattle.vl_design.specs.declared.design.Signal.{Signal}
 use Rattle.vl_design.specs.declared.design.Event.{Event}
 use Rattle.vl_design.specs.Syntax.{Exp, Num, Sig, Bin}
-use Rattle.vl_design.specs.Trees.{range_width}
+use Rattle.vl_design.specs.Rows.{range_width}
 use Rattle.vl_design.specs.Queue.{is_init, is_rise}
-use Rattle.vl_design.specs.Stops.{same_place}
+use Rattle.vl_base.specs.Places.{same_place}
 use Rattle.vl_design.specs.Placed as p
 use Rattle.vl_design.specs.Plainly.{exp}
 
@@ -108,6 +108,10 @@ abbrev mutual
   are_stms signals kind p.NoStms = true
   are_stms signals kind (p.MoreStms a as') = is_stm signals kind a && are_stms signals kind as'
 
+abbrev pub is_none : {A : Type 0} → List A → Bool
+is_none [] = true
+is_none (x ∷ xs) = false
+
 -- ---- processes (clauses 9.7 and 9.9)
 
 -- `@(posedge NAME)` of one clock
@@ -115,9 +119,9 @@ abbrev pub is_posedge : List Signal → List Event → Bool
 is_posedge signals (e ∷ []) = (e.edge == 1) && is_clock (kind_of signals e.signal)
 is_posedge signals events = false
 
--- an initial process, or one that a clock's rise begins
+-- an initial process, which waits for no event, or one that a clock's rise begins
 abbrev pub is_begun : List Signal → ProcKind → List Event → Bool
-is_begun signals Init events = true
+is_begun signals Init events = is_none events
 is_begun signals Rise events = is_posedge signals events
 is_begun signals kind events = false
 
@@ -175,10 +179,6 @@ abbrev pub most_nodes : ℕ
 most_nodes = 1000000
 
 -- ---- designs
-
-abbrev pub is_none : {A : Type 0} → List A → Bool
-is_none [] = true
-is_none (x ∷ xs) = false
 
 -- the design is of the forms that run: one process is clocked, each other one is initial, and neither limit 8 nor 9 is passed
 abbrev pub is_running : p.Design → Bool

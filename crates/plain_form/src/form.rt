@@ -49,12 +49,12 @@ fn is_posedge(signals: &[Signal], events: &[Event]) -> bool
     }
 }
 
-/// Whether a process of a kind is an initial one, or one that a clock's rise begins.
+/// Whether a process of a kind is an initial one that waits for no event, or one that a clock's rise begins.
 fn is_begun(signals: &[Signal], kind: ProcKind, events: &[Event]) -> bool
     ensures { result ≡ r.is_begun signals.now kind events.now }
 {
     match kind {
-        ProcKind::Init => true,
+        ProcKind::Init => events.is_empty(),
         ProcKind::Rise => is_posedge(signals, events),
         ProcKind::Fall | ProcKind::Comb | ProcKind::Assign => false,
     }
@@ -166,7 +166,7 @@ fn is_running(design: &Design) -> bool
 /// are at most 100,000 statements and 1,000,000 nodes of expressions.
 pub fn runs(design: &Design) -> bool
     ensures same { result ≡ r.is_running (placed design.now) }
-    ensures plain { result ≡ true → IsPlain design.now }
+    ensures plain { result ≡ true → IsPlain (placed design.now) }
     ensures sound { result ≡ true → IsSound (flat_of design.now) }
 {
     is_running(design)

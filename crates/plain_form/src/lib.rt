@@ -6,5 +6,3 @@ pub mod form;
 pub mod laws;
 mod names;
 mod statements;
-#[cfg(test)]
-mod tests;

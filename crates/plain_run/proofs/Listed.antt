@@ -1,20 +1,10 @@
--- The statements of a plain list are plain.
-use Rattle.std.proofs.Common.{subst}
-use Rattle.std.specs.Prelude.{All}
-use Rattle.std.specs.List.{AllByRecursion}
-use Rattle.std.specs.declared.alloc.Global.{Global}
-use Rattle.std.specs.declared.vec.Vec.{Vec}
-use Rattle.std.proofs.lemmas.List.Elements.{All-from_recursion}
+-- Lists of statements, one by one.
+use Rattle.std.proofs.Common.{◌≡◌, ◌<◌, ◌+◌, ℕ, List, length, drop, get_or, sym, ap, ◌∙◌}
+use Rattle.std.proofs.lemmas.List.{at_drop_more}
 use Rattle.vl_design.specs.declared.design.Stmt.{Stmt}
-use Rattle.vl_design.specs.declared.design.StmtNode as s
-use Rattle.vl_design.specs.declared.design.StmtNode.TheBlock as sb
-use Rattle.plain_run.specs.Plain.{IsPlainNode, ArePlainNodes, IsPlainStm}
+use Rattle.vl_design.specs.Placed as p
+use Rattle.vl_design.specs.Seen.{stm_of, stms_of}
 
-row-plain : {n : _} (k : s.Row_of-Stmt n) → ArePlainNodes k → AllByRecursion IsPlainStm (s.items-the_row-Stmt n k)
-row-plain s.end_of-Stmt h = tt
-row-plain (s.more_of-Stmt q x rest) h = (h.0, row-plain rest h.1)
-
-pub list-plain : (v : Vec Stmt Global) → IsPlainNode (s.Seq v) → All IsPlainStm v.items
-list-plain v h =
-    All-from_recursion IsPlainStm v.items
-    (subst (AllByRecursion IsPlainStm) (s.items_hidden-the_row-Stmt-0 v) (row-plain (sb.hidden-the_row-Stmt-0 v) h))
+-- the rest of a list begins with the next one
+pub stms-more : (xs : List Stmt) (i : ℕ) (x : Stmt) → i < length xs → x ≡ get_or xs i x → stms_of (drop i xs) ≡ p.MoreStms (stm_of x) (stms_of (drop (i + 1) xs))
+stms-more xs i x h e = at_drop_more stms_of xs i x h ∙ ap (λ y. p.MoreStms (stm_of y) (stms_of (drop (i + 1) xs))) (sym e)

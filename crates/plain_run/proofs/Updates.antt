@@ -12,7 +12,7 @@ use Rattle.vl_base.specs.Selects.{placed}
 use Rattle.vl_design.specs.Syntax.{Row}
 use Rattle.vl_design.specs.Width.{signal_form}
 use Rattle.vl_design.specs.Value.{words_of}
-use Rattle.vl_design.specs.State.{updated, all_updated}
+use Rattle.vl_design.specs.State.{with_update, all_updated}
 use Rattle.plain_run.specs.declared.machine.Update.{Update}
 use Rattle.plain_run.specs.Reading.{words, HaveRange}
 use Rattle.plain_run.specs.Machines.{update_of, IsUpdate, written}
@@ -29,7 +29,7 @@ placed-whole x w v h k =
     let sum : 0 * 2 ^ w + v * 1 + x % 1 ≡ v = omega arith in
     rw (low, high, none, sum) all
 
-pub updated-whole : (rows : List Row) (values : List ℕ) (u : Update) → HaveRange rows values → IsUpdate rows u → updated rows (words values) (update_of rows u) ≡ words (slice_set values u.signal u.value)
+pub updated-whole : (rows : List Row) (values : List ℕ) (u : Update) → HaveRange rows values → IsUpdate rows u → with_update rows (words values) (update_of rows u) ≡ words (slice_set values u.signal u.value)
 updated-whole rows values u h i =
     let there : u.signal < length values = omega (arith, h.lengths, i.there) in
     let old = h.in_range u.signal i.there in

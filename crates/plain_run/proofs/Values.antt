@@ -8,17 +8,16 @@ use Rattle.vl_design.specs.declared.design.Form.{Form}
 use Rattle.vl_design.specs.Syntax.{Exp, Num, Sig, Bin, Row}
 use Rattle.vl_design.specs.Width.{form, signal_form, row_form, binary_form, joined}
 use Rattle.vl_design.specs.Sound.{IsSoundExp, IsSignal, IsOf, HasValue, IsWidth}
-use Rattle.vl_design.specs.Plain.{plain_scope}
-use Rattle.plain_run.specs.Plain.{IsPlainExp, IsPlainOp}
+use Rattle.plain_run.specs.Plain.{plain_names, IsPlainExp, IsPlainOp}
 
-pub signal-width : (rows : List Row) (k : ℕ) → IsSignal (plain_scope rows) k → IsWidth (signal_form rows k).width
+pub signal-width : (rows : List Row) (k : ℕ) → IsSignal (plain_names rows) k → IsWidth (signal_form rows k).width
 signal-width rows k h = go (slice_get rows k) h
   where
     go : (r : Option Row) → IsOf HasValue r → IsWidth (row_form r).width
     go None i = absurd i
     go (Some r) i = i.1
 
-pub signal-there : (rows : List Row) (k : ℕ) → IsSignal (plain_scope rows) k → k < length rows
+pub signal-there : (rows : List Row) (k : ℕ) → IsSignal (plain_names rows) k → k < length rows
 signal-there rows k h = go (slice_get rows k) refl h
   where
     go : (r : Option Row) → slice_get rows k ≡ r → IsOf HasValue r → k < length rows
@@ -33,10 +32,10 @@ binary_form-width Add a b h p q = joined-width a b p q
 binary_form-width Eq a b h p q = record { wide = omega arith; narrow = omega arith }
 binary_form-width op a b h p q = absurd h
 
-pub form-width : (rows : List Row) (e : Exp) → IsPlainExp e → IsSoundExp (plain_scope rows) e → IsWidth (form (plain_scope rows) e).width
+pub form-width : (rows : List Row) (e : Exp) → IsPlainExp e → IsSoundExp (plain_names rows) e → IsWidth (form (plain_names rows) e).width
 form-width rows (Num v w s) p h = h.0
 form-width rows (Sig k) p h = signal-width rows k h
-form-width rows (Bin op a b) p h = binary_form-width op (form (plain_scope rows) a) (form (plain_scope rows) b) p.0 (form-width rows a p.1 h.0) (form-width rows b p.2 h.1)
+form-width rows (Bin op a b) p h = binary_form-width op (form (plain_names rows) a) (form (plain_names rows) b) p.0 (form-width rows a p.1 h.0) (form-width rows b p.2 h.1)
 form-width rows e p h = absurd p
 
 pub ruleset signal_rules = (signal-width, signal-there)

@@ -12,18 +12,22 @@ use Rattle.vl_design.specs.declared.design.Process.{Process}
 use Rattle.vl_design.specs.declared.design.ProcKind.{ProcKind}
 use Rattle.vl_design.specs.declared.design.ProcKind.TheVariants.{Init, Rise}
 use Rattle.vl_design.specs.declared.design.End.TheVariants.{Finished, Budget}
-use Rattle.vl_design.specs.Syntax.{Stm, Proc, Flat}
+use Rattle.vl_design.specs.Syntax.{Proc, Flat}
 use Rattle.vl_design.specs.State.{State, counted}
 use Rattle.vl_design.specs.Exec.{exec}
 use Rattle.vl_design.specs.Functions.{scope_of}
 use Rattle.vl_design.specs.Queue.{Queue, Phase, Wave, Ended, Updated, next, woken, first_pending, with_updates, is_comb, is_fall}
 use Rattle.vl_design.specs.Alone.{Settles, rests, goes, Boundary, begun, ticked, start, risen, blocks, all_comb, reason_at}
-use Rattle.vl_design.specs.Sound.{IsSound, IsSoundStm}
+use Rattle.vl_design.specs.Width.{Scope, names_of}
+use Rattle.vl_design.specs.Sound.{IsSound, IsSoundProc, IsSoundStm}
+use Rattle.vl_design.specs.Placed.{Process as PlacedProcess}
+use Rattle.vl_design.specs.Plainly as plain
+use Rattle.vl_design.specs.Seen.{process_of, placed}
 use Rattle.vl_design.specs.Trees.{stm_of, proc_of, flat_of}
 use Rattle.vl_design.proofs.Settling.{boundary_once}
 use Rattle.plain_run.specs.declared.machine.Machine.{Machine}
 use Rattle.vl_design.specs.Plain.{alone, plain_scope}
-use Rattle.plain_run.specs.Plain.{IsPlainProcKind, IsPlainProc, IsPlain}
+use Rattle.plain_run.specs.Plain.{plain_names, IsPlainProcKind, IsPlainProc, IsPlain}
 use Rattle.plain_run.specs.Machines.{state_of, Does}
 use Rattle.plain_run.specs.Runs.{queue_of, wave_of, Reaches, RunsWave, IsQuiet, SettlesAs, StandsAt, GoesOn}
 
@@ -38,14 +42,14 @@ pub record IsClocked (d : Flat) : Type 0 where
   pub procs : AreBegun d.procs
   pub funs : d.funs ≡ []
 
-procs-begun : (ps : List Process) → AllByRecursion IsPlainProc ps → AreBegun (map proc_of ps)
+procs-begun : (ps : List PlacedProcess) → AllByRecursion IsPlainProc ps → AreBegun (map plain.proc ps)
 procs-begun [] h = tt
-procs-begun (p ∷ ps) h = (h.0.kind, procs-begun ps h.1)
+procs-begun (a ∷ as') h = (h.0.kind, procs-begun as' h.1)
 
-pub clocked : (x : Design) → IsPlain x → IsClocked (flat_of x)
-clocked x p = record {
-  procs = procs-begun x.processes (recursion_from_All IsPlainProc x.processes p.processes);
-  funs = rw (p.funcs) refl;
+pub clocked : (x : Design) → IsPlain (placed x) → IsClocked (flat_of x)
+clocked x h = record {
+  procs = procs-begun (placed x).processes (recursion_from_All IsPlainProc (placed x).processes h.processes);
+  funs = rw (h.funcs) refl;
 }
 
 not-comb : (k : ProcKind) → IsPlainProcKind k → is_comb k ≡ false
@@ -58,9 +62,9 @@ not-fall Init h = refl
 not-fall Rise h = refl
 not-fall k h = absurd h
 
-woken-none : (t : ℕ → Bool) (ps : List Proc) → AreBegun ps → woken t ps (all_comb ps) ≡ all_comb ps
-woken-none t [] h = refl
-woken-none t (p ∷ ps) h = rw (not-comb p.kind h.0, woken-none t ps h.1) refl
+woken-none : (scope : Scope) (t : ℕ → Bool) (ps : List Proc) → AreBegun ps → woken scope t ps (all_comb ps) ≡ all_comb ps
+woken-none scope t [] h = refl
+woken-none scope t (x ∷ xs) h = rw (not-comb x.kind h.0, woken-none scope t xs h.1) refl
 
 first-none : (ps : List Proc) → AreBegun ps → first_pending ps (all_comb ps) ≡ None
 first-none [] h = refl
@@ -73,20 +77,23 @@ falls-none (p ∷ ps) h = rw (not-fall p.kind h.0) (falls-none ps h.1)
 scope-plain : (d : Flat) → IsClocked d → scope_of d [] ≡ plain_scope d.rows
 scope-plain d p = rw (p.funs) refl
 
+names-plain : (d : Flat) → IsClocked d → names_of d ≡ plain_names d.rows
+names-plain d p = rw (p.funs) refl
+
 -- ---- one event
 
 -- the queue of a state, where nothing is pending and no wave is to come
 abbrev calm : Flat → Phase → State → Queue
 calm d phase s = record { state = s; phase = phase; ahead = []; pending = all_comb d.procs }
 
-next-block : (d : Flat) (b : Stm) (bs : List Stm) (s : State) → IsClocked d → s.finished ≡ false → next d [] (calm d (Wave (b ∷ bs)) s) ≡ Some (calm d (Wave bs) (exec (plain_scope d.rows) b s))
-next-block d b bs s p f = rw (f, woken-none _ d.procs (p.procs), scope-plain d p) refl
+next-block : (d : Flat) (b : Proc) (bs : List Proc) (s : State) → IsClocked d → s.finished ≡ false → next d [] (calm d (Wave (b ∷ bs)) s) ≡ Some (calm d (Wave bs) (exec (plain_scope d.rows) b.body s))
+next-block d b bs s p f = rw (f, woken-none _ _ d.procs (p.procs), scope-plain d p) refl
 
 next-end : (d : Flat) (s : State) → s.finished ≡ false → next d [] (calm d (Wave []) s) ≡ Some (calm d Ended (counted s))
 next-end d s f = rw f refl
 
 next-update : (d : Flat) (s : State) → IsClocked d → s.finished ≡ false → next d [] (calm d Ended s) ≡ Some (calm d Updated (counted (with_updates d.rows s)))
-next-update d s p f = rw (f, first-none d.procs (p.procs), woken-none _ d.procs (p.procs)) refl
+next-update d s p f = rw (f, first-none d.procs (p.procs), woken-none _ _ d.procs (p.procs)) refl
 
 next-none : (d : Flat) (s : State) → IsClocked d → s.finished ≡ false → next d [] (calm d Updated s) ≡ None
 next-none d s p f = rw (f, first-none d.procs (p.procs)) refl
@@ -99,10 +106,10 @@ calm-settles d s p f = goes (next-end d s f) (goes (next-update d (counted s) p 
 
 -- ---- waves
 
-pub reaches-here : (d : Flat) (bs : List Stm) (m : Machine) → Reaches d bs m bs m
+pub reaches-here : (d : Flat) (bs : List Proc) (m : Machine) → Reaches d bs m bs m
 reaches-here d bs m = record { leads = λ c. (c, λ q h. h) }
 
-pub reaches-more : (d : Flat) (from : List Stm) (m : Machine) (b : Stm) (bs : List Stm) (n n' : Machine) → IsClocked d → n.finished ≡ false → Reaches d from m (b ∷ bs) n → Does d.rows b n n' → Reaches d from m bs n'
+pub reaches-more : (d : Flat) (from : List Proc) (m : Machine) (b : Proc) (bs : List Proc) (n n' : Machine) → IsClocked d → n.finished ≡ false → Reaches d from m (b ∷ bs) n → Does d.rows b.body n n' → Reaches d from m bs n'
 reaches-more d from m b bs n n' p f h does = record {
   leads = λ c.
       let x = h.leads c in
@@ -116,45 +123,51 @@ reaches-more d from m b bs n n' p f h does = record {
 pub blocks-more : (p : ProcKind → Bool) (xs : List Process) (i : ℕ) (x : Process) → i < length xs → x ≡ get_or xs i x → blocks p (map proc_of (drop i xs)) ≡ blocks p (map proc_of (x ∷ drop (i + 1) xs))
 blocks-more p xs i x h e = at_drop_more (λ ys. blocks p (map proc_of ys)) xs i x h ∙ ap (λ y. blocks p (map proc_of (y ∷ drop (i + 1) xs))) (sym e)
 
-blocks-taken : (p : ProcKind → Bool) (x : Proc) (xs : List Proc) → p x.kind ≡ true → blocks p (x ∷ xs) ≡ x.body ∷ blocks p xs
+blocks-taken : (p : ProcKind → Bool) (x : Proc) (xs : List Proc) → p x.kind ≡ true → blocks p (x ∷ xs) ≡ x ∷ blocks p xs
 blocks-taken p x xs h = rw h refl
 
 blocks-passed : (p : ProcKind → Bool) (x : Proc) (xs : List Proc) → p x.kind ≡ false → blocks p (x ∷ xs) ≡ blocks p xs
 blocks-passed p x xs h = rw h refl
 
-pub sound-at : (d : Flat) (xs : List Process) (i : ℕ) (x : Process) → IsClocked d → IsSound d → d.procs ≡ map proc_of xs → i < length xs → x ≡ get_or xs i x → IsSoundStm (plain_scope d.rows) (stm_of x.path x.body)
+pub sound-at : (d : Flat) (xs : List Process) (i : ℕ) (x : Process) → IsClocked d → IsSound d → d.procs ≡ map proc_of xs → i < length xs → x ≡ get_or xs i x → IsSoundStm (plain_names d.rows) (stm_of x.path x.body)
 sound-at d xs i x p s g h e =
-    let all : All (λ y. IsSoundStm (plain_scope d.rows) y.body) (map proc_of xs) = rw (← g, ← scope-plain d p) s.procs in
+    let all : All (IsSoundProc (plain_names d.rows)) (map proc_of xs) = rw (← g, ← names-plain d p) s.procs in
     let there : i < length (map proc_of xs) = omega (arith, length-map xs proc_of) in
-    subst (λ (y : Proc). IsSoundStm (plain_scope d.rows) y.body) (get_or-map proc_of xs i x ∙ ap proc_of (sym e)) (all i (proc_of x) there)
+    (subst (IsSoundProc (plain_names d.rows)) (get_or-map proc_of xs i x ∙ ap proc_of (sym e)) (all i (proc_of x) there)).body
+
+-- a process of a plain design has a plain body
+pub plain-at : (xs : List Process) (i : ℕ) (x : Process) → All IsPlainProc (map process_of xs) → i < length xs → x ≡ get_or xs i x → IsPlainProc (process_of x)
+plain-at xs i x all h e =
+    let there : i < length (map process_of xs) = omega (arith, length-map xs process_of) in
+    subst IsPlainProc (get_or-map process_of xs i x ∙ ap process_of (sym e)) (all i (process_of x) there)
 
 -- a process that doesn't belong to the wave is passed over
-pub wave-passed : (d : Flat) (t : ProcKind → Bool) (xs : List Process) (i : ℕ) (x : Process) (from : List Stm) (m n : Machine) → i < length xs → x ≡ get_or xs i x → t x.kind ≡ false → Reaches d from m (blocks t (map proc_of (drop i xs))) n → Reaches d from m (blocks t (map proc_of (drop (i + 1) xs))) n
+pub wave-passed : (d : Flat) (t : ProcKind → Bool) (xs : List Process) (i : ℕ) (x : Process) (from : List Proc) (m n : Machine) → i < length xs → x ≡ get_or xs i x → t x.kind ≡ false → Reaches d from m (blocks t (map proc_of (drop i xs))) n → Reaches d from m (blocks t (map proc_of (drop (i + 1) xs))) n
 wave-passed d t xs i x from m n h e f l =
     let same = blocks-more t xs i x h e ∙ blocks-passed t (proc_of x) (map proc_of (drop (i + 1) xs)) f in
-    subst (λ (w : List Stm). Reaches d from m w n) same l
+    subst (λ (w : List Proc). Reaches d from m w n) same l
 
 -- one that belongs to it is run
-pub wave-run : (d : Flat) (t : ProcKind → Bool) (xs : List Process) (i : ℕ) (x : Process) (from : List Stm) (m n n' : Machine) → IsClocked d → n.finished ≡ false → i < length xs → x ≡ get_or xs i x → t x.kind ≡ true → Reaches d from m (blocks t (map proc_of (drop i xs))) n → Does d.rows (stm_of x.path x.body) n n' → Reaches d from m (blocks t (map proc_of (drop (i + 1) xs))) n'
+pub wave-run : (d : Flat) (t : ProcKind → Bool) (xs : List Process) (i : ℕ) (x : Process) (from : List Proc) (m n n' : Machine) → IsClocked d → n.finished ≡ false → i < length xs → x ≡ get_or xs i x → t x.kind ≡ true → Reaches d from m (blocks t (map proc_of (drop i xs))) n → Does d.rows (stm_of x.path x.body) n n' → Reaches d from m (blocks t (map proc_of (drop (i + 1) xs))) n'
 wave-run d t xs i x from m n n' p go h e is l does =
     let same = blocks-more t xs i x h e ∙ blocks-taken t (proc_of x) (map proc_of (drop (i + 1) xs)) is in
-    let here = subst (λ (w : List Stm). Reaches d from m w n) same l in
+    let here = subst (λ (w : List Proc). Reaches d from m w n) same l in
     reaches-more d from m _ _ n n' p go here does
 
 -- a wave that is over settles with the updates made
-pub settles-updated : (d : Flat) (from : List Stm) (m n n' : Machine) → IsClocked d → n.finished ≡ false → RunsWave d from m n → ((c : ℕ) → with_updates d.rows (state_of d.rows n c) ≡ state_of d.rows n' c) → SettlesAs d from m n'
+pub settles-updated : (d : Flat) (from : List Proc) (m n n' : Machine) → IsClocked d → n.finished ≡ false → RunsWave d from m n → ((c : ℕ) → with_updates d.rows (state_of d.rows n c) ≡ state_of d.rows n' c) → SettlesAs d from m n'
 settles-updated d from m n n' p f w u = record {
   leads = λ c.
       let x = w.reaches.leads c in
       let e : counted (with_updates d.rows (counted (state_of d.rows n x.0))) ≡ state_of d.rows n' (x.0 + 1 + 1) = ap counted (u (x.0 + 1)) in
       let ends : Settles d [] (queue_of d (Wave []) n x.0) (queue_of d Updated n' (x.0 + 1 + 1)) =
       subst (λ (s : State). Settles d [] (queue_of d (Wave []) n x.0) (calm d Updated s)) e (calm-settles d (state_of d.rows n x.0) p f) in
-      let here = subst (λ (bs : List Stm). Settles d [] (queue_of d (Wave bs) n x.0) (queue_of d Updated n' (x.0 + 1 + 1))) (sym (w.over f)) ends in
+      let here = subst (λ (bs : List Proc). Settles d [] (queue_of d (Wave bs) n x.0) (queue_of d Updated n' (x.0 + 1 + 1))) (sym (w.over f)) ends in
       (queue_of d Updated n' (x.0 + 1 + 1), x.1 _ here, record { count = x.0 + 1 + 1; state = refl; quiet = λ _. refl });
 }
 
 -- one that comes to a `$finish` settles there
-pub settles-finished : (d : Flat) (from : List Stm) (m n : Machine) → n.finished ≡ true → RunsWave d from m n → SettlesAs d from m n
+pub settles-finished : (d : Flat) (from : List Proc) (m n : Machine) → n.finished ≡ true → RunsWave d from m n → SettlesAs d from m n
 settles-finished d from m n f w = record {
   leads = λ c.
       let x = w.reaches.leads c in

@@ -8,7 +8,7 @@ use Rattle.std.proofs.Math.Pow.{pow_pos}
 use Rattle.vl_design.specs.declared.design.SigKind.{SigKind}
 use Rattle.vl_design.specs.declared.design.SigKind.TheVariants.{Mem}
 use Rattle.vl_design.specs.declared.design.Signal.{Signal}
-use Rattle.vl_design.specs.Trees.{row_of, words_of_kind}
+use Rattle.vl_design.specs.Rows.{row_of, word_count}
 use Rattle.vl_design.specs.Sound.{HasValue}
 use Rattle.vl_design.specs.Width.{signal_form}
 use Rattle.vl_design.specs.Functions.{zeros}
@@ -23,7 +23,7 @@ zeros-range xs = record {
       rw zero_at (pow_pos (signal_form (map row_of xs) k).width);
 }
 
-one-word : (k : SigKind) (first last : ℤ) → HasValue k → words_of_kind k first last ≡ 1
+one-word : (k : SigKind) (first last : ℤ) → HasValue k → word_count k first last ≡ 1
 one-word Mem first last h = absurd h
 one-word k first last h = refl
 

@@ -1,19 +1,19 @@
 -- Designs of the plain forms that the runner takes (IEEE 1364-2005): one clock whose rises run blocks, signals of one
 -- word, and few statements.
-use Rattle.std.specs.Prelude.{◌≡◌, ℕ, List, [], ◌∷◌, ⊤, All, codes}
+use Rattle.std.specs.Prelude.{◌≡◌, ℕ, List, [], ⊤, All, codes}
 use Rattle.vl_base.specs.declared.bits.BinOp.{BinOp}
 use Rattle.vl_base.specs.declared.bits.BinOp.TheVariants.{Add, Eq}
 use Rattle.vl_design.specs.declared.design.ProcKind.{ProcKind}
 use Rattle.vl_design.specs.declared.design.ProcKind.TheVariants.{Init, Rise}
-use Rattle.vl_design.specs.declared.design.Design.{Design}
-use Rattle.vl_design.specs.declared.design.Process.{Process}
-use Rattle.vl_design.specs.declared.design.Stmt.{Stmt}
-use Rattle.vl_design.specs.declared.design.StmtNode as s
-use Rattle.vl_design.specs.declared.design.SysArg.{SysArg}
-use Rattle.vl_design.specs.declared.design.SysArg.TheVariants as a
-use Rattle.vl_design.specs.Syntax.{Exp, Num, Sig, Bin, Target, Whole}
-use Rattle.vl_design.specs.Trees.{node_exp, exp_of, target_of}
+use Rattle.vl_design.specs.Syntax.{Exp, Num, Sig, Bin, Target, Whole, Row}
+use Rattle.vl_design.specs.Width.{Names}
 use Rattle.vl_design.specs.Sound.{HasValue}
+use Rattle.vl_design.specs.Placed as p
+use Rattle.vl_design.specs.Plainly as plain
+
+-- the names of a design without functions
+abbrev pub plain_names : List Row → Names
+plain_names rows = record { rows = rows; signals = rows; funs = [] }
 
 -- sums and comparisons for equality
 abbrev pub IsPlainOp : BinOp → Type 0
@@ -34,28 +34,25 @@ IsPlainTarget (Whole k) = ⊤
 IsPlainTarget t = ⊥
 
 -- `$display("%0d", x)` and `$finish` (clauses 17.1 and 17.4.1), by their names and arguments
-abbrev pub IsPlainTask : List ℕ → List SysArg → Type 0
-IsPlainTask name (a.Str text ∷ a.Value' _ x ∷ []) = (name ≡ codes "$display") × (text ≡ codes "%0d") × IsPlainExp (node_exp x)
-IsPlainTask name [] = name ≡ codes "$finish"
-IsPlainTask name args = ⊥
+abbrev pub IsPlainTask : List ℕ → p.Args → Type 0
+IsPlainTask name (p.TextArg text (p.ValueArg x p.NoArgs)) = (name ≡ codes "$display") × (text ≡ codes "%0d") × IsPlainExp (plain.exp x)
+IsPlainTask name p.NoArgs = name ≡ codes "$finish"
+IsPlainTask name given = ⊥
 
 abbrev mutual
   -- sequences, choices, assignments of whole variables, and those tasks (clause 9)
-  pub IsPlainNode : s.StmtNode → Type 0
-  IsPlainNode s.Nop = ⊤
-  IsPlainNode (s.Seq' _ row) = ArePlainNodes row
-  IsPlainNode (s.If' test _ _ a _ _ b) = IsPlainExp (exp_of test) × IsPlainNode a × IsPlainNode b
-  IsPlainNode (s.Set target source) = IsPlainTarget (target_of target) × IsPlainExp (exp_of source)
-  IsPlainNode (s.Later target source) = IsPlainTarget (target_of target) × IsPlainExp (exp_of source)
-  IsPlainNode (s.Sys call) = IsPlainTask call.name call.args.items
-  IsPlainNode node = ⊥
+  pub IsPlainStm : p.Stm → Type 0
+  IsPlainStm (p.Nop at) = ⊤
+  IsPlainStm (p.Seq at as') = ArePlainStms as'
+  IsPlainStm (p.If at t a b) = IsPlainExp (plain.exp t) × IsPlainStm a × IsPlainStm b
+  IsPlainStm (p.Set at t e) = IsPlainTarget (plain.target t) × IsPlainExp (plain.exp e)
+  IsPlainStm (p.Later at t e) = IsPlainTarget (plain.target t) × IsPlainExp (plain.exp e)
+  IsPlainStm (p.Task at name given) = IsPlainTask name given
+  IsPlainStm a = ⊥
 
-  pub ArePlainNodes : {m : _} → s.Row_of-Stmt m → Type 0
-  ArePlainNodes s.end_of-Stmt = ⊤
-  ArePlainNodes (s.more_of-Stmt _ x rest) = IsPlainNode x × ArePlainNodes rest
-
-abbrev pub IsPlainStm : Stmt → Type 0
-IsPlainStm x = IsPlainNode x.node
+  pub ArePlainStms : p.Stms → Type 0
+  ArePlainStms p.NoStms = ⊤
+  ArePlainStms (p.MoreStms a as') = IsPlainStm a × ArePlainStms as'
 
 -- initial blocks, and those that wait for the clock's rise (clause 9.9)
 abbrev pub IsPlainProcKind : ProcKind → Type 0
@@ -63,11 +60,11 @@ IsPlainProcKind Init = ⊤
 IsPlainProcKind Rise = ⊤
 IsPlainProcKind kind = ⊥
 
-pub record IsPlainProc (p : Process) : Type 0 where
-  pub kind : IsPlainProcKind p.kind
-  pub body : IsPlainStm p.body
+pub record IsPlainProc (a : p.Process) : Type 0 where
+  pub kind : IsPlainProcKind a.kind
+  pub body : IsPlainStm a.body
 
-pub record IsPlain (d : Design) : Type 0 where
+pub record IsPlain (d : p.Design) : Type 0 where
   -- no memory: variables, the clock, and nets, which stay 0 where nothing drives them
   pub signals : All (λ s. HasValue s.kind) d.signals
   pub funcs : d.funcs ≡ []

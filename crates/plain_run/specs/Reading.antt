@@ -5,8 +5,7 @@ use Rattle.vl_design.specs.Syntax.{Exp, Row}
 use Rattle.vl_design.specs.Width.{form, signal_form}
 use Rattle.vl_design.specs.Value.{Sample}
 use Rattle.vl_design.specs.Sound.{IsSoundExp}
-use Rattle.vl_design.specs.Plain.{plain_scope}
-use Rattle.plain_run.specs.Plain.{IsPlainExp}
+use Rattle.plain_run.specs.Plain.{plain_names, IsPlainExp}
 
 -- one word for each signal
 abbrev pub words : List ℕ → List (List ℕ)
@@ -24,12 +23,12 @@ pub record HaveRange (rows : List Row) (values : List ℕ) : Type 0 where
 -- an expression of the plain forms whose names stand for signals
 pub record IsUsable (rows : List Row) (e : Exp) : Type 0 where
   pub plain : IsPlainExp e
-  pub sound : IsSoundExp (plain_scope rows) e
+  pub sound : IsSoundExp (plain_names rows) e
 
 -- an expression can be read in a context
 pub record IsReadable (rows : List Row) (values : List ℕ) (e : Exp) (c : Form) : Type 0 where
   pub plain : IsPlainExp e
-  pub sound : IsSoundExp (plain_scope rows) e
+  pub sound : IsSoundExp (plain_names rows) e
   pub held : HaveRange rows values
-  pub wide : (form (plain_scope rows) e).width ≤ c.width
+  pub wide : (form (plain_names rows) e).width ≤ c.width
   pub narrow : c.width ≤ 128

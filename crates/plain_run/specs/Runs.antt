@@ -2,7 +2,7 @@
 use Rattle.std.specs.Prelude.{◌≡◌, ◌<◌, ℕ, false, Bool, List, [], None}
 use Rattle.vl_design.specs.declared.design.ProcKind.{ProcKind}
 use Rattle.vl_design.specs.declared.design.ProcKind.TheVariants.{Init, Rise}
-use Rattle.vl_design.specs.Syntax.{Stm, Flat}
+use Rattle.vl_design.specs.Syntax.{Proc, Flat}
 use Rattle.vl_design.specs.Queue.{Queue, Phase, Wave, Updated, is_init, is_rise}
 use Rattle.vl_design.specs.Alone.{Settles, Boundary, blocks, all_comb, reason_at}
 use Rattle.plain_run.specs.declared.machine.Machine.{Machine}
@@ -19,21 +19,21 @@ is_of Init kind = is_init kind
 is_of Rise kind = is_rise kind
 is_of wave kind = false
 
--- the blocks of a wave
-abbrev pub wave_of : Flat → ProcKind → List Stm
+-- the processes of a wave
+abbrev pub wave_of : Flat → ProcKind → List Proc
 wave_of d wave = blocks (is_of wave) d.procs
 
 -- where b settles, a settles
 abbrev pub Precedes : Flat → Queue → Queue → Type 0
 Precedes d a b = (q : Queue) → Settles d [] b q → Settles d [] a q
 
--- so far from a machine before these blocks: a machine before those blocks
-pub record Reaches (d : Flat) (from : List Stm) (m : Machine) (to : List Stm) (m' : Machine) : Type 0 where
+-- so far from a machine before these processes: a machine before those
+pub record Reaches (d : Flat) (from : List Proc) (m : Machine) (to : List Proc) (m' : Machine) : Type 0 where
   pub leads : (c : ℕ) → (c' : ℕ) × Precedes d (queue_of d (Wave from) m c) (queue_of d (Wave to) m' c')
 
 -- a wave is over, or the run has finished in it
-pub record RunsWave (d : Flat) (from : List Stm) (m m' : Machine) : Type 0 where
-  pub left : List Stm
+pub record RunsWave (d : Flat) (from : List Proc) (m m' : Machine) : Type 0 where
+  pub left : List Proc
   pub reaches : Reaches d from m left m'
   pub over : m'.finished ≡ false → left ≡ []
 
@@ -44,7 +44,7 @@ pub record IsQuiet (d : Flat) (q : Queue) (m : Machine) : Type 0 where
   pub quiet : m.finished ≡ false → q ≡ queue_of d Updated m count
 
 -- from one machine at a wave a run settles in the other
-pub record SettlesAs (d : Flat) (from : List Stm) (m m' : Machine) : Type 0 where
+pub record SettlesAs (d : Flat) (from : List Proc) (m m' : Machine) : Type 0 where
   pub leads : (c : ℕ) → (q : Queue) × Settles d [] (queue_of d (Wave from) m c) q × IsQuiet d q m'
 
 -- the run stands at boundary k in a quiet queue that stands for this machine

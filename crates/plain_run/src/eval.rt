@@ -2,12 +2,12 @@
 
 ghost use Rattle.std.specs.Prelude.{◌≡◌, ◌<◌, ◌≤◌, map, length};
 ghost use Rattle.vl_base.specs.Value as a;
-ghost use Rattle.vl_design.specs.Trees.{exp_of, row_of, range_width};
-ghost use Rattle.vl_design.specs.Sound.{IsSoundExp, IsSignal, IsWidth};
+ghost use Rattle.vl_design.specs.Trees.{exp_of, row_of};
+ghost use Rattle.vl_design.specs.Sound.{IsSignal, IsWidth};
 ghost use Rattle.vl_design.specs.Width as w;
 ghost use Rattle.vl_design.specs.Value as v;
 ghost use Rattle.vl_design.specs.Plain.{plain_scope};
-ghost use Rattle.plain_run.specs.Plain.{IsPlainExp, IsPlainOp};
+ghost use Rattle.plain_run.specs.Plain.{plain_names, IsPlainOp};
 ghost use Rattle.plain_run.specs.Reading.{sample_of, HaveRange, IsUsable, IsReadable};
 
 use vl_base::bits::{BinOp, Bits, binary, resize};
@@ -16,7 +16,7 @@ use vl_design::design::{Expr, ExprNode, Form, Signal};
 /// The width and the sign of a signal.
 #[tactic(auto, using(crate::proofs::Values::signal_rules))]
 pub fn signal_form(signals: &[Signal], number: u32) -> Form
-    requires { IsSignal (plain_scope (map row_of signals.now)) number }
+    requires { IsSignal (plain_names (map row_of signals.now)) number }
     ensures value { result ≡ w.signal_form (map row_of signals.now) number }
     ensures width { IsWidth result.width }
 {
@@ -67,7 +67,7 @@ fn operands_form(op: BinOp, a: Form, b: Form, context: Form) -> Form
 #[tactic(auto, using(crate::proofs::Values::width_rules))]
 pub fn form_of(signals: &[Signal], e: &Expr) -> Form
     requires { IsUsable (map row_of signals.now) (exp_of e.now) }
-    ensures value { result ≡ w.form (plain_scope (map row_of signals.now)) (exp_of e.now) }
+    ensures value { result ≡ w.form (plain_names (map row_of signals.now)) (exp_of e.now) }
     ensures width { IsWidth result.width }
 {
     match &e.node {
@@ -96,7 +96,7 @@ fn operated(op: BinOp, signed: bool, x: Bits, y: Bits, width: u8) -> Bits
 
 /// The value of a signal.
 fn signal_bits(signals: &[Signal], values: &[u128], number: u32) -> Bits
-    requires signal { IsSignal (plain_scope (map row_of signals.now)) number }
+    requires signal { IsSignal (plain_names (map row_of signals.now)) number }
     requires values { HaveRange (map row_of signals.now) values.now }
     ensures value { result.value ≡ v.value_of (sample_of values.now).values number }
     ensures width { result.width ≡ (w.signal_form (map row_of signals.now) number).width }
@@ -139,7 +139,7 @@ pub fn own_value(signals: &[Signal], values: &[u128], e: &Expr) -> Bits
     requires usable { IsUsable (map row_of signals.now) (exp_of e.now) }
     requires values { HaveRange (map row_of signals.now) values.now }
     ensures value { result.value ≡ v.own_value (plain_scope (map row_of signals.now)) (sample_of values.now) (exp_of e.now) }
-    ensures width { result.width ≡ (w.form (plain_scope (map row_of signals.now)) (exp_of e.now)).width }
+    ensures width { result.width ≡ (w.form (plain_names (map row_of signals.now)) (exp_of e.now)).width }
 {
     eval(signals, values, e, form_of(signals, e))
 }

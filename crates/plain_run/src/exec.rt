@@ -3,12 +3,14 @@
 ghost use Rattle.std.specs.Prelude.{◌≡◌, ◌<◌, ◌++◌, ◌∷◌, [], ◌+◌, ◌^◌, map, OnOk, true};
 ghost use Rattle.vl_base.specs.Display.{item_text, LeastDecimal};
 ghost use Rattle.vl_design.specs.Syntax as y;
-ghost use Rattle.vl_design.specs.Trees.{exp_of, stm_of, row_of, target_of, arg_of, task_of};
+ghost use Rattle.vl_design.specs.Trees.{exp_of, stm_of, row_of, target_of, task_of};
+ghost use Rattle.vl_design.specs.Plainly.{args};
+ghost use Rattle.vl_design.specs.Seen as seen;
 ghost use Rattle.vl_design.specs.Sound.{IsSoundTarget, IsSoundStm, IsSoundTask};
 ghost use Rattle.vl_design.specs.Targets as t;
 ghost use Rattle.vl_design.specs.Tasks.{display_text};
 ghost use Rattle.vl_design.specs.Plain.{plain_scope};
-ghost use Rattle.plain_run.specs.Plain.{IsPlainTarget, IsPlainStm, IsPlainTask};
+ghost use Rattle.plain_run.specs.Plain.{plain_names, IsPlainTarget, IsPlainStm, IsPlainTask};
 ghost use Rattle.plain_run.specs.Reading.{sample_of, HaveRange, IsUsable};
 ghost use Rattle.plain_run.specs.Machines.{update_of, IsUpdate, IsMachine, Does};
 
@@ -76,11 +78,11 @@ fn task(
     call: &SysCall,
     m: &mut Machine,
 ) -> Result<(), AllocError>
-    requires plain { IsPlainTask call.now.name call.now.args.items }
-    requires sound { IsSoundTask (plain_scope (map row_of signals.now)) (task_of _path.now call.now.name (map arg_of call.now.args.items)) }
+    requires plain { IsPlainTask call.now.name (seen.args_of call.now.args.items) }
+    requires sound { IsSoundTask (plain_names (map row_of signals.now)) (task_of _path.now call.now.name (args (seen.args_of call.now.args.items))) }
     requires machine { IsMachine (map row_of signals.now) m.old }
     ensures does { OnOk result (Does (map row_of signals.now)
-        (y.Sys (task_of _path.now call.now.name (map arg_of call.now.args.items))) m.old m.new) }
+        (y.Sys (task_of _path.now call.now.name (args (seen.args_of call.now.args.items)))) m.old m.new) }
     ensures machine { OnOk result (IsMachine (map row_of signals.now) m.new) }
     ensures ticks { OnOk result (m.new.ticks ≡ m.old.ticks) }
 {
@@ -102,7 +104,7 @@ fn task(
 /// The update that an assignment makes.
 fn assignment(signals: &[Signal], values: &[u128], target: &Target, source: &Expr) -> Update
     requires plain { IsPlainTarget (target_of target.now) }
-    requires target { IsSoundTarget (plain_scope (map row_of signals.now)) (target_of target.now) }
+    requires target { IsSoundTarget (plain_names (map row_of signals.now)) (target_of target.now) }
     requires source { IsUsable (map row_of signals.now) (exp_of source.now) }
     requires values { HaveRange (map row_of signals.now) values.now }
     ensures update { t.assignment (plain_scope (map row_of signals.now)) (sample_of values.now) (target_of target.now) (exp_of source.now)
@@ -128,7 +130,7 @@ fn assignment(signals: &[Signal], values: &[u128], target: &Target, source: &Exp
 /// Does a blocking assignment.
 fn assign(signals: &[Signal], target: &Target, source: &Expr, m: &mut Machine)
     requires plain { IsPlainTarget (target_of target.now) }
-    requires target { IsSoundTarget (plain_scope (map row_of signals.now)) (target_of target.now) }
+    requires target { IsSoundTarget (plain_names (map row_of signals.now)) (target_of target.now) }
     requires source { IsUsable (map row_of signals.now) (exp_of source.now) }
     requires machine { IsMachine (map row_of signals.now) m.old }
     ensures does { Does (map row_of signals.now) (y.Set (target_of target.now) (exp_of source.now)) m.old m.new }
@@ -149,7 +151,7 @@ fn assign_later(
     m: &mut Machine,
 ) -> Result<(), AllocError>
     requires plain { IsPlainTarget (target_of target.now) }
-    requires target { IsSoundTarget (plain_scope (map row_of signals.now)) (target_of target.now) }
+    requires target { IsSoundTarget (plain_names (map row_of signals.now)) (target_of target.now) }
     requires source { IsUsable (map row_of signals.now) (exp_of source.now) }
     requires machine { IsMachine (map row_of signals.now) m.old }
     ensures does { OnOk result (Does (map row_of signals.now) (y.Later (target_of target.now) (exp_of source.now)) m.old m.new) }
@@ -172,8 +174,8 @@ pub fn exec(
     s: &Stmt,
     m: &mut Machine,
 ) -> Result<(), AllocError>
-    requires plain { IsPlainStm s.now }
-    requires sound { IsSoundStm (plain_scope (map row_of signals.now)) (stm_of path.now s.now) }
+    requires plain { IsPlainStm (seen.stm_of s.now) }
+    requires sound { IsSoundStm (plain_names (map row_of signals.now)) (stm_of path.now s.now) }
     requires machine { IsMachine (map row_of signals.now) m.old }
     ensures does { OnOk result (Does (map row_of signals.now) (stm_of path.now s.now) m.old m.new) }
     ensures machine { OnOk result (IsMachine (map row_of signals.now) m.new) }

@@ -2,6 +2,7 @@
 
 ghost use Rattle.std.specs.Prelude.{◌≡◌, ◌<◌, ◌≤◌, ◌+◌, ◌^◌, suc, [], map, length, OnOk, IfOk, true, false, ℕ, All};
 ghost use Rattle.vl_design.specs.Trees.{row_of, flat_of};
+ghost use Rattle.vl_design.specs.Seen.{placed};
 ghost use Rattle.vl_design.specs.Sound.{IsSound};
 ghost use Rattle.vl_design.specs.Queue.{Queue, Wave, with_updates};
 ghost use Rattle.vl_design.specs.Alone.{Ends, start, Boundary};
@@ -67,7 +68,7 @@ fn run_wave(
     wave: ProcKind,
     m: &mut Machine,
 ) -> Result<(), AllocError>
-    requires plain { IsPlain design.now }
+    requires plain { IsPlain (placed design.now) }
     requires sound { IsSound (flat_of design.now) }
     requires machine { IsMachine (map row_of design.now.signals) m.old }
     ensures machine { OnOk result (IsMachine (map row_of design.now.signals) m.new) }
@@ -93,7 +94,7 @@ fn run_wave(
 
 /// Runs the blocks of a wave, and then makes all nonblocking updates.
 fn settle(alloc: Global, design: &Design, wave: ProcKind, m: &mut Machine) -> Result<(), AllocError>
-    requires plain { IsPlain design.now }
+    requires plain { IsPlain (placed design.now) }
     requires sound { IsSound (flat_of design.now) }
     requires machine { IsMachine (map row_of design.now.signals) m.old }
     ensures machine { OnOk result (IsMachine (map row_of design.now.signals) m.new) }
@@ -109,7 +110,7 @@ fn settle(alloc: Global, design: &Design, wave: ProcKind, m: &mut Machine) -> Re
 
 /// The machine before time zero, whose values are all 0.
 fn begin(alloc: Global, design: &Design) -> Result<Machine, AllocError>
-    requires { IsPlain design.now }
+    requires { IsPlain (placed design.now) }
     ensures machine { IfOk result (IsMachine (map row_of design.now.signals)) }
     ensures ticks { IfOk result (λ m. m.ticks ≡ 0) }
     ensures start { IfOk result (λ m. start (flat_of design.now)
@@ -127,7 +128,7 @@ fn begin(alloc: Global, design: &Design) -> Result<Machine, AllocError>
 
 /// Lets the clock rise.
 fn tick(alloc: Global, design: &Design, m: &mut Machine) -> Result<(), AllocError>
-    requires plain { IsPlain design.now }
+    requires plain { IsPlain (placed design.now) }
     requires sound { IsSound (flat_of design.now) }
     requires machine { IsMachine (map row_of design.now.signals) m.old }
     requires going { m.old.finished ≡ false }
@@ -145,7 +146,7 @@ fn tick(alloc: Global, design: &Design, m: &mut Machine) -> Result<(), AllocErro
 /// are initial ones and those that wait for the clock's rise (IEEE 1364-2005, clause 9.9); they choose, assign to whole
 /// variables, show one value by `%0d` and finish, over sums and comparisons. An `Err` is want of memory alone.
 pub fn run(alloc: Global, design: &Design, budget: u64) -> Result<Outcome, AllocError>
-    requires plain { IsPlain design.now }
+    requires plain { IsPlain (placed design.now) }
     requires sound { IsSound (flat_of design.now) }
     ensures { IfOk result (λ o. (q : Queue) × Ends (alone (flat_of design.now) budget) o.ticks o.end q
         × (q.state.ticks ≡ o.ticks) × (q.state.printed ≡ o.printed)) }

@@ -6,12 +6,12 @@ use Rattle.host_run.proofs.host.due.Goals as goal
 pub returns-in-Report-clause-due : goal.returns-in-Report-clause-due
 returns-in-Report-clause-due g c = λ words command.
     let reports = rw c.in-Report.is at c.in_ok-report-in-Ok.ensures in
-    ran refl command c.in-Ok.ensures.bytes (rw (← c.deref.ensures.value) reports)
+    ran refl command c.in-Ok.ensures.bytes c.in-Ok.ensures.short (rw (← c.deref.ensures.value) reports)
 
 pub returns-in-Ok-clause-due : goal.returns-in-Ok-clause-due
 returns-in-Ok-clause-due g c = λ words command.
     let refuses = rw c.in-Refusal.is at c.in_ok-report-in-Ok.ensures in
-    refused refl command c.in-Ok.ensures.bytes (rw (← c.deref.ensures.value) refuses)
+    refused refl command c.in-Ok.ensures.bytes c.in-Ok.ensures.short (rw (← c.deref.ensures.value) refuses)
 
 pub returns-in-Err-NotThere-clause-due : goal.returns-in-Err-NotThere-clause-due
 returns-in-Err-NotThere-clause-due g c = λ words command.

@@ -1,8 +1,7 @@
 use Rattle.std.proofs.Common.{◌≡◌, ◌≤◌, ◌+◌, drop}
 use Rattle.std.specs.Prelude.{min}
-use Rattle.vl_design.specs.Seen.{stm_of}
+use Rattle.vl_design.specs.Seen.{stm_of, stms_of}
 use Rattle.plain_form.specs.Running.{stm_nodes, all_nodes}
-use Rattle.plain_form.specs.Trees.{stms_of}
 use Rattle.plain_form.proofs.counts.+with_nodes.Given as goal
 
 -- so many with those of the rest are those of the whole

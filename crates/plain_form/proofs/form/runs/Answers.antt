@@ -1,13 +1,11 @@
-use Rattle.std.proofs.Common.{sym, ◌∙◌, subst}
-use Rattle.vl_design.specs.Sound.{IsSound}
+use Rattle.std.proofs.Common.{sym, ◌∙◌}
 use Rattle.vl_design.specs.Seen.{placed}
-use Rattle.vl_flat.proofs.Erased.{flat-same}
 use Rattle.plain_form.proofs.Plain.{running-plain}
 use Rattle.plain_form.proofs.Sound.{running-sound}
 use Rattle.plain_form.proofs.form.runs.Goals as goal
 
 pub returns-clause-plain : goal.returns-clause-plain
-returns-clause-plain c = λ h. running-plain c.args.design.now (sym c.is_running.ensures ∙ h)
+returns-clause-plain c = λ h. running-plain (placed c.args.design.now) (sym c.is_running.ensures ∙ h)
 
 pub returns-clause-sound : goal.returns-clause-sound
-returns-clause-sound c = λ h. subst IsSound (sym (flat-same c.args.design.now)) (running-sound (placed c.args.design.now) (sym c.is_running.ensures ∙ h))
+returns-clause-sound c = λ h. running-sound (placed c.args.design.now) (sym c.is_running.ensures ∙ h)

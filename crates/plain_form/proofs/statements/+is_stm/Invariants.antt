@@ -1,8 +1,7 @@
 use Rattle.std.proofs.Common.{◌≡◌, drop}
 use Rattle.std.specs.Prelude.{◌&&◌}
-use Rattle.vl_design.specs.Seen.{stm_of}
+use Rattle.vl_design.specs.Seen.{stm_of, stms_of}
 use Rattle.plain_form.specs.Running.{is_stm, are_stms}
-use Rattle.plain_form.specs.Trees.{stms_of}
 use Rattle.plain_form.proofs.statements.+is_stm.Given as goal
 
 -- those so far and the rest are the whole

@@ -1,10 +1,9 @@
 use Rattle.std.proofs.Common.{◌≡◌, map, drop}
-use Rattle.std.specs.Prelude.{All}
 use Rattle.vl_design.specs.Trees.{stm_of, row_of, then_of}
+use Rattle.vl_design.specs.Seen as seen
 use Rattle.vl_design.specs.Sound.{IsSoundStm}
 use Rattle.plain_run.specs.declared.machine.Machine.{Machine}
-use Rattle.vl_design.specs.Plain.{plain_scope}
-use Rattle.plain_run.specs.Plain.{IsPlainStm}
+use Rattle.plain_run.specs.Plain.{plain_names, ArePlainStms}
 use Rattle.plain_run.specs.Machines.{IsMachine, Does}
 use Rattle.plain_run.proofs.exec.+exec.Given as goal
 
@@ -16,7 +15,7 @@ invariant-loop-item l =
     record {
       machine : IsMachine rows l.m;
       ticks : l.m.ticks ≡ l.initial.m.ticks;
-      plain : All IsPlainStm l.item-items;
-      sound : IsSoundStm (plain_scope rows) left;
+      plain : ArePlainStms (seen.stms_of (drop l.item-index l.item-items));
+      sound : IsSoundStm (plain_names rows) left;
       leads : (m : Machine) → Does rows left l.m m → Does rows (stm_of l.path l.s) l.initial.m m;
     }

@@ -1,8 +1,11 @@
-use Rattle.std.proofs.Common.{◌≡◌, true, false, refl, sym, ◌∙◌, map, subst}
+use Rattle.std.proofs.Common.{◌≡◌, true, false, refl, sym, ap, ◌∙◌, map}
+use Rattle.std.specs.Prelude.{All}
 use Rattle.vl_design.specs.Trees.{flat_of, proc_of}
+use Rattle.vl_design.specs.Seen.{process_of}
+use Rattle.vl_design.proofs.TreeLemmas.{procs-map}
 use Rattle.plain_run.specs.Plain.{IsPlainProc}
 use Rattle.plain_run.specs.Runs.{is_of}
-use Rattle.plain_run.proofs.Waves.{reaches-here, wave-passed, wave-run, clocked, sound-at}
+use Rattle.plain_run.proofs.Waves.{reaches-here, wave-passed, wave-run, clocked, sound-at, plain-at}
 use Rattle.plain_run.proofs.run.run_wave.Goals as goal
 use Rattle.plain_run.proofs.run.run_wave.Goals.{then-belongs+in_ok-exec, else-belongs}
 
@@ -10,21 +13,20 @@ pub loop-process-init : goal.loop-process-init
 loop-process-init c = record {
   machine = c.requires.machine;
   ticks = refl;
-  reaches = rw c.as_slice-process-items.ensures (reaches-here _ _ _);
+  reaches = rw (c.as_slice-process-items.ensures, ← procs-map c.args.design.now.processes) (reaches-here _ _ _);
 }
 
 pub exec-requires-clause-plain : goal.exec-requires-clause-plain
 exec-requires-clause-plain c =
     let xs = c.as_slice-process-items.result.now in
-    let all = rw (← c.as_slice-process-items.ensures) at c.requires.plain.processes in
-    let here = all c.loop-process.process-index c.process-item.result c.loop-process-test.true in
-    (subst IsPlainProc (sym c.process-item.is) here).body
+    let all : All IsPlainProc (map process_of xs) = rw c.as_slice-process-items.ensures c.requires.plain.processes in
+    (plain-at xs c.loop-process.process-index c.process-item.result all c.loop-process-test.true c.process-item.is).body
 
 pub exec-requires-clause-sound : goal.exec-requires-clause-sound
 exec-requires-clause-sound c =
     let xs = c.as_slice-process-items.result.now in
     let d = flat_of c.args.design.now in
-    let procs : d.procs ≡ map proc_of xs = rw c.as_slice-process-items.ensures refl in
+    let procs : d.procs ≡ map proc_of xs = procs-map c.args.design.now.processes ∙ ap (map proc_of) (sym c.as_slice-process-items.ensures) in
     rw (c.as_slice.ensures, c.as_slice-then-belongs.ensures)
     (sound-at d xs c.loop-process.process-index c.process-item.result (clocked c.args.design.now c.requires.plain) c.requires.sound procs c.loop-process-test.true c.process-item.is)
 

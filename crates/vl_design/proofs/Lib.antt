@@ -20,3 +20,5 @@ pub mod Nothing
 pub mod Ranked
 pub mod Shaping
 pub mod Fine
+pub mod Lasting
+pub mod Opening

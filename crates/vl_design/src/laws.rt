@@ -16,7 +16,7 @@ ghost use Rattle.vl_design.specs.Functions.{scope_of, result_of};
 ghost use Rattle.vl_design.specs.Tasks.{called};
 ghost use Rattle.vl_base.specs.Value.{reading, resized};
 ghost use Rattle.vl_design.specs.Queue.{Queue};
-ghost use Rattle.vl_design.specs.Laws.{DifferIn, StatesDifferIn, Grows, Adds, InRange, SameShape, IsFine, StartsFine, can_act, IsUnrolled, HasQuietNets, IsReached};
+ghost use Rattle.vl_design.specs.Laws.{DifferIn, StatesDifferIn, Grows, Adds, InRange, SameShape, IsFine, StartsFine, IsTable, StartsOpen, can_act, IsUnrolled, HasQuietNets, IsReached};
 ghost use Rattle.vl_design.specs.Examples.{alone, counter};
 ghost use Rattle.vl_design.specs.Alone.{Origin, Settles, Boundary, Ends};
 ghost use Rattle.vl_design.specs.Acts.{Point, After, Before, state_at, queue_at, at_boundary, tick_of, branch_of};
@@ -76,6 +76,15 @@ pub fn a_finished_run_stays()
 /// from a snapshot whose words are so.
 pub fn values_stay_in_range()
     ensures { (o : Origin) (k : ℕ) (q : Queue) → StartsFine o.flat.rows o.resume → Boundary o k q → IsFine o.flat.rows q.state.values }
+{}
+
+/// The open files stand in ascending order of slots, of which there are 16; each names a file of the set, and its place is
+/// not past the file's end: at each boundary, after each act and before each call.
+pub fn open_files_stay_in_order()
+    ensures boundary { (o : Origin) (k : ℕ) (q : Queue) → StartsOpen o.files o.resume → Boundary o k q → IsTable o.files q.state.table }
+    ensures after { (o : Origin) (c : ℕ) (p : Point) → StartsOpen o.files o.resume → After o c p → IsTable o.files (state_at p).table }
+    ensures before { (o : Origin) (c : ℕ) (task : Task) (p : Point) → StartsOpen o.files o.resume → Before o c task p →
+        IsTable o.files (state_at p).table }
 {}
 
 /// A snapshot of such values gives such values.

@@ -22,3 +22,4 @@ pub mod Shaping
 pub mod Fine
 pub mod Lasting
 pub mod Opening
+pub mod Same

@@ -19,6 +19,7 @@ ghost use Rattle.vl_design.specs.Queue.{Queue};
 ghost use Rattle.vl_design.specs.Laws.{DifferIn, StatesDifferIn, Grows, Adds, InRange, SameShape, IsFine, StartsFine, IsTable, StartsOpen, can_act, IsUnrolled, HasQuietNets, IsReached};
 ghost use Rattle.vl_design.specs.Examples.{alone, counter};
 ghost use Rattle.vl_design.specs.Alone.{Origin, Settles, Boundary, Ends};
+ghost use Rattle.vl_design.specs.Observed.{observed, IsSameRun};
 ghost use Rattle.vl_design.specs.Acts.{Point, After, Before, state_at, queue_at, at_boundary, tick_of, branch_of};
 
 /// A run settles in one state.
@@ -35,6 +36,19 @@ pub fn has_one_state_at_a_boundary()
 pub fn ends_once()
     ensures { (o : Origin) (j k : ℕ) (r s : Reason) (a b : Queue) →
         Ends o j r a → Ends o k s b → (j ≡ k) × (r ≡ s) × (a ≡ b) }
+{}
+
+/// Being the same run is an equivalence.
+pub fn the_same_run_is_an_equivalence()
+    ensures reflexive { (o : Origin) → IsSameRun o o }
+    ensures symmetric { (o u : Origin) → IsSameRun o u → IsSameRun u o }
+    ensures transitive { (o u v : Origin) → IsSameRun o u → IsSameRun u v → IsSameRun o v }
+{}
+
+/// The same runs with one plan end at the same boundary for the same reason, and there is observed the same of both.
+pub fn the_same_runs_end_alike()
+    ensures { (o u : Origin) (k : ℕ) (reason : Reason) (q : Queue) → IsSameRun o u → o.plan ≡ u.plan → Ends o k reason q →
+        (r : Queue) × Ends u k reason r × (observed o.flat.rows q.state ≡ observed u.flat.rows r.state) }
 {}
 
 /// The value of an expression depends only on the signals that it reads.

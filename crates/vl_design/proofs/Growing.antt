@@ -39,7 +39,7 @@ call_grows scope (Feof fd) s = grows_same s _ refl
 call_grows scope (Fclose fd) s = grows_same s _ refl
 call_grows scope (ReadHex name m) s = grows_same s _ (memory_printed m (slice_get scope.names.rows m) (file.contents scope.files name) s)
 
-steps_grow : (scope : Scope) → Steps scope Grows (λ t. ⊤) (λ k. ⊤) (λ v. ⊤)
+steps_grow : (scope : Scope) → Steps scope Grows (λ t. ⊤) (λ t. ⊤) (λ k. ⊤) (λ v. ⊤)
 steps_grow scope = record {
   same = λ s. grows_same s s refl;
   next = grows_on;
@@ -51,7 +51,7 @@ steps_grow scope = record {
 }
 
 pub exec_grows : (scope : Scope) (a : Stm) (s : State) → Grows s (exec scope a s)
-exec_grows scope a s = exec_leads scope Grows _ _ _ (steps_grow scope) a (all_in a) s
+exec_grows scope a s = exec_leads scope Grows _ _ _ _ (steps_grow scope) a (all_in a) s
 
 module _ (d : Flat) (files : List File) where
   phase_grows : (q r : Queue) (phase : Phase) (ahead : List (List Proc)) → next_phase d files q phase ahead ≡ Some r → Grows q.state r.state

@@ -155,7 +155,7 @@ call_open scope (Feof fd) s h = h
 call_open scope (Fclose fd) s h = filter_open scope.files (λ g. not (descriptor g.slot == descriptor_of scope (sample s) fd)) 0 s.table h
 call_open scope (ReadHex name m) s h = memory_open scope.files m (slice_get scope.names.rows m) (file.contents scope.files name) s h
 
-steps_open : (scope : Scope) → Steps scope (Opens scope.files) (λ t. ⊤) (λ k. ⊤) (λ v. ⊤)
+steps_open : (scope : Scope) → Steps scope (Opens scope.files) (λ t. ⊤) (λ t. ⊤) (λ k. ⊤) (λ v. ⊤)
 steps_open scope = record {
   same = λ s h. h;
   next = λ a b c f g h. g (f h);
@@ -170,7 +170,7 @@ events_open : (d : Flat) (files : List File) → EventSteps d files (Opens files
 events_open d files = record {
   same = λ s h. h;
   next = λ a b c f g h. g (f h);
-  execs = λ a s. exec_leads (scope_of d files) (Opens files) _ _ _ (steps_open (scope_of d files)) a (all_in a) s;
+  execs = λ a s. exec_leads (scope_of d files) (Opens files) _ _ _ _ (steps_open (scope_of d files)) a (all_in a) s;
   counts = λ s h. h;
   calls = call_open (scope_of d files);
   updates = λ s h. h;

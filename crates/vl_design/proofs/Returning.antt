@@ -38,7 +38,7 @@ call_ticks scope (Feof fd) s = refl
 call_ticks scope (Fclose fd) s = refl
 call_ticks scope (ReadHex name m) s = memory_ticks m (slice_get scope.names.rows m) (file.contents scope.files name) s
 
-steps_tick : (scope : Scope) → Steps scope (λ s t. s.ticks ≡ t.ticks) (λ t. ⊤) (λ k. ⊤) (λ v. ⊤)
+steps_tick : (scope : Scope) → Steps scope (λ s t. s.ticks ≡ t.ticks) (λ t. ⊤) (λ t. ⊤) (λ k. ⊤) (λ v. ⊤)
 steps_tick scope = record {
   same = λ s. refl;
   next = λ a b c f g. f ∙ g;
@@ -50,7 +50,7 @@ steps_tick scope = record {
 }
 
 pub exec_ticks : (scope : Scope) (a : Stm) (s : State) → s.ticks ≡ (exec scope a s).ticks
-exec_ticks scope a s = exec_leads scope (λ s t. s.ticks ≡ t.ticks) _ _ _ (steps_tick scope) a (all_in a) s
+exec_ticks scope a s = exec_leads scope (λ s t. s.ticks ≡ t.ticks) _ _ _ _ (steps_tick scope) a (all_in a) s
 
 -- ---- statements one after another
 

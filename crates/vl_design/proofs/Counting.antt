@@ -20,7 +20,8 @@ use Rattle.vl_design.specs.Acts.{Pause, Through, AtCall, AtChoice, default_body,
 use Rattle.vl_design.specs.Laws.{IsUnrolledStm, AreUnrolledItems, IsUnrolled, HasQuietNets, Adds}
 use Rattle.vl_design.proofs.Leading.{Steps, exec_leads, all_in}
 use Rattle.vl_design.proofs.Resting.{none_held, exec_rests, done_counts}
-use Rattle.vl_design.proofs.Agreeing.{OnlyComb, left_of, IsBare, Fits, woken_comb, blocks_unrolled, falls_unrolled, body_rests, evaluated_fits, at_first}
+use Rattle.vl_design.proofs.Acting.{left_of}
+use Rattle.vl_design.proofs.Agreeing.{OnlyComb, IsBare, Fits, woken_comb, blocks_unrolled, falls_unrolled, body_rests, evaluated_fits, at_first}
 
 -- ---- updates are only added
 

@@ -22,7 +22,7 @@ use Rattle.vl_design.specs.Laws.{IsOpenIn, AreOpenFrom, IsTable, StartsOpen}
 use Rattle.vl_design.proofs.Running.{some_is}
 use Rattle.vl_design.proofs.Unread.{or_false}
 use Rattle.vl_design.proofs.Leading.{Steps, exec_leads, all_in}
-use Rattle.vl_design.proofs.Acting.{EventSteps}
+use Rattle.vl_design.proofs.Acting.{EventSteps, any_parts}
 use Rattle.vl_design.proofs.Lasting.{boundary_lasts, after_lasts, before_lasts}
 
 not_true : (b : Bool) → not b ≡ true → b ≡ false
@@ -166,13 +166,15 @@ steps_open scope = record {
   restores = λ k before s i f. f;
 }
 
-events_open : (d : Flat) (files : List File) → EventSteps d files (Opens files)
+events_open : (d : Flat) (files : List File) → EventSteps d files (λ a. ⊤) (Opens files)
 events_open d files = record {
+  kind = any_parts;
+  procs = λ i p l. tt;
   same = λ s h. h;
   next = λ a b c f g h. g (f h);
-  execs = λ a s. exec_leads (scope_of d files) (Opens files) _ _ _ _ (steps_open (scope_of d files)) a (all_in a) s;
+  execs = λ a h s. exec_leads (scope_of d files) (Opens files) _ _ _ _ (steps_open (scope_of d files)) a (all_in a) s;
   counts = λ s h. h;
-  calls = call_open (scope_of d files);
+  calls = λ task h. call_open (scope_of d files) task;
   updates = λ s h. h;
   rises = λ s h. h;
 }
@@ -182,10 +184,10 @@ first_open o None h = tt
 first_open o (Some s) h = h
 
 pub boundary_open : {o : Origin} {k : ℕ} {q : Queue} → StartsOpen o.files o.resume → Boundary o k q → IsTable o.files q.state.table
-boundary_open {o} h x = boundary_lasts o (λ s. IsTable o.files s.table) (events_open o.flat o.files) (first_open o o.resume h) x
+boundary_open {o} h x = boundary_lasts o (λ a. ⊤) (λ s. IsTable o.files s.table) (events_open o.flat o.files) (first_open o o.resume h) x
 
 pub acts_open : {o : Origin} {c : ℕ} {p : Point} → StartsOpen o.files o.resume → After o c p → IsTable o.files (state_at p).table
-acts_open {o} h x = after_lasts o (λ s. IsTable o.files s.table) (events_open o.flat o.files) (first_open o o.resume h) x
+acts_open {o} h x = after_lasts o (λ a. ⊤) (λ s. IsTable o.files s.table) (events_open o.flat o.files) (first_open o o.resume h) x
 
 pub calls_open : {o : Origin} {c : ℕ} {task : Task} {p : Point} → StartsOpen o.files o.resume → Before o c task p → IsTable o.files (state_at p).table
-calls_open {o} h x = before_lasts o (λ s. IsTable o.files s.table) (events_open o.flat o.files) (first_open o o.resume h) x
+calls_open {o} h x = before_lasts o (λ a. ⊤) (λ s. IsTable o.files s.table) (events_open o.flat o.files) (first_open o o.resume h) x

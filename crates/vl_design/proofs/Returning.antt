@@ -18,7 +18,8 @@ use Rattle.vl_design.specs.Laws.{IsUnrolledStm, IsUnrolled, HasQuietNets}
 use Rattle.vl_design.proofs.Leading.{Steps, exec_leads, all_in}
 use Rattle.vl_design.proofs.Resting.{exec_over, none_held, exec_rests, case_done}
 use Rattle.vl_design.proofs.Counting.{either_unrolled, chosen_unrolled, default_unrolled}
-use Rattle.vl_design.proofs.Agreeing.{left_of, IsBare, Fits, woken_comb, blocks_unrolled, falls_unrolled, body_rests, evaluated_fits, at_first, alive, counted_once}
+use Rattle.vl_design.proofs.Acting.{left_of}
+use Rattle.vl_design.proofs.Agreeing.{IsBare, Fits, woken_comb, blocks_unrolled, falls_unrolled, body_rests, evaluated_fits, at_first, alive, counted_once}
 
 -- ---- a statement begins no tick
 

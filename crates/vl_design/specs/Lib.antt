@@ -22,6 +22,7 @@ pub mod Nesting
 pub mod Queue
 pub mod Snapshots
 pub mod Alone
+pub mod Observed
 pub mod Acts
 pub mod Cost
 pub mod Sound

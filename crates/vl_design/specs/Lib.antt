@@ -16,6 +16,7 @@ pub mod ReadHex
 pub mod Tasks
 pub mod Exec
 pub mod Functions
+pub mod Nodes
 pub mod Reads
 pub mod Turns
 pub mod Nesting

@@ -1,5 +1,5 @@
 -- What holds between the states before and after each event holds before and after an act.
-use Rattle.std.proofs.Common.{◌≡◌, ℕ, ◌+◌, ◌≤◌, ◌<◌, nat_le, Bool, true, false, List, [], ◌∷◌, Option, None, refl, sym, ap, subst, arith}
+use Rattle.std.proofs.Common.{◌≡◌, ℕ, ◌+◌, ◌≤◌, ◌<◌, nat_le, Bool, true, false, List, [], ◌∷◌, refl, sym, ap, subst, arith}
 use Rattle.std.specs.Prelude.{◌||◌, if◌then◌else◌}
 use Rattle.std.proofs.lemmas.Bool.{leb-true, leb-false}
 use Rattle.vl_base.specs.declared.files.File.{File}
@@ -9,14 +9,12 @@ use Rattle.vl_design.specs.Tasks.{called}
 use Rattle.vl_design.specs.Exec.{exec, holds, items_hold, asks}
 use Rattle.vl_design.specs.Functions.{scope_of}
 use Rattle.vl_design.specs.Queue.{Queue, Phase, Wave, Ended, Updated, with_updates, is_rise, is_fall}
-use Rattle.vl_design.specs.Snapshots.{Snapshot}
 use Rattle.vl_design.specs.Alone.{Origin, risen, blocks, falls}
 use Rattle.vl_design.specs.Acts as act
 use Rattle.vl_design.specs.Acts.{Pause, Through, AtCall, AtChoice, upto, uptos, Point, Between, Inside, state_at, entered, entered_by, Reached, Calls, Chooses, with_block, by_pause, through_blocks, reach, Calms, calm, Did, Act, of_wave, updates, Begins, from_nothing, from_snapshot, After, begins, acts, NextIs, Before, before}
-use Rattle.vl_design.specs.Laws.{Grows, InRange}
+use Rattle.vl_design.specs.Laws.{Grows}
 use Rattle.vl_design.proofs.OncePerAct.{after_once}
 use Rattle.vl_design.proofs.Growing.{grows_same, grows_on, exec_grows, call_grows}
-use Rattle.vl_design.proofs.Ranging.{exec_in_range, call_in_range, updates_in_range, zeros_in_range}
 
 -- R holds between the states before and after each part of an event
 pub record EventSteps (d : Flat) (files : List File) (R : State → State → Type 0) : Type 0 where
@@ -73,7 +71,7 @@ module _ (d : Flat) (files : List File) (R : State → State → Type 0) (r : Ev
   reach_leads b (Between q) left f = blocks_lead b q.state.values left q f
   reach_leads b (Inside q rest from committed) left f = pause_leads b q from committed left (through_blocks d files committed left) _ (λ z g. blocks_lead b committed left z g) (uptos_lead b rest q.state f)
 
-  calms_lead : {q z : Queue} → Calms d files q z → R q.state z.state
+  pub calms_lead : {q z : Queue} → Calms d files q z → R q.state z.state
   calms_lead {q} (calm e) = r.same q.state
   calms_lead {q} {z} (act.goes {p = p} e c) = r.next _ _ _ (r.execs p.body q.state) (calms_lead c)
 
@@ -135,39 +133,6 @@ events_grow d files = record {
 
 pub acts_grow : {o : Origin} {j k : ℕ} {p r : Point} → After o j p → After o k r → j ≤ k → Grows (state_at p) (state_at r)
 acts_grow {o} x y h = afters_lead o Grows (events_grow o.flat o.files) x y h
-
--- ---- ranges
-
-abbrev Holds : Flat → State → State → Type 0
-Holds d s t = InRange d.rows s.values → InRange d.rows t.values
-
-events_hold : (d : Flat) (files : List File) → EventSteps d files (Holds d)
-events_hold d files = record {
-  same = λ s f. f;
-  next = λ a b c f g h. g (f h);
-  execs = exec_in_range (scope_of d files);
-  counts = λ s f. f;
-  calls = call_in_range (scope_of d files);
-  updates = λ s. updates_in_range d.rows s.later s.values;
-  rises = λ s f. f;
-}
-
-begun_in_range : {o : Origin} {s : Option Snapshot} {p : Point} → s ≡ None → Begins o s p → InRange o.flat.rows (state_at p).values
-begun_in_range {o} e from_nothing = zeros_in_range o.flat.rows
-begun_in_range e (from_snapshot c) = let z : ⊥ = cc in absurd z
-
--- after each act of a run from nothing all values are in range
-pub acts_in_range : {o : Origin} {c : ℕ} {p : Point} → o.resume ≡ None → After o c p → InRange o.flat.rows (state_at p).values
-acts_in_range n (begins b) = begun_in_range n b
-acts_in_range {o} n (acts x f a) = act_leads o.flat o.files (Holds o.flat) (events_hold o.flat o.files) a (acts_in_range n x)
-
--- and right before each call
-pub calls_in_range : {o : Origin} {c : ℕ} {task : Task} {p : Point} → o.resume ≡ None → Before o c task p → InRange o.flat.rows (state_at p).values
-calls_in_range {o} n (before {p = p} task q rest from committed x m) =
-    let r = events_hold o.flat o.files in
-    let f = reach_leads o.flat o.files (Holds o.flat) r (state_at p) (entered o.flat o.files p) m.left (entered_leads o.flat o.files (Holds o.flat) r p) in
-    let g = subst (ReachLeads o.flat o.files (Holds o.flat) r (state_at p)) m.next f in
-    g (acts_in_range n x)
 
 -- ---- the effect of a call leads from right before it to right after it
 

@@ -1,7 +1,7 @@
 -- A statement changes only signals that it writes.
-use Rattle.std.proofs.Common.{◌≡◌, ◌≢◌, ℕ, Bool, true, false, List, [], ◌∷◌, ◌++◌, map, Option, Some, None, refl, sym, ap, ◌∙◌}
+use Rattle.std.proofs.Common.{◌≡◌, ◌≢◌, ℕ, ◌<◌, ◌≤◌, Bool, true, false, List, [], ◌∷◌, ◌++◌, map, Option, Some, None, refl, sym, ap, ◌∙◌, length}
 use Rattle.std.specs.Prelude.{⊤, ◌||◌, slice_set, slice_get}
-use Rattle.std.proofs.lemmas.List.{get_or-set_other}
+use Rattle.std.proofs.lemmas.List.{get_or-set_same, get_or-set_other, get_or_past}
 use Rattle.std.proofs.lemmas.Option.{unwrap_or-slice_get}
 use Rattle.vl_base.specs.Files as file
 use Rattle.vl_design.specs.Syntax.{Exp, Target, Whole, WordAt, PickAt, SliceAt, Several, Targets, NoTargets, MoreTargets, Task, Print, Finish, Save, Fopen, Fread, Fgetc, Feof, Fclose, ReadHex, Stm, Nop, Then, If, Case, For, Repeat, Set, Later, Sys, Items, NoItems, Labelled, Default, Row}
@@ -14,6 +14,13 @@ use Rattle.vl_design.specs.Exec.{exec}
 use Rattle.vl_design.specs.Reads.{target_writes, targets_write, task_writes, stm_writes, items_write}
 use Rattle.vl_design.proofs.Unread.{or_false}
 use Rattle.vl_design.proofs.Leading.{AllIn, AllItems, Steps, exec_leads}
+
+-- the words of a signal that were written, where there is such a signal
+pub words_set : (v : List (List ℕ)) (k : ℕ) (ws : List ℕ) → k < length v → words_of (slice_set v k ws) k ≡ ws
+words_set v k ws i = unwrap_or-slice_get (slice_set v k ws) k [] ∙ get_or-set_same v k ws [] i
+
+pub words_past : (v : List (List ℕ)) (k : ℕ) → length v ≤ k → words_of v k ≡ []
+words_past v k i = unwrap_or-slice_get v k [] ∙ get_or_past v k [] i
 
 -- the words of another signal
 pub words_other : (values : List (List ℕ)) (j k : ℕ) (ws : List ℕ) → k ≢ j → words_of (slice_set values j ws) k ≡ words_of values k

@@ -14,3 +14,9 @@ pub mod TreeLemmas
 pub mod Counting
 pub mod Acting
 pub mod Rising
+pub mod Returning
+pub mod Alike
+pub mod Nothing
+pub mod Ranked
+pub mod Shaping
+pub mod Fine

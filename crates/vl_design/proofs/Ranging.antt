@@ -1,12 +1,12 @@
 -- Values stay below 2 to their widths.
-use Rattle.std.proofs.Common.{◌≡◌, ◌≢◌, ℕ, zero, suc, ◌+◌, ◌%◌, ◌^◌, ◌<◌, ◌≤◌, nat_lt, ℤ, pos, negsuc, ◌-ℤ◌, Bool, true, false, List, [], ◌∷◌, length, Option, Some, None, refl, sym, ap, ◌∙◌, subst, arith, get_or}
+use Rattle.std.proofs.Common.{◌≡◌, ◌≢◌, ℕ, ◌+◌, ◌%◌, ◌^◌, ◌<◌, ◌≤◌, nat_lt, ℤ, pos, negsuc, ◌-ℤ◌, Bool, true, false, List, [], ◌∷◌, length, Option, Some, None, refl, sym, ap, ◌∙◌, subst, arith, get_or}
 use Rattle.std.specs.Prelude.{⊤, All, slice_set, slice_get, nat_eq, replicate, option_map, if◌then◌else◌, ◌&&◌, int_le}
 use Rattle.std.specs.Int.RustNames.{unsigned_abs}
 use Rattle.std.proofs.Math.Nat.{mod-lt}
 use Rattle.std.proofs.lemmas.Nat.{pow_pos}
-use Rattle.std.proofs.lemmas.List.{get_or-set_same, get_or_past, length-set}
+use Rattle.std.proofs.lemmas.List.{length-set}
 use Rattle.std.proofs.lemmas.List.Elements.{All-set, All-replicate}
-use Rattle.std.proofs.lemmas.Option.{unwrap_or-slice_get, slice_get-map}
+use Rattle.std.proofs.lemmas.Option.{slice_get-map}
 use Rattle.std.proofs.lemmas.Bool.{ltb-true, ltb-false, eqb-true, eq-eqb}
 use Rattle.vl_base.specs.declared.files.File.{File}
 use Rattle.vl_base.specs.declared.files.OpenFile.{OpenFile}
@@ -21,13 +21,8 @@ use Rattle.vl_design.specs.ReadHex.{Step, Loads, Goes, loaded, words_read, steps
 use Rattle.vl_design.specs.Tasks.{called, memory_read, descriptor_of}
 use Rattle.vl_design.specs.Exec.{exec}
 use Rattle.vl_design.specs.Laws.{InRange}
-use Rattle.vl_design.specs.Syntax.{Proc, Flat}
-use Rattle.vl_design.specs.Functions.{scope_of, zeros}
-use Rattle.vl_design.specs.Queue as Q
-use Rattle.vl_design.specs.Queue.{Queue, Phase, Wave, Ended, Updated, next_event, next_pending, next_phase, first_pending}
-use Rattle.vl_design.specs.Alone.{Origin, Settles, rests, goes, Boundary, begun, ticked, risen, first_queue}
-use Rattle.vl_design.proofs.Running.{some_is}
-use Rattle.vl_design.proofs.Kept.{words_other}
+use Rattle.vl_design.specs.Functions.{zeros}
+use Rattle.vl_design.proofs.Kept.{words_set, words_past, words_other}
 use Rattle.vl_design.proofs.Leading.{Steps, exec_leads, all_in}
 
 pub below : (n w : ℕ) → n % 2 ^ w < 2 ^ w
@@ -42,13 +37,11 @@ words_same : (P : ℕ → Type 0) (values : List (List ℕ)) (j : ℕ) (ws : Lis
 words_same P values j ws h = at (nat_lt j (length values)) refl
   where
     at : (b : Bool) → nat_lt j (length values) ≡ b → All P (words_of (slice_set values j ws) j)
-    at true e = let i : j < length values = ltb-true j (length values) e in
-        let z : words_of (slice_set values j ws) j ≡ ws = unwrap_or-slice_get (slice_set values j ws) j [] ∙ get_or-set_same values j ws [] i in
-        rw z h
-    at false e = let i : length values ≤ j = ltb-false j (length values) e in
+    at true e = rw (words_set values j ws (ltb-true j (length values) e)) h
+    at false e =
+        let i : length values ≤ j = ltb-false j (length values) e in
         let n : length (slice_set values j ws) ≤ j = omega (arith, length-set values j ws) in
-        let z : words_of (slice_set values j ws) j ≡ [] = unwrap_or-slice_get (slice_set values j ws) j [] ∙ get_or_past (slice_set values j ws) j [] n in
-        rw z (λ i d l. absurd (omega arith))
+        rw (words_past (slice_set values j ws) j n) (λ i d l. absurd (omega arith))
 
 -- a signal whose words are in range is written
 written_in_range : (rows : List Row) (values : List (List ℕ)) (j : ℕ) (ws : List ℕ) → All (λ v. v < 2 ^ (signal_form rows j).width) ws → InRange rows values → InRange rows (slice_set values j ws)
@@ -70,10 +63,6 @@ updated_in_range rows values u r =
 pub updates_in_range : (rows : List Row) (us : List Update) (values : List (List ℕ)) → InRange rows values → InRange rows (all_updated rows values us)
 updates_in_range rows [] values r = r
 updates_in_range rows (u ∷ us) values r = updates_in_range rows us (with_update rows values u) (updated_in_range rows values u r)
-
-one_word : (P : ℕ → Type 0) (v : ℕ) → P v → All P (v ∷ [])
-one_word P v h zero d l = h
-one_word P v h (suc i) d l = absurd (omega arith)
 
 -- what a variable holds is in range
 value_in_range : (rows : List Row) (values : List (List ℕ)) (k : ℕ) → InRange rows values → value_of values k < 2 ^ (signal_form rows k).width
@@ -128,7 +117,7 @@ call_in_range scope (Finish es) s r = r
 call_in_range scope (Save name) s r = r
 call_in_range scope (Fopen name) s r = r
 call_in_range scope (Fread k fd) s r =
-    written_in_range scope.names.rows s.values k _ (one_word (λ v. v < 2 ^ (signal_form scope.names.rows k).width) _ (reading_below scope.files s.table (file.open_file s.table (descriptor_of scope (sample s) fd)) (signal_form scope.names.rows k).width (value_of s.values k) (value_in_range scope.names.rows s.values k r))) r
+    written_in_range scope.names.rows s.values k _ (All-set (λ v. v < 2 ^ (signal_form scope.names.rows k).width) (words_of s.values k) 0 _ (reading_below scope.files s.table (file.open_file s.table (descriptor_of scope (sample s) fd)) (signal_form scope.names.rows k).width (value_of s.values k) (value_in_range scope.names.rows s.values k r)) (r k)) r
 call_in_range scope (Fgetc fd) s r = r
 call_in_range scope (Feof fd) s r = r
 call_in_range scope (Fclose fd) s r = r
@@ -148,46 +137,6 @@ steps_in_range scope = record {
 pub exec_in_range : (scope : Scope) (a : Stm) (s : State) → InRange scope.names.rows s.values → InRange scope.names.rows (exec scope a s).values
 exec_in_range scope a s = exec_leads scope (Ranges scope.names.rows) _ _ _ (steps_in_range scope) a (all_in a) s
 
--- ---- runs
-
-module _ (d : Flat) (files : List File) where
-  abbrev Held : Queue → Queue → Type 0
-  Held q r = Ranges d.rows q.state r.state
-
-  update_held : (q : Queue) → Held q (Q.updates_done d files q)
-  update_held q r = updates_in_range d.rows q.state.later q.state.values r
-
-  phase_held : (q r : Queue) (phase : Phase) (ahead : List (List Proc)) → next_phase d files q phase ahead ≡ Some r → Held q r
-  phase_held q r (Wave bs) ahead h = let z : ⊥ = cc in absurd z
-  phase_held q r Ended ahead h = subst (λ x. Held q x) (some_is h) (update_held q)
-  phase_held q r Updated [] h = let z : ⊥ = cc in absurd z
-  phase_held q r Updated (w ∷ ws) h = subst (λ x. Held q x) (some_is h) (λ g. g)
-
-  pending_held : (q r : Queue) (o : Option Proc) → next_pending d files q o ≡ Some r → Held q r
-  pending_held q r None h = phase_held q r q.phase q.ahead h
-  pending_held q r (Some p) h = subst (λ x. Held q x) (some_is h) (exec_in_range (scope_of d files) p.body q.state)
-
-  event_held : (q r : Queue) (phase : Phase) → next_event d files q phase ≡ Some r → Held q r
-  event_held q r (Wave []) h = subst (λ x. Held q x) (some_is h) (λ g. g)
-  event_held q r (Wave (b ∷ bs)) h = subst (λ x. Held q x) (some_is h) (exec_in_range (scope_of d files) b.body q.state)
-  event_held q r Ended h = pending_held q r (first_pending d.procs q.pending) h
-  event_held q r Updated h = pending_held q r (first_pending d.procs q.pending) h
-
-  next_held : (q r : Queue) (f : Bool) → (if f then None else next_event d files q q.phase) ≡ Some r → Held q r
-  next_held q r true h = let z : ⊥ = cc in absurd z
-  next_held q r false h = event_held q r q.phase h
-
-  pub settles_held : {q r : Queue} → Settles d files q r → Held q r
-  settles_held {q} {r} (rests e) = λ g. g
-  settles_held {q} {r} (goes {r = x} e f) = λ g. settles_held f (next_held q x q.state.finished e g)
-
-  either_held : (f : Bool) (q x y : Queue) → Held q x → Held q y → Held q (if f then x else y)
-  either_held true q x y g h = g
-  either_held false q x y g h = h
-
-  pub risen_held : (q : Queue) → Held q (risen d q)
-  risen_held q = either_held q.state.finished q q _ (λ g. g) (λ g. g)
-
 pub zeros_in_range : (rows : List Row) → InRange rows (zeros rows)
 zeros_in_range rows k = at (slice_get rows k) refl
   where
@@ -198,10 +147,3 @@ zeros_in_range rows k = at (slice_get rows k) refl
     at (Some r) e =
         let z : slice_get (zeros rows) k ≡ Some (replicate r.words 0) = slice_get-map (λ r. replicate r.words 0) rows k ∙ ap (option_map (λ r. replicate r.words 0)) e in
         rw z (All-replicate (λ v. v < 2 ^ (signal_form rows k).width) r.words 0 (pow_pos (signal_form rows k).width))
-
--- at each boundary of a run from nothing all values are in range
-pub boundary_in_range : {o : Origin} {k : ℕ} {q : Queue} → o.resume ≡ None → Boundary o k q → InRange o.flat.rows q.state.values
-boundary_in_range {o} {k} {q} n (begun e r) =
-    let f : InRange o.flat.rows (first_queue o o.resume).state.values = rw n (zeros_in_range o.flat.rows) in
-    settles_held o.flat o.files r f
-boundary_in_range {o} {k} {q} n (ticked {before = b} p r) = settles_held o.flat o.files r (risen_held o.flat o.files b (boundary_in_range n p))

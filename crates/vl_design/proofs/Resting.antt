@@ -86,7 +86,7 @@ none_and : (a b : Bool) → b ≡ false → (a && b) ≡ false
 none_and true b h = h
 none_and false b h = refl
 
-or_none : (a b : Bool) → a ≡ false → b ≡ false → (a || b) ≡ false
+pub or_none : (a b : Bool) → a ≡ false → b ≡ false → (a || b) ≡ false
 or_none true b h k = h
 or_none false b h k = k
 

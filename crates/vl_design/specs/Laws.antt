@@ -1,5 +1,5 @@
 -- What the laws speak of (own).
-use Rattle.std.specs.Prelude.{◌≡◌, ℕ, ◌^◌, ◌<◌, Bool, true, false, ◌||◌, List, ◌++◌, length, All, ⊤}
+use Rattle.std.specs.Prelude.{◌≡◌, ℕ, ◌^◌, ◌<◌, Bool, true, false, ◌||◌, List, [], ◌++◌, length, All, ⊤, Option, Some, None}
 use Rattle.vl_design.specs.Syntax.{Stm, Nop, Then, If, Case, For, Repeat, Set, Later, Sys, Items, NoItems, Labelled, Default, Row, Flat}
 use Rattle.vl_design.specs.Width.{signal_form}
 use Rattle.vl_design.specs.Value.{Sample, words_of}
@@ -7,6 +7,7 @@ use Rattle.vl_design.specs.State.{State, Update}
 use Rattle.vl_design.specs.Exec.{asks}
 use Rattle.vl_design.specs.Functions.{zeros}
 use Rattle.vl_design.specs.Queue.{Queue, is_comb}
+use Rattle.vl_design.specs.Snapshots.{Snapshot, kept_values}
 use Rattle.vl_design.specs.Alone.{Origin}
 use Rattle.vl_design.specs.Acts.{Point, Between, state_at, After}
 
@@ -15,6 +16,16 @@ pub record DifferIn (p : ℕ → Bool) (s t : Sample) : Type 0 where
   pub values : (k : ℕ) → p k ≡ false → words_of s.values k ≡ words_of t.values k
   pub time : s.time ≡ t.time
   pub answer : s.answer ≡ t.answer
+
+-- two lists of words differ only in signals that pass the test
+pub record ValuesDifferIn (p : ℕ → Bool) (v w : List (List ℕ)) : Type 0 where
+  pub words : (k : ℕ) → p k ≡ false → words_of v k ≡ words_of w k
+  pub many : length v ≡ length w
+
+-- two states differ only in the values of signals that pass the test
+pub record StatesDifferIn (p : ℕ → Bool) (s t : State) : Type 0 where
+  pub values : ValuesDifferIn p s.values t.values
+  pub others : record s { values = [] } ≡ record t { values = [] }
 
 -- t has printed what s has, and maybe more
 pub record Grows (s t : State) : Type 0 where
@@ -39,6 +50,11 @@ pub record SameShape (v w : List (List ℕ)) : Type 0 where
 pub record IsFine (rows : List Row) (values : List (List ℕ)) : Type 0 where
   pub range : InRange rows values
   pub shape : SameShape values (zeros rows)
+
+-- the values that a run begins with are as the design's signals have them: from nothing they are
+abbrev pub StartsFine : List Row → Option Snapshot → Type 0
+StartsFine rows None = ⊤
+StartsFine rows (Some s) = IsFine rows (kept_values rows s.words)
 
 -- ---- designs that are told act by act
 

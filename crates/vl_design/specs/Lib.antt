@@ -18,6 +18,7 @@ pub mod Exec
 pub mod Functions
 pub mod Reads
 pub mod Turns
+pub mod Nesting
 pub mod Queue
 pub mod Snapshots
 pub mod Alone

@@ -1,4 +1,4 @@
--- What the system calls do that do more than give a value (IEEE 1364-2005, clause 17).
+-- What the system calls do that do more than give a value (IEEE 1364-2005, clause 17; `$save` is own).
 use Rattle.std.specs.Prelude.{ℕ, true, Bool, List, [], ◌∷◌, ◌++◌, slice_set, slice_get, if◌then◌else◌, codes, Option, Some, None}
 use Rattle.vl_base.specs.Value.{resized}
 use Rattle.vl_base.specs.Display.{item_text}
@@ -31,9 +31,9 @@ descriptor_of scope s fd = let f = form scope.names fd in resized f.signed f.wid
 abbrev pub answered : State → file.Answer → State
 answered s a = record s { table = a.table; answer = a.answer }
 
--- `$fread` into a variable
+-- `$fread` into a variable, which has one word
 abbrev pub variable_read : ℕ → State → file.Reading → State
-variable_read k s r = record s { values = slice_set s.values k (r.value ∷ []); table = r.table; answer = r.count }
+variable_read k s r = record s { values = slice_set s.values k (slice_set (words_of s.values k) 0 r.value); table = r.table; answer = r.count }
 
 abbrev pub memory_read : ℕ → Option Row → Option (List ℕ) → State → State
 memory_read m None text s = s

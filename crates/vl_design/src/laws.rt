@@ -1,23 +1,25 @@
 //! What the definitions say of every run.
 
-ghost use Rattle.std.specs.Prelude.{◌≡◌, ◌+◌, ◌≤◌, ◌<◌, ◌^◌, ℕ, suc, Bool, true, false, List, [], codes, None};
+ghost use Rattle.std.specs.Prelude.{◌≡◌, ◌+◌, ◌≤◌, ◌<◌, ◌^◌, ℕ, suc, Bool, true, false, List, [], codes, slice_get};
 ghost use Rattle.vl_base.specs.declared.files.File.{File};
 ghost use Rattle.vl_design.specs.declared.design.End.{End as Reason};
 ghost use Rattle.vl_design.specs.declared.design.Form.{Form as Context};
-ghost use Rattle.vl_design.specs.Syntax.{Flat, Exp, Stm, Case, Items, Task};
+ghost use Rattle.vl_design.specs.Snapshots.{snapshot_of, kept_values};
+ghost use Rattle.vl_design.specs.Syntax.{Row, Flat, Exp, Stm, Case, Items, Task};
 ghost use Rattle.vl_design.specs.Width.{Scope};
 ghost use Rattle.vl_design.specs.Value.{Sample, value, words_of};
 ghost use Rattle.vl_design.specs.State.{State, sample};
 ghost use Rattle.vl_design.specs.Exec.{exec, counted_if, items_hold};
-ghost use Rattle.vl_design.specs.Reads.{reads, stm_writes};
-ghost use Rattle.vl_design.specs.Functions.{scope_of};
+ghost use Rattle.vl_design.specs.Reads.{reads, stm_reads, stm_writes};
+ghost use Rattle.vl_design.specs.Nesting.{AreRanked};
+ghost use Rattle.vl_design.specs.Functions.{scope_of, result_of};
 ghost use Rattle.vl_design.specs.Tasks.{called};
 ghost use Rattle.vl_base.specs.Value.{reading, resized};
 ghost use Rattle.vl_design.specs.Queue.{Queue};
-ghost use Rattle.vl_design.specs.Laws.{DifferIn, Grows, Adds, InRange, can_act, IsUnrolled, HasQuietNets, IsReached};
+ghost use Rattle.vl_design.specs.Laws.{DifferIn, StatesDifferIn, Grows, Adds, InRange, SameShape, IsFine, StartsFine, can_act, IsUnrolled, HasQuietNets, IsReached};
 ghost use Rattle.vl_design.specs.Examples.{alone, counter};
 ghost use Rattle.vl_design.specs.Alone.{Origin, Settles, Boundary, Ends};
-ghost use Rattle.vl_design.specs.Acts.{Point, After, Before, state_at, branch_of};
+ghost use Rattle.vl_design.specs.Acts.{Point, After, Before, state_at, queue_at, at_boundary, tick_of, branch_of};
 
 /// A run settles in one state.
 pub fn settles_in_one_state()
@@ -41,6 +43,19 @@ pub fn unread_signals_do_not_matter()
         (e : Exp) → reads p e ≡ false → (c : Context) → value scope s e c ≡ value scope t e c }
 {}
 
+/// What a statement does depends only on the signals that it reads: states that differ only in others differ only in these
+/// behind it.
+pub fn unread_signals_do_not_matter_to_statements()
+    ensures { (scope : Scope) (p : ℕ → Bool) (a : Stm) → stm_reads p a ≡ false →
+        (s t : State) → StatesDifferIn p s t → StatesDifferIn p (exec scope a s) (exec scope a t) }
+{}
+
+/// In a design without recursion a call gives what the function's body gives, however deep calls nest.
+pub fn a_call_gives_what_the_body_gives()
+    ensures { (d : Flat) (rank : ℕ → ℕ) (files : List File) (f : ℕ) (args : List ℕ) → AreRanked d rank →
+        (scope_of d files).call f args ≡ result_of (scope_of d files) (slice_get d.funs f) args }
+{}
+
 /// A statement changes only signals that it writes.
 pub fn other_signals_are_kept()
     ensures { (scope : Scope) (p : ℕ → Bool) (k : ℕ) → p k ≡ true →
@@ -57,14 +72,25 @@ pub fn a_finished_run_stays()
     ensures { (o : Origin) (k : ℕ) (q : Queue) → Boundary o k q → q.state.finished ≡ true → Boundary o (suc k) q }
 {}
 
-/// At each boundary of a run from nothing each word of a signal is below 2 to the signal's width.
+/// At each boundary each signal has as many words as the design says, each below 2 to the signal's width: from nothing, and
+/// from a snapshot whose words are so.
 pub fn values_stay_in_range()
-    ensures { (o : Origin) (k : ℕ) (q : Queue) → o.resume ≡ None → Boundary o k q → InRange o.flat.rows q.state.values }
+    ensures { (o : Origin) (k : ℕ) (q : Queue) → StartsFine o.flat.rows o.resume → Boundary o k q → IsFine o.flat.rows q.state.values }
+{}
+
+/// A snapshot of such values gives such values.
+pub fn snapshots_keep_the_range()
+    ensures { (rows : List Row) (s : State) → IsFine rows s.values → IsFine rows (kept_values rows (snapshot_of rows s).words) }
 {}
 
 /// A statement keeps each word of a signal below 2 to the signal's width.
 pub fn statements_keep_the_range()
     ensures { (scope : Scope) (a : Stm) (s : State) → InRange scope.names.rows s.values → InRange scope.names.rows (exec scope a s).values }
+{}
+
+/// A statement leaves as many words of each signal.
+pub fn statements_keep_the_words()
+    ensures { (scope : Scope) (a : Stm) (s : State) → SameShape (exec scope a s).values s.values }
 {}
 
 /// The run right after an act is one.
@@ -81,6 +107,15 @@ pub fn is_at_one_point_before_a_call()
 /// unrolled and whose combinational processes hold no system call.
 pub fn acts_agree_with_the_queue()
     ensures { (o : Origin) (k : ℕ) (q : Queue) → IsUnrolled o.flat → HasQuietNets o.flat → Boundary o k q → IsReached o q }
+{}
+
+/// A point at a boundary is the boundary of its tick, and a finished point is the state of that boundary, in such a
+/// design.
+pub fn a_point_at_a_boundary_is_the_boundary()
+    ensures between { (o : Origin) (c : ℕ) (p : Point) → IsUnrolled o.flat → HasQuietNets o.flat → After o c p →
+        at_boundary p ≡ true → Boundary o (tick_of p) (queue_at p) }
+    ensures finished { (o : Origin) (c : ℕ) (p : Point) → IsUnrolled o.flat → HasQuietNets o.flat → After o c p →
+        (state_at p).finished ≡ true → (q : Queue) × Boundary o (tick_of p) q × (q.state ≡ state_at p) }
 {}
 
 /// Each act is counted once, in such a design, and a call only with its effect.
@@ -101,10 +136,12 @@ pub fn printed_text_only_grows_act_by_act()
     ensures { (o : Origin) (b c : ℕ) (p r : Point) → After o b p → After o c r → b ≤ c → Grows (state_at p) (state_at r) }
 {}
 
-/// After each act of a run from nothing, and before each call, each word of a signal is below 2 to the signal's width.
+/// After each act, and before each call, each signal has as many words as the design says, each below 2 to the signal's
+/// width.
 pub fn values_stay_in_range_act_by_act()
-    ensures after { (o : Origin) (c : ℕ) (p : Point) → o.resume ≡ None → After o c p → InRange o.flat.rows (state_at p).values }
-    ensures before { (o : Origin) (c : ℕ) (task : Task) (p : Point) → o.resume ≡ None → Before o c task p → InRange o.flat.rows (state_at p).values }
+    ensures after { (o : Origin) (c : ℕ) (p : Point) → StartsFine o.flat.rows o.resume → After o c p → IsFine o.flat.rows (state_at p).values }
+    ensures before { (o : Origin) (c : ℕ) (task : Task) (p : Point) → StartsFine o.flat.rows o.resume → Before o c task p →
+        IsFine o.flat.rows (state_at p).values }
 {}
 
 /// A case does what the branch does that it takes; the choice is counted where the case holds a call.

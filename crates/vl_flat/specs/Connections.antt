@@ -20,7 +20,7 @@ use Rattle.vl_flat.specs.Targets.{target, target_faults}
 use Rattle.vl_flat.specs.Kinds.{is_input}
 use Rattle.vl_flat.specs.Environments.{Counts, Given}
 use Rattle.vl_flat.specs.Functions.{dotted}
-use Rattle.vl_flat.specs.Processes.{Here, process, is_clock}
+use Rattle.vl_flat.specs.Processes.{Here, process, is_clock, optional_faults}
 
 -- ---- lists of connections
 
@@ -73,30 +73,21 @@ given above base a u m = record {
   wired = λ t. not (is_input m t) && is_some (expression_of (port_connection m u t));
 }
 
-abbrev pub optional_faults : Env → Option x.Ex → List Stop
-optional_faults above e = option_map_or (faults (plainly above)) e []
-
 -- the faults of overrides
 abbrev pub override_faults : Env → Instances → List Stop
 override_faults above a = flat_map (λ q. optional_faults above q.value) a.overrides
 
--- ---- inputs: each takes its connection, or 0 (clause 12.3.9.2)
+-- ---- inputs: each that is connected is assigned its expression; another is a net that nothing drives, so 0 (clause 12.3.9.2)
 
 abbrev pub place_in : NamedUnit → Option Connection → Place
 place_in u q = option_map_or (λ c. c.place) q u.name.place
 
-abbrev pub source : Env → Place → Option x.Ex → p.Exp
-source above at None = p.Num at 0 1 false
-source above at (Some e) = exp (plainly above) e
+abbrev pub input_process : Here → Env → Place → List ℕ → x.Ex → p.Process
+input_process above env at t e =
+    process above at Assign [] (p.Set at (p.Whole at (number_of (env t))) (exp (plainly above.env) e))
 
-abbrev pub input_process : Here → Env → Module → NamedUnit → List ℕ → p.Process
-input_process above env m u t =
-    let q = port_connection m u t in
-    let at = place_in u q in
-    process above at Assign [] (p.Set at (p.Whole at (number_of (env t))) (source above.env at (expression_of q)))
-
-abbrev pub input_faults : Env → Module → NamedUnit → List ℕ → List Stop
-input_faults above m u t = optional_faults above (expression_of (port_connection m u t))
+abbrev pub input_faults : Env → x.Ex → List Stop
+input_faults above e = faults (plainly above) e
 
 -- ---- outputs: each is assigned to nets, their constant selects or concatenations of these (clause 12.3.9.2)
 

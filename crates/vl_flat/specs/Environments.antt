@@ -10,7 +10,7 @@ use Rattle.vl_design.specs.Placed.{Exp}
 use Rattle.vl_flat.specs.Scopes.{Env, none, bind}
 use Rattle.vl_flat.specs.Items.{DataType, Declared, Parameter, Item, Parameters, Signals, Functions, Instantiates, Module}
 use Rattle.vl_flat.specs.Kinds.{kind_of, signals_of}
-use Rattle.vl_flat.specs.Ranges.{type_range, type_form, is_signed, optional_bounds}
+use Rattle.vl_flat.specs.Ranges.{type_range, type_form, is_signed, has_range, optional_bounds}
 use Rattle.vl_flat.specs.Parameters.{converted, value_of}
 
 -- so many signals and functions
@@ -85,6 +85,7 @@ abbrev pub shape : Env → SigKind → Declared → Shape
 shape env kind d = record {
   kind = kind;
   signed = is_signed d.type;
+  ranged = has_range d.type;
   left = (type_range env d.type).0;
   right = (type_range env d.type).1;
   first = (optional_bounds env d.words).0;

@@ -65,10 +65,10 @@ module _ (scope : Scope) where
   abbrev pub constant_must : (Exp → Bool) → Ex → ℕ → List Stop
   constant_must test e number = construct_if (not (holds_long e) && not (test (constant scope e))) (node_place e) number
 
-  -- `:` against the declared direction
-  abbrev pub direction : ℤ × ℤ → Place → SelectMark → Ex → Ex → List Stop
-  direction range q m.Range l r = construct_if (turns_round range (bound_of (constant scope l)) (bound_of (constant scope r))) q 11
-  direction range q mark l r = []
+  -- `:` against the declared direction, in a select whose first token stands at this place
+  abbrev pub direction : Place → ℤ × ℤ → SelectMark → Ex → Ex → List Stop
+  direction at range m.Range l r = construct_if (turns_round range (bound_of (constant scope l)) (bound_of (constant scope r))) at 11
+  direction at range mark l r = []
 
   -- the bounds of `:` are constants, and so is the width behind `+:` and `-:`
   abbrev pub left_bound : SelectMark → Ex → List Stop
@@ -88,7 +88,7 @@ module _ (scope : Scope) where
     pub faults : Ex → List Stop
     faults (Number at n) = []
     faults (Text at text) = construct_if (is_long text) at 24
-    faults (Named at name ss) = past (Named at name ss) ++ name_faults (scope.names name) ss
+    faults (Named at name ss) = past (Named at name ss) ++ name_faults at (scope.names name) ss
     faults (Paren at a) = faults a
     faults (Unary at op a) = past (Unary at op a) ++ faults a
     faults (Binary at op a b) = past (Binary at op a b) ++ (faults a ++ faults b)
@@ -102,20 +102,21 @@ module _ (scope : Scope) where
     all_faults NoExs = []
     all_faults (MoreExs e es) = faults e ++ all_faults es
 
-    pub name_faults : Option Binding → Selects → List Stop
-    name_faults b NoSelects = []
-    name_faults b (Index q i others) = faults i ++ selects_faults (index_range b) others
-    name_faults b (Range q mark l r others) =
-        direction (range_of b) q mark l r ++ (faults l ++ (left_bound mark l ++ (faults r ++ (right_bound mark r
-        ++ selects_faults (bits_of (taken scope mark l r)) others))))
+    -- a name with its selects, whose first token stands at this place
+    pub name_faults : Place → Option Binding → Selects → List Stop
+    name_faults at b NoSelects = []
+    name_faults at b (Index q i others) = faults i ++ selects_faults at (index_range b) others
+    name_faults at b (Range q mark l r others) =
+        direction at (range_of b) mark l r ++ (faults l ++ (left_bound mark l ++ (faults r ++ (right_bound mark r
+        ++ selects_faults at (bits_of (taken scope mark l r)) others))))
 
     -- selects on a value whose bits are numbered so
-    pub selects_faults : ℤ × ℤ → Selects → List Stop
-    selects_faults range NoSelects = []
-    selects_faults range (Index q i others) = faults i ++ selects_faults (bits_of 1) others
-    selects_faults range (Range q mark l r others) =
-        direction range q mark l r ++ (faults l ++ (left_bound mark l ++ (faults r ++ (right_bound mark r
-        ++ selects_faults (bits_of (taken scope mark l r)) others))))
+    pub selects_faults : Place → ℤ × ℤ → Selects → List Stop
+    selects_faults at range NoSelects = []
+    selects_faults at range (Index q i others) = faults i ++ selects_faults at (bits_of 1) others
+    selects_faults at range (Range q mark l r others) =
+        direction at range mark l r ++ (faults l ++ (left_bound mark l ++ (faults r ++ (right_bound mark r
+        ++ selects_faults at (bits_of (taken scope mark l r)) others))))
 
     -- arguments of a system call; keeps tells whether a string is none of them, but a format or a name
     pub args_faults : Bool → Args → List Stop

@@ -149,8 +149,8 @@ part_low r z = clamped (if falls r then z -ℤ r.1 else r.1 -ℤ z)
 -- how many bits two bounds around a mark choose; more than 128 are refused, and counted as 129
 abbrev pub part_width : SelectMark → p.Exp → p.Exp → ℕ
 part_width m.Range a b = min 129 (range_width (bound_of a) (bound_of b))
-part_width m.Up a b = min 129 (width_of b)
-part_width m.Down a b = min 129 (width_of b)
+part_width m.Up a b = width_of b
+part_width m.Down a b = width_of b
 
 -- so many bits of a value, by what stands before the mark and the constant behind it
 abbrev pub part : Place → ℤ × ℤ → p.Exp → SelectMark → p.Exp → p.Exp → ℕ → p.Exp

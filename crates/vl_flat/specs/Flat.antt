@@ -1,6 +1,6 @@
 -- The flat design of a source, part by part in its order (IEEE 1364-2005, clause 12): an instance stands for its input
 -- connections in port order, the items of its module, and its output connections in port order.
-use Rattle.std.specs.Prelude.{ℕ, zero, suc, nat_lt, Bool, false, not, List, [], ◌∷◌, ◌++◌, length, flat_map, find, Option, None, if◌then◌else◌}
+use Rattle.std.specs.Prelude.{ℕ, zero, suc, nat_lt, Bool, false, not, ◌&&◌, List, [], ◌∷◌, ◌++◌, length, flat_map, find, Option, None, if◌then◌else◌}
 use Rattle.std.specs.List.{list_any}
 use Rattle.std.specs.Option.{option_map_or}
 use Rattle.std.specs.Str.{bytes_eq}
@@ -42,11 +42,12 @@ beginning above g a = record {
   begins = a.place ∷ [];
 }
 
--- an input's connection; a clock's stands for nothing
+-- an input's connection; a clock, and one that isn't connected, stand for nothing
 abbrev pub input_part : Here → Env → Module → NamedUnit → List ℕ → List Part
 input_part above env m u t =
-    if is_input m t then
-    (if is_clock_binding (env t) then [] else connection (input_process above env m u t ∷ []) (input_faults above.env m u t) ∷ [])
+    let q = port_connection m u t in
+    if is_input m t && not (is_clock_binding (env t)) then
+    option_map_or (λ e. connection (input_process above env (place_in u q) t e ∷ []) (input_faults above.env e) ∷ []) (expression_of q) []
     else []
 
 -- an output's; one that isn't connected stands for nothing

@@ -12,7 +12,7 @@ use Rattle.vl_design.specs.Placed.{Func}
 use Rattle.vl_flat.specs.Scopes.{Env, Scope, bind}
 use Rattle.vl_flat.specs.Uses.{controls, strays}
 use Rattle.vl_flat.specs.Environments.{after}
-use Rattle.vl_flat.specs.Ranges.{type_range, type_faults, is_signed}
+use Rattle.vl_flat.specs.Ranges.{type_range, type_faults, is_signed, has_range}
 use Rattle.vl_flat.specs.Statements.{statement, statement_faults}
 
 abbrev pub local_kind : Function → Local → SigKind
@@ -25,6 +25,7 @@ abbrev pub local_shape : Env → Function → Local → Shape
 local_shape env a l = record {
   kind = local_kind a l;
   signed = is_signed l.type;
+  ranged = has_range l.type;
   left = (type_range env l.type).0;
   right = (type_range env l.type).1;
   first = pos 0;

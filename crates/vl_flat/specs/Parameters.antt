@@ -8,7 +8,7 @@ use Rattle.vl_flat.specs.Scopes.{Env, plainly}
 use Rattle.vl_flat.specs.Constants.{constant_form, constant_value, assigned_value}
 use Rattle.vl_flat.specs.Expressions.{constant}
 use Rattle.vl_flat.specs.ExpressionFaults.{faults}
-use Rattle.vl_flat.specs.Ranges.{type_range, is_signed, type_faults, bits_in}
+use Rattle.vl_flat.specs.Ranges.{parameter_range, is_signed, type_faults, bits_in}
 
 -- a value of so many bits, numbered from 0
 abbrev pub unranged : ℕ → ℕ → Bool → Constant
@@ -22,7 +22,7 @@ ranged e r signed = record { value = assigned_value e (bits_in r); width = bits_
 -- width, and without a type it keeps its sign too
 abbrev pub converted : Env → DataType → Exp → Constant
 converted env (Vector signed None) e = unranged (constant_value e) (constant_form e).width (signed || (constant_form e).signed)
-converted env type e = ranged e (type_range env type) (is_signed type)
+converted env type e = ranged e (parameter_range env type) (is_signed type)
 
 -- the value of a parameter: what stands in place of its default, or the default
 abbrev pub value_of : Env → Option Exp → Parameter → Exp

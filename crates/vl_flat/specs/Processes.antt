@@ -1,6 +1,7 @@
 -- The signals and processes that an item of an instance stands for, and its faults (IEEE 1364-2005, clauses 6, 9 and 12).
-use Rattle.std.specs.Prelude.{ℕ, nat_lt, ℤ, int_le, Bool, true, false, not, ◌&&◌, ◌==◌, List, [], ◌∷◌, ◌++◌, map, flat_map, Option, Some, None, if◌then◌else◌}
+use Rattle.std.specs.Prelude.{ℕ, nat_lt, ℤ, Bool, true, false, not, ◌&&◌, ◌==◌, List, [], ◌∷◌, ◌++◌, map, flat_map, Option, Some, None, if◌then◌else◌}
 use Rattle.std.specs.Option.{option_map_or}
+use Rattle.std.specs.Ordering.{int_eq}
 use Rattle.vl_base.specs.declared.place.Place.{Place}
 use Rattle.vl_grammar.specs.declared.tree.Identifier.{Identifier}
 use Rattle.vl_source.specs.declared.tree.Edge.{Edge}
@@ -16,6 +17,7 @@ use Rattle.vl_design.specs.declared.design.SigKind.{SigKind}
 use Rattle.vl_design.specs.declared.design.SigKind.TheVariants.{Clock}
 use Rattle.vl_flat.specs.declared.binding.Binding.{Binding}
 use Rattle.vl_flat.specs.declared.binding.Binding.TheVariants as b
+use Rattle.vl_flat.specs.declared.binding.Shape.{Shape}
 use Rattle.vl_design.specs.declared.stop.Stop.{Stop}
 use Rattle.vl_flat.specs.Surface.{Ex, left_place}
 use Rattle.vl_flat.specs.Items.{Declared, Setting, Item, Parameters, Signals, Assigns, Initial, Always, Functions, Instantiates}
@@ -27,7 +29,7 @@ use Rattle.vl_flat.specs.ExpressionFaults.{faults}
 use Rattle.vl_flat.specs.Targets.{target, target_faults}
 use Rattle.vl_flat.specs.Statements.{statement, statement_faults}
 use Rattle.vl_flat.specs.Kinds.{signals_in}
-use Rattle.vl_flat.specs.Ranges.{is_signed, type_range, bits_in, type_faults, range_faults}
+use Rattle.vl_flat.specs.Ranges.{is_signed, has_range, type_range, bits_in, type_faults, range_faults}
 use Rattle.vl_flat.specs.Parameters.{parameter_faults}
 use Rattle.vl_flat.specs.Environments.{after}
 use Rattle.vl_flat.specs.Functions.{signal, function, function_faults}
@@ -59,19 +61,21 @@ abbrev pub is_clock : SigKind → Bool
 is_clock Clock = true
 is_clock kind = false
 
--- a clock has one bit; both declarations of a port have one sign and range
+abbrev pub same_flag : Bool → Bool → Bool
+same_flag true b = b
+same_flag false b = not b
+
+-- this sign, and these bits, or none, are what the first declaration of a signal says
+abbrev pub is_alike : Bool → Bool → ℤ × ℤ → Shape → Bool
+is_alike signed ranged r s =
+    same_flag signed s.signed && (same_flag ranged s.ranged && (int_eq r.0 s.left && int_eq r.1 s.right))
+
+-- a clock has one bit; both declarations of a port have one sign and range, or none has a range
 abbrev pub binding_faults : Env → Declared → Option Binding → List Stop
 binding_faults env d (Some (b.Signal k s)) =
     let r = type_range env d.type in
     construct_if (is_clock s.kind && nat_lt 1 (bits_in r)) d.name.place 12
-    ++ construct_if (not (is_same (is_signed d.type) s.signed && (same_number r.0 s.left && same_number r.1 s.right))) d.name.place 12
-  where
-    same_number : ℤ → ℤ → Bool
-    same_number a b = int_le a b && int_le b a
-
-    is_same : Bool → Bool → Bool
-    is_same true b = b
-    is_same false b = not b
+    ++ construct_if (not (is_alike (is_signed d.type) (has_range d.type) r s)) d.name.place 12
 binding_faults env d b = []
 
 abbrev pub optional_faults : Env → Option Ex → List Stop

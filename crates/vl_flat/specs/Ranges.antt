@@ -1,6 +1,6 @@
 -- The types of declarations: their sign and the numbers of their bits (IEEE 1364-2005, clauses 4.3, 4.8 and 4.9), and their
--- faults. A bound with a fault counts as 0, and a range of more than 128 bits as one bit.
-use Rattle.std.specs.Prelude.{ℕ, nat_lt, ℤ, pos, Bool, true, List, [], ◌++◌, Option, Some, None, if◌then◌else◌}
+-- faults. A range of more than 128 bits is one, and counts as one of 129.
+use Rattle.std.specs.Prelude.{ℕ, nat_lt, ℤ, pos, ◌+ℤ◌, ◌-ℤ◌, Bool, true, List, [], ◌++◌, Option, Some, None, is_some, if◌then◌else◌}
 use Rattle.vl_base.specs.declared.place.Place.{Place}
 use Rattle.vl_design.specs.declared.design.Form.{Form}
 use Rattle.vl_design.specs.Trees.{range_width}
@@ -10,7 +10,7 @@ use Rattle.vl_flat.specs.Items.{Bounds, DataType, Integer, Vector}
 use Rattle.vl_design.specs.Stops.{construct_if}
 use Rattle.vl_flat.specs.Scopes.{Env, plainly}
 use Rattle.vl_flat.specs.Constants.{is_bound, bound_of}
-use Rattle.vl_flat.specs.Expressions.{constant}
+use Rattle.vl_flat.specs.Expressions.{constant, falls}
 use Rattle.vl_flat.specs.ExpressionFaults.{faults, constant_must}
 
 -- the two bounds as they are written
@@ -35,9 +35,22 @@ bits_in r = range_width r.0 r.1
 abbrev pub is_wide : Env → DataType → Bool
 is_wide env type = nat_lt 128 (bits_in (written env type))
 
--- the numbers of the highest and the lowest bit
+-- 129 bits that are numbered in the direction of a range, from its right bound on
+abbrev pub too_wide : ℤ × ℤ → ℤ × ℤ
+too_wide r = (if falls r then r.1 +ℤ pos 128 else r.1 -ℤ pos 128, r.1)
+
+-- the numbers of the highest and the lowest bit of a signal
 abbrev pub type_range : Env → DataType → ℤ × ℤ
-type_range env type = if is_wide env type then (pos 0, pos 0) else written env type
+type_range env type = if is_wide env type then too_wide (written env type) else written env type
+
+-- those of a parameter: one that is too wide counts as one bit, since nothing behind it is judged
+abbrev pub parameter_range : Env → DataType → ℤ × ℤ
+parameter_range env type = if is_wide env type then (pos 0, pos 0) else written env type
+
+-- a declaration says which bits there are: by a range, or as an `integer`
+abbrev pub has_range : DataType → Bool
+has_range Integer = true
+has_range (Vector signed range) = is_some range
 
 abbrev pub type_form : Env → DataType → Form
 type_form env type = record { width = bits_in (type_range env type); signed = is_signed type }

@@ -59,7 +59,7 @@ module _ (scope : Scope) where
   abbrev mutual
     -- the faults of the selects in a left side
     pub left_faults : Left → List Stop
-    left_faults (LeftName at name ss) = name_faults scope (scope.names name) ss
+    left_faults (LeftName at name ss) = name_faults scope at (scope.names name) ss
     left_faults (LeftList at ls) = lefts_faults ls
 
     pub lefts_faults : Lefts → List Stop

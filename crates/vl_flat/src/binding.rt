@@ -24,6 +24,8 @@ pub struct Shape {
     pub kind: SigKind,
     /// Its values are signed.
     pub signed: bool,
+    /// Its first declaration says which bits it has: by a range, or as an `integer`.
+    pub ranged: bool,
     /// The number of its highest bit.
     pub left: i32,
     /// The number of its lowest bit.

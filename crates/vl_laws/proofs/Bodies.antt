@@ -8,7 +8,7 @@ use Rattle.std.proofs.Math.Seq.{get_or-append_seam}
 use Rattle.vl_design.specs.Syntax.{Row, Fun}
 use Rattle.vl_design.specs.Trees.{row_of}
 use Rattle.vl_design.specs.Width as w
-use Rattle.vl_design.specs.Functions.{inner}
+use Rattle.vl_design.specs.Width.{names_in}
 use Rattle.vl_flat.specs.declared.binding.Binding.{Binding}
 use Rattle.vl_flat.specs.declared.binding.Binding.TheVariants.{Signal}
 use Rattle.vl_flat.specs.declared.binding.Shape.{Shape}
@@ -90,11 +90,11 @@ module _ (module_env : Env) (a : x.Function) (path : List ℕ) where
 
 -- ---- the body
 
-result-same : (d : w.Scope) (g : Fun) (o : Option Fun) → w.result_form_of (inner d g) o ≡ w.result_form_of d o
+result-same : (d : w.Names) (g : Fun) (o : Option Fun) → w.result_form_of (inner d g) o ≡ w.result_form_of d o
 result-same d g None = refl
 result-same d g (Some f) = refl
 
-pub body-stands : (d : w.Scope) (env : Env) (path : List ℕ) (a : x.Function) → d.rows ≡ d.signals → length d.signals + length a.locals ≤ most_numbers
+pub body-stands : (d : w.Names) (env : Env) (path : List ℕ) (a : x.Function) → d.rows ≡ d.signals → length d.signals + length a.locals ≤ most_numbers
     → StandsIn (plainly env) d → StandsIn (function_scope (length d.signals) env a) (inner d (plain.fun (function (length d.signals) env path a)))
 body-stands d env path a whole room h =
     let name = dotted path a.name.name in

@@ -19,7 +19,7 @@ use Rattle.vl_flat.specs.Constants.{count_of}
 use Rattle.vl_flat.specs.Expressions as e
 use Rattle.vl_laws.specs.Naming.{StandsIn, IsValue, IsCalled, IsResolved, AreResolved, AreResolvedArgs}
 
-module _ (scope : Scope) (design : w.Scope) (stands : StandsIn scope design) where
+module _ (scope : Scope) (design : w.Names) (stands : StandsIn scope design) where
   -- the form of a placed expression in the design
   abbrev form-of : p.Exp → Form
   form-of a = w.form design (plain.exp a)

@@ -10,7 +10,7 @@ use Rattle.vl_flat.specs.Surface as x
 use Rattle.vl_flat.specs.Scopes.{Scope, shape_form}
 
 -- the numbers of an instance's names stand, in a design, for signals and functions of the widths and signs of these names
-pub record StandsIn (scope : Scope) (design : w.Scope) : Type 0 where
+pub record StandsIn (scope : Scope) (design : w.Names) : Type 0 where
   pub signals : (t : List ℕ) (k : ℕ) (s : Shape) → scope.names t ≡ Some (Signal k s) → w.signal_form design.rows k ≡ shape_form s
   pub inside : (t : List ℕ) (k : ℕ) (s : Shape) → scope.names t ≡ Some (Signal k s) → k < length design.rows
   pub functions : (t : List ℕ) (k : ℕ) (f : Form) → scope.calls t ≡ Some (Function k f) → w.result_form design k ≡ f

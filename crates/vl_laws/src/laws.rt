@@ -7,7 +7,7 @@ ghost use Rattle.vl_scope.specs.declared.fault.Fault.{Fault};
 ghost use Rattle.vl_scope.specs.DeclarationFaults.{IsDeclarationFault};
 ghost use Rattle.vl_design.specs.declared.design.Form.{Form};
 ghost use Rattle.vl_design.specs.Width as width;
-ghost use Rattle.vl_design.specs.Functions.{inner};
+ghost use Rattle.vl_design.specs.Width.{names_in};
 ghost use Rattle.vl_flat.specs.declared.binding.Binding.TheVariants.{Signal, Function};
 ghost use Rattle.vl_flat.specs.declared.binding.Shape.{Shape};
 ghost use Rattle.vl_flat.specs.Surface.{Ex};
@@ -29,16 +29,16 @@ ghost use Rattle.vl_laws.specs.Naming.{StandsIn, IsResolved};
 
 /// An expression has in the design the width and the sign by which it is judged.
 pub fn an_expression_has_the_width_by_which_it_is_judged()
-    ensures { (scope : Scope) (design : width.Scope) → StandsIn scope design → (e : Ex) → IsResolved scope e →
+    ensures { (scope : Scope) (design : width.Names) → StandsIn scope design → (e : Ex) → IsResolved scope e →
         width.form design (plain.exp (expressions.exp scope e)) ≡ expressions.form scope e }
 {}
 
 /// Where the names of a module stand in a design for what they are, so do those of a function's body, behind whose signals
 /// its locals come: also where it calls another function.
 pub fn a_function_stands_in_the_design_as_its_module_does()
-    ensures { (design : width.Scope) (env : Env) (path : List ℕ) (a : items.Function) → design.rows ≡ design.signals
+    ensures { (design : width.Names) (env : Env) (path : List ℕ) (a : items.Function) → design.rows ≡ design.signals
         → length design.signals + length a.locals ≤ most_numbers → StandsIn (plainly env) design
-        → StandsIn (function_scope (length design.signals) env a) (inner design (plain.fun (function (length design.signals) env path a))) }
+        → StandsIn (function_scope (length design.signals) env a) (names_in design (plain.fun (function (length design.signals) env path a))) }
 {}
 
 /// Where declarations have no fault, no parameter and no function has a signal's name.

@@ -18,6 +18,7 @@ use Rattle.vl_design.specs.Acts as act
 use Rattle.vl_design.specs.Acts.{Pause, AtCall, AtChoice, default_body, chosen_body, branch_of, uptos, Point, Between, Inside, state_at, queue_at, entered, entered_by, Reached, by_pause, through_blocks, reach, Calms, calm, Did, Act, of_wave, updates, Begins, from_nothing, from_snapshot, After, begins, acts}
 use Rattle.vl_design.specs.Laws.{IsUnrolledStm, AreUnrolledItems, can_act, IsUnrolled, HasQuietNets, IsReached}
 use Rattle.vl_design.proofs.Running.{some_is}
+use Rattle.vl_design.proofs.Acting.{left_of}
 use Rattle.vl_design.proofs.Resting.{exec_over, none_held, Rests, exec_rests, done_counts, case_done}
 
 pub alive : {A : Type 0} (b : Bool) (x y : A) → b ≡ false → (if b then x else y) ≡ y
@@ -32,11 +33,6 @@ abbrev pub OnlyComb : List Proc → List Bool → Type 0
 OnlyComb [] bs = ⊤
 OnlyComb (p ∷ ps) [] = ⊤
 OnlyComb (p ∷ ps) (b ∷ bs) = (b ≡ true → is_comb p.kind ≡ true) × OnlyComb ps bs
-
-abbrev pub left_of : Phase → List Proc
-left_of (Wave left) = left
-left_of Ended = []
-left_of Updated = []
 
 -- the process has no loops
 abbrev pub IsBare : Proc → Type 0

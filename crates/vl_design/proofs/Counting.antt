@@ -20,7 +20,8 @@ use Rattle.vl_design.specs.Acts.{Pause, Through, AtCall, AtChoice, default_body,
 use Rattle.vl_design.specs.Laws.{IsUnrolledStm, AreUnrolledItems, IsUnrolled, HasQuietNets, Adds}
 use Rattle.vl_design.proofs.Leading.{Steps, exec_leads, all_in}
 use Rattle.vl_design.proofs.Resting.{none_held, exec_rests, done_counts}
-use Rattle.vl_design.proofs.Agreeing.{OnlyComb, left_of, IsBare, Fits, woken_comb, blocks_unrolled, falls_unrolled, body_rests, evaluated_fits, at_first}
+use Rattle.vl_design.proofs.Acting.{left_of}
+use Rattle.vl_design.proofs.Agreeing.{OnlyComb, IsBare, Fits, woken_comb, blocks_unrolled, falls_unrolled, body_rests, evaluated_fits, at_first}
 
 -- ---- updates are only added
 
@@ -46,7 +47,7 @@ call_adds scope (Feof fd) s = adds_same s _ refl
 call_adds scope (Fclose fd) s = adds_same s _ refl
 call_adds scope (ReadHex name m) s = adds_same s _ (memory_later m (slice_get scope.names.rows m) (file.contents scope.files name) s)
 
-steps_add : (scope : Scope) → Steps scope Adds (λ t. ⊤) (λ k. ⊤) (λ v. ⊤)
+steps_add : (scope : Scope) → Steps scope Adds (λ t. ⊤) (λ t. ⊤) (λ k. ⊤) (λ v. ⊤)
 steps_add scope = record {
   same = λ s. adds_same s s refl;
   next = adds_on;
@@ -58,14 +59,14 @@ steps_add scope = record {
 }
 
 pub exec_adds : (scope : Scope) (a : Stm) (s : State) → Adds s (exec scope a s)
-exec_adds scope a s = exec_leads scope Adds _ _ _ (steps_add scope) a (all_in a) s
+exec_adds scope a s = exec_leads scope Adds _ _ _ _ (steps_add scope) a (all_in a) s
 
 -- ---- the count only rises
 
 pub call_counts : (scope : Scope) (task : Task) (s : State) → s.count ≤ (called scope task s).count
 call_counts scope task s = let e = done_counts scope task s in omega arith
 
-steps_count : (scope : Scope) → Steps scope (λ s t. s.count ≤ t.count) (λ t. ⊤) (λ k. ⊤) (λ v. ⊤)
+steps_count : (scope : Scope) → Steps scope (λ s t. s.count ≤ t.count) (λ t. ⊤) (λ t. ⊤) (λ k. ⊤) (λ v. ⊤)
 steps_count scope = record {
   same = λ s. omega arith;
   next = λ a b c f g. omega arith;
@@ -77,7 +78,7 @@ steps_count scope = record {
 }
 
 pub exec_counts : (scope : Scope) (a : Stm) (s : State) → s.count ≤ (exec scope a s).count
-exec_counts scope a s = exec_leads scope (λ s t. s.count ≤ t.count) _ _ _ (steps_count scope) a (all_in a) s
+exec_counts scope a s = exec_leads scope (λ s t. s.count ≤ t.count) _ _ _ _ (steps_count scope) a (all_in a) s
 
 -- ---- on the way to an act nothing is counted
 

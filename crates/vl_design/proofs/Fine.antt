@@ -1,6 +1,6 @@
 -- Values are as the design's signals have them, at each boundary and after each act.
 use Rattle.std.proofs.Common.{◌≡◌, ℕ, zero, suc, ◌^◌, ◌<◌, Bool, true, false, List, [], ◌∷◌, ◌++◌, length, take, drop, Option, Some, None, refl, ap, ◌∙◌, subst, arith}
-use Rattle.std.specs.Prelude.{All, replicate, if◌then◌else◌}
+use Rattle.std.specs.Prelude.{⊤, All, replicate, if◌then◌else◌}
 use Rattle.std.proofs.lemmas.Nat.{pow_pos}
 use Rattle.std.proofs.Math.Seq.{take-append_seam, drop-append_seam}
 use Rattle.std.proofs.lemmas.List.{length-replicate}
@@ -12,24 +12,26 @@ use Rattle.vl_design.specs.State.{State}
 use Rattle.vl_design.specs.Functions.{scope_of, zeros}
 use Rattle.vl_design.specs.Queue.{Queue}
 use Rattle.vl_design.specs.Snapshots.{Snapshot, is_kept, kept_words, kept_values}
-use Rattle.vl_design.specs.Alone.{Origin, Boundary, begun, ticked, first_queue}
-use Rattle.vl_design.specs.Acts.{Point, state_at, entered, Begins, from_nothing, from_snapshot, After, begins, acts, Before, before}
+use Rattle.vl_design.specs.Alone.{Origin, Boundary, first_queue}
+use Rattle.vl_design.specs.Acts.{Point, state_at, After, Before}
 use Rattle.vl_design.specs.Laws.{InRange, IsFine, StartsFine}
 use Rattle.vl_design.proofs.Ranging.{exec_in_range, call_in_range, updates_in_range, zeros_in_range}
 use Rattle.vl_design.proofs.Shaping.{shape_same, shape_on, exec_shape, call_shape, all_shape}
-use Rattle.vl_design.proofs.Acting.{EventSteps, ReachLeads, reach_leads, calms_lead, risen_leads, entered_leads, act_leads}
-use Rattle.vl_design.proofs.Rising.{settles_lead}
+use Rattle.vl_design.proofs.Acting.{EventSteps, any_parts}
+use Rattle.vl_design.proofs.Lasting.{boundary_lasts, after_lasts, before_lasts}
 
 abbrev Holds : Flat → State → State → Type 0
 Holds d s t = IsFine d.rows s.values → IsFine d.rows t.values
 
-events_hold : (d : Flat) (files : List File) → EventSteps d files (Holds d)
+events_hold : (d : Flat) (files : List File) → EventSteps d files (λ a. ⊤) (Holds d)
 events_hold d files = record {
+  kind = any_parts;
+  procs = λ i p l. tt;
   same = λ s f. f;
   next = λ a b c f g h. g (f h);
-  execs = λ a s f. record { range = exec_in_range (scope_of d files) a s f.range; shape = shape_on (exec_shape (scope_of d files) a s) f.shape };
+  execs = λ a h s f. record { range = exec_in_range (scope_of d files) a s f.range; shape = shape_on (exec_shape (scope_of d files) a s) f.shape };
   counts = λ s f. f;
-  calls = λ task s f. record { range = call_in_range (scope_of d files) task s f.range; shape = shape_on (call_shape (scope_of d files) task s) f.shape };
+  calls = λ task h s f. record { range = call_in_range (scope_of d files) task s f.range; shape = shape_on (call_shape (scope_of d files) task s) f.shape };
   updates = λ s f. record { range = updates_in_range d.rows s.later s.values f.range; shape = shape_on (all_shape d.rows s.later s.values) f.shape };
   rises = λ s f. f;
 }
@@ -42,27 +44,13 @@ first_fine o None h = zeros_fine o.flat.rows
 first_fine o (Some s) h = h
 
 pub boundary_fine : {o : Origin} {k : ℕ} {q : Queue} → StartsFine o.flat.rows o.resume → Boundary o k q → IsFine o.flat.rows q.state.values
-boundary_fine {o} h (begun e s) = settles_lead o.flat o.files (Holds o.flat) (events_hold o.flat o.files) s (first_fine o o.resume h)
-boundary_fine {o} h (ticked {before = b} x s) =
-    let r = events_hold o.flat o.files in
-    settles_lead o.flat o.files (Holds o.flat) r s (risen_leads o.flat o.files (Holds o.flat) r b (boundary_fine h x))
+boundary_fine {o} h x = boundary_lasts o (λ a. ⊤) (λ s. IsFine o.flat.rows s.values) (events_hold o.flat o.files) (first_fine o o.resume h) x
 
-begun_fine : {o : Origin} {s : Option Snapshot} {p : Point} → StartsFine o.flat.rows s → Begins o s p → IsFine o.flat.rows (state_at p).values
-begun_fine {o} h from_nothing = zeros_fine o.flat.rows
-begun_fine {o} h (from_snapshot c) = calms_lead o.flat o.files (Holds o.flat) (events_hold o.flat o.files) c h
-
--- after each act
 pub acts_fine : {o : Origin} {c : ℕ} {p : Point} → StartsFine o.flat.rows o.resume → After o c p → IsFine o.flat.rows (state_at p).values
-acts_fine h (begins b) = begun_fine h b
-acts_fine {o} h (acts x f a) = act_leads o.flat o.files (Holds o.flat) (events_hold o.flat o.files) a (acts_fine h x)
+acts_fine {o} h x = after_lasts o (λ a. ⊤) (λ s. IsFine o.flat.rows s.values) (events_hold o.flat o.files) (first_fine o o.resume h) x
 
--- and right before each call
 pub calls_fine : {o : Origin} {c : ℕ} {task : Task} {p : Point} → StartsFine o.flat.rows o.resume → Before o c task p → IsFine o.flat.rows (state_at p).values
-calls_fine {o} h (before {p = p} task q rest from committed x m) =
-    let r = events_hold o.flat o.files in
-    let f = reach_leads o.flat o.files (Holds o.flat) r (state_at p) (entered o.flat o.files p) m.left (entered_leads o.flat o.files (Holds o.flat) r p) in
-    let g = subst (ReachLeads o.flat o.files (Holds o.flat) r (state_at p)) m.next f in
-    g (acts_fine h x)
+calls_fine {o} h x = before_lasts o (λ a. ⊤) (λ s. IsFine o.flat.rows s.values) (events_hold o.flat o.files) (first_fine o o.resume h) x
 
 -- ---- snapshots
 

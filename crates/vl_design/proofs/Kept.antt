@@ -26,10 +26,9 @@ words_past v k i = unwrap_or-slice_get v k [] ∙ get_or_past v k [] i
 pub words_other : (values : List (List ℕ)) (j k : ℕ) (ws : List ℕ) → k ≢ j → words_of (slice_set values j ws) k ≡ words_of values k
 words_other values j k ws h = unwrap_or-slice_get (slice_set values j ws) k [] ∙ (get_or-set_other values j k ws [] h ∙ sym (unwrap_or-slice_get values k []))
 
-module _ (p : ℕ → Bool) (k : ℕ) (marked : p k ≡ true) where
-  apart : (j : ℕ) → p j ≡ false → k ≢ j
-  apart j h e = let z : p k ≡ p j = ap p e in cc (marked, h, z)
+-- ---- signals that do not pass a test
 
+module _ (p : ℕ → Bool) where
   abbrev pub OfSpots : List Spot → Type 0
   OfSpots [] = ⊤
   OfSpots (x ∷ xs) = (p x.signal ≡ false) × OfSpots xs
@@ -62,12 +61,39 @@ module _ (p : ℕ → Bool) (k : ℕ) (marked : p k ≡ true) where
     of_targets scope s NoTargets h = tt
     of_targets scope s (MoreTargets t ts) h = let g = or_false (target_writes p t) (targets_write p ts) h in of_both (spots scope s t) (all_spots scope s ts) (of_target scope s t g.0) (of_targets scope s ts g.1)
 
-  pub updates_keep : (rows : List Row) (us : List Update) → OfUpdates us → (values : List (List ℕ)) → words_of values k ≡ words_of (all_updated rows values us) k
+  mutual
+    pub writes_none : (a : Stm) → stm_writes p a ≡ false → AllIn (λ t. target_writes p t ≡ false) (λ t. target_writes p t ≡ false) (λ task. task_writes p task ≡ false) (λ j. p j ≡ false) a
+    writes_none Nop h = tt
+    writes_none (Then a b) h = let g = or_false (stm_writes p a) (stm_writes p b) h in (writes_none a g.0, writes_none b g.1)
+    writes_none (If t a b) h = let g = or_false (stm_writes p a) (stm_writes p b) h in (writes_none a g.0, writes_none b g.1)
+    writes_none (Case e items) h = items_none items h
+    writes_none (For j start test step a) h =
+        let g = or_false (p j) (stm_writes p start || (stm_writes p step || stm_writes p a)) h in
+        let f = or_false (stm_writes p start) (stm_writes p step || stm_writes p a) g.1 in
+        let e = or_false (stm_writes p step) (stm_writes p a) f.1 in
+        (g.0, writes_none start f.0, writes_none step e.0, writes_none a e.1)
+    writes_none (Repeat n a) h = writes_none a h
+    writes_none (Set t e) h = h
+    writes_none (Later t e) h = h
+    writes_none (Sys task) h = h
+
+    pub items_none : (items : Items) → items_write p items ≡ false → AllItems (λ t. target_writes p t ≡ false) (λ t. target_writes p t ≡ false) (λ task. task_writes p task ≡ false) (λ j. p j ≡ false) items
+    items_none NoItems h = tt
+    items_none (Labelled es a others) h = let g = or_false (stm_writes p a) (items_write p others) h in (writes_none a g.0, items_none others g.1)
+    items_none (Default a others) h = let g = or_false (stm_writes p a) (items_write p others) h in (writes_none a g.0, items_none others g.1)
+
+-- ---- a signal that passes it keeps its words
+
+module _ (p : ℕ → Bool) (k : ℕ) (marked : p k ≡ true) where
+  apart : (j : ℕ) → p j ≡ false → k ≢ j
+  apart j h e = let z : p k ≡ p j = ap p e in cc (marked, h, z)
+
+  pub updates_keep : (rows : List Row) (us : List Update) → OfUpdates p us → (values : List (List ℕ)) → words_of values k ≡ words_of (all_updated rows values us) k
   updates_keep rows [] h values = refl
   updates_keep rows (u ∷ us) h values = sym (words_other values u.signal k _ (apart u.signal h.0)) ∙ updates_keep rows us h.1 (with_update rows values u)
 
   pub assignment_keeps : (scope : Scope) (s : Sample) (t : Target) (e : Exp) → target_writes p t ≡ false → (values : List (List ℕ)) → words_of values k ≡ words_of (all_updated scope.names.rows values (assignment scope s t e)) k
-  assignment_keeps scope s t e h values = updates_keep scope.names.rows _ (of_updates (spots scope s t) _ (of_target scope s t h)) values
+  assignment_keeps scope s t e h values = updates_keep scope.names.rows _ (of_updates p (spots scope s t) _ (of_target p scope s t h)) values
 
   abbrev Keeps : State → State → Type 0
   Keeps s t = words_of s.values k ≡ words_of t.values k
@@ -88,7 +114,7 @@ module _ (p : ℕ → Bool) (k : ℕ) (marked : p k ≡ true) where
   call_keeps scope (Fclose fd) s h = refl
   call_keeps scope (ReadHex name m) s h = memory_keeps m h (slice_get scope.names.rows m) (file.contents scope.files name) s
 
-  steps_keep : (scope : Scope) → Steps scope Keeps (λ t. target_writes p t ≡ false) (λ task. task_writes p task ≡ false) (λ j. p j ≡ false)
+  steps_keep : (scope : Scope) → Steps scope Keeps (λ t. target_writes p t ≡ false) (λ t. target_writes p t ≡ false) (λ task. task_writes p task ≡ false) (λ j. p j ≡ false)
   steps_keep scope = record {
     same = λ s. refl;
     next = λ a b c f g. f ∙ g;
@@ -99,26 +125,5 @@ module _ (p : ℕ → Bool) (k : ℕ) (marked : p k ≡ true) where
     restores = λ j before s h f. f ∙ sym (words_other s.values j k _ (apart j h));
   }
 
-  mutual
-    pub writes_none : (a : Stm) → stm_writes p a ≡ false → AllIn (λ t. target_writes p t ≡ false) (λ task. task_writes p task ≡ false) (λ j. p j ≡ false) a
-    writes_none Nop h = tt
-    writes_none (Then a b) h = let g = or_false (stm_writes p a) (stm_writes p b) h in (writes_none a g.0, writes_none b g.1)
-    writes_none (If t a b) h = let g = or_false (stm_writes p a) (stm_writes p b) h in (writes_none a g.0, writes_none b g.1)
-    writes_none (Case e items) h = items_none items h
-    writes_none (For j start test step a) h =
-        let g = or_false (p j) (stm_writes p start || (stm_writes p step || stm_writes p a)) h in
-        let f = or_false (stm_writes p start) (stm_writes p step || stm_writes p a) g.1 in
-        let e = or_false (stm_writes p step) (stm_writes p a) f.1 in
-        (g.0, writes_none start f.0, writes_none step e.0, writes_none a e.1)
-    writes_none (Repeat n a) h = writes_none a h
-    writes_none (Set t e) h = h
-    writes_none (Later t e) h = h
-    writes_none (Sys task) h = h
-
-    pub items_none : (items : Items) → items_write p items ≡ false → AllItems (λ t. target_writes p t ≡ false) (λ task. task_writes p task ≡ false) (λ j. p j ≡ false) items
-    items_none NoItems h = tt
-    items_none (Labelled es a others) h = let g = or_false (stm_writes p a) (items_write p others) h in (writes_none a g.0, items_none others g.1)
-    items_none (Default a others) h = let g = or_false (stm_writes p a) (items_write p others) h in (writes_none a g.0, items_none others g.1)
-
   pub exec_keeps : (scope : Scope) (a : Stm) → stm_writes p a ≡ false → (s : State) → words_of s.values k ≡ words_of (exec scope a s).values k
-  exec_keeps scope a h s = exec_leads scope Keeps _ _ _ (steps_keep scope) a (writes_none a h) s
+  exec_keeps scope a h s = exec_leads scope Keeps _ _ _ _ (steps_keep scope) a (writes_none p a h) s

@@ -20,3 +20,6 @@ pub mod Nothing
 pub mod Ranked
 pub mod Shaping
 pub mod Fine
+pub mod Lasting
+pub mod Opening
+pub mod Same

@@ -123,7 +123,7 @@ call_in_range scope (Feof fd) s r = r
 call_in_range scope (Fclose fd) s r = r
 call_in_range scope (ReadHex name m) s r = memory_in_range scope.names.rows m (slice_get scope.names.rows m) refl (file.contents scope.files name) s r
 
-steps_in_range : (scope : Scope) → Steps scope (Ranges scope.names.rows) (λ t. ⊤) (λ k. ⊤) (λ v. ⊤)
+steps_in_range : (scope : Scope) → Steps scope (Ranges scope.names.rows) (λ t. ⊤) (λ t. ⊤) (λ k. ⊤) (λ v. ⊤)
 steps_in_range scope = record {
   same = λ s r. r;
   next = λ a b c f g r. g (f r);
@@ -135,7 +135,7 @@ steps_in_range scope = record {
 }
 
 pub exec_in_range : (scope : Scope) (a : Stm) (s : State) → InRange scope.names.rows s.values → InRange scope.names.rows (exec scope a s).values
-exec_in_range scope a s = exec_leads scope (Ranges scope.names.rows) _ _ _ (steps_in_range scope) a (all_in a) s
+exec_in_range scope a s = exec_leads scope (Ranges scope.names.rows) _ _ _ _ (steps_in_range scope) a (all_in a) s
 
 pub zeros_in_range : (rows : List Row) → InRange rows (zeros rows)
 zeros_in_range rows k = at (slice_get rows k) refl

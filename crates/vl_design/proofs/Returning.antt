@@ -18,7 +18,8 @@ use Rattle.vl_design.specs.Laws.{IsUnrolledStm, IsUnrolled, HasQuietNets}
 use Rattle.vl_design.proofs.Leading.{Steps, exec_leads, all_in}
 use Rattle.vl_design.proofs.Resting.{exec_over, none_held, exec_rests, case_done}
 use Rattle.vl_design.proofs.Counting.{either_unrolled, chosen_unrolled, default_unrolled}
-use Rattle.vl_design.proofs.Agreeing.{left_of, IsBare, Fits, woken_comb, blocks_unrolled, falls_unrolled, body_rests, evaluated_fits, at_first, alive, counted_once}
+use Rattle.vl_design.proofs.Acting.{left_of}
+use Rattle.vl_design.proofs.Agreeing.{IsBare, Fits, woken_comb, blocks_unrolled, falls_unrolled, body_rests, evaluated_fits, at_first, alive, counted_once}
 
 -- ---- a statement begins no tick
 
@@ -38,7 +39,7 @@ call_ticks scope (Feof fd) s = refl
 call_ticks scope (Fclose fd) s = refl
 call_ticks scope (ReadHex name m) s = memory_ticks m (slice_get scope.names.rows m) (file.contents scope.files name) s
 
-steps_tick : (scope : Scope) → Steps scope (λ s t. s.ticks ≡ t.ticks) (λ t. ⊤) (λ k. ⊤) (λ v. ⊤)
+steps_tick : (scope : Scope) → Steps scope (λ s t. s.ticks ≡ t.ticks) (λ t. ⊤) (λ t. ⊤) (λ k. ⊤) (λ v. ⊤)
 steps_tick scope = record {
   same = λ s. refl;
   next = λ a b c f g. f ∙ g;
@@ -50,7 +51,7 @@ steps_tick scope = record {
 }
 
 pub exec_ticks : (scope : Scope) (a : Stm) (s : State) → s.ticks ≡ (exec scope a s).ticks
-exec_ticks scope a s = exec_leads scope (λ s t. s.ticks ≡ t.ticks) _ _ _ (steps_tick scope) a (all_in a) s
+exec_ticks scope a s = exec_leads scope (λ s t. s.ticks ≡ t.ticks) _ _ _ _ (steps_tick scope) a (all_in a) s
 
 -- ---- statements one after another
 

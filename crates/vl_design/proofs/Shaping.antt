@@ -80,7 +80,7 @@ call_shape scope (Feof fd) s = shape_same s.values
 call_shape scope (Fclose fd) s = shape_same s.values
 call_shape scope (ReadHex name m) s = memory_shape m (slice_get scope.names.rows m) (file.contents scope.files name) s
 
-steps_shape : (scope : Scope) → Steps scope Shapes (λ t. ⊤) (λ k. ⊤) (λ v. ⊤)
+steps_shape : (scope : Scope) → Steps scope Shapes (λ t. ⊤) (λ t. ⊤) (λ k. ⊤) (λ v. ⊤)
 steps_shape scope = record {
   same = λ s. shape_same s.values;
   next = λ a b c f g. shape_on g f;
@@ -92,4 +92,4 @@ steps_shape scope = record {
 }
 
 pub exec_shape : (scope : Scope) (a : Stm) (s : State) → SameShape (exec scope a s).values s.values
-exec_shape scope a s = exec_leads scope Shapes _ _ _ (steps_shape scope) a (all_in a) s
+exec_shape scope a s = exec_leads scope Shapes _ _ _ _ (steps_shape scope) a (all_in a) s

@@ -1,5 +1,8 @@
 -- What the laws speak of (own).
-use Rattle.std.specs.Prelude.{◌≡◌, ℕ, ◌^◌, ◌<◌, Bool, true, false, ◌||◌, List, [], ◌++◌, length, All, ⊤, Option, Some, None}
+use Rattle.std.specs.Prelude.{◌≡◌, ℕ, ◌^◌, ◌<◌, Bool, true, false, ◌||◌, List, [], ◌++◌, length, All, ⊤, Option, Some, None, ◌+◌, ◌≤◌, is_some, unwrap_or, ◌∷◌}
+use Rattle.vl_base.specs.declared.files.File.{File}
+use Rattle.vl_base.specs.declared.files.OpenFile.{OpenFile}
+use Rattle.vl_base.specs.Files.{contents}
 use Rattle.vl_design.specs.Syntax.{Stm, Nop, Then, If, Case, For, Repeat, Set, Later, Sys, Items, NoItems, Labelled, Default, Row, Flat}
 use Rattle.vl_design.specs.Width.{signal_form}
 use Rattle.vl_design.specs.Value.{Sample, words_of}
@@ -55,6 +58,27 @@ pub record IsFine (rows : List Row) (values : List (List ℕ)) : Type 0 where
 abbrev pub StartsFine : List Row → Option Snapshot → Type 0
 StartsFine rows None = ⊤
 StartsFine rows (Some s) = IsFine rows (kept_values rows s.words)
+
+-- ---- tables of open files
+
+-- an open file has one of 16 slots and names a file of the set, and its place is not past the file's end
+pub record IsOpenIn (files : List File) (f : OpenFile) : Type 0 where
+  pub small : f.slot < 16
+  pub there : is_some (contents files f.name) ≡ true
+  pub within : f.place ≤ length (unwrap_or (contents files f.name) [])
+
+-- open files in ascending order of slots, from slot n on
+abbrev pub AreOpenFrom : List File → ℕ → List OpenFile → Type 0
+AreOpenFrom files n [] = ⊤
+AreOpenFrom files n (f ∷ fs) = (n ≤ f.slot) × IsOpenIn files f × AreOpenFrom files (f.slot + 1) fs
+
+abbrev pub IsTable : List File → List OpenFile → Type 0
+IsTable files table = AreOpenFrom files 0 table
+
+-- the table that a run begins with is such: from nothing it is empty
+abbrev pub StartsOpen : List File → Option Snapshot → Type 0
+StartsOpen files None = ⊤
+StartsOpen files (Some s) = IsTable files s.files
 
 -- ---- designs that are told act by act
 

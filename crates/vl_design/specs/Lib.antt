@@ -16,12 +16,14 @@ pub mod ReadHex
 pub mod Tasks
 pub mod Exec
 pub mod Functions
+pub mod Nodes
 pub mod Reads
 pub mod Turns
 pub mod Nesting
 pub mod Queue
 pub mod Snapshots
 pub mod Alone
+pub mod Observed
 pub mod Acts
 pub mod Cost
 pub mod Sound

@@ -16,9 +16,10 @@ ghost use Rattle.vl_design.specs.Functions.{scope_of, result_of};
 ghost use Rattle.vl_design.specs.Tasks.{called};
 ghost use Rattle.vl_base.specs.Value.{reading, resized};
 ghost use Rattle.vl_design.specs.Queue.{Queue};
-ghost use Rattle.vl_design.specs.Laws.{DifferIn, StatesDifferIn, Grows, Adds, InRange, SameShape, IsFine, StartsFine, can_act, IsUnrolled, HasQuietNets, IsReached};
+ghost use Rattle.vl_design.specs.Laws.{DifferIn, StatesDifferIn, Grows, Adds, InRange, SameShape, IsFine, StartsFine, IsTable, StartsOpen, can_act, IsUnrolled, HasQuietNets, IsReached};
 ghost use Rattle.vl_design.specs.Examples.{alone, counter};
 ghost use Rattle.vl_design.specs.Alone.{Origin, Settles, Boundary, Ends};
+ghost use Rattle.vl_design.specs.Observed.{observed, IsSameRun};
 ghost use Rattle.vl_design.specs.Acts.{Point, After, Before, state_at, queue_at, at_boundary, tick_of, branch_of};
 
 /// A run settles in one state.
@@ -35,6 +36,19 @@ pub fn has_one_state_at_a_boundary()
 pub fn ends_once()
     ensures { (o : Origin) (j k : ℕ) (r s : Reason) (a b : Queue) →
         Ends o j r a → Ends o k s b → (j ≡ k) × (r ≡ s) × (a ≡ b) }
+{}
+
+/// Being the same run is an equivalence.
+pub fn the_same_run_is_an_equivalence()
+    ensures reflexive { (o : Origin) → IsSameRun o o }
+    ensures symmetric { (o u : Origin) → IsSameRun o u → IsSameRun u o }
+    ensures transitive { (o u v : Origin) → IsSameRun o u → IsSameRun u v → IsSameRun o v }
+{}
+
+/// The same runs with one plan end at the same boundary for the same reason, and there is observed the same of both.
+pub fn the_same_runs_end_alike()
+    ensures { (o u : Origin) (k : ℕ) (reason : Reason) (q : Queue) → IsSameRun o u → o.plan ≡ u.plan → Ends o k reason q →
+        (r : Queue) × Ends u k reason r × (observed o.flat.rows q.state ≡ observed u.flat.rows r.state) }
 {}
 
 /// The value of an expression depends only on the signals that it reads.
@@ -76,6 +90,15 @@ pub fn a_finished_run_stays()
 /// from a snapshot whose words are so.
 pub fn values_stay_in_range()
     ensures { (o : Origin) (k : ℕ) (q : Queue) → StartsFine o.flat.rows o.resume → Boundary o k q → IsFine o.flat.rows q.state.values }
+{}
+
+/// The open files stand in ascending order of slots, of which there are 16; each names a file of the set, and its place is
+/// not past the file's end: at each boundary, after each act and before each call.
+pub fn open_files_stay_in_order()
+    ensures boundary { (o : Origin) (k : ℕ) (q : Queue) → StartsOpen o.files o.resume → Boundary o k q → IsTable o.files q.state.table }
+    ensures after { (o : Origin) (c : ℕ) (p : Point) → StartsOpen o.files o.resume → After o c p → IsTable o.files (state_at p).table }
+    ensures before { (o : Origin) (c : ℕ) (task : Task) (p : Point) → StartsOpen o.files o.resume → Before o c task p →
+        IsTable o.files (state_at p).table }
 {}
 
 /// A snapshot of such values gives such values.

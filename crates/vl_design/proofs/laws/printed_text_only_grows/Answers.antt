@@ -1,4 +1,4 @@
-use Rattle.vl_design.proofs.Growing.{boundaries_grow}
+use Rattle.vl_design.proofs.Rising.{boundaries_grow}
 use Rattle.vl_design.proofs.laws.printed_text_only_grows.Goals as goal
 
 pub returns : goal.returns

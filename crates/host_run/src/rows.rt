@@ -5,7 +5,6 @@ ghost use Rattle.vl_design.specs.declared.design.End.TheVariants.{Budget};
 ghost use Rattle.vl_design.specs.Queue.{Queue};
 ghost use Rattle.vl_design.specs.Alone.{Ends};
 ghost use Rattle.vl_design.specs.Plain.{alone};
-ghost use Rattle.vl_design.specs.Examples.{counter};
 ghost use Rattle.vl_flat.specs.Outcome.{flattened};
 ghost use Rattle.vl_design.specs.Plainly.{flat};
 ghost use Rattle.plain_form.specs.Running.{is_running};
@@ -16,6 +15,5 @@ ghost use Rattle.host_run.specs.Report.{block};
 pub fn three_ticks_of_a_counter_are_reported()
     ensures design { flattened counter_source ≡ Ok counter_design }
     ensures running { is_running counter_design ≡ true }
-    ensures plain { flat counter_design ≡ counter }
-    ensures report { (q : Queue) × Ends (alone counter 3) 3 Budget q × (block Budget q.state.ticks q.state.printed ≡ codes "tenant main budget 3 6\n0\n1\n2\n\n") }
+    ensures report { (q : Queue) × Ends (alone (flat counter_design) 3) 3 Budget q × (block Budget q.state.ticks q.state.printed ≡ codes "tenant main budget 3 6\n0\n1\n2\n\n") }
 {}

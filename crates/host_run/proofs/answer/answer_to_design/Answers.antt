@@ -1,7 +1,6 @@
-use Rattle.std.proofs.Common.{sym, ◌∙◌}
+use Rattle.std.proofs.Common.{refl, sym, ◌∙◌}
 use Rattle.vl_design.specs.Trees.{flat_of}
 use Rattle.vl_design.specs.Seen.{placed}
-use Rattle.vl_flat.proofs.Erased.{flat-same}
 use Rattle.host_run.specs.Due.{unbuilt}
 use Rattle.host_run.proofs.answer.answer_to_design.Goals as goal
 
@@ -23,7 +22,7 @@ returns c = λ text tree is elaborated.
         parsed = is.parsed;
         elaborated = elaborated;
         running = sym c.runs.ensures.same ∙ c.if-not-runs.false;
-        is = flat-same d;
+        is = refl;
       };
       tick = c.in_ok-outcome.outcome.ticks;
       reason = c.in_ok-outcome.outcome.end;

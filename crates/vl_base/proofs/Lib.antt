@@ -3,6 +3,7 @@ pub mod Bounds
 pub mod Congruent
 pub mod Digits
 pub mod FileSets
+pub mod Orders
 pub mod Parities
 pub mod Parts
 pub mod Readings

@@ -1,5 +1,5 @@
 -- Which of two numbered faults of a source comes first (own).
-use Rattle.std.specs.Prelude.{ℕ, nat_lt, Bool, ◌&&◌, ◌||◌, ◌==◌, if◌then◌else◌, List, [], ◌∷◌, Option, Some, None}
+use Rattle.std.specs.Prelude.{ℕ, nat_lt, Bool, ◌&&◌, ◌||◌, ◌==◌, if◌then◌else◌, List, fold, Option, Some, None}
 use Rattle.vl_base.specs.declared.place.Place.{Place}
 
 -- by the line, then by the column
@@ -21,5 +21,4 @@ earlier before (Some best) f = if before f best then Some f else Some best
 
 -- the first of those found before and a list
 abbrev pub earliest : {F : Type 0} → (F → F → Bool) → Option F → List F → Option F
-earliest before best [] = best
-earliest before best (f ∷ fs) = earliest before (earlier before best f) fs
+earliest before best fs = fold (earlier before) best fs

@@ -9,7 +9,7 @@ use Rattle.vl_base.specs.declared.bits.BinOp.TheVariants.{Add, Sub, Mul, Div, Re
 abbrev pub is_negative : ℕ → ℕ → Bool
 is_negative w v = nat_le (2 ^ w) (2 * v)
 
--- the whole number that w bits stand for: in two's complement where they are signed (clause 4.1.3)
+-- the whole number that w bits stand for: in two's complement where they are signed (clause 5.1.6)
 abbrev pub reading : Bool → ℕ → ℕ → ℤ
 reading signed w v = if signed && is_negative w v then neg_ℤ (pos (2 ^ w - v)) else pos v
 

@@ -9,8 +9,10 @@ ghost use Rattle.vl_base.specs.declared.bits.UnOp.TheVariants.{Not, RedAnd, RedO
 ghost use Rattle.vl_base.specs.declared.bits.BinOp.TheVariants.{Add, Sub, Mul, Div, Rem, And, Or, Xor, Xnor, Shl, Shr, Sshr};
 ghost use Rattle.vl_base.specs.Value.{reading, wrapped, resized, unary_value, unary_width, binary_value, binary_width, needs_one_width};
 ghost use Rattle.vl_base.specs.Selects.{bit_of, picked, placed, appended};
+ghost use Rattle.vl_base.specs.Places.{comes_before};
 
 use crate::bits::{BinOp, Bits, UnOp};
+use crate::place::Place;
 
 /// Sums, differences and products are those of the whole numbers that the values stand for, modulo
 /// 2^width, whether the values are signed or not.
@@ -131,4 +133,15 @@ pub fn digits_are_of_the_value(a: Bits)
     ensures octal { number_from_digits 8 (digits_by 3 a.width a.value) ≡ a.value }
     ensures hexadecimal { number_from_digits 16 (digits_by 4 a.width a.value) ≡ a.value }
     ensures bytes { number_from_digits 256 (digits_by 8 a.width a.value) ≡ a.value }
+{}
+
+/// Numbered faults at places come in one order: none comes before itself, of two at most one comes
+/// before the other, two of which neither does are one fault, and what comes no earlier than one that
+/// comes no earlier than a third comes no earlier than that.
+pub fn faults_come_in_one_order(p: Place, m: u8, q: Place, n: u8, r: Place, k: u8)
+    ensures not_itself { comes_before p m p m ≡ false }
+    ensures one_way { comes_before p m q n ≡ true → comes_before q n p m ≡ false }
+    ensures same_place { comes_before p m q n ≡ false → comes_before q n p m ≡ false → p ≡ q }
+    ensures same_number { comes_before p m q n ≡ false → comes_before q n p m ≡ false → m ≡ n }
+    ensures chain { comes_before p m q n ≡ false → comes_before q n r k ≡ false → comes_before p m r k ≡ false }
 {}

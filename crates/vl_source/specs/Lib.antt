@@ -5,3 +5,4 @@ pub mod Grammar
 pub mod Faults
 pub mod Parsers
 pub mod Parsing
+pub mod Hierarchy

@@ -3,7 +3,7 @@ use Rattle.std.proofs.Common.{◌≡◌, ℕ, ◌+◌, ◌≤◌, ◌<◌, nat_l
 use Rattle.std.specs.Prelude.{◌||◌, if◌then◌else◌}
 use Rattle.std.proofs.lemmas.Bool.{leb-true, leb-false}
 use Rattle.vl_base.specs.declared.files.File.{File}
-use Rattle.vl_design.specs.Syntax.{Task, Stm, Nop, Then, If, Case, For, Repeat, Set, Later, Sys, Flat}
+use Rattle.vl_design.specs.Syntax.{Task, Stm, Nop, Then, If, Case, For, Repeat, Set, Later, Sys, Proc, Flat}
 use Rattle.vl_design.specs.State.{State, counted}
 use Rattle.vl_design.specs.Tasks.{called}
 use Rattle.vl_design.specs.Exec.{exec, holds, items_hold, asks}
@@ -12,7 +12,7 @@ use Rattle.vl_design.specs.Queue.{Queue, Phase, Wave, Ended, Updated, with_updat
 use Rattle.vl_design.specs.Snapshots.{Snapshot}
 use Rattle.vl_design.specs.Alone.{Origin, risen, blocks, falls}
 use Rattle.vl_design.specs.Acts as act
-use Rattle.vl_design.specs.Acts.{Pause, Through, AtCall, AtChoice, upto, uptos, Point, Between, Inside, state_at, awake, awake_by, Reached, Calls, Chooses, with_block, by_pause, through_blocks, reach, Calms, calm, Did, Act, of_wave, updates, Begins, from_nothing, from_snapshot, After, begins, acts, NextIs, Before, before}
+use Rattle.vl_design.specs.Acts.{Pause, Through, AtCall, AtChoice, upto, uptos, Point, Between, Inside, state_at, entered, entered_by, Reached, Calls, Chooses, with_block, by_pause, through_blocks, reach, Calms, calm, Did, Act, of_wave, updates, Begins, from_nothing, from_snapshot, After, begins, acts, NextIs, Before, before}
 use Rattle.vl_design.specs.Laws.{Grows, InRange}
 use Rattle.vl_design.proofs.OncePerAct.{after_once}
 use Rattle.vl_design.proofs.Growing.{grows_same, grows_on, exec_grows, call_grows}
@@ -36,9 +36,9 @@ module _ (d : Flat) (files : List File) (R : State → State → Type 0) (r : Ev
   PauseLeads b (AtChoice s rest) = R b s
 
   abbrev pub ReachLeads : State → Reached → Type 0
-  ReachLeads b (act.Ends q) = R b q.state
-  ReachLeads b (Calls task q rest from) = R b q.state
-  ReachLeads b (Chooses q rest from) = R b q.state
+  ReachLeads b (act.Completes q) = R b q.state
+  ReachLeads b (Calls task q rest from committed) = R b q.state
+  ReachLeads b (Chooses q rest from committed) = R b q.state
 
   either_leads : (b : State) (h : Bool) (s : State) (rest : List Stm) (p : Pause) → R b s → PauseLeads b p → PauseLeads b (if h then AtChoice s rest else p)
   either_leads b true s rest p f g = f
@@ -60,22 +60,22 @@ module _ (d : Flat) (files : List File) (R : State → State → Type 0) (r : Ev
   uptos_lead b [] s f = f
   uptos_lead b (x ∷ xs) s f = upto_leads b x xs (uptos (scope_of d files) xs) s (λ t g. uptos_lead b xs t g) f
 
-  pause_leads : (b : State) (q : Queue) (from : List (List ℕ)) (left : List Stm) (go : Queue → Reached) (p : Pause) → ((z : Queue) → R b z.state → ReachLeads b (go z)) → PauseLeads b p → ReachLeads b (by_pause d files q from left go p)
-  pause_leads b q from left go (Through s) g f = g (with_block d files q from s) f
-  pause_leads b q from left go (AtCall task s rest) g f = f
-  pause_leads b q from left go (AtChoice s rest) g f = f
+  pause_leads : (b : State) (q : Queue) (from committed : List (List ℕ)) (left : List Proc) (go : Queue → Reached) (p : Pause) → ((z : Queue) → R b z.state → ReachLeads b (go z)) → PauseLeads b p → ReachLeads b (by_pause d files q from committed left go p)
+  pause_leads b q from committed left go (Through s) g f = g (with_block d files q from s) f
+  pause_leads b q from committed left go (AtCall task s rest) g f = f
+  pause_leads b q from committed left go (AtChoice s rest) g f = f
 
-  blocks_lead : (b : State) (left : List Stm) (q : Queue) → R b q.state → ReachLeads b (through_blocks d files left q)
-  blocks_lead b [] q f = f
-  blocks_lead b (x ∷ xs) q f = pause_leads b q q.state.values xs (through_blocks d files xs) _ (λ z g. blocks_lead b xs z g) (uptos_lead b (x ∷ []) q.state f)
+  blocks_lead : (b : State) (committed : List (List ℕ)) (left : List Proc) (q : Queue) → R b q.state → ReachLeads b (through_blocks d files committed left q)
+  blocks_lead b committed [] q f = f
+  blocks_lead b committed (x ∷ xs) q f = pause_leads b q q.state.values committed xs (through_blocks d files committed xs) _ (λ z g. blocks_lead b committed xs z g) (uptos_lead b (x.body ∷ []) q.state f)
 
-  pub reach_leads : (b : State) (p : Point) (left : List Stm) → R b (state_at p) → ReachLeads b (reach d files p left)
-  reach_leads b (Between q) left f = blocks_lead b left q f
-  reach_leads b (Inside q rest from) left f = pause_leads b q from left (through_blocks d files left) _ (λ z g. blocks_lead b left z g) (uptos_lead b rest q.state f)
+  pub reach_leads : (b : State) (p : Point) (left : List Proc) → R b (state_at p) → ReachLeads b (reach d files p left)
+  reach_leads b (Between q) left f = blocks_lead b q.state.values left q f
+  reach_leads b (Inside q rest from committed) left f = pause_leads b q from committed left (through_blocks d files committed left) _ (λ z g. blocks_lead b committed left z g) (uptos_lead b rest q.state f)
 
   calms_lead : {q z : Queue} → Calms d files q z → R q.state z.state
   calms_lead {q} (calm e) = r.same q.state
-  calms_lead {q} {z} (act.goes {body = body} e c) = r.next _ _ _ (r.execs body q.state) (calms_lead c)
+  calms_lead {q} {z} (act.goes {p = p} e c) = r.next _ _ _ (r.execs p.body q.state) (calms_lead c)
 
   pub risen_leads : (q : Queue) → R q.state (risen d q).state
   risen_leads q = at q.state.finished
@@ -87,23 +87,23 @@ module _ (d : Flat) (files : List File) (R : State → State → Type 0) (r : Ev
       at true = r.same q.state
       at false = r.rises q.state
 
-  wakes_lead : (q : Queue) (phase : Phase) (ahead : List (List Stm)) → R q.state (awake_by d files q phase ahead).state
+  wakes_lead : (q : Queue) (phase : Phase) (ahead : List (List Proc)) → R q.state (entered_by d files q phase ahead).state
   wakes_lead q (Wave left) ahead = r.same q.state
   wakes_lead q Ended ahead = r.same q.state
   wakes_lead q Updated [] = risen_leads q
   wakes_lead q Updated (w ∷ ws) = r.same q.state
 
-  pub awake_leads : (p : Point) → R (state_at p) (state_at (awake d files p))
-  awake_leads (Between q) = wakes_lead q q.phase q.ahead
-  awake_leads (Inside q rest from) = r.same q.state
+  pub entered_leads : (p : Point) → R (state_at p) (state_at (entered d files p))
+  entered_leads (Between q) = wakes_lead q q.phase q.ahead
+  entered_leads (Inside q rest from committed) = r.same q.state
 
   did_leads : (b : State) (m : Reached) (p : Point) → ReachLeads b m → Did d files m p → R b (state_at p)
-  did_leads b (act.Ends q) p f g = subst (λ z. R b (state_at z)) (sym g.2) (r.next _ _ _ (r.next _ _ _ f (r.counts q.state)) (calms_lead g.1))
-  did_leads b (Calls task q rest from) p f g = subst (λ z. R b (state_at z)) (sym g) (r.next _ _ _ f (r.calls task q.state))
-  did_leads b (Chooses q rest from) p f g = subst (λ z. R b (state_at z)) (sym g) (r.next _ _ _ f (r.counts q.state))
+  did_leads b (act.Completes q) p f g = subst (λ z. R b (state_at z)) (sym g.2) (r.next _ _ _ (r.next _ _ _ f (r.counts q.state)) (calms_lead g.1))
+  did_leads b (Calls task q rest from committed) p f g = subst (λ z. R b (state_at z)) (sym g) (r.next _ _ _ f (r.calls task q.state))
+  did_leads b (Chooses q rest from committed) p f g = subst (λ z. R b (state_at z)) (sym g) (r.next _ _ _ f (r.counts q.state))
 
   pub act_leads : {p p' : Point} → Act d files p p' → R (state_at p) (state_at p')
-  act_leads (of_wave {p = p} {p' = p'} left e x) = did_leads (state_at p) _ p' (reach_leads (state_at p) (awake d files p) left (awake_leads p)) x
+  act_leads (of_wave {p = p} {p' = p'} left e x) = did_leads (state_at p) _ p' (reach_leads (state_at p) (entered d files p) left (entered_leads p)) x
   act_leads (updates {q = q} e c) = r.next _ _ _ (r.next _ _ _ (r.updates q.state) (r.counts _)) (calms_lead c)
 
 module _ (o : Origin) (R : State → State → Type 0) (r : EventSteps o.flat o.files R) where
@@ -162,24 +162,24 @@ acts_in_range n (begins b) = begun_in_range n b
 acts_in_range {o} n (acts x f a) = act_leads o.flat o.files (Holds o.flat) (events_hold o.flat o.files) a (acts_in_range n x)
 
 -- and right before each call
-pub calls_in_range : {o : Origin} {c : ℕ} {s : State} → o.resume ≡ None → Before o c s → InRange o.flat.rows s.values
-calls_in_range {o} n (before {p = p} task q rest from x m) =
+pub calls_in_range : {o : Origin} {c : ℕ} {task : Task} {p : Point} → o.resume ≡ None → Before o c task p → InRange o.flat.rows (state_at p).values
+calls_in_range {o} n (before {p = p} task q rest from committed x m) =
     let r = events_hold o.flat o.files in
-    let f = reach_leads o.flat o.files (Holds o.flat) r (state_at p) (awake o.flat o.files p) m.left (awake_leads o.flat o.files (Holds o.flat) r p) in
+    let f = reach_leads o.flat o.files (Holds o.flat) r (state_at p) (entered o.flat o.files p) m.left (entered_leads o.flat o.files (Holds o.flat) r p) in
     let g = subst (ReachLeads o.flat o.files (Holds o.flat) r (state_at p)) m.next f in
     g (acts_in_range n x)
 
 -- ---- the effect of a call leads from right before it to right after it
 
-called_after : {o : Origin} {p z : Point} {task : Task} {q : Queue} {rest : List Stm} {from : List (List ℕ)} → NextIs o p task q rest from → Act o.flat o.files p z → state_at z ≡ called (scope_of o.flat o.files) task q.state
-called_after {o} {p} {z} {task} {q} {rest} {from} n (of_wave left e x) =
+called_after : {o : Origin} {p z : Point} {task : Task} {q : Queue} {rest : List Stm} {from committed : List (List ℕ)} → NextIs o p task q rest from committed → Act o.flat o.files p z → state_at z ≡ called (scope_of o.flat o.files) task q.state
+called_after {o} {p} {z} {task} {q} {rest} {from} {committed} n (of_wave left e x) =
     let i = n.in_wave in
     let same : left ≡ n.left = cc in
-    let y = subst (λ l. Did o.flat o.files (reach o.flat o.files (awake o.flat o.files p) l) z) same x in
+    let y = subst (λ l. Did o.flat o.files (reach o.flat o.files (entered o.flat o.files p) l) z) same x in
     ap state_at (subst (λ m. Did o.flat o.files m z) n.next y)
 called_after n (updates {q = q} e c) = let i = rw e at n.in_wave in let z : ⊥ = cc in absurd z
 
-pub before_after : {o : Origin} {c : ℕ} {s : State} {p : Point} → Before o c s → After o c p → (task : Task) × (state_at p ≡ called (scope_of o.flat o.files) task s)
-before_after {o} (before {p = p} task q rest from x n) (acts {p = w} {p' = z} y f a) =
+pub before_after : {o : Origin} {c : ℕ} {task : Task} {b p : Point} → Before o c task b → After o c p → state_at p ≡ called (scope_of o.flat o.files) task (state_at b)
+before_after {o} (before {p = p} task q rest from committed x n) (acts {p = w} {p' = z} y f a) =
     let same : w ≡ p = after_once o y x in
-    (task, called_after n (subst (λ v. Act o.flat o.files v z) same a))
+    called_after n (subst (λ v. Act o.flat o.files v z) same a)

@@ -1,7 +1,7 @@
 -- The run act by act is at each boundary of the run by events.
 use Rattle.std.proofs.Common.{◌≡◌, ℕ, suc, ◌+◌, Bool, true, false, List, [], ◌∷◌, Option, Some, None, refl, sym, ◌∙◌, ap, subst, add-one}
-use Rattle.std.specs.Prelude.{⊤, ◌||◌, ◌&&◌, if◌then◌else◌, All, filter}
-use Rattle.std.proofs.lemmas.List.Elements.{All-nil, All-cons, All-head, All-tail, All-map, All-filter}
+use Rattle.std.specs.Prelude.{⊤, ◌||◌, ◌&&◌, if◌then◌else◌, All}
+use Rattle.std.proofs.lemmas.List.Elements.{All-nil, All-cons, All-head, All-tail, All-filter}
 use Rattle.vl_design.specs.declared.design.Form.{Form}
 use Rattle.vl_design.specs.declared.design.ProcKind.{ProcKind}
 use Rattle.vl_design.specs.Syntax.{Task, Stm, Nop, Then, If, Case, For, Repeat, Set, Later, Sys, Items, NoItems, Labelled, Default, Proc, Flat}
@@ -15,15 +15,15 @@ use Rattle.vl_design.specs.Queue.{Queue, Phase, Wave, Ended, Updated, woken, fir
 use Rattle.vl_design.specs.Snapshots.{Snapshot}
 use Rattle.vl_design.specs.Alone.{Origin, Settles, rests, goes, Boundary, begun, ticked, start, risen, blocks, falls, all_comb, first_queue}
 use Rattle.vl_design.specs.Acts as act
-use Rattle.vl_design.specs.Acts.{Pause, AtCall, AtChoice, default_body, chosen_body, branch_of, uptos, Point, Between, Inside, state_at, queue_at, awake, awake_by, Reached, by_pause, through_blocks, reach, Calms, calm, Did, Act, of_wave, updates, Begins, from_nothing, from_snapshot, After, begins, acts}
+use Rattle.vl_design.specs.Acts.{Pause, AtCall, AtChoice, default_body, chosen_body, branch_of, uptos, Point, Between, Inside, state_at, queue_at, entered, entered_by, Reached, by_pause, through_blocks, reach, Calms, calm, Did, Act, of_wave, updates, Begins, from_nothing, from_snapshot, After, begins, acts}
 use Rattle.vl_design.specs.Laws.{IsUnrolledStm, AreUnrolledItems, can_act, IsUnrolled, HasQuietNets, IsReached}
 use Rattle.vl_design.proofs.Running.{some_is}
 use Rattle.vl_design.proofs.Resting.{exec_over, none_held, Rests, exec_rests, done_counts, case_done}
 
-alive : {A : Type 0} (b : Bool) (x y : A) → b ≡ false → (if b then x else y) ≡ y
+pub alive : {A : Type 0} (b : Bool) (x y : A) → b ≡ false → (if b then x else y) ≡ y
 alive b x y h = rw h refl
 
-counted_once : (b : Bool) (s : State) → b ≡ true → s.finished ≡ false → counted_if b s ≡ counted s
+pub counted_once : (b : Bool) (s : State) → b ≡ true → s.finished ≡ false → counted_if b s ≡ counted s
 counted_once b s h f = rw (h, f) refl
 
 -- ---- what stays true of a queue: only combinational processes are pending, and no block has a loop
@@ -33,20 +33,24 @@ OnlyComb [] bs = ⊤
 OnlyComb (p ∷ ps) [] = ⊤
 OnlyComb (p ∷ ps) (b ∷ bs) = (b ≡ true → is_comb p.kind ≡ true) × OnlyComb ps bs
 
-abbrev pub left_of : Phase → List Stm
+abbrev pub left_of : Phase → List Proc
 left_of (Wave left) = left
 left_of Ended = []
 left_of Updated = []
 
+-- the process has no loops
+abbrev pub IsBare : Proc → Type 0
+IsBare p = IsUnrolledStm p.body
+
 pub record Fits (d : Flat) (q : Queue) : Type 0 where
   pub pending : OnlyComb d.procs q.pending
-  pub left : All IsUnrolledStm (left_of q.phase)
-  pub ahead : All (All IsUnrolledStm) q.ahead
+  pub left : All IsBare (left_of q.phase)
+  pub ahead : All (All IsBare) q.ahead
 
-pub woken_comb : (p : ℕ → Bool) (xs : List Proc) (bs : List Bool) → OnlyComb xs bs → OnlyComb xs (woken p xs bs)
-woken_comb p [] bs h = tt
-woken_comb p (x ∷ xs) [] h = tt
-woken_comb p (x ∷ xs) (b ∷ bs) h = (at b (is_comb x.kind) _ h.0, woken_comb p xs bs h.1)
+pub woken_comb : (scope : Scope) (p : ℕ → Bool) (xs : List Proc) (bs : List Bool) → OnlyComb xs bs → OnlyComb xs (woken scope p xs bs)
+woken_comb scope p [] bs h = tt
+woken_comb scope p (x ∷ xs) [] h = tt
+woken_comb scope p (x ∷ xs) (b ∷ bs) h = (at b (is_comb x.kind) _ h.0, woken_comb scope p xs bs h.1)
   where
     at : (b c r : Bool) → (b ≡ true → c ≡ true) → (b || (c && r)) ≡ true → c ≡ true
     at true c r f e = f refl
@@ -63,33 +67,33 @@ pub all_are_comb : (xs : List Proc) → OnlyComb xs (all_comb xs)
 all_are_comb [] = tt
 all_are_comb (x ∷ xs) = (λ e. e, all_are_comb xs)
 
-pending_quiet : (xs : List Proc) (bs : List Bool) (body : Stm) → OnlyComb xs bs → All (λ p. is_comb p.kind ≡ true → can_act p.body ≡ false) xs → first_pending xs bs ≡ Some body → can_act body ≡ false
-pending_quiet [] bs body h k e = let z : ⊥ = cc in absurd z
-pending_quiet (x ∷ xs) [] body h k e = let z : ⊥ = cc in absurd z
-pending_quiet (x ∷ xs) (true ∷ bs) body h k e = subst (λ b. can_act b ≡ false) (some_is e) (All-head (λ p. is_comb p.kind ≡ true → can_act p.body ≡ false) x xs k (h.0 refl))
-pending_quiet (x ∷ xs) (false ∷ bs) body h k e = pending_quiet xs bs body h.1 (All-tail (λ p. is_comb p.kind ≡ true → can_act p.body ≡ false) x xs k) e
+pending_quiet : (xs : List Proc) (bs : List Bool) (p : Proc) → OnlyComb xs bs → All (λ p. is_comb p.kind ≡ true → can_act p.body ≡ false) xs → first_pending xs bs ≡ Some p → can_act p.body ≡ false
+pending_quiet [] bs p h k e = let z : ⊥ = cc in absurd z
+pending_quiet (x ∷ xs) [] p h k e = let z : ⊥ = cc in absurd z
+pending_quiet (x ∷ xs) (true ∷ bs) p h k e = subst (λ (z : Proc). can_act z.body ≡ false) (some_is e) (All-head (λ p. is_comb p.kind ≡ true → can_act p.body ≡ false) x xs k (h.0 refl))
+pending_quiet (x ∷ xs) (false ∷ bs) p h k e = pending_quiet xs bs p h.1 (All-tail (λ p. is_comb p.kind ≡ true → can_act p.body ≡ false) x xs k) e
 
-pub blocks_unrolled : (p : ProcKind → Bool) (xs : List Proc) → All (λ x. IsUnrolledStm x.body) xs → All IsUnrolledStm (blocks p xs)
-blocks_unrolled p xs h = All-map IsUnrolledStm (λ x. x.body) (filter (λ x. p x.kind) xs) (All-filter (λ x. p x.kind) (λ x. IsUnrolledStm x.body) xs h)
+pub blocks_unrolled : (p : ProcKind → Bool) (xs : List Proc) → All IsBare xs → All IsBare (blocks p xs)
+blocks_unrolled p xs h = All-filter (λ x. p x.kind) IsBare xs h
 
-pub falls_unrolled : (bs : List Stm) → All IsUnrolledStm bs → All (All IsUnrolledStm) (falls bs)
-falls_unrolled [] h = All-nil (All IsUnrolledStm)
-falls_unrolled (b ∷ bs) h = All-cons (All IsUnrolledStm) (b ∷ bs) [] h (All-nil (All IsUnrolledStm))
+pub falls_unrolled : (ps : List Proc) → All IsBare ps → All (All IsBare) (falls ps)
+falls_unrolled [] h = All-nil (All IsBare)
+falls_unrolled (p ∷ ps) h = All-cons (All IsBare) (p ∷ ps) [] h (All-nil (All IsBare))
 
 module _ (o : Origin) where
   abbrev scope : Scope
   scope = scope_of o.flat o.files
 
-  abbrev through_wave : List Stm → Queue → Reached
+  abbrev through_wave : List (List ℕ) → List Proc → Queue → Reached
   through_wave = through_blocks o.flat o.files
 
   -- the run act by act is at a point whose next act is the one behind n acts, and comes to this before it
   pub record Comes (n : ℕ) (to : Reached) : Type 0 where
     pub point : Point
-    pub left : List Stm
-    pub wave : (queue_at (awake o.flat o.files point)).phase ≡ Wave left
+    pub left : List Proc
+    pub wave : (queue_at (entered o.flat o.files point)).phase ≡ Wave left
     pub after : (p : Point) → Act o.flat o.files point p → After o (suc n) p
-    pub reached : reach o.flat o.files (awake o.flat o.files point) left ≡ to
+    pub reached : reach o.flat o.files (entered o.flat o.files point) left ≡ to
 
   one_more : (n : ℕ) (p : Point) → After o (suc n) p → After o (n + 1) p
   one_more n p a = subst (λ k. After o k p) (sym (add-one n)) a
@@ -100,29 +104,30 @@ module _ (o : Origin) where
 
   -- ---- in a block
 
-  -- a block that began with the values from comes to this pause, in a queue with these blocks, waves and processes
-  abbrev going : List (List ℕ) → List Stm → List (List Stm) → List Bool → State → Phase → Pause → Reached
-  going from left ahead pending t phase x =
-      by_pause o.flat o.files (record { state = t; phase = phase; ahead = ahead; pending = pending }) from left (through_wave left) x
+  -- a block that began with the values from, in a wave that began with the committed ones, comes to this pause, in a
+  -- queue with these processes left, waves and pending processes
+  abbrev going : (from committed : List (List ℕ)) → List Proc → List (List Proc) → List Bool → State → Phase → Pause → Reached
+  going from committed left ahead pending t phase x =
+      by_pause o.flat o.files (record { state = t; phase = phase; ahead = ahead; pending = pending }) from committed left (through_wave committed left) x
 
   -- in that block the run act by act has yet to do the statements r from the state s on; or it has finished in s
-  data Link (from : List (List ℕ)) (left : List Stm) (ahead : List (List Stm)) (pending : List Bool) : List Stm → State → Type 0 where
-    over : {r : List Stm} {s : State} (p : Point) → s.finished ≡ true → After o s.count p → state_at p ≡ s → Link from left ahead pending r s
-    on : {r : List Stm} {s : State} (t : State) (phase : Phase) → s.finished ≡ false → Comes s.count (going from left ahead pending t phase (uptos scope r s)) → Link from left ahead pending r s
+  data Link (from committed : List (List ℕ)) (left : List Proc) (ahead : List (List Proc)) (pending : List Bool) : List Stm → State → Type 0 where
+    over : {r : List Stm} {s : State} (p : Point) → s.finished ≡ true → After o s.count p → state_at p ≡ s → Link from committed left ahead pending r s
+    on : {r : List Stm} {s : State} (t : State) (phase : Phase) → s.finished ≡ false → Comes s.count (going from committed left ahead pending t phase (uptos scope r s)) → Link from committed left ahead pending r s
 
-  module _ (from : List (List ℕ)) (left : List Stm) (ahead : List (List Stm)) (pending : List Bool) where
+  module _ (from committed : List (List ℕ)) (left : List Proc) (ahead : List (List Proc)) (pending : List Bool) where
     abbrev Linked : List Stm → State → Type 0
-    Linked r s = Link from left ahead pending r s
+    Linked r s = Link from committed left ahead pending r s
 
     abbrev To : State → State → Phase → Pause → Type 0
-    To s t phase x = Comes s.count (going from left ahead pending t phase x)
+    To s t phase x = Comes s.count (going from committed left ahead pending t phase x)
 
     -- where a statement stands before the rest, its effect can be done
     abbrev Goes : Stm → Type 0
     Goes x = (r : List Stm) (s : State) → Linked (x ∷ r) s → Linked r (exec scope x s)
 
     abbrev inner : State → List Stm → Point
-    inner s r = Inside (record { state = s; phase = Wave left; ahead = ahead; pending = pending }) r from
+    inner s r = Inside (record { state = s; phase = Wave left; ahead = ahead; pending = pending }) r from committed
 
     at_act : (s : State) (r : List Stm) → After o s.count (inner s r) → Linked r s
     at_act s r a = at s.finished refl
@@ -134,7 +139,7 @@ module _ (o : Origin) where
     through : (x : Stm) (r : List Stm) (s t : State) (phase : Phase) → s.finished ≡ false → can_act x ≡ false → To s t phase (uptos scope r (exec scope x s)) → Linked r (exec scope x s)
     through x r s t phase f h c =
         let k = exec_rests scope x h s in
-        on t phase (k.finished ∙ f) (subst (λ n. Comes n (going from left ahead pending t phase (uptos scope r (exec scope x s)))) (sym k.count) c)
+        on t phase (k.finished ∙ f) (subst (λ n. Comes n (going from committed left ahead pending t phase (uptos scope r (exec scope x s)))) (sym k.count) c)
 
     -- the choice is done
     chosen : (s : State) (r : List Stm) (t : State) (phase : Phase) → To s t phase (AtChoice s r) → Linked r (counted s)
@@ -206,7 +211,7 @@ module _ (o : Origin) where
   -- where the run act by act is while the run by events is at a queue
   pub data At : Queue → Type 0 where
     stopped : {q : Queue} (p : Point) → q.state.finished ≡ true → After o q.state.count p → state_at p ≡ q.state → At q
-    in_wave : {q : Queue} (left : List Stm) (phase : Phase) → q.state.finished ≡ false → q.phase ≡ Wave left → Comes q.state.count (through_wave left (record q { phase = phase })) → At q
+    in_wave : {q : Queue} (committed : List (List ℕ)) (left : List Proc) (phase : Phase) → q.state.finished ≡ false → q.phase ≡ Wave left → Comes q.state.count (through_wave committed left (record q { phase = phase })) → At q
     at_end : {q : Queue} → q.state.finished ≡ false → q.phase ≡ Ended → Calmed q → At q
     at_update : {q : Queue} → q.state.finished ≡ false → q.phase ≡ Updated → Calmed q → At q
 
@@ -215,11 +220,11 @@ module _ (o : Origin) where
     pub fits : Fits o.flat q
 
   -- a point between waves, from which the wave w begins
-  wave_begins : (q : Queue) (w : List Stm) (ahead : List (List Stm)) → q.state.finished ≡ false → After o q.state.count (Between q)
-      → (t : State) → t.finished ≡ false → t.count ≡ q.state.count → awake o.flat o.files (Between q) ≡ Between (record { state = t; phase = Wave w; ahead = ahead; pending = q.pending })
+  wave_begins : (q : Queue) (w : List Proc) (ahead : List (List Proc)) → q.state.finished ≡ false → After o q.state.count (Between q)
+      → (t : State) → t.finished ≡ false → t.count ≡ q.state.count → entered o.flat o.files (Between q) ≡ Between (record { state = t; phase = Wave w; ahead = ahead; pending = q.pending })
       → At (record { state = t; phase = Wave w; ahead = ahead; pending = q.pending })
   wave_begins q w ahead f a t g n woke =
-      in_wave w (Wave w) g refl (record {
+      in_wave t.values w (Wave w) g refl (record {
         point = Between q;
         left = w;
         wave = ap (λ p. (queue_at p).phase) woke;
@@ -227,40 +232,40 @@ module _ (o : Origin) where
         reached = ap (λ p. reach o.flat o.files p w) woke;
       })
 
-  block_done : (q : Queue) (b : Stm) (bs : List Stm) → Link q.state.values bs q.ahead q.pending [] (exec scope b q.state) → At (executed o.flat o.files q b bs)
-  block_done q b bs (over p f a e) = stopped p f a e
-  block_done q b bs (on t ph f c) = in_wave bs ph f refl c
+  block_done : (q : Queue) (committed : List (List ℕ)) (b : Proc) (bs : List Proc) → Link q.state.values committed bs q.ahead q.pending [] (exec scope b.body q.state) → At (executed o.flat o.files q b bs)
+  block_done q committed b bs (over p f a e) = stopped p f a e
+  block_done q committed b bs (on t ph f c) = in_wave committed bs ph f refl c
 
-  wave_next : (q q' : Queue) (left : List Stm) (phase : Phase) → q.state.finished ≡ false → q.phase ≡ Wave left → Comes q.state.count (through_wave left (record q { phase = phase }))
+  wave_next : (q q' : Queue) (committed : List (List ℕ)) (left : List Proc) (phase : Phase) → q.state.finished ≡ false → q.phase ≡ Wave left → Comes q.state.count (through_wave committed left (record q { phase = phase }))
       → Fits o.flat q → next_event o.flat o.files q (Wave left) ≡ Some q' → Stands q'
-  wave_next q q' [] phase f e c g h =
+  wave_next q q' committed [] phase f e c g h =
       subst Stands (some_is h) (record {
         at = at_end f refl (λ z s. did c (Between z) (z, s, refl));
-        fits = record { pending = g.pending; left = All-nil IsUnrolledStm; ahead = g.ahead };
+        fits = record { pending = g.pending; left = All-nil IsBare; ahead = g.ahead };
       })
-  wave_next q q' (b ∷ bs) phase f e c g h =
-      let u : All IsUnrolledStm (b ∷ bs) = subst (λ x. All IsUnrolledStm (left_of x)) e g.left in
+  wave_next q q' committed (b ∷ bs) phase f e c g h =
+      let u : All IsBare (b ∷ bs) = subst (λ x. All IsBare (left_of x)) e g.left in
       subst Stands (some_is h) (record {
-        at = block_done q b bs (all_go q.state.values bs q.ahead q.pending b (All-head IsUnrolledStm b bs u) [] q.state (on q.state phase f c));
-        fits = record { pending = woken_comb _ o.flat.procs q.pending g.pending; left = All-tail IsUnrolledStm b bs u; ahead = g.ahead };
+        at = block_done q committed b bs (all_go q.state.values committed bs q.ahead q.pending b.body (All-head IsBare b bs u) [] q.state (on q.state phase f c));
+        fits = record { pending = woken_comb _ _ o.flat.procs q.pending g.pending; left = All-tail IsBare b bs u; ahead = g.ahead };
       })
 
   module _ (u : IsUnrolled o.flat) (h : HasQuietNets o.flat) where
-    pub body_rests : (q : Queue) (body : Stm) → Fits o.flat q → first_pending o.flat.procs q.pending ≡ Some body → Rests q.state (exec scope body q.state)
-    body_rests q body g e = exec_rests scope body (pending_quiet o.flat.procs q.pending body g.pending h.quiet e) q.state
+    pub body_rests : (q : Queue) (p : Proc) → Fits o.flat q → first_pending o.flat.procs q.pending ≡ Some p → Rests q.state (exec scope p.body q.state)
+    body_rests q p g e = exec_rests scope p.body (pending_quiet o.flat.procs q.pending p g.pending h.quiet e) q.state
 
-    pub evaluated_fits : (q : Queue) (body : Stm) → Fits o.flat q → Fits o.flat (evaluated o.flat o.files q body)
-    evaluated_fits q body g = record { pending = woken_comb _ o.flat.procs _ (done_comb o.flat.procs q.pending g.pending); left = g.left; ahead = g.ahead }
+    pub evaluated_fits : (q : Queue) (body : Proc) → Fits o.flat q → Fits o.flat (evaluated o.flat o.files q body)
+    evaluated_fits q body g = record { pending = woken_comb _ _ o.flat.procs _ (done_comb o.flat.procs q.pending g.pending); left = g.left; ahead = g.ahead }
 
     -- a pending process is evaluated
-    evaluation : (q : Queue) (body : Stm) → Fits o.flat q → first_pending o.flat.procs q.pending ≡ Some body → Calmed q → Calmed (evaluated o.flat o.files q body)
+    evaluation : (q : Queue) (body : Proc) → Fits o.flat q → first_pending o.flat.procs q.pending ≡ Some body → Calmed q → Calmed (evaluated o.flat o.files q body)
     evaluation q body g e a r c = subst (λ n. After o n (Between r)) (sym (body_rests q body g e).count) (a r (act.goes e c))
 
-    end_next : (q q' : Queue) (b : Option Stm) → first_pending o.flat.procs q.pending ≡ b → q.state.finished ≡ false → q.phase ≡ Ended → Calmed q → Fits o.flat q → next_pending o.flat o.files q b ≡ Some q' → Stands q'
+    end_next : (q q' : Queue) (b : Option Proc) → first_pending o.flat.procs q.pending ≡ b → q.state.finished ≡ false → q.phase ≡ Ended → Calmed q → Fits o.flat q → next_pending o.flat o.files q b ≡ Some q' → Stands q'
     end_next q q' None e f ph a g n =
         subst Stands (some_is (subst (λ x. next_phase o.flat o.files q x q.ahead ≡ Some q') ph n)) (record {
           at = at_update f refl (λ r c. one_more q.state.count (Between r) (acts (a q (calm e)) f (updates ph c)));
-          fits = record { pending = woken_comb _ o.flat.procs q.pending g.pending; left = All-nil IsUnrolledStm; ahead = g.ahead };
+          fits = record { pending = woken_comb _ _ o.flat.procs q.pending g.pending; left = All-nil IsBare; ahead = g.ahead };
         })
     end_next q q' (Some body) e f ph a g n =
         subst Stands (some_is n) (record {
@@ -271,17 +276,17 @@ module _ (o : Origin) where
     no_wave : {q : Queue} → ◌≡◌ {A = Option Queue} None (Some q) → ⊥
     no_wave e = cc
 
-    update_next : (q q' : Queue) (b : Option Stm) (ahead : List (List Stm)) → first_pending o.flat.procs q.pending ≡ b → q.ahead ≡ ahead → q.state.finished ≡ false → q.phase ≡ Updated → Calmed q → Fits o.flat q → next_pending o.flat o.files q b ≡ Some q' → Stands q'
+    update_next : (q q' : Queue) (b : Option Proc) (ahead : List (List Proc)) → first_pending o.flat.procs q.pending ≡ b → q.ahead ≡ ahead → q.state.finished ≡ false → q.phase ≡ Updated → Calmed q → Fits o.flat q → next_pending o.flat o.files q b ≡ Some q' → Stands q'
     update_next q q' None [] e i f ph a g n =
         let z = subst (λ x. next_phase o.flat o.files q x q.ahead ≡ Some q') ph n in
         absurd (no_wave (subst (λ x. next_phase o.flat o.files q Updated x ≡ Some q') i z))
     update_next q q' None (w ∷ ws) e i f ph a g n =
         let z = subst (λ x. next_phase o.flat o.files q x q.ahead ≡ Some q') ph n in
-        let woke = ap (λ x. Between (awake_by o.flat o.files q x q.ahead)) ph ∙ ap (λ x. Between (awake_by o.flat o.files q Updated x)) i in
-        let v : All (All IsUnrolledStm) (w ∷ ws) = subst (All (All IsUnrolledStm)) i g.ahead in
+        let woke = ap (λ x. Between (entered_by o.flat o.files q x q.ahead)) ph ∙ ap (λ x. Between (entered_by o.flat o.files q Updated x)) i in
+        let v : All (All IsBare) (w ∷ ws) = subst (All (All IsBare)) i g.ahead in
         subst Stands (some_is (subst (λ x. next_phase o.flat o.files q Updated x ≡ Some q') i z)) (record {
           at = wave_begins q w ws f (a q (calm e)) q.state f refl woke;
-          fits = record { pending = g.pending; left = All-head (All IsUnrolledStm) w ws v; ahead = All-tail (All IsUnrolledStm) w ws v };
+          fits = record { pending = g.pending; left = All-head (All IsBare) w ws v; ahead = All-tail (All IsBare) w ws v };
         })
     update_next q q' (Some body) ahead e i f ph a g n =
         subst Stands (some_is n) (record {
@@ -294,7 +299,7 @@ module _ (o : Origin) where
 
     at_next : (q q' : Queue) → next o.flat o.files q ≡ Some q' → At q → Fits o.flat q → Stands q'
     at_next q q' n (stopped p f a e) g = absurd (no_wave (rw f at n))
-    at_next q q' n (in_wave left phase f e c) g = wave_next q q' left phase f e c g (next_by q _ (Wave left) f e n)
+    at_next q q' n (in_wave committed left phase f e c) g = wave_next q q' committed left phase f e c g (next_by q _ (Wave left) f e n)
     at_next q q' n (at_end f e a) g = end_next q q' (first_pending o.flat.procs q.pending) refl f e a g (next_by q _ Ended f e n)
     at_next q q' n (at_update f e a) g = update_next q q' (first_pending o.flat.procs q.pending) q.ahead refl refl f e a g (next_by q _ Updated f e n)
 
@@ -311,11 +316,11 @@ module _ (o : Origin) where
     not_quiet : {q : Queue} → ◌≡◌ {A = Option Queue} (Some q) None → ⊥
     not_quiet h = cc
 
-    end_rest : (q : Queue) (b : Option Stm) → q.phase ≡ Ended → next_pending o.flat o.files q b ≡ None → ⊥
+    end_rest : (q : Queue) (b : Option Proc) → q.phase ≡ Ended → next_pending o.flat o.files q b ≡ None → ⊥
     end_rest q None e n = not_quiet (subst (λ x. next_phase o.flat o.files q x q.ahead ≡ None) e n)
     end_rest q (Some body) e n = not_quiet n
 
-    update_rest : (q : Queue) (b : Option Stm) (ahead : List (List Stm)) → first_pending o.flat.procs q.pending ≡ b → q.ahead ≡ ahead → q.state.finished ≡ false → q.phase ≡ Updated → Calmed q → next_pending o.flat o.files q b ≡ None → Rest q
+    update_rest : (q : Queue) (b : Option Proc) (ahead : List (List Proc)) → first_pending o.flat.procs q.pending ≡ b → q.ahead ≡ ahead → q.state.finished ≡ false → q.phase ≡ Updated → Calmed q → next_pending o.flat o.files q b ≡ None → Rest q
     update_rest q None [] e i f ph a n = quiet f ph i (a q (calm e))
     update_rest q None (w ∷ ws) e i f ph a n =
         let z = subst (λ x. next_phase o.flat o.files q x q.ahead ≡ None) ph n in
@@ -324,8 +329,8 @@ module _ (o : Origin) where
 
     at_rest : (q : Queue) → next o.flat o.files q ≡ None → At q → Rest q
     at_rest q n (stopped p f a e) = finished p f a e
-    at_rest q n (in_wave [] phase f e c) = absurd (not_quiet (next_by q _ (Wave []) f e n))
-    at_rest q n (in_wave (b ∷ bs) phase f e c) = absurd (not_quiet (next_by q _ (Wave (b ∷ bs)) f e n))
+    at_rest q n (in_wave committed [] phase f e c) = absurd (not_quiet (next_by q _ (Wave []) f e n))
+    at_rest q n (in_wave committed (b ∷ bs) phase f e c) = absurd (not_quiet (next_by q _ (Wave (b ∷ bs)) f e n))
     at_rest q n (at_end f e a) = absurd (end_rest q (first_pending o.flat.procs q.pending) e (next_by q _ Ended f e n))
     at_rest q n (at_update f e a) = update_rest q (first_pending o.flat.procs q.pending) q.ahead refl refl f e a (next_by q _ Updated f e n)
 
@@ -334,7 +339,7 @@ module _ (o : Origin) where
     at_risen q (quiet f ph i a) g =
         let t : State = record (q.state) { ticks = q.state.ticks + 1; saves = [] } in
         let same = alive q.state.finished q (record q { state = t; phase = Wave (blocks is_rise o.flat.procs); ahead = falls (blocks is_fall o.flat.procs) }) f in
-        let woke = ap (λ x. Between (awake_by o.flat o.files q x q.ahead)) ph ∙ (ap (λ x. Between (awake_by o.flat o.files q Updated x)) i ∙ ap Between same) in
+        let woke = ap (λ x. Between (entered_by o.flat o.files q x q.ahead)) ph ∙ (ap (λ x. Between (entered_by o.flat o.files q Updated x)) i ∙ ap Between same) in
         subst Stands (sym same) (record {
           at = wave_begins q (blocks is_rise o.flat.procs) (falls (blocks is_fall o.flat.procs)) f a t f refl woke;
           fits = record {
@@ -346,18 +351,18 @@ module _ (o : Origin) where
 
     pub at_first : (s : Option Snapshot) → o.resume ≡ s → Stands (first_queue o s)
     at_first None e = record {
-      at = in_wave (blocks is_init o.flat.procs) (Wave (blocks is_init o.flat.procs)) refl refl (record {
+      at = in_wave (start o.flat).state.values (blocks is_init o.flat.procs) (Wave (blocks is_init o.flat.procs)) refl refl (record {
         point = Between (start o.flat);
         left = blocks is_init o.flat.procs;
         wave = refl;
         after = λ p b. acts (begins (subst (λ x. Begins o x (Between (start o.flat))) (sym e) from_nothing)) refl b;
         reached = refl;
       });
-      fits = record { pending = all_are_comb o.flat.procs; left = blocks_unrolled is_init o.flat.procs u.procs; ahead = All-nil (All IsUnrolledStm) };
+      fits = record { pending = all_are_comb o.flat.procs; left = blocks_unrolled is_init o.flat.procs u.procs; ahead = All-nil (All IsBare) };
     }
     at_first (Some s) e = record {
       at = at_update refl refl (λ r c. begins (subst (λ x. Begins o x (Between r)) (sym e) (from_snapshot c)));
-      fits = record { pending = all_are_comb o.flat.procs; left = All-nil IsUnrolledStm; ahead = All-nil (All IsUnrolledStm) };
+      fits = record { pending = all_are_comb o.flat.procs; left = All-nil IsBare; ahead = All-nil (All IsBare) };
     }
 
     boundary_rests : {k : ℕ} {q : Queue} → Boundary o k q → Rest q × Fits o.flat q

@@ -5,7 +5,7 @@ use Rattle.std.proofs.lemmas.List.Elements.{All-nil, All-cons, All-head, All-tai
 use Rattle.vl_base.specs.Files as file
 use Rattle.vl_base.specs.declared.files.File.{File}
 use Rattle.vl_design.specs.declared.design.Form.{Form}
-use Rattle.vl_design.specs.Syntax.{Task, Print, Finish, Save, Fopen, Fread, Fgetc, Feof, Fclose, ReadHex, Stm, Nop, Then, If, Case, For, Repeat, Set, Later, Sys, Items, NoItems, Labelled, Default, Row, Flat}
+use Rattle.vl_design.specs.Syntax.{Task, Print, Finish, Save, Fopen, Fread, Fgetc, Feof, Fclose, ReadHex, Stm, Nop, Then, If, Case, For, Repeat, Set, Later, Sys, Items, NoItems, Labelled, Default, Row, Proc, Flat}
 use Rattle.vl_design.specs.Width.{Scope}
 use Rattle.vl_design.specs.Value.{Sample}
 use Rattle.vl_design.specs.State.{State, sample}
@@ -16,11 +16,11 @@ use Rattle.vl_design.specs.Queue.{Queue, Phase, Wave, Ended, Updated, changed, i
 use Rattle.vl_design.specs.Snapshots.{Snapshot}
 use Rattle.vl_design.specs.Alone.{Origin, risen, blocks, falls}
 use Rattle.vl_design.specs.Acts as act
-use Rattle.vl_design.specs.Acts.{Pause, Through, AtCall, AtChoice, default_body, chosen_body, branch_of, upto, uptos, Point, Between, Inside, state_at, queue_at, awake, awake_by, Reached, Calls, Chooses, with_block, by_pause, through_blocks, reach, Calms, calm, Did, Act, of_wave, updates, Begins, from_nothing, from_snapshot, After, begins, acts, before}
+use Rattle.vl_design.specs.Acts.{Pause, Through, AtCall, AtChoice, default_body, chosen_body, branch_of, upto, uptos, Point, Between, Inside, state_at, queue_at, entered, entered_by, Reached, Calls, Chooses, with_block, by_pause, through_blocks, reach, Calms, calm, Did, Act, of_wave, updates, Begins, from_nothing, from_snapshot, After, begins, acts, Before, before}
 use Rattle.vl_design.specs.Laws.{IsUnrolledStm, AreUnrolledItems, IsUnrolled, HasQuietNets, Adds}
 use Rattle.vl_design.proofs.Leading.{Steps, exec_leads, all_in}
 use Rattle.vl_design.proofs.Resting.{none_held, exec_rests, done_counts}
-use Rattle.vl_design.proofs.Agreeing.{OnlyComb, left_of, Fits, woken_comb, blocks_unrolled, falls_unrolled, body_rests, evaluated_fits, at_first}
+use Rattle.vl_design.proofs.Agreeing.{OnlyComb, left_of, IsBare, Fits, woken_comb, blocks_unrolled, falls_unrolled, body_rests, evaluated_fits, at_first}
 
 -- ---- updates are only added
 
@@ -44,7 +44,7 @@ call_adds scope (Fread j fd) s = adds_same s _ refl
 call_adds scope (Fgetc fd) s = adds_same s _ refl
 call_adds scope (Feof fd) s = adds_same s _ refl
 call_adds scope (Fclose fd) s = adds_same s _ refl
-call_adds scope (ReadHex name m) s = adds_same s _ (memory_later m (slice_get scope.rows m) (file.contents scope.files name) s)
+call_adds scope (ReadHex name m) s = adds_same s _ (memory_later m (slice_get scope.names.rows m) (file.contents scope.files name) s)
 
 steps_add : (scope : Scope) → Steps scope Adds (λ t. ⊤) (λ k. ⊤) (λ v. ⊤)
 steps_add scope = record {
@@ -86,16 +86,16 @@ PauseCounts n (Through s) = s.count ≡ n
 PauseCounts n (AtCall task s rest) = (s.count ≡ n) × All IsUnrolledStm rest
 PauseCounts n (AtChoice s rest) = (s.count ≡ n) × All IsUnrolledStm rest
 
-default_unrolled : (items : Items) → AreUnrolledItems items → IsUnrolledStm (default_body items)
+pub default_unrolled : (items : Items) → AreUnrolledItems items → IsUnrolledStm (default_body items)
 default_unrolled NoItems u = tt
 default_unrolled (Labelled es a others) u = default_unrolled others u.1
 default_unrolled (Default a others) u = u.0
 
-either_unrolled : (b : Bool) (x y : Stm) → IsUnrolledStm x → IsUnrolledStm y → IsUnrolledStm (if b then x else y)
+pub either_unrolled : (b : Bool) (x y : Stm) → IsUnrolledStm x → IsUnrolledStm y → IsUnrolledStm (if b then x else y)
 either_unrolled true x y u v = u
 either_unrolled false x y u v = v
 
-chosen_unrolled : (scope : Scope) (s : Sample) (v : ℕ) (c : Form) (items : Items) (other : Stm) → AreUnrolledItems items → IsUnrolledStm other → IsUnrolledStm (chosen_body scope s v c items other)
+pub chosen_unrolled : (scope : Scope) (s : Sample) (v : ℕ) (c : Form) (items : Items) (other : Stm) → AreUnrolledItems items → IsUnrolledStm other → IsUnrolledStm (chosen_body scope s v c items other)
 chosen_unrolled scope s v c NoItems other u w = w
 chosen_unrolled scope s v c (Labelled es a others) other u w = either_unrolled (some_match scope s c v es) a _ u.0 (chosen_unrolled scope s v c others other u.1 w)
 chosen_unrolled scope s v c (Default a others) other u w = chosen_unrolled scope s v c others other u.1 w
@@ -129,37 +129,37 @@ module _ (scope : Scope) (n : ℕ) where
 -- a point of a run whose count is n
 abbrev PointCounts : Flat → ℕ → Point → Type 0
 PointCounts d n (Between q) = Fits d q × (q.state.count ≡ n)
-PointCounts d n (Inside q rest from) = Fits d q × (q.state.count ≡ n) × All IsUnrolledStm rest
+PointCounts d n (Inside q rest from committed) = Fits d q × (q.state.count ≡ n) × All IsUnrolledStm rest
 
 abbrev ReachCounts : Flat → ℕ → Reached → Type 0
-ReachCounts d n (act.Ends q) = OnlyComb d.procs q.pending × All (All IsUnrolledStm) q.ahead × (q.state.count ≡ n)
-ReachCounts d n (Calls task q rest from) = Fits d q × (q.state.count ≡ n) × All IsUnrolledStm rest
-ReachCounts d n (Chooses q rest from) = Fits d q × (q.state.count ≡ n) × All IsUnrolledStm rest
+ReachCounts d n (act.Completes q) = OnlyComb d.procs q.pending × All (All IsBare) q.ahead × (q.state.count ≡ n)
+ReachCounts d n (Calls task q rest from committed) = Fits d q × (q.state.count ≡ n) × All IsUnrolledStm rest
+ReachCounts d n (Chooses q rest from committed) = Fits d q × (q.state.count ≡ n) × All IsUnrolledStm rest
 
 module _ (d : Flat) (files : List File) (n : ℕ) where
-  pause_counts : (q : Queue) (from : List (List ℕ)) (left : List Stm) (go : Queue → Reached) (p : Pause) → OnlyComb d.procs q.pending → All IsUnrolledStm left → All (All IsUnrolledStm) q.ahead
-      → ((r : Queue) → OnlyComb d.procs r.pending → All (All IsUnrolledStm) r.ahead → r.state.count ≡ n → ReachCounts d n (go r)) → PauseCounts n p → ReachCounts d n (by_pause d files q from left go p)
-  pause_counts q from left go (Through s) c u w g e = g (with_block d files q from s) (woken_comb (changed from s.values) d.procs q.pending c) w e
-  pause_counts q from left go (AtCall task s rest) c u w g e = (record { pending = c; left = u; ahead = w }, e.0, e.1)
-  pause_counts q from left go (AtChoice s rest) c u w g e = (record { pending = c; left = u; ahead = w }, e.0, e.1)
+  pause_counts : (q : Queue) (from committed : List (List ℕ)) (left : List Proc) (go : Queue → Reached) (p : Pause) → OnlyComb d.procs q.pending → All IsBare left → All (All IsBare) q.ahead
+      → ((r : Queue) → OnlyComb d.procs r.pending → All (All IsBare) r.ahead → r.state.count ≡ n → ReachCounts d n (go r)) → PauseCounts n p → ReachCounts d n (by_pause d files q from committed left go p)
+  pause_counts q from committed left go (Through s) c u w g e = g (with_block d files q from s) (woken_comb (scope_of d files) (changed from s.values) d.procs q.pending c) w e
+  pause_counts q from committed left go (AtCall task s rest) c u w g e = (record { pending = c; left = u; ahead = w }, e.0, e.1)
+  pause_counts q from committed left go (AtChoice s rest) c u w g e = (record { pending = c; left = u; ahead = w }, e.0, e.1)
 
-  blocks_count : (left : List Stm) (q : Queue) → All IsUnrolledStm left → OnlyComb d.procs q.pending → All (All IsUnrolledStm) q.ahead → q.state.count ≡ n → ReachCounts d n (through_blocks d files left q)
-  blocks_count [] q u c w e = (c, w, e)
-  blocks_count (b ∷ bs) q u c w e =
-      let v = All-tail IsUnrolledStm b bs u in
-      let x = All-cons IsUnrolledStm b [] (All-head IsUnrolledStm b bs u) (All-nil IsUnrolledStm) in
-      pause_counts q q.state.values bs (through_blocks d files bs) _ c v w (λ r c w e. blocks_count bs r v c w e) (uptos_count (scope_of d files) n (b ∷ []) q.state x e)
+  blocks_count : (committed : List (List ℕ)) (left : List Proc) (q : Queue) → All IsBare left → OnlyComb d.procs q.pending → All (All IsBare) q.ahead → q.state.count ≡ n → ReachCounts d n (through_blocks d files committed left q)
+  blocks_count committed [] q u c w e = (c, w, e)
+  blocks_count committed (b ∷ bs) q u c w e =
+      let v = All-tail IsBare b bs u in
+      let x = All-cons IsUnrolledStm b.body [] (All-head IsBare b bs u) (All-nil IsUnrolledStm) in
+      pause_counts q q.state.values committed bs (through_blocks d files committed bs) _ c v w (λ r c w e. blocks_count committed bs r v c w e) (uptos_count (scope_of d files) n (b.body ∷ []) q.state x e)
 
-  reach_counts : (p : Point) (left : List Stm) → (queue_at p).phase ≡ Wave left → PointCounts d n p → ReachCounts d n (reach d files p left)
-  reach_counts (Between q) left e h = blocks_count left q (subst (λ x. All IsUnrolledStm (left_of x)) e h.0.left) h.0.pending h.0.ahead h.1
-  reach_counts (Inside q rest from) left e h =
-      let u = subst (λ x. All IsUnrolledStm (left_of x)) e h.0.left in
-      pause_counts q from left (through_blocks d files left) _ h.0.pending u h.0.ahead (λ r c w e. blocks_count left r u c w e) (uptos_count (scope_of d files) n rest q.state h.2 h.1)
+  pub reach_counts : (p : Point) (left : List Proc) → (queue_at p).phase ≡ Wave left → PointCounts d n p → ReachCounts d n (reach d files p left)
+  reach_counts (Between q) left e h = blocks_count q.state.values left q (subst (λ x. All IsBare (left_of x)) e h.0.left) h.0.pending h.0.ahead h.1
+  reach_counts (Inside q rest from committed) left e h =
+      let u = subst (λ x. All IsBare (left_of x)) e h.0.left in
+      pause_counts q from committed left (through_blocks d files committed left) _ h.0.pending u h.0.ahead (λ r c w e. blocks_count committed left r u c w e) (uptos_count (scope_of d files) n rest q.state h.2 h.1)
 
 module _ (o : Origin) (u : IsUnrolled o.flat) (h : HasQuietNets o.flat) where
   calms_count : {q r : Queue} (n : ℕ) → Calms o.flat o.files q r → Fits o.flat q → q.state.count ≡ n → Fits o.flat r × (r.state.count ≡ n)
   calms_count n (calm e) f c = (f, c)
-  calms_count n (act.goes {q = q} {body = body} e s) f c = calms_count n s (evaluated_fits o u h q body f) ((body_rests o u h q body f e).count ∙ c)
+  calms_count n (act.goes {q = q} {p = p} e s) f c = calms_count n s (evaluated_fits o u h q p f) ((body_rests o u h q p f e).count ∙ c)
 
   risen_counts : (n : ℕ) (q : Queue) → Fits o.flat q × (q.state.count ≡ n) → Fits o.flat (risen o.flat q) × ((risen o.flat q).state.count ≡ n)
   risen_counts n q f = at q.state.finished
@@ -171,30 +171,30 @@ module _ (o : Origin) (u : IsUnrolled o.flat) (h : HasQuietNets o.flat) where
       at true = f
       at false = (record { pending = f.0.pending; left = blocks_unrolled is_rise o.flat.procs u.procs; ahead = falls_unrolled _ (blocks_unrolled is_fall o.flat.procs u.procs) }, f.1)
 
-  wakes_count : (n : ℕ) (q : Queue) (phase : Phase) (ahead : List (List Stm)) → q.ahead ≡ ahead → Fits o.flat q × (q.state.count ≡ n) → PointCounts o.flat n (Between (awake_by o.flat o.files q phase ahead))
+  wakes_count : (n : ℕ) (q : Queue) (phase : Phase) (ahead : List (List Proc)) → q.ahead ≡ ahead → Fits o.flat q × (q.state.count ≡ n) → PointCounts o.flat n (Between (entered_by o.flat o.files q phase ahead))
   wakes_count n q (Wave left) ahead e f = f
   wakes_count n q Ended ahead e f = f
   wakes_count n q Updated [] e f = risen_counts n q f
   wakes_count n q Updated (w ∷ ws) e f =
-      let v : All (All IsUnrolledStm) (w ∷ ws) = subst (All (All IsUnrolledStm)) e f.0.ahead in
-      (record { pending = f.0.pending; left = All-head (All IsUnrolledStm) w ws v; ahead = All-tail (All IsUnrolledStm) w ws v }, f.1)
+      let v : All (All IsBare) (w ∷ ws) = subst (All (All IsBare)) e f.0.ahead in
+      (record { pending = f.0.pending; left = All-head (All IsBare) w ws v; ahead = All-tail (All IsBare) w ws v }, f.1)
 
-  awake_counts : (n : ℕ) (p : Point) → PointCounts o.flat n p → PointCounts o.flat n (awake o.flat o.files p)
-  awake_counts n (Between q) f = wakes_count n q q.phase q.ahead refl f
-  awake_counts n (Inside q rest from) f = f
+  pub entered_counts : (n : ℕ) (p : Point) → PointCounts o.flat n p → PointCounts o.flat n (entered o.flat o.files p)
+  entered_counts n (Between q) f = wakes_count n q q.phase q.ahead refl f
+  entered_counts n (Inside q rest from committed) f = f
 
   did_counts : (n : ℕ) (r : Reached) (p : Point) → ReachCounts o.flat n r → Did o.flat o.files r p → PointCounts o.flat (n + 1) p
-  did_counts n (act.Ends q) p f g =
-      subst (PointCounts o.flat (n + 1)) (sym g.2) (calms_count (n + 1) g.1 (record { pending = f.0; left = All-nil IsUnrolledStm; ahead = f.1 }) (ap (λ k. k + 1) f.2))
-  did_counts n (Calls task q rest from) p f g =
+  did_counts n (act.Completes q) p f g =
+      subst (PointCounts o.flat (n + 1)) (sym g.2) (calms_count (n + 1) g.1 (record { pending = f.0; left = All-nil IsBare; ahead = f.1 }) (ap (λ k. k + 1) f.2))
+  did_counts n (Calls task q rest from committed) p f g =
       subst (PointCounts o.flat (n + 1)) (sym g) (record { pending = f.0.pending; left = f.0.left; ahead = f.0.ahead }, ap (λ k. k + 1) (done_counts (scope_of o.flat o.files) task q.state ∙ f.1), f.2)
-  did_counts n (Chooses q rest from) p f g =
+  did_counts n (Chooses q rest from committed) p f g =
       subst (PointCounts o.flat (n + 1)) (sym g) (record { pending = f.0.pending; left = f.0.left; ahead = f.0.ahead }, ap (λ k. k + 1) f.1, f.2)
 
   act_counts : {p p' : Point} (n : ℕ) → Act o.flat o.files p p' → PointCounts o.flat n p → PointCounts o.flat (n + 1) p'
-  act_counts n (of_wave {p = p} {p' = p'} left e x) f = did_counts n _ p' (reach_counts o.flat o.files n (awake o.flat o.files p) left e (awake_counts n p f)) x
+  act_counts n (of_wave {p = p} {p' = p'} left e x) f = did_counts n _ p' (reach_counts o.flat o.files n (entered o.flat o.files p) left e (entered_counts n p f)) x
   act_counts n (updates {q = q} e c) f =
-      calms_count (n + 1) c (record { pending = woken_comb _ o.flat.procs q.pending f.0.pending; left = All-nil IsUnrolledStm; ahead = f.0.ahead }) (ap (λ k. k + 1) f.1)
+      calms_count (n + 1) c (record { pending = woken_comb _ _ o.flat.procs q.pending f.0.pending; left = All-nil IsBare; ahead = f.0.ahead }) (ap (λ k. k + 1) f.1)
 
   begins_count : {s : Option Snapshot} {p : Point} → o.resume ≡ s → Begins o s p → PointCounts o.flat zero p
   begins_count e from_nothing = ((at_first o u h None e).fits, refl)
@@ -206,4 +206,11 @@ module _ (o : Origin) (u : IsUnrolled o.flat) (h : HasQuietNets o.flat) where
 
   pub count_is : (c : ℕ) (p : Point) → After o c p → (state_at p).count ≡ c
   count_is c (Between q) a = (after_counts a).1
-  count_is c (Inside q rest from) a = (after_counts a).1
+  count_is c (Inside q rest from committed) a = (after_counts a).1
+
+  -- right before the effect of a call it isn't counted yet
+  pub count_before : {c : ℕ} {task : Task} {p : Point} → Before o c task p → (state_at p).count + 1 ≡ c
+  count_before (before {n = n} {p = p} task q rest from committed a x) =
+      let f = reach_counts o.flat o.files n (entered o.flat o.files p) x.left x.in_wave (entered_counts n p (after_counts a)) in
+      let g = subst (ReachCounts o.flat n) x.next f in
+      ap (λ k. k + 1) g.1 ∙ add-one n

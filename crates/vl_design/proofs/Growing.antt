@@ -3,7 +3,7 @@ use Rattle.std.proofs.Common.{◌≡◌, ℕ, suc, ◌≤◌, ◌<◌, nat_le, B
 use Rattle.std.specs.Prelude.{⊤, slice_get, if◌then◌else◌}
 use Rattle.vl_base.specs.declared.files.File.{File}
 use Rattle.vl_base.specs.Files as file
-use Rattle.vl_design.specs.Syntax.{Task, Print, Finish, Save, Fopen, Fread, Fgetc, Feof, Fclose, ReadHex, Stm, Row, Flat}
+use Rattle.vl_design.specs.Syntax.{Task, Print, Finish, Save, Fopen, Fread, Fgetc, Feof, Fclose, ReadHex, Stm, Row, Proc, Flat}
 use Rattle.vl_design.specs.Width.{Scope}
 use Rattle.vl_design.specs.State.{State}
 use Rattle.vl_design.specs.Tasks.{called, memory_read}
@@ -37,7 +37,7 @@ call_grows scope (Fread j fd) s = grows_same s _ refl
 call_grows scope (Fgetc fd) s = grows_same s _ refl
 call_grows scope (Feof fd) s = grows_same s _ refl
 call_grows scope (Fclose fd) s = grows_same s _ refl
-call_grows scope (ReadHex name m) s = grows_same s _ (memory_printed m (slice_get scope.rows m) (file.contents scope.files name) s)
+call_grows scope (ReadHex name m) s = grows_same s _ (memory_printed m (slice_get scope.names.rows m) (file.contents scope.files name) s)
 
 steps_grow : (scope : Scope) → Steps scope Grows (λ t. ⊤) (λ k. ⊤) (λ v. ⊤)
 steps_grow scope = record {
@@ -54,19 +54,19 @@ pub exec_grows : (scope : Scope) (a : Stm) (s : State) → Grows s (exec scope a
 exec_grows scope a s = exec_leads scope Grows _ _ _ (steps_grow scope) a (all_in a) s
 
 module _ (d : Flat) (files : List File) where
-  phase_grows : (q r : Queue) (phase : Phase) (ahead : List (List Stm)) → next_phase d files q phase ahead ≡ Some r → Grows q.state r.state
+  phase_grows : (q r : Queue) (phase : Phase) (ahead : List (List Proc)) → next_phase d files q phase ahead ≡ Some r → Grows q.state r.state
   phase_grows q r (Wave bs) ahead h = let z : ⊥ = cc in absurd z
   phase_grows q r Ended ahead h = subst (λ x. Grows q.state x.state) (some_is h) (grows_same q.state _ refl)
   phase_grows q r Updated [] h = let z : ⊥ = cc in absurd z
   phase_grows q r Updated (w ∷ ws) h = subst (λ x. Grows q.state x.state) (some_is h) (grows_same q.state _ refl)
 
-  pending_grows : (q r : Queue) (o : Option Stm) → next_pending d files q o ≡ Some r → Grows q.state r.state
+  pending_grows : (q r : Queue) (o : Option Proc) → next_pending d files q o ≡ Some r → Grows q.state r.state
   pending_grows q r None h = phase_grows q r q.phase q.ahead h
-  pending_grows q r (Some body) h = subst (λ x. Grows q.state x.state) (some_is h) (exec_grows (scope_of d files) body q.state)
+  pending_grows q r (Some p) h = subst (λ x. Grows q.state x.state) (some_is h) (exec_grows (scope_of d files) p.body q.state)
 
   event_grows : (q r : Queue) (phase : Phase) → next_event d files q phase ≡ Some r → Grows q.state r.state
   event_grows q r (Wave []) h = subst (λ x. Grows q.state x.state) (some_is h) (grows_same q.state _ refl)
-  event_grows q r (Wave (b ∷ bs)) h = subst (λ x. Grows q.state x.state) (some_is h) (exec_grows (scope_of d files) b q.state)
+  event_grows q r (Wave (b ∷ bs)) h = subst (λ x. Grows q.state x.state) (some_is h) (exec_grows (scope_of d files) b.body q.state)
   event_grows q r Ended h = pending_grows q r (first_pending d.procs q.pending) h
   event_grows q r Updated h = pending_grows q r (first_pending d.procs q.pending) h
 

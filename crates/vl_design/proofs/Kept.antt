@@ -4,10 +4,10 @@ use Rattle.std.specs.Prelude.{⊤, ◌||◌, slice_set, slice_get}
 use Rattle.std.proofs.lemmas.List.{get_or-set_other}
 use Rattle.std.proofs.lemmas.Option.{unwrap_or-slice_get}
 use Rattle.vl_base.specs.Files as file
-use Rattle.vl_design.specs.Syntax.{Exp, Target, Whole, WordAt, Bits, Part, Several, Targets, NoTargets, MoreTargets, Task, Print, Finish, Save, Fopen, Fread, Fgetc, Feof, Fclose, ReadHex, Stm, Nop, Then, If, Case, For, Repeat, Set, Later, Sys, Items, NoItems, Labelled, Default, Row}
+use Rattle.vl_design.specs.Syntax.{Exp, Target, Whole, WordAt, PickAt, SliceAt, Several, Targets, NoTargets, MoreTargets, Task, Print, Finish, Save, Fopen, Fread, Fgetc, Feof, Fclose, ReadHex, Stm, Nop, Then, If, Case, For, Repeat, Set, Later, Sys, Items, NoItems, Labelled, Default, Row}
 use Rattle.vl_design.specs.Width.{Scope}
 use Rattle.vl_design.specs.Value.{Sample, words_of}
-use Rattle.vl_design.specs.State.{State, Update, sample, updated, all_updated}
+use Rattle.vl_design.specs.State.{State, Update, sample, with_update, all_updated}
 use Rattle.vl_design.specs.Targets.{Spot, within, spots, all_spots, updates_at, assignment}
 use Rattle.vl_design.specs.Tasks.{called, memory_read}
 use Rattle.vl_design.specs.Exec.{exec}
@@ -23,7 +23,7 @@ module _ (p : ℕ → Bool) (k : ℕ) (marked : p k ≡ true) where
   apart : (j : ℕ) → p j ≡ false → k ≢ j
   apart j h e = let z : p k ≡ p j = ap p e in cc (marked, h, z)
 
-  abbrev OfSpots : List Spot → Type 0
+  abbrev pub OfSpots : List Spot → Type 0
   OfSpots [] = ⊤
   OfSpots (x ∷ xs) = (p x.signal ≡ false) × OfSpots xs
 
@@ -35,32 +35,32 @@ module _ (p : ℕ → Bool) (k : ℕ) (marked : p k ≡ true) where
   of_within f e [] h = tt
   of_within f e (x ∷ xs) h = (ap p (e x) ∙ h.0, of_within f e xs h.1)
 
-  abbrev OfUpdates : List Update → Type 0
+  abbrev pub OfUpdates : List Update → Type 0
   OfUpdates [] = ⊤
   OfUpdates (x ∷ xs) = (p x.signal ≡ false) × OfUpdates xs
 
-  of_updates : (xs : List Spot) (v : ℕ) → OfSpots xs → OfUpdates (updates_at xs v)
+  pub of_updates : (xs : List Spot) (v : ℕ) → OfSpots xs → OfUpdates (updates_at xs v)
   of_updates [] v h = tt
   of_updates (x ∷ xs) v h = (h.0, of_updates xs v h.1)
 
   mutual
-    of_target : (scope : Scope) (s : Sample) (t : Target) → target_writes p t ≡ false → OfSpots (spots scope s t)
+    pub of_target : (scope : Scope) (s : Sample) (t : Target) → target_writes p t ≡ false → OfSpots (spots scope s t)
     of_target scope s (Whole j) h = (h, tt)
     of_target scope s (WordAt m a) h = (h, tt)
-    of_target scope s (Bits b i from w) h = of_within (within _ w) (λ x. refl) (spots scope s b) (of_target scope s b h)
-    of_target scope s (Part b low w) h = of_within (within low w) (λ x. refl) (spots scope s b) (of_target scope s b h)
+    of_target scope s (PickAt b i from w) h = of_within (within _ w) (λ x. refl) (spots scope s b) (of_target scope s b h)
+    of_target scope s (SliceAt b low w) h = of_within (within low w) (λ x. refl) (spots scope s b) (of_target scope s b h)
     of_target scope s (Several ts) h = of_targets scope s ts h
 
-    of_targets : (scope : Scope) (s : Sample) (ts : Targets) → targets_write p ts ≡ false → OfSpots (all_spots scope s ts)
+    pub of_targets : (scope : Scope) (s : Sample) (ts : Targets) → targets_write p ts ≡ false → OfSpots (all_spots scope s ts)
     of_targets scope s NoTargets h = tt
     of_targets scope s (MoreTargets t ts) h = let g = or_false (target_writes p t) (targets_write p ts) h in of_both (spots scope s t) (all_spots scope s ts) (of_target scope s t g.0) (of_targets scope s ts g.1)
 
   pub updates_keep : (rows : List Row) (us : List Update) → OfUpdates us → (values : List (List ℕ)) → words_of values k ≡ words_of (all_updated rows values us) k
   updates_keep rows [] h values = refl
-  updates_keep rows (u ∷ us) h values = sym (words_other values u.signal k _ (apart u.signal h.0)) ∙ updates_keep rows us h.1 (updated rows values u)
+  updates_keep rows (u ∷ us) h values = sym (words_other values u.signal k _ (apart u.signal h.0)) ∙ updates_keep rows us h.1 (with_update rows values u)
 
-  pub assignment_keeps : (scope : Scope) (s : Sample) (t : Target) (e : Exp) → target_writes p t ≡ false → (values : List (List ℕ)) → words_of values k ≡ words_of (all_updated scope.rows values (assignment scope s t e)) k
-  assignment_keeps scope s t e h values = updates_keep scope.rows _ (of_updates (spots scope s t) _ (of_target scope s t h)) values
+  pub assignment_keeps : (scope : Scope) (s : Sample) (t : Target) (e : Exp) → target_writes p t ≡ false → (values : List (List ℕ)) → words_of values k ≡ words_of (all_updated scope.names.rows values (assignment scope s t e)) k
+  assignment_keeps scope s t e h values = updates_keep scope.names.rows _ (of_updates (spots scope s t) _ (of_target scope s t h)) values
 
   abbrev Keeps : State → State → Type 0
   Keeps s t = words_of s.values k ≡ words_of t.values k
@@ -79,7 +79,7 @@ module _ (p : ℕ → Bool) (k : ℕ) (marked : p k ≡ true) where
   call_keeps scope (Fgetc fd) s h = refl
   call_keeps scope (Feof fd) s h = refl
   call_keeps scope (Fclose fd) s h = refl
-  call_keeps scope (ReadHex name m) s h = memory_keeps m h (slice_get scope.rows m) (file.contents scope.files name) s
+  call_keeps scope (ReadHex name m) s h = memory_keeps m h (slice_get scope.names.rows m) (file.contents scope.files name) s
 
   steps_keep : (scope : Scope) → Steps scope Keeps (λ t. target_writes p t ≡ false) (λ task. task_writes p task ≡ false) (λ j. p j ≡ false)
   steps_keep scope = record {
@@ -93,7 +93,7 @@ module _ (p : ℕ → Bool) (k : ℕ) (marked : p k ≡ true) where
   }
 
   mutual
-    writes_none : (a : Stm) → stm_writes p a ≡ false → AllIn (λ t. target_writes p t ≡ false) (λ task. task_writes p task ≡ false) (λ j. p j ≡ false) a
+    pub writes_none : (a : Stm) → stm_writes p a ≡ false → AllIn (λ t. target_writes p t ≡ false) (λ task. task_writes p task ≡ false) (λ j. p j ≡ false) a
     writes_none Nop h = tt
     writes_none (Then a b) h = let g = or_false (stm_writes p a) (stm_writes p b) h in (writes_none a g.0, writes_none b g.1)
     writes_none (If t a b) h = let g = or_false (stm_writes p a) (stm_writes p b) h in (writes_none a g.0, writes_none b g.1)
@@ -108,7 +108,7 @@ module _ (p : ℕ → Bool) (k : ℕ) (marked : p k ≡ true) where
     writes_none (Later t e) h = h
     writes_none (Sys task) h = h
 
-    items_none : (items : Items) → items_write p items ≡ false → AllItems (λ t. target_writes p t ≡ false) (λ task. task_writes p task ≡ false) (λ j. p j ≡ false) items
+    pub items_none : (items : Items) → items_write p items ≡ false → AllItems (λ t. target_writes p t ≡ false) (λ task. task_writes p task ≡ false) (λ j. p j ≡ false) items
     items_none NoItems h = tt
     items_none (Labelled es a others) h = let g = or_false (stm_writes p a) (items_write p others) h in (writes_none a g.0, items_none others g.1)
     items_none (Default a others) h = let g = or_false (stm_writes p a) (items_write p others) h in (writes_none a g.0, items_none others g.1)

@@ -7,7 +7,7 @@ use Rattle.vl_design.specs.Width.{Scope}
 use Rattle.vl_design.specs.State.{State, sample, counted, all_updated}
 use Rattle.vl_design.specs.Targets.{assignment}
 use Rattle.vl_design.specs.Tasks.{called}
-use Rattle.vl_design.specs.Exec.{exec, exec_items, exec_default, turns, times, restored, counted_if, some_match, is_true, most_turns, holds, items_hold, asks}
+use Rattle.vl_design.specs.Exec.{exec, exec_items, exec_default, turns, times, restored, counted_if, some_match, is_true, goes_on, most_turns, holds, items_hold, asks}
 
 -- each target, each system call and each loop variable of a statement is such a one
 abbrev mutual
@@ -50,7 +50,7 @@ pub record Steps (scope : Scope) (R : State → State → Type 0) (T : Target �
   pub same : (s : State) → R s s
   pub next : (a b c : State) → R a b → R b c → R a c
   pub counts : (s : State) → R s (counted s)
-  pub sets : (t : Target) (e : Exp) (s : State) → T t → s.finished ≡ false → R s (record s { values = all_updated scope.rows s.values (assignment scope (sample s) t e) })
+  pub sets : (t : Target) (e : Exp) (s : State) → T t → s.finished ≡ false → R s (record s { values = all_updated scope.names.rows s.values (assignment scope (sample s) t e) })
   pub delays : (t : Target) (e : Exp) (s : State) → T t → s.finished ≡ false → R s (record s { later = s.later ++ assignment scope (sample s) t e })
   pub calls : (task : Task) (s : State) → K task → s.finished ≡ false → R s (called scope task s)
   -- behind a loop its variable is as it was before the loop
@@ -98,7 +98,7 @@ module _ (scope : Scope) (R : State → State → Type 0) (T : Target → Type 0
         r.next _ _ _ f (items_lead items h _ _ s' (exec_default scope items s') (default_leads items h s'))
     exec_leads (For k start test step a) h s =
         let body : (x : State) → R x (exec scope step (exec scope a x)) = λ x. r.next _ _ _ (exec_leads a h.3 x) (exec_leads step h.2 (exec scope a x)) in
-        r.restores k s _ h.0 (r.next _ _ _ (exec_leads start h.1 s) (leads_turns most_turns (is_true scope test) (λ x. exec scope step (exec scope a x)) body (exec scope start s)))
+        r.restores k s _ h.0 (r.next _ _ _ (exec_leads start h.1 s) (leads_turns most_turns (goes_on scope test) (λ x. exec scope step (exec scope a x)) body (exec scope start s)))
     exec_leads (Repeat n a) h s = leads_times n (exec scope a) (exec_leads a h) s
     exec_leads (Set t e) h s = leads_unless s _ s.finished refl (r.sets t e s h)
     exec_leads (Later t e) h s = leads_unless s _ s.finished refl (r.delays t e s h)

@@ -15,13 +15,13 @@ use Rattle.vl_base.specs.Files as file
 use Rattle.vl_design.specs.Syntax.{Task, Print, Finish, Save, Fopen, Fread, Fgetc, Feof, Fclose, ReadHex, Stm, Row}
 use Rattle.vl_design.specs.Width.{Scope, signal_form}
 use Rattle.vl_design.specs.Value.{words_of, value_of}
-use Rattle.vl_design.specs.State.{State, Update, sample, updated, all_updated}
+use Rattle.vl_design.specs.State.{State, Update, sample, with_update, all_updated}
 use Rattle.vl_design.specs.Targets.{assignment}
-use Rattle.vl_design.specs.ReadHex.{Step, Loads, Goes, loaded, words_read, steps, Between}
+use Rattle.vl_design.specs.ReadHex.{Step, Loads, Goes, loaded, words_read, steps, BetweenWords}
 use Rattle.vl_design.specs.Tasks.{called, memory_read, descriptor_of}
 use Rattle.vl_design.specs.Exec.{exec}
 use Rattle.vl_design.specs.Laws.{InRange}
-use Rattle.vl_design.specs.Syntax.{Flat}
+use Rattle.vl_design.specs.Syntax.{Proc, Flat}
 use Rattle.vl_design.specs.Functions.{scope_of, zeros}
 use Rattle.vl_design.specs.Queue as Q
 use Rattle.vl_design.specs.Queue.{Queue, Phase, Wave, Ended, Updated, next_event, next_pending, next_phase, first_pending}
@@ -62,14 +62,14 @@ written_in_range rows values j ws h r k = at (nat_eq k j) refl
         let n : k ≢ j = λ i. (let t = eq-eqb k j i in cc (t, e)) in
         rw (words_other values j k ws n) (r k)
 
-updated_in_range : (rows : List Row) (values : List (List ℕ)) (u : Update) → InRange rows values → InRange rows (updated rows values u)
+updated_in_range : (rows : List Row) (values : List (List ℕ)) (u : Update) → InRange rows values → InRange rows (with_update rows values u)
 updated_in_range rows values u r =
     let w = (signal_form rows u.signal).width in
     written_in_range rows values u.signal _ (All-set (λ v. v < 2 ^ w) (words_of values u.signal) u.word _ (placed_below w _ u.low u.width u.value) (r u.signal)) r
 
 pub updates_in_range : (rows : List Row) (us : List Update) (values : List (List ℕ)) → InRange rows values → InRange rows (all_updated rows values us)
 updates_in_range rows [] values r = r
-updates_in_range rows (u ∷ us) values r = updates_in_range rows us (updated rows values u) (updated_in_range rows values u r)
+updates_in_range rows (u ∷ us) values r = updates_in_range rows us (with_update rows values u) (updated_in_range rows values u r)
 
 one_word : (P : ℕ → Type 0) (v : ℕ) → P v → All P (v ∷ [])
 one_word P v h zero d l = h
@@ -119,34 +119,34 @@ memory_in_range rows m (Some x) e None s r = r
 memory_in_range rows m (Some x) e (Some text) s r =
     let w : (signal_form rows m).width ≡ x.width = row_of_form rows m x e in
     let g : All (λ v. v < 2 ^ x.width) (words_of s.values m) = subst (λ n. All (λ v. v < 2 ^ n) (words_of s.values m)) w (r m) in
-    let h : All (λ v. v < 2 ^ x.width) (words_read x.width x.lowest x.words text (words_of s.values m)) = loaded_below x.width x.lowest x.words 0 (steps Between text) (words_of s.values m) g in
+    let h : All (λ v. v < 2 ^ x.width) (words_read x.width x.lowest x.words text (words_of s.values m)) = loaded_below x.width x.lowest x.words 0 (steps BetweenWords text) (words_of s.values m) g in
     written_in_range rows s.values m _ (subst (λ n. All (λ v. v < 2 ^ n) (words_read x.width x.lowest x.words text (words_of s.values m))) (sym w) h) r
 
-pub call_in_range : (scope : Scope) (task : Task) (s : State) → Ranges scope.rows s (called scope task s)
+pub call_in_range : (scope : Scope) (task : Task) (s : State) → Ranges scope.names.rows s (called scope task s)
 call_in_range scope (Print pieces newline) s r = r
 call_in_range scope (Finish es) s r = r
 call_in_range scope (Save name) s r = r
 call_in_range scope (Fopen name) s r = r
 call_in_range scope (Fread k fd) s r =
-    written_in_range scope.rows s.values k _ (one_word (λ v. v < 2 ^ (signal_form scope.rows k).width) _ (reading_below scope.files s.table (file.open_file s.table (descriptor_of scope (sample s) fd)) (signal_form scope.rows k).width (value_of s.values k) (value_in_range scope.rows s.values k r))) r
+    written_in_range scope.names.rows s.values k _ (one_word (λ v. v < 2 ^ (signal_form scope.names.rows k).width) _ (reading_below scope.files s.table (file.open_file s.table (descriptor_of scope (sample s) fd)) (signal_form scope.names.rows k).width (value_of s.values k) (value_in_range scope.names.rows s.values k r))) r
 call_in_range scope (Fgetc fd) s r = r
 call_in_range scope (Feof fd) s r = r
 call_in_range scope (Fclose fd) s r = r
-call_in_range scope (ReadHex name m) s r = memory_in_range scope.rows m (slice_get scope.rows m) refl (file.contents scope.files name) s r
+call_in_range scope (ReadHex name m) s r = memory_in_range scope.names.rows m (slice_get scope.names.rows m) refl (file.contents scope.files name) s r
 
-steps_in_range : (scope : Scope) → Steps scope (Ranges scope.rows) (λ t. ⊤) (λ k. ⊤) (λ v. ⊤)
+steps_in_range : (scope : Scope) → Steps scope (Ranges scope.names.rows) (λ t. ⊤) (λ k. ⊤) (λ v. ⊤)
 steps_in_range scope = record {
   same = λ s r. r;
   next = λ a b c f g r. g (f r);
   counts = λ s r. r;
-  sets = λ t e s h f r. updates_in_range scope.rows (assignment scope (sample s) t e) s.values r;
+  sets = λ t e s h f r. updates_in_range scope.names.rows (assignment scope (sample s) t e) s.values r;
   delays = λ t e s h f r. r;
   calls = λ task s h f. call_in_range scope task s;
-  restores = λ k before s h f r. written_in_range scope.rows s.values k (words_of before.values k) (r k) (f r);
+  restores = λ k before s h f r. written_in_range scope.names.rows s.values k (words_of before.values k) (r k) (f r);
 }
 
-pub exec_in_range : (scope : Scope) (a : Stm) (s : State) → InRange scope.rows s.values → InRange scope.rows (exec scope a s).values
-exec_in_range scope a s = exec_leads scope (Ranges scope.rows) _ _ _ (steps_in_range scope) a (all_in a) s
+pub exec_in_range : (scope : Scope) (a : Stm) (s : State) → InRange scope.names.rows s.values → InRange scope.names.rows (exec scope a s).values
+exec_in_range scope a s = exec_leads scope (Ranges scope.names.rows) _ _ _ (steps_in_range scope) a (all_in a) s
 
 -- ---- runs
 
@@ -154,22 +154,22 @@ module _ (d : Flat) (files : List File) where
   abbrev Held : Queue → Queue → Type 0
   Held q r = Ranges d.rows q.state r.state
 
-  update_held : (q : Queue) → Held q (Q.updated d files q)
+  update_held : (q : Queue) → Held q (Q.updates_done d files q)
   update_held q r = updates_in_range d.rows q.state.later q.state.values r
 
-  phase_held : (q r : Queue) (phase : Phase) (ahead : List (List Stm)) → next_phase d files q phase ahead ≡ Some r → Held q r
+  phase_held : (q r : Queue) (phase : Phase) (ahead : List (List Proc)) → next_phase d files q phase ahead ≡ Some r → Held q r
   phase_held q r (Wave bs) ahead h = let z : ⊥ = cc in absurd z
   phase_held q r Ended ahead h = subst (λ x. Held q x) (some_is h) (update_held q)
   phase_held q r Updated [] h = let z : ⊥ = cc in absurd z
   phase_held q r Updated (w ∷ ws) h = subst (λ x. Held q x) (some_is h) (λ g. g)
 
-  pending_held : (q r : Queue) (o : Option Stm) → next_pending d files q o ≡ Some r → Held q r
+  pending_held : (q r : Queue) (o : Option Proc) → next_pending d files q o ≡ Some r → Held q r
   pending_held q r None h = phase_held q r q.phase q.ahead h
-  pending_held q r (Some body) h = subst (λ x. Held q x) (some_is h) (exec_in_range (scope_of d files) body q.state)
+  pending_held q r (Some p) h = subst (λ x. Held q x) (some_is h) (exec_in_range (scope_of d files) p.body q.state)
 
   event_held : (q r : Queue) (phase : Phase) → next_event d files q phase ≡ Some r → Held q r
   event_held q r (Wave []) h = subst (λ x. Held q x) (some_is h) (λ g. g)
-  event_held q r (Wave (b ∷ bs)) h = subst (λ x. Held q x) (some_is h) (exec_in_range (scope_of d files) b q.state)
+  event_held q r (Wave (b ∷ bs)) h = subst (λ x. Held q x) (some_is h) (exec_in_range (scope_of d files) b.body q.state)
   event_held q r Ended h = pending_held q r (first_pending d.procs q.pending) h
   event_held q r Updated h = pending_held q r (first_pending d.procs q.pending) h
 

@@ -10,7 +10,7 @@ use Rattle.vl_design.specs.Width.{Scope, form}
 use Rattle.vl_design.specs.Value.{value, words_of}
 use Rattle.vl_design.specs.State.{State, sample, counted}
 use Rattle.vl_design.specs.Tasks.{done, memory_read}
-use Rattle.vl_design.specs.Exec.{exec, exec_items, exec_default, turns, some_turn, times, restored, counted_if, items_form, some_match, is_true, most_turns, holds, items_hold, asks}
+use Rattle.vl_design.specs.Exec.{exec, exec_items, exec_default, turns, some_turn, times, restored, counted_if, items_form, some_match, is_true, goes_on, most_turns, holds, items_hold, asks}
 use Rattle.vl_design.specs.Acts.{default_body, chosen_body, branch_of}
 use Rattle.vl_design.specs.Laws.{IsUnrolledStm, AreUnrolledItems, can_act, items_can_act}
 use Rattle.vl_design.proofs.Unread.{or_false}
@@ -28,7 +28,7 @@ same_by : (b : Bool) (x y s : State) → x ≡ s → y ≡ s → (if b then x el
 same_by true x y s e f = e
 same_by false x y s e f = f
 
-turns_stay : (n : ℕ) (test : State → Bool) (turn : State → State) (s : State) → turn s ≡ s → turns n test turn s ≡ s
+pub turns_stay : (n : ℕ) (test : State → Bool) (turn : State → State) (s : State) → turn s ≡ s → turns n test turn s ≡ s
 turns_stay zero test turn s e = refl
 turns_stay (suc n) test turn s e = at (test s) (ap (turns n test turn) e ∙ turns_stay n test turn s e)
   where
@@ -36,7 +36,7 @@ turns_stay (suc n) test turn s e = at (test s) (ap (turns n test turn) e ∙ tur
     at true h = h
     at false h = refl
 
-times_stay : (n : ℕ) (turn : State → State) (s : State) → turn s ≡ s → times n turn s ≡ s
+pub times_stay : (n : ℕ) (turn : State → State) (s : State) → turn s ≡ s → times n turn s ≡ s
 times_stay zero turn s e = refl
 times_stay (suc n) turn s e = ap (times n turn) e ∙ times_stay n turn s e
 
@@ -50,12 +50,12 @@ module _ (scope : Scope) where
         same_by (is_true scope t s) _ _ s (ap (exec scope a) e ∙ exec_over a s h) (ap (exec scope b) e ∙ exec_over b s h)
     exec_over (Case e items) s h =
         let f = uncounted (items_hold scope s items) s h in
-        let c = items_form scope (form scope e) items in
+        let c = items_form scope.names (form scope.names e) items in
         ap (λ z. exec_items scope (value scope (sample s) e c) c items (exec_default scope items z) z) f ∙ items_over items _ c s _ h (default_over items s h)
     exec_over (For k start test step a) s h =
         let e = exec_over start s h in
         let f : exec scope step (exec scope a s) ≡ s = ap (exec scope step) (exec_over a s h) ∙ exec_over step s h in
-        let g = ap (turns most_turns (is_true scope test) (λ t. exec scope step (exec scope a t))) e ∙ turns_stay most_turns (is_true scope test) (λ t. exec scope step (exec scope a t)) s f in
+        let g = ap (turns most_turns (goes_on scope test) (λ t. exec scope step (exec scope a t))) e ∙ turns_stay most_turns (goes_on scope test) (λ t. exec scope step (exec scope a t)) s f in
         ap (restored k s) g ∙ ap (λ vs. record s { values = vs }) (words_kept s.values k)
     exec_over (Repeat n a) s h = times_stay n (exec scope a) s (exec_over a s h)
     exec_over (Set t e) s h = rw h refl
@@ -103,13 +103,13 @@ module _ (scope : Scope) where
     holds_none (For k start test step a) h s =
         let g = or_false (can_act start) (can_act step || can_act a) h in
         let f = or_false (can_act step) (can_act a) g.1 in
-        some_turn_none most_turns (is_true scope test) (exec scope step) (λ t. holds scope t a) (holds_none a f.1) (exec scope start s)
+        some_turn_none most_turns (goes_on scope test) (exec scope step) (λ t. holds scope t a) (holds_none a f.1) (exec scope start s)
     holds_none (Repeat n a) h s = none_and _ (holds scope s a) (holds_none a h s)
     holds_none (Set t e) h s = refl
     holds_none (Later t e) h s = refl
     holds_none (Sys task) h s = let z : ⊥ = cc in absurd z
 
-    items_hold_none : (items : Items) → items_can_act items ≡ false → (s : State) → items_hold scope s items ≡ false
+    pub items_hold_none : (items : Items) → items_can_act items ≡ false → (s : State) → items_hold scope s items ≡ false
     items_hold_none NoItems h s = refl
     items_hold_none (Labelled es a others) h s = let g = or_false (can_act a) (items_can_act others) h in or_none (holds scope s a) (items_hold scope s others) (holds_none a g.0 s) (items_hold_none others g.1 s)
     items_hold_none (Default a others) h s = let g = or_false (can_act a) (items_can_act others) h in or_none (holds scope s a) (items_hold scope s others) (holds_none a g.0 s) (items_hold_none others g.1 s)
@@ -186,7 +186,7 @@ module _ (scope : Scope) where
         let g = or_false (can_act start) (can_act step || can_act a) h in
         let f = or_false (can_act step) (can_act a) g.1 in
         let body : (x : State) → Rests x (exec scope step (exec scope a x)) = λ x. rests_on (exec_rests a f.1 x) (exec_rests step f.0 (exec scope a x)) in
-        let r = rests_on (exec_rests start g.0 s) (rests_turns most_turns (is_true scope test) (λ x. exec scope step (exec scope a x)) body (exec scope start s)) in
+        let r = rests_on (exec_rests start g.0 s) (rests_turns most_turns (goes_on scope test) (λ x. exec scope step (exec scope a x)) body (exec scope start s)) in
         record { finished = r.finished; count = r.count }
     exec_rests (Repeat n a) h s = rests_times n (exec scope a) (exec_rests a h) s
     exec_rests (Set t e) h s = rests_by s.finished s s _ (rests_same s) (record { finished = refl; count = refl })
@@ -219,7 +219,7 @@ done_counts scope (Fread j fd) s = refl
 done_counts scope (Fgetc fd) s = refl
 done_counts scope (Feof fd) s = refl
 done_counts scope (Fclose fd) s = refl
-done_counts scope (ReadHex name m) s = memory_counts m (slice_get scope.rows m) (file.contents scope.files name) s
+done_counts scope (ReadHex name m) s = memory_counts m (slice_get scope.names.rows m) (file.contents scope.files name) s
 
 -- ---- a case does what its branch does
 
@@ -250,7 +250,7 @@ module _ (scope : Scope) where
   pub case_done : (e : Exp) (items : Items) (s : State) → exec scope (Case e items) s ≡ exec scope (branch_of scope (sample s) (Case e items)) (counted_if (items_hold scope s items) s)
   case_done e items s =
       let s' = counted_if (items_hold scope s items) s in
-      let c = items_form scope (form scope e) items in
+      let c = items_form scope.names (form scope.names e) items in
       let v = value scope (sample s) e c in
       ap (λ z. exec_items scope v c items z s') (default_done items s') ∙
       (chosen_done items v c (default_body items) s' ∙

@@ -3,7 +3,7 @@ use Rattle.std.proofs.Common.{◌≡◌, ℕ, ◌≤◌, ◌<◌, nat_le, Bool, 
 use Rattle.std.specs.Prelude.{if◌then◌else◌}
 use Rattle.std.proofs.lemmas.Bool.{leb-true, leb-false}
 use Rattle.vl_base.specs.declared.files.File.{File}
-use Rattle.vl_design.specs.Syntax.{Stm, Flat}
+use Rattle.vl_design.specs.Syntax.{Proc, Flat}
 use Rattle.vl_design.specs.State.{State}
 use Rattle.vl_design.specs.Functions.{scope_of}
 use Rattle.vl_design.specs.Queue.{Queue, Phase, Wave, Ended, Updated, next_event, next_pending, next_phase, first_pending}
@@ -17,19 +17,19 @@ module _ (d : Flat) (files : List File) (R : State → State → Type 0) (r : Ev
   abbrev Leads : Queue → Queue → Type 0
   Leads q z = R q.state z.state
 
-  phase_leads : (q z : Queue) (phase : Phase) (ahead : List (List Stm)) → next_phase d files q phase ahead ≡ Some z → Leads q z
+  phase_leads : (q z : Queue) (phase : Phase) (ahead : List (List Proc)) → next_phase d files q phase ahead ≡ Some z → Leads q z
   phase_leads q z (Wave bs) ahead h = let x : ⊥ = cc in absurd x
   phase_leads q z Ended ahead h = subst (λ x. Leads q x) (some_is h) (r.next _ _ _ (r.updates q.state) (r.counts _))
   phase_leads q z Updated [] h = let x : ⊥ = cc in absurd x
   phase_leads q z Updated (w ∷ ws) h = subst (λ x. Leads q x) (some_is h) (r.same q.state)
 
-  pending_leads : (q z : Queue) (o : Option Stm) → next_pending d files q o ≡ Some z → Leads q z
+  pending_leads : (q z : Queue) (o : Option Proc) → next_pending d files q o ≡ Some z → Leads q z
   pending_leads q z None h = phase_leads q z q.phase q.ahead h
-  pending_leads q z (Some body) h = subst (λ x. Leads q x) (some_is h) (r.execs body q.state)
+  pending_leads q z (Some p) h = subst (λ x. Leads q x) (some_is h) (r.execs p.body q.state)
 
   event_leads : (q z : Queue) (phase : Phase) → next_event d files q phase ≡ Some z → Leads q z
   event_leads q z (Wave []) h = subst (λ x. Leads q x) (some_is h) (r.counts q.state)
-  event_leads q z (Wave (b ∷ bs)) h = subst (λ x. Leads q x) (some_is h) (r.execs b q.state)
+  event_leads q z (Wave (b ∷ bs)) h = subst (λ x. Leads q x) (some_is h) (r.execs b.body q.state)
   event_leads q z Ended h = pending_leads q z (first_pending d.procs q.pending) h
   event_leads q z Updated h = pending_leads q z (first_pending d.procs q.pending) h
 

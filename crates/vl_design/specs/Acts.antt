@@ -1,17 +1,17 @@
 -- The run act by act: each call that does more than give a value, each choice of a branch that holds one, the end of
--- each wave and each update. This is told of designs whose loops are unrolled: a loop is one piece here
--- (own).
-use Rattle.std.specs.Prelude.{◌≡◌, ℕ, zero, suc, false, ◌||◌, List, [], ◌∷◌, if◌then◌else◌, Option, Some, None}
+-- each wave and each update. This is told of designs whose loops are unrolled: a loop is one piece here (own; the
+-- queue's events are those of IEEE 1364-2005, clause 11).
+use Rattle.std.specs.Prelude.{◌≡◌, ℕ, zero, suc, ◌-◌, Bool, true, false, ◌||◌, List, [], ◌∷◌, if◌then◌else◌, Option, Some, None}
 use Rattle.vl_base.specs.declared.files.File.{File}
 use Rattle.vl_design.specs.declared.design.Form.{Form}
-use Rattle.vl_design.specs.Syntax.{Stm, Nop, Then, If, Case, For, Repeat, Set, Later, Sys, Items, NoItems, Labelled, Default, Task, Flat}
+use Rattle.vl_design.specs.Syntax.{Stm, Nop, Then, If, Case, For, Repeat, Set, Later, Sys, Items, NoItems, Labelled, Default, Task, Proc, Flat}
 use Rattle.vl_design.specs.Width.{Scope, form}
 use Rattle.vl_design.specs.Value.{Sample, value}
 use Rattle.vl_design.specs.State.{State, sample, counted}
 use Rattle.vl_design.specs.Tasks.{called}
 use Rattle.vl_design.specs.Exec.{exec, holds, items_hold, asks, is_true, items_form, some_match}
 use Rattle.vl_design.specs.Functions.{scope_of}
-use Rattle.vl_design.specs.Queue.{Queue, Phase, Wave, Ended, Updated, woken, changed, first_pending, ended, updated, evaluated}
+use Rattle.vl_design.specs.Queue.{Queue, Phase, Wave, Ended, Updated, woken, changed, first_pending, wave_ended, updates_done, evaluated}
 use Rattle.vl_design.specs.Snapshots.{Snapshot}
 use Rattle.vl_design.specs.Alone.{Origin, start, resumed, risen}
 
@@ -40,7 +40,7 @@ chosen_body scope s v c (Default a others) otherwise = chosen_body scope s v c o
 -- the branch that a case takes
 abbrev pub branch_of : Scope → Sample → Stm → Stm
 branch_of scope s (Case e items) =
-    let c = items_form scope (form scope e) items in
+    let c = items_form scope.names (form scope.names e) items in
     chosen_body scope s (value scope s e c) c items (default_body items)
 branch_of scope s a = a
 
@@ -67,71 +67,95 @@ module _ (scope : Scope) where
 
 -- ---- points of a run
 
--- between blocks; or inside one, of which the rest is left, and which began with these values
+-- between waves; or inside a block of a wave, of which the rest is left: the block began with the values `from`, and the
+-- wave with the committed ones
 pub data Point : Type 0 where
   Between : (q : Queue) → Point
-  Inside : (q : Queue) (rest : List Stm) (from : List (List ℕ)) → Point
+  Inside : (q : Queue) (rest : List Stm) (from committed : List (List ℕ)) → Point
 
 abbrev pub queue_at : Point → Queue
 queue_at (Between q) = q
-queue_at (Inside q rest from) = q
+queue_at (Inside q rest from committed) = q
 
 abbrev pub state_at : Point → State
 state_at p = (queue_at p).state
 
+-- the values that nets are computed from: those at the start of the wave that runs, or else those of the point
+abbrev pub committed_at : Point → List (List ℕ)
+committed_at (Between q) = q.state.values
+committed_at (Inside q rest from committed) = committed
+
+-- behind the last update of a tick
+abbrev pub is_last : Phase → List (List Proc) → Bool
+is_last Updated [] = true
+is_last phase ahead = false
+
+-- the point is at a boundary: its tick is over, and the next one has not begun
+abbrev pub at_boundary : Point → Bool
+at_boundary (Between q) = is_last q.phase q.ahead
+at_boundary (Inside q rest from committed) = false
+
+-- the tick of a point: that of the last boundary, or the ticks begun once the run has finished
+abbrev pub tick_of : Point → ℕ
+tick_of p = if (state_at p).finished || at_boundary p then (state_at p).ticks else (state_at p).ticks - 1
+
 -- how far a wave goes before the next act: to its end, to a call, or to a choice
 pub data Reached : Type 0 where
-  Ends : (q : Queue) → Reached
-  Calls : (task : Task) (q : Queue) (rest : List Stm) (from : List (List ℕ)) → Reached
-  Chooses : (q : Queue) (rest : List Stm) (from : List (List ℕ)) → Reached
+  Completes : (q : Queue) → Reached
+  Calls : (task : Task) (q : Queue) (rest : List Stm) (from committed : List (List ℕ)) → Reached
+  Chooses : (q : Queue) (rest : List Stm) (from committed : List (List ℕ)) → Reached
 
 module _ (d : Flat) (files : List File) where
   -- a block that began with these values is done
   abbrev pub with_block : Queue → List (List ℕ) → State → Queue
-  with_block q from s = record q { state = s; pending = woken (changed from s.values) d.procs q.pending }
+  with_block q from s = record q { state = s; pending = woken (scope_of d files) (changed from s.values) d.procs q.pending }
 
-  -- a block that began with these values goes so far, and these blocks are left, through which go goes
-  abbrev pub by_pause : Queue → List (List ℕ) → List Stm → (Queue → Reached) → Pause → Reached
-  by_pause q from bs go (Through s) = go (with_block q from s)
-  by_pause q from bs go (AtCall task s rest) = Calls task (record q { state = s; phase = Wave bs }) rest from
-  by_pause q from bs go (AtChoice s rest) = Chooses (record q { state = s; phase = Wave bs }) rest from
+  -- a block that began with the values `from`, in a wave that began with the committed ones, goes so far, and these
+  -- processes are left, through which go goes
+  abbrev pub by_pause : Queue → (from committed : List (List ℕ)) → List Proc → (Queue → Reached) → Pause → Reached
+  by_pause q from committed ps go (Through s) = go (with_block q from s)
+  by_pause q from committed ps go (AtCall task s rest) = Calls task (record q { state = s; phase = Wave ps }) rest from committed
+  by_pause q from committed ps go (AtChoice s rest) = Chooses (record q { state = s; phase = Wave ps }) rest from committed
 
-  abbrev pub through_blocks : List Stm → Queue → Reached
-  through_blocks [] q = Ends q
-  through_blocks (b ∷ bs) q = by_pause q q.state.values bs (through_blocks bs) (uptos (scope_of d files) (b ∷ []) q.state)
+  abbrev pub through_blocks : (committed : List (List ℕ)) → List Proc → Queue → Reached
+  through_blocks committed [] q = Completes q
+  through_blocks committed (p ∷ ps) q =
+      by_pause q q.state.values committed ps (through_blocks committed ps) (uptos (scope_of d files) (p.body ∷ []) q.state)
 
-  -- how far the wave goes from a point, where these blocks are left
-  abbrev pub reach : Point → List Stm → Reached
-  reach (Between q) left = through_blocks left q
-  reach (Inside q rest from) left = by_pause q from left (through_blocks left) (uptos (scope_of d files) rest q.state)
+  -- how far the wave goes from a point, where these processes are left
+  abbrev pub reach : Point → List Proc → Reached
+  reach (Between q) left = through_blocks q.state.values left q
+  reach (Inside q rest from committed) left =
+      by_pause q from committed left (through_blocks committed left) (uptos (scope_of d files) rest q.state)
 
   -- ---- acts
 
   -- r is the first state in which no process is pending, from q on
   pub data Calms : Queue → Queue → Type 0 where
     calm : {q : Queue} → first_pending d.procs q.pending ≡ None → Calms q q
-    goes : {q r : Queue} {body : Stm} → first_pending d.procs q.pending ≡ Some body → Calms (evaluated d files q body) r → Calms q r
+    goes : {q r : Queue} {p : Proc} → first_pending d.procs q.pending ≡ Some p → Calms (evaluated d files q p) r → Calms q r
 
-  -- behind a tick's update its next wave begins, or the next tick
-  abbrev pub awake_by : Queue → Phase → List (List Stm) → Queue
-  awake_by q Updated (w ∷ ws) = record q { phase = Wave w; ahead = ws }
-  awake_by q Updated [] = risen d q
-  awake_by q phase ahead = q
+  -- behind a tick's update its next wave begins, or the next tick, as the clock rises
+  abbrev pub entered_by : Queue → Phase → List (List Proc) → Queue
+  entered_by q Updated (w ∷ ws) = record q { phase = Wave w; ahead = ws }
+  entered_by q Updated [] = risen d q
+  entered_by q phase ahead = q
 
-  abbrev pub awake : Point → Point
-  awake (Between q) = Between (awake_by q q.phase q.ahead)
-  awake (Inside q rest from) = Inside q rest from
+  -- the point with its next wave begun
+  abbrev pub entered : Point → Point
+  entered (Between q) = Between (entered_by q q.phase q.ahead)
+  entered (Inside q rest from committed) = Inside q rest from committed
 
   -- the point after the act that was reached
   abbrev pub Did : Reached → Point → Type 0
-  Did (Calls task q rest from) p = p ≡ Inside (record q { state = called (scope_of d files) task q.state }) rest from
-  Did (Chooses q rest from) p = p ≡ Inside (record q { state = counted q.state }) rest from
-  Did (Ends q) p = (r : Queue) × Calms (ended q) r × (p ≡ Between r)
+  Did (Calls task q rest from committed) p = p ≡ Inside (record q { state = called (scope_of d files) task q.state }) rest from committed
+  Did (Chooses q rest from committed) p = p ≡ Inside (record q { state = counted q.state }) rest from committed
+  Did (Completes q) p = (r : Queue) × Calms (wave_ended q) r × (p ≡ Between r)
 
   -- one act leads from a point to the next
   pub data Act : Point → Point → Type 0 where
-    of_wave : {p p' : Point} (left : List Stm) → (queue_at (awake p)).phase ≡ Wave left → Did (reach (awake p) left) p' → Act p p'
-    updates : {q r : Queue} → q.phase ≡ Ended → Calms (updated d files q) r → Act (Between q) (Between r)
+    of_wave : {p p' : Point} (left : List Proc) → (queue_at (entered p)).phase ≡ Wave left → Did (reach (entered p) left) p' → Act p p'
+    updates : {q r : Queue} → q.phase ≡ Ended → Calms (updates_done d files q) r → Act (Between q) (Between r)
 
 -- where the acts begin: before time zero, or at the settled snapshot
 pub data Begins (o : Origin) : Option Snapshot → Point → Type 0 where
@@ -144,12 +168,14 @@ pub data After (o : Origin) : ℕ → Point → Type 0 where
   acts : {c : ℕ} {p p' : Point} → After o c p → (state_at p).finished ≡ false → Act o.flat o.files p p' → After o (suc c) p'
 
 -- the next act of a point is this call, and q is right before its effect
-pub record NextIs (o : Origin) (p : Point) (task : Task) (q : Queue) (rest : List Stm) (from : List (List ℕ)) : Type 0 where
-  pub left : List Stm
+pub record NextIs (o : Origin) (p : Point) (task : Task) (q : Queue) (rest : List Stm) (from committed : List (List ℕ)) : Type 0 where
+  pub left : List Proc
   pub alive : (state_at p).finished ≡ false
-  pub in_wave : (queue_at (awake o.flat o.files p)).phase ≡ Wave left
-  pub next : reach o.flat o.files (awake o.flat o.files p) left ≡ Calls task q rest from
+  pub in_wave : (queue_at (entered o.flat o.files p)).phase ≡ Wave left
+  pub next : reach o.flat o.files (entered o.flat o.files p) left ≡ Calls task q rest from committed
 
--- the run right before the effect of act c, which is a call, with all statements before it done
-pub data Before (o : Origin) : ℕ → State → Type 0 where
-  before : {n : ℕ} {p : Point} (task : Task) (q : Queue) (rest : List Stm) (from : List (List ℕ)) → After o n p → NextIs o p task q rest from → Before o (suc n) q.state
+-- the point right before the effect of act c, which is this call, with all statements before it done: act c is not
+-- counted yet, so one act less than c is
+pub data Before (o : Origin) : ℕ → Task → Point → Type 0 where
+  before : {n : ℕ} {p : Point} (task : Task) (q : Queue) (rest : List Stm) (from committed : List (List ℕ))
+      → After o n p → NextIs o p task q rest from committed → Before o (suc n) task (Inside q rest from committed)

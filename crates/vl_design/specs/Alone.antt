@@ -6,7 +6,7 @@ use Rattle.vl_base.specs.declared.files.File.{File}
 use Rattle.vl_design.specs.declared.design.ProcKind.{ProcKind}
 use Rattle.vl_design.specs.declared.design.End.{End}
 use Rattle.vl_design.specs.declared.design.End.TheVariants.{Finished, Budget, Stopped}
-use Rattle.vl_design.specs.Syntax.{Stm, Proc, Flat}
+use Rattle.vl_design.specs.Syntax.{Proc, Flat}
 use Rattle.vl_design.specs.State.{State}
 use Rattle.vl_design.specs.Functions.{zeros, fresh}
 use Rattle.vl_design.specs.Queue.{Queue, Wave, Updated, next, is_init, is_rise, is_fall, is_comb}
@@ -43,9 +43,9 @@ pub data Settles (d : Flat) (files : List File) : Queue → Queue → Type 0 whe
   rests : {q : Queue} → next d files q ≡ None → Settles d files q q
   goes : {q r s : Queue} → next d files q ≡ Some r → Settles d files r s → Settles d files q s
 
--- the bodies of the processes of a kind, in text order
-abbrev pub blocks : (ProcKind → Bool) → List Proc → List Stm
-blocks p procs = map (λ x. x.body) (filter (λ x. p x.kind) procs)
+-- the processes of a kind, in text order
+abbrev pub blocks : (ProcKind → Bool) → List Proc → List Proc
+blocks p procs = filter (λ x. p x.kind) procs
 
 abbrev pub all_comb : List Proc → List Bool
 all_comb procs = map (λ p. is_comb p.kind) procs
@@ -64,9 +64,9 @@ resumed d s = record {
 }
 
 -- the waves of a tick behind its rise: the fall's, where a block waits for it
-abbrev pub falls : List Stm → List (List Stm)
+abbrev pub falls : List Proc → List (List Proc)
 falls [] = []
-falls (b ∷ bs) = (b ∷ bs) ∷ []
+falls (p ∷ ps) = (p ∷ ps) ∷ []
 
 -- one more tick begins: the clock rises
 abbrev pub risen : Flat → Queue → Queue

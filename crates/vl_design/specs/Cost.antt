@@ -2,10 +2,10 @@
 use Rattle.std.specs.Prelude.{ℕ, zero, suc, ◌+◌, ◌*◌, Bool, true, false, List, [], ◌∷◌, length, sum_by, if◌then◌else◌, slice_get, Option, Some, None}
 use Rattle.vl_design.specs.declared.design.SigKind.{SigKind}
 use Rattle.vl_design.specs.declared.design.SigKind.TheVariants.{Net, Var, Comb, Mem}
-use Rattle.vl_design.specs.Syntax.{Exp, Num, Label, Sig, Word, Pick, Slice, Un, Bin, Cond, Cat, Rep, Cast, Call, Time, Answer, Exps, NoExps, MoreExps, Target, Whole, WordAt, Bits, Part, Several, Targets, NoTargets, MoreTargets, Piece, Literal, Shown, Task, Print, Finish, Save, Fopen, Fread, Fgetc, Feof, Fclose, ReadHex, Stm, Nop, Then, If, Case, For, Repeat, Set, Later, Sys, Items, NoItems, Labelled, Default, Fun, Proc, Flat}
+use Rattle.vl_design.specs.Syntax.{Exp, Num, Label, Sig, Word, Pick, Slice, Un, Bin, Cond, Cat, Rep, Cast, Call, Time, LastAnswer, Exps, NoExps, MoreExps, Target, Whole, WordAt, PickAt, SliceAt, Several, Targets, NoTargets, MoreTargets, Piece, Literal, Shown, Task, Print, Finish, Save, Fopen, Fread, Fgetc, Feof, Fclose, ReadHex, Stm, Nop, Then, If, Case, For, Repeat, Set, Later, Sys, Items, NoItems, Labelled, Default, Fun, Proc, Flat}
 use Rattle.vl_design.specs.Width.{Scope, signal_form}
 use Rattle.vl_design.specs.State.{State}
-use Rattle.vl_design.specs.Exec.{exec, is_true, most_turns}
+use Rattle.vl_design.specs.Exec.{exec, goes_on, most_turns}
 use Rattle.vl_design.specs.Functions.{scope_of, inner, zeros, fresh}
 use Rattle.vl_design.specs.Queue.{is_init}
 
@@ -35,7 +35,7 @@ abbrev mutual
   -- 6 for each argument
   exp_cells body (Call f es) = 2 + (arguments_cells body es + body f)
   exp_cells body Time = 0
-  exp_cells body Answer = 0
+  exp_cells body LastAnswer = 0
 
   pub exps_cells : (ℕ → ℕ) → Exps → ℕ
   exps_cells body NoExps = 0
@@ -51,8 +51,8 @@ abbrev mutual
   pub target_cells : (ℕ → ℕ) → Target → ℕ
   target_cells body (Whole k) = 0
   target_cells body (WordAt m a) = exp_cells body a
-  target_cells body (Bits b i from w) = target_cells body b + exp_cells body i
-  target_cells body (Part b low w) = target_cells body b
+  target_cells body (PickAt b i from w) = target_cells body b + exp_cells body i
+  target_cells body (SliceAt b low w) = target_cells body b
   target_cells body (Several ts) = targets_cells body ts
 
   pub targets_cells : (ℕ → ℕ) → Targets → ℕ
@@ -99,7 +99,7 @@ module _ (scope : Scope) (body : ℕ → ℕ) where
     stm_cells (If t a b) s = exp_cells body t + 4 + (stm_cells a s + stm_cells b s)
     stm_cells (Case e items) s = exp_cells body e + items_cells items s
     stm_cells (For k start test step a) s =
-        over_turns most_turns (is_true scope test) (exec scope step) (stm_cells a) (exec scope start s)
+        over_turns most_turns (goes_on scope test) (exec scope step) (stm_cells a) (exec scope start s)
     stm_cells (Repeat n a) s = n * stm_cells a s
     stm_cells (Set t e) s = exp_cells body e + (target_cells body t + 6)
     stm_cells (Later t e) s = exp_cells body e + (target_cells body t + 6)
@@ -115,9 +115,9 @@ module _ (scope : Scope) (body : ℕ → ℕ) where
   abbrev mutual
     pub word_regs : Target → ℕ
     word_regs (Whole k) = 0
-    word_regs (WordAt m a) = (signal_form scope.rows m).width + 33
-    word_regs (Bits b i from w) = word_regs b
-    word_regs (Part b low w) = word_regs b
+    word_regs (WordAt m a) = (signal_form scope.names.rows m).width + 33
+    word_regs (PickAt b i from w) = word_regs b
+    word_regs (SliceAt b low w) = word_regs b
     word_regs (Several ts) = words_regs ts
 
     pub words_regs : Targets → ℕ
@@ -131,7 +131,7 @@ module _ (scope : Scope) (body : ℕ → ℕ) where
     stm_regs (If t a b) s = stm_regs a s + stm_regs b s
     stm_regs (Case e items) s = items_regs items s
     stm_regs (For k start test step a) s =
-        over_turns most_turns (is_true scope test) (exec scope step) (stm_regs a) (exec scope start s)
+        over_turns most_turns (goes_on scope test) (exec scope step) (stm_regs a) (exec scope start s)
     stm_regs (Repeat n a) s = n * stm_regs a s
     stm_regs (Set t e) s = 0
     stm_regs (Later t e) s = word_regs t
@@ -151,11 +151,11 @@ body_of (Some g) f = f g
 abbrev pub body_within : Scope → ℕ → ℕ → ℕ
 body_within scope zero f = 0
 body_within scope (suc n) f =
-    body_of (slice_get scope.funs f) (λ g. stm_cells (inner scope g) (body_within scope n) g.body (fresh (zeros (inner scope g).rows)))
+    body_of (slice_get scope.names.funs f) (λ g. stm_cells (inner scope g) (body_within scope n) g.body (fresh (zeros (inner scope g).names.rows)))
 
 -- the cells of a function's body, with calls nested as deep as there are functions
 abbrev pub body_cells : Scope → ℕ → ℕ
-body_cells scope f = body_within scope (length scope.funs) f
+body_cells scope f = body_within scope (length scope.names.funs) f
 
 -- ---- designs
 

@@ -1,4 +1,4 @@
--- Small designs for worked rows.
+-- Small designs for worked rows (own).
 use Rattle.std.specs.Prelude.{ℕ, pos, Bool, true, false, List, [], ◌∷◌, None, codes}
 use Rattle.vl_base.specs.declared.bits.BinOp.TheVariants.{Add, Mul, Xor, Lt, Eq}
 use Rattle.vl_base.specs.declared.files.File.{File}
@@ -6,7 +6,7 @@ use Rattle.vl_base.specs.Display.{LeastDecimal, Decimal, Hexadecimal}
 use Rattle.vl_design.specs.declared.design.SigKind.{SigKind}
 use Rattle.vl_design.specs.declared.design.SigKind.TheVariants.{Net, Var, Loop, Mem, Clock}
 use Rattle.vl_design.specs.declared.design.ProcKind.TheVariants.{Init, Rise, Fall, Assign}
-use Rattle.vl_design.specs.Syntax.{Exp, Num, Sig, Word, Slice, Bin, Call, Time, Answer, NoExps, MoreExps, Whole, WordAt, Bits, Part, Piece, Literal, Shown, Print, Finish, Fopen, Fread, Feof, Stm, Nop, Then, If, For, Set, Later, Sys, Row, Proc, Flat}
+use Rattle.vl_design.specs.Syntax.{Exp, Num, Label, Sig, Word, Slice, Bin, Call, Time, LastAnswer, NoExps, MoreExps, Whole, WordAt, PickAt, SliceAt, Piece, Literal, Shown, Print, Finish, Fopen, Fread, Feof, Stm, Nop, Then, If, Case, For, Set, Later, Sys, Labelled, Default, NoItems, Row, Proc, Flat}
 use Rattle.vl_design.specs.Width.{Scope}
 use Rattle.vl_design.specs.Value.{Sample}
 use Rattle.vl_design.specs.Functions.{scope_of}
@@ -28,11 +28,15 @@ show pieces = Sys (Print pieces true)
 abbrev pub number : ℕ → Exp
 number v = Num v 32 true
 
+-- a loop of four turns
+abbrev pub turned : ℕ → Stm → Stm
+turned k a = For k (Set (Whole k) (number 0)) (Bin Lt (Sig k) (number 4)) (Set (Whole k) (Bin Add (Sig k) (number 1))) a
+
 abbrev pub rise : Stm → Proc
-rise a = record { kind = Rise; body = a }
+rise a = record { kind = Rise; events = []; body = a }
 
 abbrev pub initial : Stm → Proc
-initial a = record { kind = Init; body = a }
+initial a = record { kind = Init; events = []; body = a }
 
 abbrev pub flat : List Row → List Proc → Flat
 flat rows procs = record { rows = clock ∷ rows; funs = []; procs = procs }
@@ -55,12 +59,12 @@ exchange = flat (row (codes "m.a") Var 8 false ∷ row (codes "m.b") Var 8 false
 -- reg [1:0] q; always @(posedge clk) begin q[0] <= 1; q <= 0; q[1] <= 1; end, and its value is shown a tick later
 abbrev pub bit_writes : Flat
 bit_writes = flat (row (codes "m.q") Var 2 false ∷ [])
-    (rise (seq (show (Shown LeastDecimal (Sig 1) ∷ []) ∷ Later (Part (Whole 1) (pos 0) 1) (number 1) ∷ Later (Whole 1) (number 0) ∷ Later (Part (Whole 1) (pos 1) 1) (number 1) ∷ [])) ∷ [])
+    (rise (seq (show (Shown LeastDecimal (Sig 1) ∷ []) ∷ Later (SliceAt (Whole 1) (pos 0) 1) (number 1) ∷ Later (Whole 1) (number 0) ∷ Later (SliceAt (Whole 1) (pos 1) 1) (number 1) ∷ [])) ∷ [])
 
 -- reg [7:0] x; wire [7:0] w; assign w = x; always @(posedge clk) x = x + 1; always @(posedge clk) $display("%0d %0d", x, w);
 abbrev pub late_net : Flat
 late_net = flat (row (codes "m.x") Var 8 false ∷ row (codes "m.w") Net 8 false ∷ [])
-    (record { kind = Assign; body = Set (Whole 2) (Sig 1) }
+    (record { kind = Assign; events = []; body = Set (Whole 2) (Sig 1) }
     ∷ rise (Set (Whole 1) (Bin Add (Sig 1) (number 1)))
     ∷ rise (show (Shown LeastDecimal (Sig 1) ∷ Literal (codes " ") ∷ Shown LeastDecimal (Sig 2) ∷ [])) ∷ [])
 
@@ -78,7 +82,7 @@ greets = flat [] (initial (show (Literal (codes "hi") ∷ [])) ∷ [])
 
 -- always @(posedge clk) $display("p"); always @(negedge clk) $display("n %0d", $time);
 abbrev pub both_edges : Flat
-both_edges = flat [] (rise (show (Literal (codes "p") ∷ [])) ∷ record { kind = Fall; body = show (Literal (codes "n ") ∷ Shown LeastDecimal Time ∷ []) } ∷ [])
+both_edges = flat [] (rise (show (Literal (codes "p") ∷ [])) ∷ record { kind = Fall; events = []; body = show (Literal (codes "n ") ∷ Shown LeastDecimal Time ∷ []) } ∷ [])
 
 abbrev pub integer : List ℕ → Row
 integer name = row name Var 32 true
@@ -88,10 +92,10 @@ integer name = row name Var 32 true
 abbrev pub reads_empty : Flat
 reads_empty = flat (integer (codes "m.fd") ∷ integer (codes "m.n") ∷ integer (codes "m.p") ∷ integer (codes "m.q") ∷ row (codes "m.r") Var 32 false ∷ [])
     (initial (seq (
-    Sys (Fopen (codes "e")) ∷ Set (Whole 1) Answer
-    ∷ Sys (Feof (Sig 1)) ∷ Set (Whole 3) Answer
-    ∷ Sys (Fread 5 (Sig 1)) ∷ Set (Whole 2) Answer
-    ∷ Sys (Feof (Sig 1)) ∷ Set (Whole 4) Answer
+    Sys (Fopen (codes "e")) ∷ Set (Whole 1) LastAnswer
+    ∷ Sys (Feof (Sig 1)) ∷ Set (Whole 3) LastAnswer
+    ∷ Sys (Fread 5 (Sig 1)) ∷ Set (Whole 2) LastAnswer
+    ∷ Sys (Feof (Sig 1)) ∷ Set (Whole 4) LastAnswer
     ∷ show (Shown LeastDecimal (Sig 3) ∷ Literal (codes " ") ∷ Shown LeastDecimal (Sig 2) ∷ Literal (codes " ") ∷ Shown LeastDecimal (Sig 4) ∷ []) ∷ [])) ∷ [])
 
 abbrev pub empty_file : List File
@@ -101,12 +105,12 @@ empty_file = record { name = codes "e"; bytes = [] } ∷ []
 -- always @(posedge clock) begin $fread(r, fd); if ($feof(fd)) begin $display(s); $finish(0); end else s <= s + r; end
 abbrev pub sum : Flat
 sum = flat (integer (codes "sum.fd") ∷ row (codes "sum.r") Var 32 false ∷ row (codes "sum.s") Var 128 false ∷ [])
-    (initial (Then (Sys (Fopen (codes "data"))) (Set (Whole 1) Answer))
+    (initial (Then (Sys (Fopen (codes "data"))) (Set (Whole 1) LastAnswer))
     ∷ initial (Set (Whole 2) (number 0))
     ∷ initial (Set (Whole 3) (number 0))
     ∷ rise (seq (
     Sys (Fread 2 (Sig 1))
-    ∷ Then (Sys (Feof (Sig 1))) (If Answer (seq (show (Shown Decimal (Sig 3) ∷ []) ∷ Sys (Finish (MoreExps (number 0) NoExps)) ∷ [])) (Later (Whole 3) (Bin Add (Sig 3) (Sig 2)))) ∷ [])) ∷ [])
+    ∷ Then (Sys (Feof (Sig 1))) (If LastAnswer (seq (show (Shown Decimal (Sig 3) ∷ []) ∷ Sys (Finish (MoreExps (number 0) NoExps)) ∷ [])) (Later (Whole 3) (Bin Add (Sig 3) (Sig 2)))) ∷ [])) ∷ [])
 
 abbrev pub two_words : List File
 two_words = record { name = codes "data"; bytes = 0 ∷ 0 ∷ 0 ∷ 1 ∷ 0 ∷ 0 ∷ 0 ∷ 2 ∷ [] } ∷ []
@@ -115,14 +119,14 @@ two_words = record { name = codes "data"; bytes = 0 ∷ 0 ∷ 0 ∷ 1 ∷ 0 ∷ 
 abbrev pub early_index : Flat
 early_index = flat (row (codes "m.q") Var 2 false ∷ row (codes "m.i") Var 1 false ∷ [])
     (rise (seq (show (Shown LeastDecimal (Sig 1) ∷ [])
-    ∷ Later (Bits (Whole 1) (Sig 2) (record { constant = pos 0; taken = false }) 1) (number 1)
+    ∷ Later (PickAt (Whole 1) (Sig 2) (record { constant = pos 0; taken = false }) 1) (number 1)
     ∷ Set (Whole 2) (number 1) ∷ [])) ∷ [])
 
 -- reg [7:0] m [0:3]; integer k; initial for (k = 0; k < 4; k = k + 1) m[k] = k * 7;
 -- initial $display("%0d %0d", m[3], k);
 abbrev pub filled : Flat
 filled = flat (record { name = codes "m.m"; width = 8; signed = false; kind = Mem; words = 4; lowest = pos 0 } ∷ row (codes "m.k") Loop 32 true ∷ [])
-    (initial (For 2 (Set (Whole 2) (number 0)) (Bin Lt (Sig 2) (number 4)) (Set (Whole 2) (Bin Add (Sig 2) (number 1))) (Set (WordAt 1 (Sig 2)) (Bin Mul (Sig 2) (number 7))))
+    (initial (turned 2 (Set (WordAt 1 (Sig 2)) (Bin Mul (Sig 2) (number 7))))
     ∷ initial (show (Shown LeastDecimal (Word 1 (number 3)) ∷ Literal (codes " ") ∷ Shown LeastDecimal (Sig 2) ∷ [])) ∷ [])
 
 -- reg [31:0] s = 7; reg [7:0] p = 0; reg [31:0] m [0:255]; integer k;
@@ -154,6 +158,16 @@ nested_calls = record {
       ∷ [];
   procs = initial (show (Shown LeastDecimal (Call 1 (MoreExps (number 0) NoExps)) ∷ [])) ∷ [];
 }
+
+-- initial casez (8'sb11110101) 4'sb?101: $display("hit"); default: $display("no"); endcase, signed or without the `s`
+abbrev pub high_z : Bool → Flat
+high_z signed = flat [] (initial (Case (Num 245 8 signed) (Labelled (MoreExps (Label 5 7 4 signed) NoExps) (show (Literal (codes "hit") ∷ []))
+    (Default (show (Literal (codes "no") ∷ [])) NoItems))) ∷ [])
+
+-- always @(posedge clk) begin $finish; for (k = 0; k < 4; k = k + 1) for (j = 0; j < 4; j = j + 1) x = x + 1; end
+abbrev pub finishes_before_loops : Flat
+finishes_before_loops = flat (row (codes "m.x") Var 8 false ∷ row (codes "m.k") Loop 32 true ∷ row (codes "m.j") Loop 32 true ∷ [])
+    (rise (seq (Sys (Finish NoExps) ∷ turned 2 (turned 3 (Set (Whole 1) (Bin Add (Sig 1) (number 1)))) ∷ [])) ∷ [])
 
 -- ---- expressions over reg [3:0] a, b, which hold 15 and 1
 

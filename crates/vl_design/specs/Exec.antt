@@ -1,8 +1,9 @@
 -- What a statement does (IEEE 1364-2005, clause 9).
 use Rattle.std.specs.Prelude.{ℕ, zero, suc, ◌+◌, ◌-◌, ◌^◌, Bool, true, false, not, ◌&&◌, ◌||◌, ◌++◌, slice_set, if◌then◌else◌, ◌==◌, bit_and, bit_xor}
 use Rattle.vl_design.specs.declared.design.Form.{Form}
-use Rattle.vl_design.specs.Syntax.{Exp, Label, Un, Answer, Exps, NoExps, MoreExps, Stm, Nop, Then, If, Case, For, Repeat, Set, Later, Sys, Items, NoItems, Labelled, Default}
-use Rattle.vl_design.specs.Width.{Scope, form, joined}
+use Rattle.vl_design.specs.Syntax.{Exp, Label, Un, LastAnswer, Exps, NoExps, MoreExps, Stm, Nop, Then, If, Case, For, Repeat, Set, Later, Sys, Items, NoItems, Labelled, Default}
+use Rattle.vl_base.specs.Value.{resized}
+use Rattle.vl_design.specs.Width.{Names, Scope, form, joined}
 use Rattle.vl_design.specs.Value.{Sample, value, own_value, words_of}
 use Rattle.vl_design.specs.State.{State, sample, counted, all_updated}
 use Rattle.vl_design.specs.Targets.{assignment}
@@ -10,24 +11,24 @@ use Rattle.vl_design.specs.Tasks.{called}
 
 -- ---- case statements (clause 9.5): the subject and all labels are sized to the longest, and signed where all are
 
-abbrev pub labels_form : Scope → Form → Exps → Form
-labels_form scope f NoExps = f
-labels_form scope f (MoreExps e es) = labels_form scope (joined f (form scope e)) es
+abbrev pub labels_form : Names → Form → Exps → Form
+labels_form names f NoExps = f
+labels_form names f (MoreExps e es) = labels_form names (joined f (form names e)) es
 
-abbrev pub items_form : Scope → Form → Items → Form
-items_form scope f NoItems = f
-items_form scope f (Labelled es a others) = items_form scope (labels_form scope f es) others
-items_form scope f (Default a others) = items_form scope f others
+abbrev pub items_form : Names → Form → Items → Form
+items_form names f NoItems = f
+items_form names f (Labelled es a others) = items_form names (labels_form names f es) others
+items_form names f (Default a others) = items_form names f others
 
--- the bits that are compared with a label of w bits in a context of more: those of care, and all above the label's, which
--- extend its value (own)
-abbrev pub compared : ℕ → ℕ → ℕ → ℕ
-compared care w more = care + (2 ^ more - 2 ^ w)
+-- the bits that are compared with a label of w bits in a context: those of care, and above them, where the context is
+-- signed, as its highest digit, which extends it (clauses 5.5.4 and 9.5.1); else all, as zeros extend it
+abbrev pub compared : Form → ℕ → ℕ → ℕ
+compared c w care = if c.signed then resized true w c.width care else care + (2 ^ c.width - 2 ^ w)
 
 -- a label matches a value v (clause 9.5.1)
 abbrev pub label_matches : Scope → Sample → Form → ℕ → Exp → Bool
 label_matches scope s c v (Label l care w signed) =
-    bit_and (bit_xor v (value scope s (Label l care w signed) c)) (compared care w c.width) == 0
+    bit_and (bit_xor v (value scope s (Label l care w signed) c)) (compared c w care) == 0
 label_matches scope s c v e = value scope s e c == v
 
 abbrev pub some_match : Scope → Sample → Form → ℕ → Exps → Bool
@@ -59,6 +60,10 @@ times (suc n) turn s = times n turn (turn s)
 abbrev pub is_true : Scope → Exp → State → Bool
 is_true scope e s = not (own_value scope (sample s) e == 0)
 
+-- a loop makes one more turn: its test holds, and the run has not finished
+abbrev pub goes_on : Scope → Exp → State → Bool
+goes_on scope test s = not s.finished && is_true scope test s
+
 -- behind a loop its variable is as before: it has no value outside (own)
 abbrev pub restored : ℕ → State → State → State
 restored k before s = record s { values = slice_set s.values k (words_of before.values k) }
@@ -67,7 +72,7 @@ restored k before s = record s { values = slice_set s.values k (words_of before.
 
 -- the condition is the answer of a system function, or its negation
 abbrev pub asks : Exp → Bool
-asks Answer = true
+asks LastAnswer = true
 asks (Un op a) = asks a
 asks e = false
 
@@ -85,13 +90,13 @@ abbrev mutual
       if is_true scope t s then exec scope a s' else exec scope b s'
   exec scope (Case e items) s =
       let s' = counted_if (items_hold scope s items) s in
-      let c = items_form scope (form scope e) items in
+      let c = items_form scope.names (form scope.names e) items in
       exec_items scope (value scope (sample s) e c) c items (exec_default scope items s') s'
   exec scope (For k start test step a) s =
-      restored k s (turns most_turns (is_true scope test) (λ t. exec scope step (exec scope a t)) (exec scope start s))
+      restored k s (turns most_turns (goes_on scope test) (λ t. exec scope step (exec scope a t)) (exec scope start s))
   exec scope (Repeat n a) s = times n (exec scope a) s
   exec scope (Set t e) s =
-      if s.finished then s else record s { values = all_updated scope.rows s.values (assignment scope (sample s) t e) }
+      if s.finished then s else record s { values = all_updated scope.names.rows s.values (assignment scope (sample s) t e) }
   exec scope (Later t e) s =
       if s.finished then s else record s { later = s.later ++ assignment scope (sample s) t e }
   exec scope (Sys task) s = if s.finished then s else called scope task s
@@ -115,7 +120,7 @@ abbrev mutual
   holds scope s (If t a b) = asks t || (holds scope s a || holds scope s b)
   holds scope s (Case e items) = items_hold scope s items
   holds scope s (For k start test step a) =
-      some_turn most_turns (is_true scope test) (exec scope step) (λ t. holds scope t a) (exec scope start s)
+      some_turn most_turns (goes_on scope test) (exec scope step) (λ t. holds scope t a) (exec scope start s)
   holds scope s (Repeat n a) = not (n == 0) && holds scope s a
   holds scope s (Set t e) = false
   holds scope s (Later t e) = false

@@ -5,7 +5,7 @@ use Rattle.std.specs.Int.Digits.{number_from_digits}
 use Rattle.vl_base.specs.Display.{Format, Decimal, format_of, lower_case}
 use Rattle.vl_design.specs.Syntax.{Exp, Num, Piece, Literal, Shown}
 
--- an argument of a system call
+-- an argument of a system call: none between two commas, a string, or an expression
 pub data Arg : Type 0 where
   Null : Arg
   Str : (text : List ℕ) → Arg
@@ -32,10 +32,10 @@ with_text text (Literal t ∷ ps) = Literal (text ++ t) ∷ ps
 with_text text ps = Literal text ∷ ps
 
 -- where a format is read: between items, behind a `%`, or behind a `%0`
-pub data Reading : Type 0 where
-  Between : Reading
-  Percent : Reading
-  PercentZero : Reading
+pub data FormatPosition : Type 0 where
+  InText : FormatPosition
+  Percent : FormatPosition
+  PercentZero : FormatPosition
 
 abbrev pub with_item : Option Format → Exp → List Piece → List Piece
 with_item None e ps = ps
@@ -43,20 +43,20 @@ with_item (Some format) e ps = Shown format e ∷ ps
 
 abbrev mutual
   -- the pieces of a format, for an instance's path and the arguments after the format
-  pub format_pieces : List ℕ → Reading → List ℕ → List Arg → List Piece
+  pub format_pieces : List ℕ → FormatPosition → List ℕ → List Arg → List Piece
   format_pieces path r [] args = []
-  format_pieces path Between (c ∷ cs) args =
-      if c == 37 then format_pieces path Percent cs args else with_text (c ∷ []) (format_pieces path Between cs args)
+  format_pieces path InText (c ∷ cs) args =
+      if c == 37 then format_pieces path Percent cs args else with_text (c ∷ []) (format_pieces path InText cs args)
   format_pieces path Percent (c ∷ cs) args =
       -- 0
       if c == 48 then format_pieces path PercentZero cs args
       -- %
-      else if c == 37 then with_text (37 ∷ []) (format_pieces path Between cs args)
+      else if c == 37 then with_text (37 ∷ []) (format_pieces path InText cs args)
       -- m
-      else if lower_case c == 109 then with_text path (format_pieces path Between cs args)
-      else with_item (format_of c false) (operand args) (format_pieces path Between cs (behind args))
+      else if lower_case c == 109 then with_text path (format_pieces path InText cs args)
+      else with_item (format_of c false) (operand args) (format_pieces path InText cs (behind args))
   format_pieces path PercentZero (c ∷ cs) args =
-      with_item (format_of c true) (operand args) (format_pieces path Between cs (behind args))
+      with_item (format_of c true) (operand args) (format_pieces path InText cs (behind args))
 
 -- how many arguments pieces took
 abbrev pub taken : List Piece → ℕ
@@ -70,5 +70,5 @@ pieces_from path n [] = []
 pieces_from path (suc n) (a ∷ args) = pieces_from path n args
 pieces_from path zero (Null ∷ args) = Literal (codes " ") ∷ pieces_from path zero args
 pieces_from path zero (Str text ∷ args) =
-    let ps = format_pieces path Between text args in ps ++ pieces_from path (taken ps) args
+    let ps = format_pieces path InText text args in ps ++ pieces_from path (taken ps) args
 pieces_from path zero (Value e ∷ args) = Shown Decimal e ∷ pieces_from path zero args

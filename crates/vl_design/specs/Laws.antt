@@ -1,10 +1,11 @@
--- What the laws speak of.
-use Rattle.std.specs.Prelude.{◌≡◌, ℕ, ◌^◌, ◌<◌, Bool, true, false, ◌||◌, List, ◌++◌, All, ⊤}
+-- What the laws speak of (own).
+use Rattle.std.specs.Prelude.{◌≡◌, ℕ, ◌^◌, ◌<◌, Bool, true, false, ◌||◌, List, ◌++◌, length, All, ⊤}
 use Rattle.vl_design.specs.Syntax.{Stm, Nop, Then, If, Case, For, Repeat, Set, Later, Sys, Items, NoItems, Labelled, Default, Row, Flat}
 use Rattle.vl_design.specs.Width.{signal_form}
 use Rattle.vl_design.specs.Value.{Sample, words_of}
 use Rattle.vl_design.specs.State.{State, Update}
 use Rattle.vl_design.specs.Exec.{asks}
+use Rattle.vl_design.specs.Functions.{zeros}
 use Rattle.vl_design.specs.Queue.{Queue, is_comb}
 use Rattle.vl_design.specs.Alone.{Origin}
 use Rattle.vl_design.specs.Acts.{Point, Between, state_at, After}
@@ -28,6 +29,16 @@ pub record Adds (s t : State) : Type 0 where
 -- each word of each signal is below 2 to the signal's width
 abbrev pub InRange : List Row → List (List ℕ) → Type 0
 InRange rows values = (k : ℕ) → All (λ v. v < 2 ^ (signal_form rows k).width) (words_of values k)
+
+-- as many signals, and as many words of each
+pub record SameShape (v w : List (List ℕ)) : Type 0 where
+  pub many : length v ≡ length w
+  pub words : (k : ℕ) → length (words_of v k) ≡ length (words_of w k)
+
+-- values as a design's signals have them
+pub record IsFine (rows : List Row) (values : List (List ℕ)) : Type 0 where
+  pub range : InRange rows values
+  pub shape : SameShape values (zeros rows)
 
 -- ---- designs that are told act by act
 
@@ -67,8 +78,9 @@ abbrev mutual
   items_can_act (Labelled es a others) = can_act a || items_can_act others
   items_can_act (Default a others) = can_act a || items_can_act others
 
--- the processes of a design have no loops
+-- the functions and the processes of a design have no loops
 pub record IsUnrolled (d : Flat) : Type 0 where
+  pub funs : All (λ f. IsUnrolledStm f.body) d.funs
   pub procs : All (λ p. IsUnrolledStm p.body) d.procs
 
 -- no combinational process holds a system call, or a condition that is the answer of one

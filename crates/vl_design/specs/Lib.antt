@@ -1,9 +1,11 @@
 pub mod Syntax
 pub mod Formats
-pub mod Trees
+pub mod Calls
+pub mod Rows
 pub mod Placed
 pub mod Plainly
 pub mod Seen
+pub mod Trees
 pub mod Stops
 pub mod Sized
 pub mod Width
@@ -15,6 +17,7 @@ pub mod Tasks
 pub mod Exec
 pub mod Functions
 pub mod Reads
+pub mod Turns
 pub mod Queue
 pub mod Snapshots
 pub mod Alone

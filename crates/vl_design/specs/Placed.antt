@@ -45,8 +45,8 @@ mutual
   pub data Target : Type 0 where
     Whole : (at : Place) (signal : ℕ) → Target
     WordAt : (at : Place) (memory : ℕ) (address : Exp) → Target
-    Bits : (at : Place) (base : Target) (index : Exp) (from : LowestBit) (width : ℕ) → Target
-    Part : (at : Place) (base : Target) (low : ℤ) (width : ℕ) → Target
+    PickAt : (at : Place) (base : Target) (index : Exp) (from : LowestBit) (width : ℕ) → Target
+    SliceAt : (at : Place) (base : Target) (low : ℤ) (width : ℕ) → Target
     Several : (at : Place) (parts : Targets) → Target
 
   pub data Targets : Type 0 where

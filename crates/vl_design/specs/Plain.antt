@@ -8,6 +8,6 @@ use Rattle.vl_design.specs.Alone.{Origin}
 abbrev pub alone : Flat → ℕ → Origin
 alone d budget = record { flat = d; files = []; plan = record { budget = budget; errands = [] }; resume = None }
 
--- the names of a design without functions, over no files
+-- the scope of a design without functions, over no files
 abbrev pub plain_scope : List Row → Scope
-plain_scope rows = record { rows = rows; signals = rows; funs = []; files = []; call = λ f args. 0 }
+plain_scope rows = record { names = record { rows = rows; signals = rows; funs = [] }; files = []; call = λ f args. 0 }

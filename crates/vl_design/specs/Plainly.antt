@@ -1,9 +1,11 @@
--- Placed designs without their places: what the definitions of designs compute on.
+-- Placed designs without their places: what the definitions of designs compute on (IEEE 1364-2005, clause 12).
 use Rattle.std.specs.Prelude.{ℕ, List, [], ◌∷◌, map}
 use Rattle.vl_base.specs.declared.bits.UnOp.TheVariants.{LogNot}
 use Rattle.vl_design.specs.Syntax as d
 use Rattle.vl_design.specs.Formats as f
-use Rattle.vl_design.specs.Trees.{task_of, row_of}
+use Rattle.vl_design.specs.Calls.{task_of}
+use Rattle.vl_design.specs.Rows.{row_of}
+use Rattle.vl_design.specs.declared.design.Event.{Event}
 use Rattle.vl_design.specs.Placed as p
 
 abbrev mutual
@@ -22,7 +24,7 @@ abbrev mutual
   exp (p.Cast at s a) = d.Cast s (exp a)
   exp (p.Call at k es) = d.Call k (exps es)
   exp (p.Time at) = d.Time
-  exp (p.Sys at name args) = d.Answer
+  exp (p.Sys at name args) = d.LastAnswer
 
   pub exps : p.Exps → d.Exps
   exps p.NoExps = d.NoExps
@@ -38,8 +40,8 @@ abbrev mutual
   pub target : p.Target → d.Target
   target (p.Whole at k) = d.Whole k
   target (p.WordAt at m a) = d.WordAt m (exp a)
-  target (p.Bits at b i from w) = d.Bits (target b) (exp i) from w
-  target (p.Part at b low w) = d.Part (target b) low w
+  target (p.PickAt at b i from w) = d.PickAt (target b) (exp i) from w
+  target (p.SliceAt at b low w) = d.SliceAt (target b) low w
   target (p.Several at ts) = d.Several (targets ts)
 
   pub targets : p.Targets → d.Targets
@@ -80,8 +82,11 @@ abbrev mutual
 abbrev pub fun : p.Func → d.Fun
 fun f = record { inputs = f.inputs; result = f.result; locals = map row_of f.locals; body = stm [] f.body }
 
+abbrev pub event : Event → d.Event
+event e = record { signal = e.signal; edge = e.edge }
+
 abbrev pub proc : p.Process → d.Proc
-proc a = record { kind = a.kind; body = stm a.path a.body }
+proc a = record { kind = a.kind; events = map event a.events; body = stm a.path a.body }
 
 -- the design that the definitions of designs speak of
 abbrev pub flat : p.Design → d.Flat

@@ -20,60 +20,60 @@ pub data Step : Type 0 where
   Goes : (address : ℕ) → Step
 
 -- where the text is read
-pub data Reading : Type 0 where
+pub data HexPosition : Type 0 where
   -- between words
-  Between : Reading
+  BetweenWords : HexPosition
   -- behind a `/`, and behind the step that stands before it
-  Slash : (behind : List Step) → Reading
+  Slash : (behind : List Step) → HexPosition
   -- in a comment to the end of the line, in one up to `*/`, and there behind a `*`
-  Line : Reading
-  Block : Reading
-  Star : Reading
+  Line : HexPosition
+  Block : HexPosition
+  Star : HexPosition
   -- in a word, in an address, which so far have this value, and behind `@`
-  InWord : (value : ℕ) → Reading
-  At : Reading
-  InAddress : (value : ℕ) → Reading
+  InWord : (value : ℕ) → HexPosition
+  At : HexPosition
+  InAddress : (value : ℕ) → HexPosition
 
 abbrev pub Next : Type 0
-Next = Option (List Step × Reading)
+Next = Option (List Step × HexPosition)
 
 -- on without a step
-abbrev pub on : Reading → Next
+abbrev pub on : HexPosition → Next
 on r = Some ([], r)
 
-abbrev pub digit_next : (ℕ → Reading) → ℕ → Option ℕ → Next
+abbrev pub digit_next : (ℕ → HexPosition) → ℕ → Option ℕ → Next
 digit_next in_it v None = None
 digit_next in_it v (Some d) = on (in_it (16 * v + d))
 
 -- at a byte that may end a step: at white space, or before a comment
 abbrev pub end_next : List Step → ℕ → Next → Next
 end_next behind c other =
-    if is_space c then Some (behind, Between) else if c == 47 then on (Slash behind) else other
+    if is_space c then Some (behind, BetweenWords) else if c == 47 then on (Slash behind) else other
 
 -- what is read at a byte, and where the reading goes on; none where the text is malformed
-abbrev pub read_next : Reading → ℕ → Next
-read_next Between c = if c == 64 then on At else end_next [] c (digit_next InWord 0 (hex_digit c))
+abbrev pub read_next : HexPosition → ℕ → Next
+read_next BetweenWords c = if c == 64 then on At else end_next [] c (digit_next InWord 0 (hex_digit c))
 read_next (Slash behind) c = if c == 47 then Some (behind, Line) else if c == 42 then Some (behind, Block) else None
-read_next Line c = if c == 10 then on Between else on Line
+read_next Line c = if c == 10 then on BetweenWords else on Line
 read_next Block c = if c == 42 then on Star else on Block
-read_next Star c = if c == 47 then on Between else if c == 42 then on Star else on Block
+read_next Star c = if c == 47 then on BetweenWords else if c == 42 then on Star else on Block
 read_next (InWord v) c = if c == 95 then on (InWord v) else end_next (Loads v ∷ []) c (digit_next InWord v (hex_digit c))
 read_next At c = digit_next InAddress 0 (hex_digit c)
 read_next (InAddress v) c = end_next (Goes v ∷ []) c (digit_next InAddress v (hex_digit c))
 
 -- what the end of the text ends
-abbrev pub ended : Reading → List Step
-ended (InWord v) = Loads v ∷ []
-ended (InAddress v) = Goes v ∷ []
-ended r = []
+abbrev pub last_steps : HexPosition → List Step
+last_steps (InWord v) = Loads v ∷ []
+last_steps (InAddress v) = Goes v ∷ []
+last_steps r = []
 
-abbrev pub steps_on : (Reading → List Step) → Next → List Step
+abbrev pub steps_on : (HexPosition → List Step) → Next → List Step
 steps_on go None = []
 steps_on go (Some (some, r)) = some ++ go r
 
 -- the words and addresses of a text, up to what is malformed
-abbrev pub steps : Reading → List ℕ → List Step
-steps r [] = ended r
+abbrev pub steps : HexPosition → List ℕ → List Step
+steps r [] = last_steps r
 steps r (c ∷ cs) = steps_on (λ next. steps next cs) (read_next r c)
 
 -- the words of a memory of n words of w bits, the lowest at an address, after these steps from word i on: it ends at
@@ -88,4 +88,4 @@ loaded w lowest n i (Goes a ∷ more) words =
 
 -- the words of a memory after `$readmemh` of a text
 abbrev pub words_read : ℕ → ℤ → ℕ → List ℕ → List ℕ → List ℕ
-words_read w lowest n text words = loaded w lowest n 0 (steps Between text) words
+words_read w lowest n text words = loaded w lowest n 0 (steps BetweenWords text) words

@@ -1,6 +1,6 @@
--- What expressions and statements read.
-use Rattle.std.specs.Prelude.{ℕ, Bool, false, ◌||◌, List, [], ◌∷◌}
-use Rattle.vl_design.specs.Syntax.{Exp, Num, Label, Sig, Word, Pick, Slice, Un, Bin, Cond, Cat, Rep, Cast, Call, Time, Answer, Exps, NoExps, MoreExps, Target, Whole, WordAt, Bits, Part, Several, Targets, NoTargets, MoreTargets, Piece, Literal, Shown, Task, Print, Finish, Save, Fopen, Fread, Fgetc, Feof, Fclose, ReadHex, Stm, Nop, Then, If, Case, For, Repeat, Set, Later, Sys, Items, NoItems, Labelled, Default}
+-- What expressions and statements read and write, signal by signal (IEEE 1364-2005, clauses 5, 9 and 9.7.5).
+use Rattle.std.specs.Prelude.{ℕ, Bool, true, false, ◌||◌, List, [], ◌∷◌}
+use Rattle.vl_design.specs.Syntax.{Exp, Num, Label, Sig, Word, Pick, Slice, Un, Bin, Cond, Cat, Rep, Cast, Call, Time, LastAnswer, Exps, NoExps, MoreExps, Target, Whole, WordAt, PickAt, SliceAt, Several, Targets, NoTargets, MoreTargets, Piece, Literal, Shown, Task, Print, Finish, Save, Fopen, Fread, Fgetc, Feof, Fclose, ReadHex, Stm, Nop, Then, If, Case, For, Repeat, Set, Later, Sys, Items, NoItems, Labelled, Default}
 
 abbrev mutual
   -- the expression reads a signal that passes the test
@@ -19,7 +19,7 @@ abbrev mutual
   reads p (Cast s a) = reads p a
   reads p (Call f es) = some_reads p es
   reads p Time = false
-  reads p Answer = false
+  reads p LastAnswer = false
 
   pub some_reads : (ℕ → Bool) → Exps → Bool
   some_reads p NoExps = false
@@ -30,8 +30,8 @@ abbrev mutual
   pub target_reads : (ℕ → Bool) → Target → Bool
   target_reads p (Whole k) = false
   target_reads p (WordAt m a) = reads p a
-  target_reads p (Bits b i from w) = target_reads p b || reads p i
-  target_reads p (Part b low w) = target_reads p b
+  target_reads p (PickAt b i from w) = target_reads p b || reads p i
+  target_reads p (SliceAt b low w) = target_reads p b
   target_reads p (Several ts) = targets_read p ts
 
   pub targets_read : (ℕ → Bool) → Targets → Bool
@@ -43,8 +43,8 @@ abbrev mutual
   pub target_writes : (ℕ → Bool) → Target → Bool
   target_writes p (Whole k) = p k
   target_writes p (WordAt m a) = p m
-  target_writes p (Bits b i from w) = target_writes p b
-  target_writes p (Part b low w) = target_writes p b
+  target_writes p (PickAt b i from w) = target_writes p b
+  target_writes p (SliceAt b low w) = target_writes p b
   target_writes p (Several ts) = targets_write p ts
 
   pub targets_write : (ℕ → Bool) → Targets → Bool
@@ -108,3 +108,73 @@ abbrev mutual
   items_write p NoItems = false
   items_write p (Labelled es a others) = stm_writes p a || items_write p others
   items_write p (Default a others) = stm_writes p a || items_write p others
+
+-- ---- what reads the time, or the answer of a system function (own)
+
+abbrev mutual
+  pub timed : Exp → Bool
+  timed (Num v w s) = false
+  timed (Label v care w s) = false
+  timed (Sig k) = false
+  timed (Word m a) = timed a
+  timed (Pick b i from w) = timed b || timed i
+  timed (Slice b low w) = timed b
+  timed (Un op a) = timed a
+  timed (Bin op a b) = timed a || timed b
+  timed (Cond t a b) = timed t || (timed a || timed b)
+  timed (Cat es) = some_timed es
+  timed (Rep n es) = some_timed es
+  timed (Cast s a) = timed a
+  -- a function's body begins with neither
+  timed (Call f es) = some_timed es
+  timed Time = true
+  timed LastAnswer = true
+
+  pub some_timed : Exps → Bool
+  some_timed NoExps = false
+  some_timed (MoreExps e es) = timed e || some_timed es
+
+abbrev mutual
+  pub target_timed : Target → Bool
+  target_timed (Whole k) = false
+  target_timed (WordAt m a) = timed a
+  target_timed (PickAt b i from w) = target_timed b || timed i
+  target_timed (SliceAt b low w) = target_timed b
+  target_timed (Several ts) = targets_timed ts
+
+  pub targets_timed : Targets → Bool
+  targets_timed NoTargets = false
+  targets_timed (MoreTargets t ts) = target_timed t || targets_timed ts
+
+abbrev pub pieces_timed : List Piece → Bool
+pieces_timed [] = false
+pieces_timed (Literal text ∷ ps) = pieces_timed ps
+pieces_timed (Shown format e ∷ ps) = timed e || pieces_timed ps
+
+abbrev pub task_timed : Task → Bool
+task_timed (Print pieces newline) = pieces_timed pieces
+task_timed (Finish es) = some_timed es
+task_timed (Save name) = false
+task_timed (Fopen name) = false
+task_timed (Fread k fd) = timed fd
+task_timed (Fgetc fd) = timed fd
+task_timed (Feof fd) = timed fd
+task_timed (Fclose fd) = timed fd
+task_timed (ReadHex name m) = false
+
+abbrev mutual
+  pub stm_timed : Stm → Bool
+  stm_timed Nop = false
+  stm_timed (Then a b) = stm_timed a || stm_timed b
+  stm_timed (If t a b) = timed t || (stm_timed a || stm_timed b)
+  stm_timed (Case e items) = timed e || items_timed items
+  stm_timed (For k start test step a) = stm_timed start || (timed test || (stm_timed step || stm_timed a))
+  stm_timed (Repeat n a) = stm_timed a
+  stm_timed (Set t e) = target_timed t || timed e
+  stm_timed (Later t e) = target_timed t || timed e
+  stm_timed (Sys task) = task_timed task
+
+  pub items_timed : Items → Bool
+  items_timed NoItems = false
+  items_timed (Labelled es a others) = some_timed es || (stm_timed a || items_timed others)
+  items_timed (Default a others) = stm_timed a || items_timed others

@@ -1,4 +1,4 @@
--- The placed tree of each of the program's trees.
+-- The placed tree of each of the program's trees (IEEE 1364-2005, clause 12).
 use Rattle.std.specs.Prelude.{List, [], ◌∷◌, map}
 use Rattle.vl_base.specs.declared.place.Place.{Place}
 use Rattle.vl_design.specs.declared.design.Expr.{Expr}
@@ -60,8 +60,8 @@ abbrev mutual
   pub node_target : Place → t.TargetNode → p.Target
   node_target at (t.Sig k) = p.Whole at k
   node_target at (t.Word k x) = p.WordAt at k (exp_of x.value)
-  node_target at (t.Pick' _ q b i from w) = p.Bits at (node_target q b) (exp_of i.value) from w
-  node_target at (t.Slice' _ q b low w) = p.Part at (node_target q b) low w
+  node_target at (t.Pick' _ q b i from w) = p.PickAt at (node_target q b) (exp_of i.value) from w
+  node_target at (t.Slice' _ q b low w) = p.SliceAt at (node_target q b) low w
   node_target at (t.List' _ row) = p.Several at (row_targets row)
 
   pub row_targets : {m : _} → t.Row_of-Target m → p.Targets
@@ -93,6 +93,10 @@ abbrev mutual
 
 abbrev pub stm_of : Stmt → p.Stm
 stm_of x = node_stm x.place x.node
+
+abbrev pub stms_of : List Stmt → p.Stms
+stms_of [] = p.NoStms
+stms_of (x ∷ xs) = p.MoreStms (stm_of x) (stms_of xs)
 
 abbrev pub func_of : Func → p.Func
 func_of f = record { name = f.name; place = f.place; inputs = f.inputs; result = f.result; locals = f.locals; body = stm_of f.body }

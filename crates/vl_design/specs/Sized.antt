@@ -26,7 +26,7 @@ mutual
     Cast : (signed : Bool) (a : Sized) → Node
     Call : (function : ℕ) (arguments : Several) → Node
     Time : Node
-    Answer : Node
+    LastAnswer : Node
 
   pub data Several : Type 0 where
     NoneSized : Several
@@ -44,16 +44,16 @@ abbrev mutual
   node_of (s.Un' op _ w g a) = Un op (At w g (node_of a))
   node_of (s.Bin' op _ aw ag a _ bw bg b) = Bin op (At aw ag (node_of a)) (At bw bg (node_of b))
   node_of (s.Cond' _ tw tg t _ aw ag a _ bw bg b) = Cond (At tw tg (node_of t)) (At aw ag (node_of a)) (At bw bg (node_of b))
-  node_of (s.Cat' _ row) = Cat (row_of row)
-  node_of (s.Rep' n _ row) = Rep n (row_of row)
+  node_of (s.Cat' _ row) = Cat (several_of row)
+  node_of (s.Rep' n _ row) = Rep n (several_of row)
   node_of (s.Cast' signed _ w g a) = Cast signed (At w g (node_of a))
-  node_of (s.Call' f _ row) = Call f (row_of row)
+  node_of (s.Call' f _ row) = Call f (several_of row)
   node_of s.Time = Time
-  node_of (s.Sys call) = Answer
+  node_of (s.Sys call) = LastAnswer
 
-  pub row_of : {m : _} → s.Row_of-SizedExpr m → Several
-  row_of s.end_of-SizedExpr = NoneSized
-  row_of (s.more_of-SizedExpr w g x rest) = MoreSized (At w g (node_of x)) (row_of rest)
+  pub several_of : {m : _} → s.Row_of-SizedExpr m → Several
+  several_of s.end_of-SizedExpr = NoneSized
+  several_of (s.more_of-SizedExpr w g x rest) = MoreSized (At w g (node_of x)) (several_of rest)
 
 abbrev pub sized_of : SizedExpr → Sized
 sized_of x = At x.width x.signed (node_of x.node)

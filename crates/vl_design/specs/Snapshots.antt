@@ -26,13 +26,14 @@ is_kept Var = true
 is_kept Mem = true
 is_kept k = false
 
-abbrev pub words_of_kind : SigKind → ℕ → ℕ
-words_of_kind Mem n = n
-words_of_kind k n = 0
+-- how many words a snapshot says of a signal: none of a variable
+abbrev pub snap_words : SigKind → ℕ → ℕ
+snap_words Mem n = n
+snap_words k n = 0
 
 -- the rows of a snapshot of a design
 abbrev pub snap_rows : List Row → List SnapRow
-snap_rows rows = map (λ r. record { name = r.name; width = r.width; words = words_of_kind r.kind r.words }) (filter (λ r. is_kept r.kind) rows)
+snap_rows rows = map (λ r. record { name = r.name; width = r.width; words = snap_words r.kind r.words }) (filter (λ r. is_kept r.kind) rows)
 
 abbrev pub kept_words : List Row → List (List ℕ) → List ℕ
 kept_words [] values = []

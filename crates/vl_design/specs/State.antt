@@ -42,13 +42,14 @@ sample s = record { values = s.values; time = s.ticks; answer = s.answer }
 abbrev pub counted : State → State
 counted s = record s { count = s.count + 1 }
 
--- the values after an update: bits that the signal doesn't have, and words that it doesn't have, are left out
-abbrev pub updated : List Row → List (List ℕ) → Update → List (List ℕ)
-updated rows values u =
+-- the values after an update: bits that the signal doesn't have, and words that it doesn't have, are left out (clauses
+-- 5.2.1 and 5.2.2)
+abbrev pub with_update : List Row → List (List ℕ) → Update → List (List ℕ)
+with_update rows values u =
     let words = words_of values u.signal in
     slice_set values u.signal (slice_set words u.word (placed (signal_form rows u.signal).width (slice_index words u.word) u.low u.width u.value))
 
 -- the values after updates in order
 abbrev pub all_updated : List Row → List (List ℕ) → List Update → List (List ℕ)
 all_updated rows values [] = values
-all_updated rows values (u ∷ us) = all_updated rows (updated rows values u) us
+all_updated rows values (u ∷ us) = all_updated rows (with_update rows values u) us

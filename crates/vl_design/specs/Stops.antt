@@ -1,6 +1,8 @@
 -- Faults of the flat design, and which comes first (own).
-use Rattle.std.specs.Prelude.{ℕ, nat_lt, Bool, ◌&&◌, ◌||◌, ◌==◌, if◌then◌else◌, List, [], ◌∷◌, Option, Some, None}
+use Rattle.std.specs.Prelude.{ℕ, Bool, if◌then◌else◌, List, [], ◌∷◌, Option}
 use Rattle.vl_base.specs.declared.place.Place.{Place}
+use Rattle.vl_base.specs.Places as places
+use Rattle.vl_base.specs.Places.{comes_before}
 use Rattle.vl_design.specs.declared.stop.Stop.{Stop}
 use Rattle.vl_design.specs.declared.stop.Stop.TheVariants.{Construct, Limit, Memory}
 
@@ -21,24 +23,14 @@ number_of (Construct at n) = n
 number_of (Limit at n) = n
 number_of Memory = 0
 
-abbrev pub place_before : Place → Place → Bool
-place_before p q = nat_lt p.line q.line || ((p.line == q.line) && nat_lt p.column q.column)
-
-abbrev pub same_place : Place → Place → Bool
-same_place p q = (p.line == q.line) && (p.column == q.column)
-
 -- the least place comes first, then the least number
 abbrev pub is_before : Stop → Stop → Bool
-is_before a b =
-    place_before (place_of a) (place_of b)
-    || (same_place (place_of a) (place_of b) && nat_lt (number_of a) (number_of b))
+is_before a b = comes_before (place_of a) (number_of a) (place_of b) (number_of b)
 
 -- the first of one more and those so far
 abbrev pub earlier : Option Stop → Stop → Option Stop
-earlier None a = Some a
-earlier (Some best) a = if is_before a best then Some a else Some best
+earlier best a = places.earlier is_before best a
 
 -- the first of a list and those so far
 abbrev pub earliest : Option Stop → List Stop → Option Stop
-earliest best [] = best
-earliest best (a ∷ as') = earliest (earlier best a) as'
+earliest best as' = places.earliest is_before best as'

@@ -28,8 +28,8 @@ mutual
     Cast : (signed : Bool) (a : Exp) → Exp
     Call : (function : ℕ) (arguments : Exps) → Exp
     Time : Exp
-    -- the answer of the system function called last
-    Answer : Exp
+    -- the answer of the system function called last (own)
+    LastAnswer : Exp
 
   pub data Exps : Type 0 where
     NoExps : Exps
@@ -41,8 +41,8 @@ mutual
   pub data Target : Type 0 where
     Whole : (signal : ℕ) → Target
     WordAt : (memory : ℕ) (address : Exp) → Target
-    Bits : (base : Target) (index : Exp) (from : LowestBit) (width : ℕ) → Target
-    Part : (base : Target) (low : ℤ) (width : ℕ) → Target
+    PickAt : (base : Target) (index : Exp) (from : LowestBit) (width : ℕ) → Target
+    SliceAt : (base : Target) (low : ℤ) (width : ℕ) → Target
     Several : (parts : Targets) → Target
 
   pub data Targets : Type 0 where
@@ -108,9 +108,15 @@ pub record Fun : Type 0 where
   pub locals : List Row
   pub body : Stm
 
--- a process: when it runs, and what it does
+-- what a process waits for: 0 for any change of a signal, 1 for its `posedge`, 2 for its `negedge` (clause 9.7)
+pub record Event : Type 0 where
+  pub signal : ℕ
+  pub edge : ℕ
+
+-- a process: when it runs, the events that it waits for, and what it does
 pub record Proc : Type 0 where
   pub kind : ProcKind
+  pub events : List Event
   pub body : Stm
 
 -- a design: its signals, functions and processes in text order

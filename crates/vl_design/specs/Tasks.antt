@@ -1,4 +1,4 @@
--- What the system calls do that do more than give a value (IEEE 1364-2005, clause 17).
+-- What the system calls do that do more than give a value (IEEE 1364-2005, clause 17; `$save` is own).
 use Rattle.std.specs.Prelude.{ℕ, true, Bool, List, [], ◌∷◌, ◌++◌, slice_set, slice_get, if◌then◌else◌, codes, Option, Some, None}
 use Rattle.vl_base.specs.Value.{resized}
 use Rattle.vl_base.specs.Display.{item_text}
@@ -13,7 +13,7 @@ use Rattle.vl_design.specs.ReadHex.{words_read}
 abbrev pub piece_text : Scope → Sample → Piece → List ℕ
 piece_text scope s (Literal text) = text
 piece_text scope s (Shown format e) =
-    let f = form scope e in
+    let f = form scope.names e in
     item_text format f.signed f.width (own_value scope s e)
 
 abbrev pub pieces_text : Scope → Sample → List Piece → List ℕ
@@ -26,7 +26,7 @@ display_text scope s pieces newline = pieces_text scope s pieces ++ (if newline 
 
 -- a descriptor, as assigned to 32 bits
 abbrev pub descriptor_of : Scope → Sample → Exp → ℕ
-descriptor_of scope s fd = let f = form scope fd in resized f.signed f.width 32 (own_value scope s fd)
+descriptor_of scope s fd = let f = form scope.names fd in resized f.signed f.width 32 (own_value scope s fd)
 
 abbrev pub answered : State → file.Answer → State
 answered s a = record s { table = a.table; answer = a.answer }
@@ -47,11 +47,11 @@ done scope (Finish es) s = record s { finished = true }
 done scope (Save name) s = record s { saves = s.saves ++ name ∷ [] }
 done scope (Fopen name) s = answered s (file.opened scope.files s.table name)
 done scope (Fread k fd) s =
-    variable_read k s (file.read scope.files s.table (descriptor_of scope (sample s) fd) (signal_form scope.rows k).width (value_of s.values k))
+    variable_read k s (file.read scope.files s.table (descriptor_of scope (sample s) fd) (signal_form scope.names.rows k).width (value_of s.values k))
 done scope (Fgetc fd) s = answered s (file.next_character scope.files s.table (descriptor_of scope (sample s) fd))
 done scope (Feof fd) s = record s { answer = file.at_end s.table (descriptor_of scope (sample s) fd) }
 done scope (Fclose fd) s = record s { table = file.closed s.table (descriptor_of scope (sample s) fd) }
-done scope (ReadHex name m) s = memory_read m (slice_get scope.rows m) (file.contents scope.files name) s
+done scope (ReadHex name m) s = memory_read m (slice_get scope.names.rows m) (file.contents scope.files name) s
 
 -- a call is a counted act
 abbrev pub called : Scope → Task → State → State

@@ -6,14 +6,18 @@ use Rattle.vl_base.specs.declared.bits.BinOp.{BinOp}
 use Rattle.vl_base.specs.declared.bits.BinOp.TheVariants.{Add, Sub, Mul, Div, Rem, And, Or, Xor, Xnor, Shl, Shr, Sshr, LogAnd, LogOr}
 use Rattle.vl_base.specs.declared.files.File.{File}
 use Rattle.vl_design.specs.declared.design.Form.{Form}
-use Rattle.vl_design.specs.Syntax.{Exp, Num, Label, Sig, Word, Pick, Slice, Un, Bin, Cond, Cat, Rep, Cast, Call, Time, Answer, Exps, NoExps, MoreExps, Row, Fun}
+use Rattle.vl_design.specs.Syntax.{Exp, Num, Label, Sig, Word, Pick, Slice, Un, Bin, Cond, Cat, Rep, Cast, Call, Time, LastAnswer, Exps, NoExps, MoreExps, Row, Fun, Flat}
 
 -- what numbers stand for: signals, in a function's body with its locals behind the design's; the design's signals alone;
--- functions and files; and what a function gives for values of its inputs
-pub record Scope : Type 0 where
+-- functions
+pub record Names : Type 0 where
   pub rows : List Row
   pub signals : List Row
   pub funs : List Fun
+
+-- the names, the files, and what a function gives for values of its inputs
+pub record Scope : Type 0 where
+  pub names : Names
   pub files : List File
   pub call : ℕ → List ℕ → ℕ
 
@@ -34,24 +38,32 @@ abbrev pub signal_form : List Row → ℕ → Form
 signal_form rows k = row_form (slice_get rows k)
 
 -- the signals of a function's body: its locals come behind the design's signals, whoever calls it
-abbrev pub rows_in : Scope → Fun → List Row
-rows_in scope f = scope.signals ++ f.locals
+abbrev pub rows_in : Names → Fun → List Row
+rows_in names f = names.signals ++ f.locals
 
-abbrev pub result_form_of : Scope → Option Fun → Form
-result_form_of scope None = bit
-result_form_of scope (Some f) = signal_form (rows_in scope f) f.result
+-- the names of a function's body
+abbrev pub names_in : Names → Fun → Names
+names_in names f = record names { rows = rows_in names f }
+
+-- the names of a design
+abbrev pub names_of : Flat → Names
+names_of d = record { rows = d.rows; signals = d.rows; funs = d.funs }
+
+abbrev pub result_form_of : Names → Option Fun → Form
+result_form_of names None = bit
+result_form_of names (Some f) = signal_form (rows_in names f) f.result
 
 -- the form of a function's result
-abbrev pub result_form : Scope → ℕ → Form
-result_form scope f = result_form_of scope (slice_get scope.funs f)
+abbrev pub result_form : Names → ℕ → Form
+result_form names f = result_form_of names (slice_get names.funs f)
 
-abbrev pub input_widths_of : Scope → Option Fun → List ℕ
-input_widths_of scope None = []
-input_widths_of scope (Some f) = map (λ k. (signal_form (rows_in scope f) k).width) f.inputs
+abbrev pub input_widths_of : Names → Option Fun → List ℕ
+input_widths_of names None = []
+input_widths_of names (Some f) = map (λ k. (signal_form (rows_in names f) k).width) f.inputs
 
 -- the widths of a function's inputs
-abbrev pub input_widths : Scope → ℕ → List ℕ
-input_widths scope f = input_widths_of scope (slice_get scope.funs f)
+abbrev pub input_widths : Names → ℕ → List ℕ
+input_widths names f = input_widths_of names (slice_get names.funs f)
 
 -- the longer of two widths, signed where both are
 abbrev pub joined : Form → Form → Form
@@ -81,27 +93,27 @@ binary_form op a b = bit
 
 abbrev mutual
   -- the form of an expression read for itself
-  pub form : Scope → Exp → Form
-  form scope (Num v w s) = record { width = w; signed = s }
-  form scope (Label v care w s) = record { width = w; signed = s }
-  form scope (Sig k) = signal_form scope.rows k
-  form scope (Word m a) = signal_form scope.rows m
-  form scope (Pick b i from w) = unsigned w
-  form scope (Slice b low w) = unsigned w
-  form scope (Un op a) = unary_form op (form scope a)
-  form scope (Bin op a b) = binary_form op (form scope a) (form scope b)
-  form scope (Cond t a b) = joined (form scope a) (form scope b)
-  form scope (Cat es) = unsigned (total_width scope es)
-  form scope (Rep n es) = unsigned (n * total_width scope es)
-  form scope (Cast s a) = record { width = (form scope a).width; signed = s }
-  form scope (Call f es) = result_form scope f
-  form scope Time = unsigned 64
-  form scope Answer = record { width = 32; signed = true }
+  pub form : Names → Exp → Form
+  form names (Num v w s) = record { width = w; signed = s }
+  form names (Label v care w s) = record { width = w; signed = s }
+  form names (Sig k) = signal_form names.rows k
+  form names (Word m a) = signal_form names.rows m
+  form names (Pick b i from w) = unsigned w
+  form names (Slice b low w) = unsigned w
+  form names (Un op a) = unary_form op (form names a)
+  form names (Bin op a b) = binary_form op (form names a) (form names b)
+  form names (Cond t a b) = joined (form names a) (form names b)
+  form names (Cat es) = unsigned (total_width names es)
+  form names (Rep n es) = unsigned (n * total_width names es)
+  form names (Cast s a) = record { width = (form names a).width; signed = s }
+  form names (Call f es) = result_form names f
+  form names Time = unsigned 64
+  form names LastAnswer = record { width = 32; signed = true }
 
   -- the widths of a list together
-  pub total_width : Scope → Exps → ℕ
-  total_width scope NoExps = 0
-  total_width scope (MoreExps e es) = (form scope e).width + total_width scope es
+  pub total_width : Names → Exps → ℕ
+  total_width names NoExps = 0
+  total_width names (MoreExps e es) = (form names e).width + total_width names es
 
 -- ---- contexts (clauses 5.4.1 and 5.5.2)
 

@@ -1,6 +1,6 @@
 //! What the definitions say of every run.
 
-ghost use Rattle.std.specs.Prelude.{◌≡◌, ◌≤◌, ◌<◌, ◌^◌, ℕ, suc, Bool, true, false, List, [], codes, None};
+ghost use Rattle.std.specs.Prelude.{◌≡◌, ◌+◌, ◌≤◌, ◌<◌, ◌^◌, ℕ, suc, Bool, true, false, List, [], codes, None};
 ghost use Rattle.vl_base.specs.declared.files.File.{File};
 ghost use Rattle.vl_design.specs.declared.design.End.{End as Reason};
 ghost use Rattle.vl_design.specs.declared.design.Form.{Form as Context};
@@ -17,7 +17,7 @@ ghost use Rattle.vl_design.specs.Queue.{Queue};
 ghost use Rattle.vl_design.specs.Laws.{DifferIn, Grows, Adds, InRange, can_act, IsUnrolled, HasQuietNets, IsReached};
 ghost use Rattle.vl_design.specs.Examples.{alone, counter};
 ghost use Rattle.vl_design.specs.Alone.{Origin, Settles, Boundary, Ends};
-ghost use Rattle.vl_design.specs.Acts.{Point, After, Before, state_at, branch_of};
+ghost use Rattle.vl_design.specs.Acts.{Point, After, Before, state_at, queue_at, at_boundary, tick_of, branch_of};
 
 /// A run settles in one state.
 pub fn settles_in_one_state()
@@ -64,7 +64,7 @@ pub fn values_stay_in_range()
 
 /// A statement keeps each word of a signal below 2 to the signal's width.
 pub fn statements_keep_the_range()
-    ensures { (scope : Scope) (a : Stm) (s : State) → InRange scope.rows s.values → InRange scope.rows (exec scope a s).values }
+    ensures { (scope : Scope) (a : Stm) (s : State) → InRange scope.names.rows s.values → InRange scope.names.rows (exec scope a s).values }
 {}
 
 /// The run right after an act is one.
@@ -72,9 +72,9 @@ pub fn is_at_one_point_after_an_act()
     ensures { (o : Origin) (c : ℕ) (p r : Point) → After o c p → After o c r → p ≡ r }
 {}
 
-/// The run right before the effect of a call is in one state.
-pub fn is_in_one_state_before_a_call()
-    ensures { (o : Origin) (c : ℕ) (s t : State) → Before o c s → Before o c t → s ≡ t }
+/// The run right before the effect of a call is at one point, and it is one call.
+pub fn is_at_one_point_before_a_call()
+    ensures { (o : Origin) (c : ℕ) (x y : Task) (p r : Point) → Before o c x p → Before o c y r → (x ≡ y) × (p ≡ r) }
 {}
 
 /// Act by act a run comes to each boundary, after as many acts as it has counted there: told of designs whose loops are
@@ -83,15 +83,26 @@ pub fn acts_agree_with_the_queue()
     ensures { (o : Origin) (k : ℕ) (q : Queue) → IsUnrolled o.flat → HasQuietNets o.flat → Boundary o k q → IsReached o q }
 {}
 
-/// Each act is counted once, in such a design.
+/// A point at a boundary is the boundary of its tick, and a finished point is the state of that boundary, in such a
+/// design.
+pub fn a_point_at_a_boundary_is_the_boundary()
+    ensures between { (o : Origin) (c : ℕ) (p : Point) → IsUnrolled o.flat → HasQuietNets o.flat → After o c p →
+        at_boundary p ≡ true → Boundary o (tick_of p) (queue_at p) }
+    ensures finished { (o : Origin) (c : ℕ) (p : Point) → IsUnrolled o.flat → HasQuietNets o.flat → After o c p →
+        (state_at p).finished ≡ true → (q : Queue) × Boundary o (tick_of p) q × (q.state ≡ state_at p) }
+{}
+
+/// Each act is counted once, in such a design, and a call only with its effect.
 pub fn an_act_is_counted_once()
-    ensures { (o : Origin) (c : ℕ) (p : Point) → IsUnrolled o.flat → HasQuietNets o.flat → After o c p → (state_at p).count ≡ c }
+    ensures after { (o : Origin) (c : ℕ) (p : Point) → IsUnrolled o.flat → HasQuietNets o.flat → After o c p → (state_at p).count ≡ c }
+    ensures before { (o : Origin) (c : ℕ) (task : Task) (p : Point) → IsUnrolled o.flat → HasQuietNets o.flat →
+        Before o c task p → (state_at p).count + 1 ≡ c }
 {}
 
 /// The effect of a call leads from the state right before an act to the state right after it.
 pub fn a_call_leads_from_before_to_after()
-    ensures { (o : Origin) (c : ℕ) (s : State) (p : Point) → Before o c s → After o c p →
-        (task : Task) × (state_at p ≡ called (scope_of o.flat o.files) task s) }
+    ensures { (o : Origin) (c : ℕ) (task : Task) (b p : Point) → Before o c task b → After o c p →
+        state_at p ≡ called (scope_of o.flat o.files) task (state_at b) }
 {}
 
 /// What is printed after an act is printed after each later one.
@@ -102,7 +113,7 @@ pub fn printed_text_only_grows_act_by_act()
 /// After each act of a run from nothing, and before each call, each word of a signal is below 2 to the signal's width.
 pub fn values_stay_in_range_act_by_act()
     ensures after { (o : Origin) (c : ℕ) (p : Point) → o.resume ≡ None → After o c p → InRange o.flat.rows (state_at p).values }
-    ensures before { (o : Origin) (c : ℕ) (s : State) → o.resume ≡ None → Before o c s → InRange o.flat.rows s.values }
+    ensures before { (o : Origin) (c : ℕ) (task : Task) (p : Point) → o.resume ≡ None → Before o c task p → InRange o.flat.rows (state_at p).values }
 {}
 
 /// A case does what the branch does that it takes; the choice is counted where the case holds a call.
@@ -141,7 +152,8 @@ pub fn a_longer_width_keeps_the_number()
 
 /// Act by act: the end of the first wave and its update are two acts, and a counter's third is its first call.
 pub fn the_third_act_of_a_counter_is_a_call()
-    ensures { (s : State) × Before (alone [] counter) 3 s × (s.printed ≡ []) × (s.ticks ≡ 1) × (s.count ≡ 2) }
+    ensures { (task : Task) × (p : Point) × Before (alone [] counter) 3 task p ×
+        ((state_at p).printed ≡ []) × ((state_at p).ticks ≡ 1) × ((state_at p).count ≡ 2) }
 {}
 
 /// Act by act: after 11 acts a counter has printed the numbers 0 to 2.

@@ -10,7 +10,7 @@ ghost use Rattle.vl_design.specs.Value.{value};
 ghost use Rattle.vl_design.specs.Tasks.{display_text};
 ghost use Rattle.vl_design.specs.Alone.{Shows};
 ghost use Rattle.vl_design.specs.Cost.{cost};
-ghost use Rattle.vl_design.specs.Examples.{alone, counter, exchange, bit_writes, early_index, filled, mixer, late_net, two_blocks, finishes, greets, nested_calls, both_edges, reads_empty, empty_file, sum, two_words, operands, fifteen_and_one, a_plus_b, number};
+ghost use Rattle.vl_design.specs.Examples.{alone, counter, exchange, bit_writes, early_index, filled, mixer, late_net, two_blocks, finishes, finishes_before_loops, high_z, greets, nested_calls, both_edges, reads_empty, empty_file, sum, two_words, operands, fifteen_and_one, a_plus_b, number};
 
 /// Three ticks of a counter print the numbers 0 to 2 in 11 acts.
 pub fn three_ticks_of_a_counter()
@@ -52,6 +52,17 @@ pub fn nothing_is_done_behind_a_finish()
     ensures { Shows (alone [] finishes) 5 [] 3 }
 {}
 
+/// Loops behind a `$finish` make no turns.
+pub fn loops_stop_behind_a_finish()
+    ensures { Shows (alone [] finishes_before_loops) 5 [] 3 }
+{}
+
+/// A signed label of a `casez` with a question mark on top is extended by it: any bits above match.
+pub fn a_signed_label_is_extended_by_its_highest_digit()
+    ensures signed { Shows (alone [] (high_z true)) 0 (codes "hit\n") 4 }
+    ensures unsigned { Shows (alone [] (high_z false)) 0 (codes "no\n") 4 }
+{}
+
 /// An initial block runs at time zero.
 pub fn an_initial_block_runs_at_time_zero()
     ensures { Shows (alone [] greets) 0 (codes "hi\n") 3 }
@@ -79,16 +90,16 @@ pub fn the_words_of_a_file_are_summed()
 
 /// An operand is extended to the context first: `(a + b) >> 1`, `(a + b + 0) >> 1`, `{a + b}` and `a + b`.
 pub fn operands_are_extended_first()
-    ensures narrow { value operands fifteen_and_one (Bin Shr a_plus_b (number 1)) (assigned 4 (form operands (Bin Shr a_plus_b (number 1)))) ≡ 0 }
-    ensures wide { let e = Bin Shr (Bin Add a_plus_b (number 0)) (number 1) in value operands fifteen_and_one e (assigned 4 (form operands e)) ≡ 8 }
-    ensures concatenated { let e = Cat (MoreExps a_plus_b NoExps) in value operands fifteen_and_one e (assigned 4 (form operands e)) ≡ 0 }
-    ensures longer { value operands fifteen_and_one a_plus_b (assigned 5 (form operands a_plus_b)) ≡ 16 }
+    ensures narrow { value operands fifteen_and_one (Bin Shr a_plus_b (number 1)) (assigned 4 (form operands.names (Bin Shr a_plus_b (number 1)))) ≡ 0 }
+    ensures wide { let e = Bin Shr (Bin Add a_plus_b (number 0)) (number 1) in value operands fifteen_and_one e (assigned 4 (form operands.names e)) ≡ 8 }
+    ensures concatenated { let e = Cat (MoreExps a_plus_b NoExps) in value operands fifteen_and_one e (assigned 4 (form operands.names e)) ≡ 0 }
+    ensures longer { value operands fifteen_and_one a_plus_b (assigned 5 (form operands.names a_plus_b)) ≡ 16 }
 {}
 
 /// `-12 / 3` is signed, and `-'d12 / 3` is not.
 pub fn one_unsigned_operand_makes_all_unsigned()
-    ensures signed { let e = Bin Div (Un Neg (number 12)) (number 3) in value operands fifteen_and_one e (assigned 32 (form operands e)) ≡ 4294967292 }
-    ensures unsigned { let e = Bin Div (Un Neg (Num 12 32 false)) (number 3) in value operands fifteen_and_one e (assigned 32 (form operands e)) ≡ 1431655761 }
+    ensures signed { let e = Bin Div (Un Neg (number 12)) (number 3) in value operands fifteen_and_one e (assigned 32 (form operands.names e)) ≡ 4294967292 }
+    ensures unsigned { let e = Bin Div (Un Neg (Num 12 32 false)) (number 3) in value operands fifteen_and_one e (assigned 32 (form operands.names e)) ≡ 1431655761 }
 {}
 
 /// A value of 128 bits is shown whole.

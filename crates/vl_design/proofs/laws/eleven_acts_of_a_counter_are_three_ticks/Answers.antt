@@ -13,7 +13,10 @@ use Rattle.vl_design.proofs.Agreeing.{agrees}
 use Rattle.vl_design.proofs.laws.eleven_acts_of_a_counter_are_three_ticks.Goals as goal
 
 unrolled : IsUnrolled counter
-unrolled = record { procs = All-cons (λ p. IsUnrolledStm p.body) _ [] (tt, (tt, tt)) (All-nil (λ p. IsUnrolledStm p.body)) }
+unrolled = record {
+  funs = All-nil (λ f. IsUnrolledStm f.body);
+  procs = All-cons (λ p. IsUnrolledStm p.body) _ [] (tt, (tt, tt)) (All-nil (λ p. IsUnrolledStm p.body));
+}
 
 none : ◌≡◌ false true → ⊥
 none e = cc

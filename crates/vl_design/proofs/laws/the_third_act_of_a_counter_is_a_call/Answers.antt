@@ -9,4 +9,4 @@ returns c =
     let start : After (alone [] counter) 0 _ = begins from_nothing in
     let first : After (alone [] counter) 1 _ = acts start refl (of_wave [] refl (_, calm refl, refl)) in
     let second : After (alone [] counter) 2 _ = acts first refl (updates refl (calm refl)) in
-    (_, before _ _ _ _ second (record { left = _; alive = refl; in_wave = refl; next = refl }), refl, refl, refl)
+    (_, _, before _ _ _ _ _ second (record { left = _; alive = refl; in_wave = refl; next = refl }), refl, refl, refl)

@@ -1,4 +1,4 @@
-use Rattle.std.proofs.Common.{[], length, sym, ap, ◌∙◌}
+use Rattle.std.proofs.Common.{[], sym, ap, ◌∙◌}
 use Rattle.vl_scope.specs.Faults.{earliest, each_after}
 use Rattle.vl_scope.proofs.Orders.{earliest-append}
 use Rattle.vl_names.specs.HierarchyFaults.{top_fault, no_top_faults, top_faults}

@@ -2,21 +2,24 @@
 use Rattle.std.specs.Prelude.{ℕ, ◌-◌, ◌%◌, ◌^◌, ℤ, pos, neg_ℤ, int_le, int_lt, Bool, ◌&&◌, [], if◌then◌else◌}
 use Rattle.std.specs.Int.RustNames.{unsigned_abs}
 use Rattle.vl_design.specs.declared.design.Form.{Form}
-use Rattle.vl_design.specs.Width.{Scope, form, assigned}
+use Rattle.vl_design.specs.Width.{Names, Scope, form, assigned}
 use Rattle.vl_design.specs.Value.{Sample, value, own_value, own_reading}
 use Rattle.vl_design.specs.Placed.{Exp}
 use Rattle.vl_design.specs.Plainly.{exp}
 
 -- no signals and no functions
+abbrev pub no_names : Names
+no_names = record { rows = []; signals = []; funs = [] }
+
 abbrev pub closed : Scope
-closed = record { rows = []; signals = []; funs = []; files = []; call = λ f args. 0 }
+closed = record { names = no_names; files = []; call = λ f args. 0 }
 
 abbrev pub nothing : Sample
 nothing = record { values = []; time = 0; answer = 0 }
 
 -- the width and the sign of a constant read for itself
 abbrev pub constant_form : Exp → Form
-constant_form e = form closed (exp e)
+constant_form e = form no_names (exp e)
 
 -- its value read for itself, and the whole number that this is by its own sign
 abbrev pub constant_value : Exp → ℕ

@@ -4,7 +4,7 @@ use Rattle.std.specs.Str.{bytes_eq}
 use Rattle.vl_base.specs.declared.place.Place.{Place}
 use Rattle.vl_grammar.specs.declared.tree.SelectMark.{SelectMark}
 use Rattle.vl_grammar.specs.declared.tree.SelectMark.TheVariants as m
-use Rattle.vl_design.specs.Formats.{Between, format_pieces}
+use Rattle.vl_design.specs.Formats.{InText, format_pieces}
 use Rattle.vl_design.specs.Formats as formats
 use Rattle.vl_flat.specs.declared.binding.Binding.{Binding}
 use Rattle.vl_design.specs.declared.stop.Stop.{Stop}
@@ -54,7 +54,7 @@ turns_round range l r = if falls range then int_lt l r else int_lt r l
 
 -- how many arguments the items of a format take
 abbrev pub items_in : List ℕ → ℕ
-items_in text = formats.taken (format_pieces [] Between text [])
+items_in text = formats.taken (format_pieces [] InText text [])
 
 module _ (scope : Scope) where
   -- the expression is more than 128 bits wide, and holds no string that is too long

@@ -14,12 +14,12 @@ use Rattle.vl_flat.specs.Expressions.{is_memory, bits_of, part_low, from_lowest,
 use Rattle.vl_flat.specs.ExpressionFaults.{name_faults}
 
 abbrev pub bit : Place → ℤ × ℤ → p.Target → p.Exp → p.Target
-bit at r base i = p.Bits at base i (from_lowest r 1) 1
+bit at r base i = p.PickAt at base i (from_lowest r 1) 1
 
 abbrev pub part : Place → ℤ × ℤ → p.Target → SelectMark → p.Exp → p.Exp → ℕ → p.Target
-part at r base m.Range a b w = p.Part at base (part_low r (bound_of b)) w
-part at r base m.Up a b w = p.Bits at base a (from_lowest r w) w
-part at r base m.Down a b w = p.Bits at base a (from_highest r w) w
+part at r base m.Range a b w = p.SliceAt at base (part_low r (bound_of b)) w
+part at r base m.Up a b w = p.PickAt at base a (from_lowest r w) w
+part at r base m.Down a b w = p.PickAt at base a (from_highest r w) w
 
 module _ (scope : Scope) where
   -- selects on a target whose bits are numbered so

@@ -20,10 +20,10 @@ use Rattle.vl_design.specs.Laws.{IsUnrolledStm, AreUnrolledItems, can_act, IsUnr
 use Rattle.vl_design.proofs.Running.{some_is}
 use Rattle.vl_design.proofs.Resting.{exec_over, none_held, Rests, exec_rests, done_counts, case_done}
 
-alive : {A : Type 0} (b : Bool) (x y : A) → b ≡ false → (if b then x else y) ≡ y
+pub alive : {A : Type 0} (b : Bool) (x y : A) → b ≡ false → (if b then x else y) ≡ y
 alive b x y h = rw h refl
 
-counted_once : (b : Bool) (s : State) → b ≡ true → s.finished ≡ false → counted_if b s ≡ counted s
+pub counted_once : (b : Bool) (s : State) → b ≡ true → s.finished ≡ false → counted_if b s ≡ counted s
 counted_once b s h f = rw (h, f) refl
 
 -- ---- what stays true of a queue: only combinational processes are pending, and no block has a loop

@@ -86,16 +86,16 @@ PauseCounts n (Through s) = s.count ≡ n
 PauseCounts n (AtCall task s rest) = (s.count ≡ n) × All IsUnrolledStm rest
 PauseCounts n (AtChoice s rest) = (s.count ≡ n) × All IsUnrolledStm rest
 
-default_unrolled : (items : Items) → AreUnrolledItems items → IsUnrolledStm (default_body items)
+pub default_unrolled : (items : Items) → AreUnrolledItems items → IsUnrolledStm (default_body items)
 default_unrolled NoItems u = tt
 default_unrolled (Labelled es a others) u = default_unrolled others u.1
 default_unrolled (Default a others) u = u.0
 
-either_unrolled : (b : Bool) (x y : Stm) → IsUnrolledStm x → IsUnrolledStm y → IsUnrolledStm (if b then x else y)
+pub either_unrolled : (b : Bool) (x y : Stm) → IsUnrolledStm x → IsUnrolledStm y → IsUnrolledStm (if b then x else y)
 either_unrolled true x y u v = u
 either_unrolled false x y u v = v
 
-chosen_unrolled : (scope : Scope) (s : Sample) (v : ℕ) (c : Form) (items : Items) (other : Stm) → AreUnrolledItems items → IsUnrolledStm other → IsUnrolledStm (chosen_body scope s v c items other)
+pub chosen_unrolled : (scope : Scope) (s : Sample) (v : ℕ) (c : Form) (items : Items) (other : Stm) → AreUnrolledItems items → IsUnrolledStm other → IsUnrolledStm (chosen_body scope s v c items other)
 chosen_unrolled scope s v c NoItems other u w = w
 chosen_unrolled scope s v c (Labelled es a others) other u w = either_unrolled (some_match scope s c v es) a _ u.0 (chosen_unrolled scope s v c others other u.1 w)
 chosen_unrolled scope s v c (Default a others) other u w = chosen_unrolled scope s v c others other u.1 w

@@ -14,3 +14,4 @@ pub mod TreeLemmas
 pub mod Counting
 pub mod Acting
 pub mod Rising
+pub mod Returning

@@ -1,4 +1,4 @@
--- What the system calls do that do more than give a value (IEEE 1364-2005, clause 17).
+-- What the system calls do that do more than give a value (IEEE 1364-2005, clause 17; `$save` is own).
 use Rattle.std.specs.Prelude.{ℕ, true, Bool, List, [], ◌∷◌, ◌++◌, slice_set, slice_get, if◌then◌else◌, codes, Option, Some, None}
 use Rattle.vl_base.specs.Value.{resized}
 use Rattle.vl_base.specs.Display.{item_text}

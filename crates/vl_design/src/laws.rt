@@ -17,7 +17,7 @@ ghost use Rattle.vl_design.specs.Queue.{Queue};
 ghost use Rattle.vl_design.specs.Laws.{DifferIn, Grows, Adds, InRange, can_act, IsUnrolled, HasQuietNets, IsReached};
 ghost use Rattle.vl_design.specs.Examples.{alone, counter};
 ghost use Rattle.vl_design.specs.Alone.{Origin, Settles, Boundary, Ends};
-ghost use Rattle.vl_design.specs.Acts.{Point, After, Before, state_at, branch_of};
+ghost use Rattle.vl_design.specs.Acts.{Point, After, Before, state_at, queue_at, at_boundary, tick_of, branch_of};
 
 /// A run settles in one state.
 pub fn settles_in_one_state()
@@ -81,6 +81,15 @@ pub fn is_at_one_point_before_a_call()
 /// unrolled and whose combinational processes hold no system call.
 pub fn acts_agree_with_the_queue()
     ensures { (o : Origin) (k : ℕ) (q : Queue) → IsUnrolled o.flat → HasQuietNets o.flat → Boundary o k q → IsReached o q }
+{}
+
+/// A point at a boundary is the boundary of its tick, and a finished point is the state of that boundary, in such a
+/// design.
+pub fn a_point_at_a_boundary_is_the_boundary()
+    ensures between { (o : Origin) (c : ℕ) (p : Point) → IsUnrolled o.flat → HasQuietNets o.flat → After o c p →
+        at_boundary p ≡ true → Boundary o (tick_of p) (queue_at p) }
+    ensures finished { (o : Origin) (c : ℕ) (p : Point) → IsUnrolled o.flat → HasQuietNets o.flat → After o c p →
+        (state_at p).finished ≡ true → (q : Queue) × Boundary o (tick_of p) q × (q.state ≡ state_at p) }
 {}
 
 /// Each act is counted once, in such a design, and a call only with its effect.

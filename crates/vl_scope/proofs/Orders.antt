@@ -1,25 +1,20 @@
 -- The earliest of some faults is the first of what is among them.
-use Rattle.std.proofs.Common.{◌≡◌, Bool, true, false, if◌then◌else◌, List, [], ◌∷◌, ◌++◌, ◌⊎◌, inl, inr, ⊎_elim, ◌↔◌, Option, Some, None, refl, subst, arith}
-use Rattle.std.proofs.lemmas.Bool.Decides.{nat_tests}
-use Rattle.std.proofs.lemmas.List.Sums.{fold-append}
+use Rattle.std.proofs.Common.{◌≡◌, Bool, true, false, if◌then◌else◌, List, [], ◌∷◌, ◌++◌, ◌⊎◌, inl, inr, ⊎_elim, ◌↔◌, Option, Some, None, refl, subst}
+use Rattle.vl_base.proofs.Orders.{comes_before-self, comes_before-one_way, comes_before-chain}
+use Rattle.vl_base.proofs.Orders as order
 use Rattle.vl_scope.specs.declared.fault.Fault.{Fault}
 use Rattle.vl_scope.specs.Faults.{is_before, earlier, earliest, In, IsFirst}
 
--- ---- the order
-
--- none comes before itself
-pub is_before-self : (a : Fault) → is_before a a ≡ false
-is_before-self a = grind (arith, nat_tests)
-
--- of two at most one comes before the other
-pub is_before-one_way : (a b : Fault) → is_before a b ≡ true → is_before b a ≡ false
-is_before-one_way a b h = grind (arith, nat_tests)
-
--- what comes no earlier than one that comes no earlier than a third comes no earlier than that
-pub is_before-chain : (a b c : Fault) → is_before a b ≡ false → is_before b c ≡ false → is_before a c ≡ false
-is_before-chain a b c h k = grind (arith, nat_tests)
-
 -- ---- what is first
+
+before-self : (a : Fault) → is_before a a ≡ false
+before-self a = comes_before-self a.place a.construct
+
+before-one_way : (a b : Fault) → is_before a b ≡ true → is_before b a ≡ false
+before-one_way a b h = comes_before-one_way a.place a.construct b.place b.construct h
+
+before-chain : (a b c : Fault) → is_before a b ≡ false → is_before b c ≡ false → is_before a c ≡ false
+before-chain a b c h k = comes_before-chain a.place a.construct b.place b.construct c.place c.construct h k
 
 -- the first of what holds is that of what holds as often
 pub IsFirst-same : (P Q : Fault → Type 0) → ((f : Fault) → P f ↔ Q f) → (o : Option Fault) → IsFirst P o → IsFirst Q o
@@ -29,39 +24,39 @@ IsFirst-same P Q same (Some x) h = ((same x).0 h.0, λ f q. h.1 f ((same f).1 q)
 -- with more that come no earlier
 first_with : (P Q : Fault → Type 0) (o : Option Fault) → ((f : Fault) → P f → Q f) → ((g : Fault) → Q g → (f : Fault) × P f × (is_before g f ≡ false)) → IsFirst P o → IsFirst Q o
 first_with P Q None into back h = λ g q. h (back g q).0 (back g q).1
-first_with P Q (Some f) into back h = (into f h.0, λ g q. let b = back g q in is_before-chain g b.0 f b.2 (h.1 b.0 b.1))
+first_with P Q (Some f) into back h = (into f h.0, λ g q. let b = back g q in before-chain g b.0 f b.2 (h.1 b.0 b.1))
 
 into : (best : Option Fault) (x : Fault) (fs : List Fault) (f : Fault) → (earlier best x ≡ Some f) ⊎ In f fs → (best ≡ Some f) ⊎ ((x ≡ f) ⊎ In f fs)
 into best x fs f (inr h) = inr (inr h)
 into None x fs f (inl h) = inr (inl cc)
 into (Some b) x fs f (inl h) = by (is_before x b) h
   where
-    by : (t : Bool) → Some (if t then x else b) ≡ Some f → (Some b ≡ Some f) ⊎ ((x ≡ f) ⊎ In f fs)
+    by : (t : Bool) → (if t then Some x else Some b) ≡ Some f → (Some b ≡ Some f) ⊎ ((x ≡ f) ⊎ In f fs)
     by true h = inr (inl cc)
     by false h = inl cc
 
 back : (best : Option Fault) (x : Fault) (fs : List Fault) (g : Fault) → (best ≡ Some g) ⊎ ((x ≡ g) ⊎ In g fs) → (f : Fault) × ((earlier best x ≡ Some f) ⊎ In f fs) × (is_before g f ≡ false)
-back best x fs g (inr (inr h)) = (g, inr h, is_before-self g)
+back best x fs g (inr (inr h)) = (g, inr h, before-self g)
 back None x fs g (inl h) = absurd cc
-back None x fs g (inr (inl h)) = (x, inl refl, subst (λ g. is_before g x ≡ false) h (is_before-self x))
+back None x fs g (inr (inl h)) = (x, inl refl, subst (λ g. is_before g x ≡ false) h (before-self x))
 back (Some b) x fs g (inl h) = by (is_before x b) refl
   where
     e : b ≡ g
     e = cc
 
-    by : (t : Bool) → is_before x b ≡ t → (f : Fault) × ((Some (if t then x else b) ≡ Some f) ⊎ In f fs) × (is_before g f ≡ false)
-    by true t = (x, inl refl, subst (λ g. is_before g x ≡ false) e (is_before-one_way x b t))
-    by false t = (b, inl refl, subst (λ g. is_before g b ≡ false) e (is_before-self b))
+    by : (t : Bool) → is_before x b ≡ t → (f : Fault) × (((if t then Some x else Some b) ≡ Some f) ⊎ In f fs) × (is_before g f ≡ false)
+    by true t = (x, inl refl, subst (λ g. is_before g x ≡ false) e (before-one_way x b t))
+    by false t = (b, inl refl, subst (λ g. is_before g b ≡ false) e (before-self b))
 back (Some b) x fs g (inr (inl h)) = by (is_before x b) refl
   where
-    by : (t : Bool) → is_before x b ≡ t → (f : Fault) × ((Some (if t then x else b) ≡ Some f) ⊎ In f fs) × (is_before g f ≡ false)
-    by true t = (x, inl refl, subst (λ g. is_before g x ≡ false) h (is_before-self x))
+    by : (t : Bool) → is_before x b ≡ t → (f : Fault) × (((if t then Some x else Some b) ≡ Some f) ⊎ In f fs) × (is_before g f ≡ false)
+    by true t = (x, inl refl, subst (λ g. is_before g x ≡ false) h (before-self x))
     by false t = (b, inl refl, subst (λ g. is_before g b ≡ false) h t)
 
 -- the earliest is the first of what was found and of what is in the list
 pub earliest-first : (best : Option Fault) (fs : List Fault) → IsFirst (λ f. (best ≡ Some f) ⊎ In f fs) (earliest best fs)
 earliest-first None [] = λ f h. ⊎_elim (λ e. absurd cc) (λ b. b) h
-earliest-first (Some b) [] = (inl refl, λ f h. ⊎_elim (λ e. let same : b ≡ f = cc in subst (λ f. is_before f b ≡ false) same (is_before-self b)) (λ x. absurd x) h)
+earliest-first (Some b) [] = (inl refl, λ f h. ⊎_elim (λ e. let same : b ≡ f = cc in subst (λ f. is_before f b ≡ false) same (before-self b)) (λ x. absurd x) h)
 earliest-first best (x ∷ fs) = first_with _ _ (earliest (earlier best x) fs) (into best x fs) (back best x fs) (earliest-first (earlier best x) fs)
 
 -- the earliest of a list is the first of what is in it
@@ -75,4 +70,4 @@ earliest-of P fs law = IsFirst-same (λ f. In f fs) P (λ f. ((law f).1, (law f)
 -- ---- several lists
 
 pub earliest-append : (best : Option Fault) (xs ys : List Fault) → earliest best (xs ++ ys) ≡ earliest (earliest best xs) ys
-earliest-append best xs ys = fold-append earlier best xs ys
+earliest-append best xs ys = order.earliest-append is_before best xs ys

@@ -1,27 +1,24 @@
 -- Faults by their places, and what comes first among them.
-use Rattle.std.specs.Prelude.{◌≡◌, ℕ, ◌⊎◌, Bool, false, nat_eq, nat_lt, if◌then◌else◌, List, [], ◌∷◌, ◌++◌, fold, Option, Some, None}
+use Rattle.std.specs.Prelude.{◌≡◌, ℕ, ◌⊎◌, Bool, false, if◌then◌else◌, List, [], ◌∷◌, ◌++◌, Option, Some, None}
 use Rattle.vl_base.specs.declared.place.Place.{Place}
+use Rattle.vl_base.specs.Places as order
 use Rattle.vl_scope.specs.declared.fault.Fault.{Fault}
 
 -- the fault of a construct at a place
 abbrev pub at : Place → ℕ → Fault
 at p n = record { place = p; construct = n }
 
--- a fault comes before another: by the line, then by the column, then by the construct's number
+-- a fault comes before another: by its place, then by the construct's number
 abbrev pub is_before : Fault → Fault → Bool
-is_before a b =
-    if nat_eq a.place.line b.place.line
-    then (if nat_eq a.place.column b.place.column then nat_lt a.construct b.construct else nat_lt a.place.column b.place.column)
-    else nat_lt a.place.line b.place.line
+is_before a b = order.comes_before a.place a.construct b.place b.construct
 
 -- the earlier of what was found and a fault
 abbrev pub earlier : Option Fault → Fault → Option Fault
-earlier None f = Some f
-earlier (Some b) f = Some (if is_before f b then f else b)
+earlier best f = order.earlier is_before best f
 
 -- the earliest of what was found and some faults
 abbrev pub earliest : Option Fault → List Fault → Option Fault
-earliest best fs = fold earlier best fs
+earliest best fs = order.earliest is_before best fs
 
 -- y is one of the list
 abbrev pub In : {X : Type 0} → X → List X → Type 0

@@ -3,7 +3,7 @@
 ghost use Rattle.std.specs.Prelude.{◌≡◌};
 ghost use Rattle.vl_scope.specs.Faults as spec;
 
-use vl_base::place::Place;
+use vl_base::place::{Place, comes_before};
 
 /// A refused construct of a source, where it stands.
 #[derive(Clone, Copy, Debug, PartialEq, Eq)]
@@ -18,13 +18,7 @@ pub struct Fault {
 fn is_before(a: Fault, b: Fault) -> bool
     ensures { result ≡ spec.is_before a b }
 {
-    if a.place.line != b.place.line {
-        return a.place.line < b.place.line;
-    }
-    if a.place.column != b.place.column {
-        return a.place.column < b.place.column;
-    }
-    a.construct < b.construct
+    comes_before(a.place, a.construct, b.place, b.construct)
 }
 
 /// The earlier of what was found and a further fault.

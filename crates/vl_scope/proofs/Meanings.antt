@@ -9,7 +9,7 @@ use Rattle.vl_scope.specs.declared.kind.Class.{Class}
 use Rattle.vl_scope.specs.declared.kind.Class.TheVariants as c
 use Rattle.vl_scope.specs.declared.kind.Kind.{Kind}
 use Rattle.vl_scope.specs.Faults.{In}
-use Rattle.vl_scope.specs.Declarations.{Declared, declarations, unnumbered, is_parameter, with_number, number_after, numbered, joined, kind_after, kind_in}
+use Rattle.vl_scope.specs.Declarations.{Declared, declarations, unnumbered, is_parameter, with_number, number_after, numbered, with_declaration, kind_after, kind_in}
 use Rattle.vl_scope.proofs.Members.{list_any-In, list_any-In_cases}
 use Rattle.vl_scope.proofs.Listed.{bytes_eq-from, bytes_eq-to}
 
@@ -20,7 +20,7 @@ known_after t None [] = refl
 known_after t (Some k) [] = refl
 known_after t known (a ∷ ds) = known_after t (kind_after t known a) ds ∙ ap (λ b. b || list_any (λ a. bytes_eq t a.name.name) ds) (by known (bytes_eq t a.name.name)) ∙ assoc (is_some known) (bytes_eq t a.name.name) _
   where
-    by : (known : Option Kind) (b : Bool) → is_some (if b then joined known a.kind else known) ≡ (is_some known || b)
+    by : (known : Option Kind) (b : Bool) → is_some (if b then with_declaration known a else known) ≡ (is_some known || b)
     by None true = refl
     by None false = refl
     by (Some k) true = refl

@@ -1,5 +1,5 @@
 -- What a module and a function declare, and what a name means by its declarations (IEEE 1364-2005, clauses 4, 10.4, 12.3).
-use Rattle.std.specs.Prelude.{ℕ, ◌+◌, Bool, true, false, ◌||◌, if◌then◌else◌, List, [], ◌∷◌, ◌++◌, length, map, flat_map, drop, fold, Option, Some, None, is_some}
+use Rattle.std.specs.Prelude.{ℕ, ◌+◌, Bool, true, false, not, ◌&&◌, ◌||◌, if◌then◌else◌, List, [], ◌∷◌, ◌++◌, length, map, flat_map, drop, fold, Option, Some, None, is_some}
 use Rattle.std.specs.Borrow.{Bor}
 use Rattle.std.specs.Option.{option_or, option_map_or}
 use Rattle.std.specs.Str.{bytes_eq}
@@ -150,22 +150,37 @@ declarations m = numbered 0 (unnumbered m)
 
 -- ---- what a name means
 
--- a class, after one more declaration: it stays, unless only a direction was told
+-- a net or a variable: what a port may be
+abbrev pub is_signal : Class → Bool
+is_signal c.Net = true
+is_signal c.Variable = true
+is_signal class = false
+
+-- a declaration adds to what is known of a name of this class: it says that a port, of which only the direction was told,
+-- is a net or a variable, or tells only the direction of a net or a variable (clause 12.3.3). What clashes adds nothing
+abbrev pub adds_to : Class → Declared → Bool
+adds_to c.Port a = not (is_some a.direction) && is_signal a.kind.class
+adds_to class a = is_some a.direction && not a.typed && is_signal class
+
+-- a class, after a declaration that adds to it: it stays, unless only a direction was told
 abbrev pub joined_class : Class → Class → Class
 joined_class c.Port class = class
 joined_class class _ = class
 
--- what a name means after one more declaration of it: a range may stand at any of them
-abbrev pub joined : Option Kind → Kind → Option Kind
-joined None kind = Some kind
-joined (Some known) kind = Some (record { class = joined_class known.class kind.class; vector = known.vector || kind.vector })
+-- what is known and what a declaration adds: a range may stand at either
+abbrev pub joined : Kind → Kind → Kind
+joined known kind = record { class = joined_class known.class kind.class; vector = known.vector || kind.vector }
+
+-- what a name means after one more declaration of it
+abbrev pub with_declaration : Option Kind → Declared → Option Kind
+with_declaration None a = Some a.kind
+with_declaration (Some known) a = Some (if adds_to known.class a then joined known a.kind else known)
 
 -- what a spelling means after one more declaration
 abbrev pub kind_after : List ℕ → Option Kind → Declared → Option Kind
-kind_after t known a = if bytes_eq t a.name.name then joined known a.kind else known
+kind_after t known a = if bytes_eq t a.name.name then with_declaration known a else known
 
--- what a spelling means by declarations: what the first of that name says that it is, or a later one where the first told
--- only a direction; a vector, where one of them says so
+-- what a spelling means by declarations: what the first of that name says that it is, with what later ones add
 abbrev pub kind_in : List Declared → List ℕ → Option Kind
 kind_in ds t = fold (kind_after t) None ds
 

@@ -45,7 +45,24 @@ pub fn kind_within(outer: &Scope<'_>, inner: &Scope<'_>, name: &[u8]) -> Option<
     }
 }
 
-/// A class, after one more declaration.
+/// Whether a class is a net or a variable.
+fn is_signal(class: Class) -> bool
+    ensures { result ≡ spec.is_signal class }
+{
+    matches!(class, Class::Net | Class::Variable)
+}
+
+/// Whether a declaration adds to what is known of a name of this class, and doesn't clash.
+fn adds_to(known: Class, declaration: Declaration<'_>) -> bool
+    ensures { result ≡ spec.adds_to known (spec.seen declaration.entry) }
+{
+    match known {
+        Class::Port => declaration.direction.is_none() && is_signal(declaration.kind.class),
+        _ => declaration.direction.is_some() && !declaration.typed && is_signal(known),
+    }
+}
+
+/// A class, after a declaration that adds to it.
 fn joined_class(known: Class, class: Class) -> Class
     ensures { result ≡ spec.joined_class known class }
 {
@@ -55,16 +72,29 @@ fn joined_class(known: Class, class: Class) -> Class
     }
 }
 
+/// What is known and what a declaration adds.
+fn joined(known: Kind, kind: Kind) -> Kind
+    ensures { result ≡ spec.joined known kind }
+{
+    Kind {
+        class: joined_class(known.class, kind.class),
+        vector: known.vector || kind.vector,
+    }
+}
+
 /// What a name means after one more declaration of it.
-fn joined(known: Option<Kind>, kind: Kind) -> Kind
-    ensures { Some result ≡ spec.joined known kind }
+fn with_declaration(known: Option<Kind>, declaration: Declaration<'_>) -> Kind
+    ensures { Some result ≡ spec.with_declaration known (spec.seen declaration.entry) }
 {
     match known {
-        None => kind,
-        Some(known) => Kind {
-            class: joined_class(known.class, kind.class),
-            vector: known.vector || kind.vector,
-        },
+        None => declaration.kind,
+        Some(known) => {
+            if adds_to(known.class, declaration) {
+                joined(known, declaration.kind)
+            } else {
+                known
+            }
+        }
     }
 }
 
@@ -77,7 +107,7 @@ fn add<'a>(
 {
     let name = declaration.name.name.as_slice();
     let known = kinds.get(name).copied();
-    kinds.insert(name, joined(known, declaration.kind))?;
+    kinds.insert(name, with_declaration(known, declaration))?;
     Ok(())
 }
 

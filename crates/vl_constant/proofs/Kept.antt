@@ -1,6 +1,6 @@
 -- Forms kept within 129 bits.
 use Rattle.std.proofs.Common.{◌≡◌, refl, ap, sym, ◌∙◌, ℕ, ◌+◌, ◌-◌, ◌*◌, ◌≤◌, ◌<◌, min, List, [], ◌∷◌, ◌++◌, map, length, get_or, take, drop, Bool, true, false, arith}
-use Rattle.std.specs.Prelude.{Option, Some, None, if◌then◌else◌, codes}
+use Rattle.std.specs.Prelude.{Option, Some, None, if◌then◌else◌, codes, ℤ, fold}
 use Rattle.std.specs.Str.{bytes_eq}
 use Rattle.std.proofs.lemmas.Grind.{common_steps}
 use Rattle.std.proofs.lemmas.List.{take_all, take_more, map-append}
@@ -13,15 +13,16 @@ use Rattle.vl_design.specs.declared.design.Form.{Form}
 use Rattle.vl_design.specs.Width.{unsigned, bit, joined, unary_form, binary_form}
 use Rattle.vl_flat.specs.Surface as x
 use Rattle.vl_flat.specs.declared.binding.Binding.{Binding}
-use Rattle.vl_flat.specs.Scopes.{Scope, form_of, plainly, none}
-use Rattle.vl_flat.specs.Expressions.{form, total_width, selects_form, named_form, system_form, marked_form, taken, is_memory}
+use Rattle.vl_grammar.specs.declared.tree.SelectMark.TheVariants as m
+use Rattle.vl_flat.specs.Scopes.{Scope, form_of, range_of, number_of, plainly, none}
+use Rattle.vl_flat.specs.Expressions.{form, total_width, named_form, system_form, marked_form, taken, is_memory, step_form, steps}
 use Rattle.vl_bind.specs.declared.surface.Ex as e
 use Rattle.vl_bind.specs.declared.surface.Select as s
 use Rattle.vl_grammar.specs.declared.tree.SelectMark.{SelectMark}
 use Rattle.vl_bind.specs.Seen.{seen, select, selects_before}
 use Rattle.vl_bind.specs.Listed.{of_list}
 use Rattle.vl_bind.proofs.Walks.{joined-seen, called-seen, named-seen, system-seen}
-use Rattle.vl_constant.specs.Kept.{kept}
+use Rattle.vl_constant.specs.Kept.{kept, selects_form}
 
 same-form : (w v : ℕ) (s : Bool) → w ≡ v → (let f : Form = record { width = w; signed = s } in f) ≡ record { width = v; signed = s }
 same-form w v s h = ap (λ n. record { width = n; signed = s }) h
@@ -53,11 +54,29 @@ kept-marked (Some op) f = kept-unary op f
 kept-twice : (f : Form) → kept (kept f) ≡ kept f
 kept-twice f = same-form _ _ _ (omega arith)
 
+-- the numbers of a value's bits make no difference to the form of what selects leave of it
+numbered : (S : Scope) (f : Form) (r : ℤ × ℤ) (ss : x.Selects) → fold step_form f (steps S None r ss) ≡ selects_form S f ss
+numbered S f r x.NoSelects = refl
+numbered S f r (x.Index q i others) = refl
+numbered S f r (x.Range q m.Range a b others) = refl
+numbered S f r (x.Range q m.Up a b others) = refl
+numbered S f r (x.Range q m.Down a b others) = refl
+
+index-form : (S : Scope) (f : Form) (q : Place) (i : x.Ex) (others : x.Selects) → selects_form S f (x.Index q i others) ≡ selects_form S (unsigned 1) others
+index-form S f q i others = numbered S (unsigned 1) _ others
+
+range-form : (S : Scope) (f : Form) (q : Place) (mark : SelectMark) (a b : x.Ex) (others : x.Selects) → selects_form S f (x.Range q mark a b others) ≡ selects_form S (unsigned (taken S mark a b)) others
+range-form S f q m.Range a b others = numbered S (unsigned (taken S m.Range a b)) _ others
+range-form S f q m.Up a b others = numbered S (unsigned (taken S m.Up a b)) _ others
+range-form S f q m.Down a b others = numbered S (unsigned (taken S m.Down a b)) _ others
+
 -- selects on a kept form
 pub kept-selects : (S : Scope) (f : Form) (ss : x.Selects) → kept (selects_form S (kept f) ss) ≡ kept (selects_form S f ss)
 kept-selects S f x.NoSelects = kept-twice f
 kept-selects S f (x.Index q i others) = refl
-kept-selects S f (x.Range q mark l r others) = refl
+kept-selects S f (x.Range q m.Range a b others) = refl
+kept-selects S f (x.Range q m.Up a b others) = refl
+kept-selects S f (x.Range q m.Down a b others) = refl
 
 go : (b c d : Bool) (f : Form) →
     (if b then (let g : Form = record { width = (kept f).width; signed = true } in g) else if c then record { width = (kept f).width; signed = false } else if d then unsigned 64 else record { width = 32; signed = true })
@@ -100,18 +119,19 @@ rest ss = take (length ss - 1) (drop 1 ss)
 rest-is : (z : s.Select) (ss : List s.Select) → rest (z ∷ ss) ≡ ss
 rest-is z ss = take_all (length (z ∷ ss) - 1) ss (omega arith)
 
-first-index : (ss : List s.Select) (y : s.Select) (q : Place) (i : e.Ex) → 1 ≤ length ss → y ≡ get_or ss 0 y → y ≡ s.Index q i → selects_before ss x.NoSelects ≡ x.Index q (seen i) (selects_before (rest ss) x.NoSelects)
+pub first-index : (ss : List s.Select) (y : s.Select) (q : Place) (i : e.Ex) → 1 ≤ length ss → y ≡ get_or ss 0 y → y ≡ s.Index q i → selects_before ss x.NoSelects ≡ x.Index q (seen i) (selects_before (rest ss) x.NoSelects)
 first-index [] y q i h is k = absurd (omega arith)
 first-index (z ∷ ss) y q i h is k = ap (λ a. select a (selects_before ss x.NoSelects)) (sym is ∙ k) ∙ sym (ap (λ a. x.Index q (seen i) (selects_before a x.NoSelects)) (rest-is z ss))
 
-first-range : (ss : List s.Select) (y : s.Select) (q : Place) (m : SelectMark) (l r : e.Ex) → 1 ≤ length ss → y ≡ get_or ss 0 y → y ≡ s.Range q m l r → selects_before ss x.NoSelects ≡ x.Range q m (seen l) (seen r) (selects_before (rest ss) x.NoSelects)
+pub first-range : (ss : List s.Select) (y : s.Select) (q : Place) (m : SelectMark) (l r : e.Ex) → 1 ≤ length ss → y ≡ get_or ss 0 y → y ≡ s.Range q m l r → selects_before ss x.NoSelects ≡ x.Range q m (seen l) (seen r) (selects_before (rest ss) x.NoSelects)
 first-range [] y q m l r h is k = absurd (omega arith)
 first-range (z ∷ ss) y q m l r h is k = ap (λ a. select a (selects_before ss x.NoSelects)) (sym is ∙ k) ∙ sym (ap (λ a. x.Range q m (seen l) (seen r) (selects_before a x.NoSelects)) (rest-is z ss))
 
 pub form-index : (S : Scope) (f g r : Form) (ss : List s.Select) (y : s.Select) (q : Place) (i : e.Ex) → 1 ≤ length ss → y ≡ get_or ss 0 y → y ≡ s.Index q i
     → r ≡ kept (selects_form S g (selects_before (rest ss) x.NoSelects)) → g ≡ bit → r ≡ kept (selects_form S f (selects_before ss x.NoSelects))
 form-index S f g r ss y q i h is k e d =
-    e ∙ (ap (λ z. kept (selects_form S z (selects_before (rest ss) x.NoSelects))) d ∙ sym (ap (λ z. kept (selects_form S f z)) (first-index ss y q i h is k)))
+    e ∙ (ap (λ z. kept (selects_form S z (selects_before (rest ss) x.NoSelects))) d
+    ∙ sym (ap (λ z. kept (selects_form S f z)) (first-index ss y q i h is k) ∙ ap kept (index-form S f q (seen i) (selects_before (rest ss) x.NoSelects))))
 
 range-kept : (S : Scope) (g r : Form) (n t : ℕ) (others : x.Selects) → r ≡ kept (selects_form S g others) → g ≡ unsigned n → n ≡ t → r ≡ kept (selects_form S (unsigned t) others)
 range-kept S g r n t others e d c =
@@ -120,17 +140,31 @@ range-kept S g r n t others e d c =
 pub form-range : (S : Scope) (f g r : Form) (n : ℕ) (ss : List s.Select) (y : s.Select) (q : Place) (m : SelectMark) (a b : e.Ex) → 1 ≤ length ss → y ≡ get_or ss 0 y → y ≡ s.Range q m a b
     → r ≡ kept (selects_form S g (selects_before (rest ss) x.NoSelects)) → g ≡ unsigned n → n ≡ taken S m (seen a) (seen b) → r ≡ kept (selects_form S f (selects_before ss x.NoSelects))
 form-range S f g r n ss y q m a b h is k e d c =
-    range-kept S g r n (taken S m (seen a) (seen b)) (selects_before (rest ss) x.NoSelects) e d c ∙ sym (ap (λ z. kept (selects_form S f z)) (first-range ss y q m a b h is k))
+    range-kept S g r n (taken S m (seen a) (seen b)) (selects_before (rest ss) x.NoSelects) e d c
+    ∙ sym (ap (λ z. kept (selects_form S f z)) (first-range ss y q m a b h is k) ∙ ap kept (range-form S f q m (seen a) (seen b) (selects_before (rest ss) x.NoSelects)))
+
+nothing-form : (S : Scope) (k : Option ℕ) (f : Form) (r : ℤ × ℤ) → fold step_form f (steps S k r x.NoSelects) ≡ f
+nothing-form S None f r = refl
+nothing-form S (Some k) f r = refl
 
 pub name-nothing : (S : Scope) (o : Option Binding) (r : Form) (ss : List s.Select) → length ss < 1 → r ≡ kept (form_of o) → r ≡ kept (named_form S o (selects_before ss x.NoSelects))
-name-nothing S o r [] h e = e
+name-nothing S o r [] h e = e ∙ sym (ap kept (nothing-form S (if is_memory o then Some (number_of o) else None) (form_of o) (range_of o)))
 name-nothing S o r (y ∷ ss) h e = absurd (omega arith)
 
-memory-form : (S : Scope) (b : Bool) (f : Form) (others : x.Selects) → b ≡ true → selects_form S (if b then f else unsigned 1) others ≡ selects_form S f others
-memory-form S b f others h = rw h refl
+-- an index and two bounds behind a name, by whether it is a memory's
+memory-form : (S : Scope) (b : Bool) (o : Option Binding) (q : Place) (i : x.Ex) (others : x.Selects) → b ≡ true
+    → fold step_form (form_of o) (steps S (if b then Some (number_of o) else None) (range_of o) (x.Index q i others)) ≡ selects_form S (form_of o) others
+memory-form S b o q i others h = rw h (numbered S (form_of o) (range_of o) others)
 
-bit-form : (S : Scope) (b : Bool) (f : Form) (others : x.Selects) → b ≡ false → selects_form S (if b then f else unsigned 1) others ≡ selects_form S (unsigned 1) others
-bit-form S b f others h = rw h refl
+bit-form : (S : Scope) (b : Bool) (o : Option Binding) (q : Place) (i : x.Ex) (others : x.Selects) → b ≡ false
+    → fold step_form (form_of o) (steps S (if b then Some (number_of o) else None) (range_of o) (x.Index q i others)) ≡ selects_form S (unsigned 1) others
+bit-form S b o q i others h = rw h (numbered S (unsigned 1) _ others)
+
+part-form : (S : Scope) (k : Option ℕ) (f : Form) (r : ℤ × ℤ) (q : Place) (mark : SelectMark) (a b : x.Ex) (others : x.Selects) → fold step_form f (steps S k r (x.Range q mark a b others)) ≡ selects_form S (unsigned (taken S mark a b)) others
+part-form S None f r q mark a b others = numbered S f r (x.Range q mark a b others) ∙ range-form S f q mark a b others
+part-form S (Some k) f r q m.Range a b others = numbered S (unsigned (taken S m.Range a b)) _ others
+part-form S (Some k) f r q m.Up a b others = numbered S (unsigned (taken S m.Up a b)) _ others
+part-form S (Some k) f r q m.Down a b others = numbered S (unsigned (taken S m.Down a b)) _ others
 
 pub name-word : (S : Scope) (o : Option Binding) (g r : Form) (ss : List s.Select) (y : s.Select) (q : Place) (i : e.Ex) → 1 ≤ length ss → y ≡ get_or ss 0 y → y ≡ s.Index q i → is_memory o ≡ true
     → r ≡ kept (selects_form S g (selects_before (rest ss) x.NoSelects)) → g ≡ kept (form_of o) → r ≡ kept (named_form S o (selects_before ss x.NoSelects))
@@ -139,7 +173,7 @@ name-word S o g r ss y q i h is k m e d =
     e
     ∙ (ap (λ z. kept (selects_form S z others)) d
     ∙ (kept-selects S (form_of o) others
-    ∙ (sym (ap kept (memory-form S (is_memory o) (form_of o) others m))
+    ∙ (sym (ap kept (memory-form S (is_memory o) o q (seen i) others m))
     ∙ sym (ap (λ z. kept (named_form S o z)) (first-index ss y q i h is k)))))
 
 pub name-bit : (S : Scope) (o : Option Binding) (g r : Form) (ss : List s.Select) (y : s.Select) (q : Place) (i : e.Ex) → 1 ≤ length ss → y ≡ get_or ss 0 y → y ≡ s.Index q i → is_memory o ≡ false
@@ -148,12 +182,14 @@ name-bit S o g r ss y q i h is k m e d =
     let others = selects_before (rest ss) x.NoSelects in
     e
     ∙ (ap (λ z. kept (selects_form S z others)) d
-    ∙ (sym (ap kept (bit-form S (is_memory o) (form_of o) others m))
+    ∙ (sym (ap kept (bit-form S (is_memory o) o q (seen i) others m))
     ∙ sym (ap (λ z. kept (named_form S o z)) (first-index ss y q i h is k))))
 
 pub name-range : (S : Scope) (o : Option Binding) (g r : Form) (n : ℕ) (ss : List s.Select) (y : s.Select) (q : Place) (m : SelectMark) (a b : e.Ex) → 1 ≤ length ss → y ≡ get_or ss 0 y → y ≡ s.Range q m a b
     → r ≡ kept (selects_form S g (selects_before (rest ss) x.NoSelects)) → g ≡ unsigned n → n ≡ taken S m (seen a) (seen b) → r ≡ kept (named_form S o (selects_before ss x.NoSelects))
 name-range S o g r n ss y q m a b h is k e d c =
-    range-kept S g r n (taken S m (seen a) (seen b)) (selects_before (rest ss) x.NoSelects) e d c ∙ sym (ap (λ z. kept (named_form S o z)) (first-range ss y q m a b h is k))
+    range-kept S g r n (taken S m (seen a) (seen b)) (selects_before (rest ss) x.NoSelects) e d c
+    ∙ sym (ap (λ z. kept (named_form S o z)) (first-range ss y q m a b h is k)
+    ∙ ap kept (part-form S (if is_memory o then Some (number_of o) else None) (form_of o) (range_of o) q m (seen a) (seen b) (selects_before (rest ss) x.NoSelects)))
 
 pub ruleset keeps = (common_steps, kept-joined, kept-binary, kept-marked, kept-selects, kept-system, total-more, kept-times, joined-seen, called-seen, named-seen, system-seen)

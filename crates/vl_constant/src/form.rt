@@ -5,14 +5,14 @@
 ghost use Rattle.std.specs.Prelude.{◌≡◌, ◌≤◌, ◌*◌, min, map, option_map};
 ghost use Rattle.std.specs.Str.{bytes_eq};
 ghost use Rattle.vl_design.specs.Width as w;
-ghost use Rattle.vl_design.specs.Trees.{range_width};
+ghost use Rattle.vl_design.specs.Rows.{range_width};
 ghost use Rattle.vl_flat.specs.Surface as x;
 ghost use Rattle.vl_flat.specs.Scopes as scopes;
 ghost use Rattle.vl_flat.specs.Expressions as flat;
 ghost use Rattle.vl_bind.specs.Seen.{seen, selects_before, args_before};
 ghost use Rattle.vl_bind.specs.Listed.{of_list};
 ghost use Rattle.vl_constant.specs.Seen.{seen_scope, binding_of};
-ghost use Rattle.vl_constant.specs.Kept.{kept};
+ghost use Rattle.vl_constant.specs.Kept.{kept, selects_form};
 
 use crate::constant::text_bits;
 use crate::forms::{binary_form, bit, joined, mark, operated, unary_form};
@@ -113,7 +113,7 @@ pub fn is_memory(known: Option<Known>) -> bool
 /// The form of what is left behind selects on a value of a form.
 #[tactic(auto, using(crate::proofs::Kept::keeps))]
 pub fn selects_form(scope: &Scope<'_, '_>, form: Form, selects: &[Select]) -> Form
-    ensures { result ≡ kept (flat.selects_form (seen_scope scope.now) form (selects_before selects.now x.NoSelects)) }
+    ensures { result ≡ kept (selects_form (seen_scope scope.now) form (selects_before selects.now x.NoSelects)) }
 {
     match selects {
         [] => Form {

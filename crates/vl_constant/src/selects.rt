@@ -7,6 +7,7 @@ ghost use Rattle.vl_flat.specs.Constants.{clamped};
 ghost use Rattle.vl_constant.specs.Seen.{binding_of};
 ghost use Rattle.vl_constant.specs.Types.{numbers, distance};
 
+use crate::form::is_memory;
 use crate::ranges::{Range, falls};
 use crate::scope::Known;
 use vl_design::design::LowestBit;
@@ -100,6 +101,17 @@ pub fn range_of(known: Option<Known>) -> Range
             right: s.right,
         },
         _ => Range { left: 0, right: 0 },
+    }
+}
+
+/// The number of the memory that a name stands for.
+pub fn memory_of(known: Option<Known>) -> Option<u32>
+    ensures { result ≡ flat.memory_of (option_map binding_of known) }
+{
+    if is_memory(known) {
+        Some(number_of(known))
+    } else {
+        None
     }
 }
 

@@ -1,5 +1,5 @@
 -- Lists of expressions in the design.
-use Rattle.std.proofs.Common.{◌≡◌, refl, ap, sym, ◌∙◌, ℕ, ◌+◌, ◌<◌, ◌≤◌, Bool, false, List, [], ◌∷◌, ◌++◌, map, length, get_or, take, drop}
+use Rattle.std.proofs.Common.{◌≡◌, refl, ap, sym, ◌∙◌, ℕ, ◌+◌, ◌<◌, ◌≤◌, Bool, true, false, List, [], ◌∷◌, ◌++◌, map, length, get_or, take, drop}
 use Rattle.std.specs.Prelude.{Option, codes}
 use Rattle.std.specs.Str.{bytes_eq}
 use Rattle.std.proofs.lemmas.Grind.{common_steps}
@@ -13,7 +13,7 @@ use Rattle.vl_design.specs.declared.design.ExprNode as d
 use Rattle.vl_design.specs.declared.design.ExprNode.TheBlock as blk
 use Rattle.vl_flat.specs.Surface as x
 use Rattle.vl_design.specs.Placed as p
-use Rattle.vl_flat.specs.Scopes.{Scope, range_of}
+use Rattle.vl_flat.specs.Scopes.{Scope, range_of, number_of}
 use Rattle.vl_flat.specs.declared.binding.Binding.{Binding}
 use Rattle.vl_flat.specs.Expressions.{is_memory, whole, called_system}
 use Rattle.vl_design.specs.Seen.{exp_of, arg, node_exp, row_exps, row_args}
@@ -67,11 +67,12 @@ before-more xs i y o h is = ap (λ z. args_before z o) (take_more xs i y h) ∙ 
 pub selects-end : (ss : List Select) (i : ℕ) (o : x.Selects) → length ss ≤ i → selects_before (drop i ss) o ≡ o
 selects-end ss i o h = ap (λ z. selects_before z o) (drop_all i ss h)
 
--- a name that is no memory's
-pub named-plain : (S : Scope) (at : Place) (b : Option Binding) (ss : x.Selects) → is_memory b ≡ false → flat.named S at b ss ≡ flat.selected S at (range_of b) (whole at b) ss
-named-plain S at b x.NoSelects h = refl
-named-plain S at b (x.Index q i others) h = rw h refl
-named-plain S at b (x.Range q mark l r others) h = refl
+-- a name that is no memory's, and the word of a memory
+pub named-plain : (S : Scope) (at : Place) (b : Option Binding) (ss : x.Selects) → is_memory b ≡ false → n.named S at b ss ≡ n.selected S at (range_of b) (whole at b) ss
+named-plain S at b ss h = rw h refl
+
+pub named-word : (S : Scope) (at : Place) (b : Option Binding) (q : Place) (i : x.Ex) (ss : x.Selects) → is_memory b ≡ true → n.named S at b (x.Index q i ss) ≡ n.selected S at (range_of b) (p.Word at (number_of b) (flat.exp S i)) ss
+named-word S at b q i ss h = rw h refl
 
 -- a system call that is a node as it is
 pub system-is : (at : Place) (t : List ℕ) (f : p.Exp) (as' : p.Args) → bytes_eq t (codes "$signed") ≡ false → bytes_eq t (codes "$unsigned") ≡ false → bytes_eq t (codes "$time") ≡ false → called_system at t f as' ≡ p.Sys at t as'

@@ -1,5 +1,5 @@
 -- Labels and left sides in the design.
-use Rattle.std.proofs.Common.{◌≡◌, refl, ap, sym, ◌∙◌, false, List, [], ◌∷◌, map}
+use Rattle.std.proofs.Common.{◌≡◌, refl, ap, sym, ◌∙◌, true, false, List, [], ◌∷◌, map}
 use Rattle.std.specs.Prelude.{Option}
 use Rattle.std.specs.declared.alloc.Global.{Global}
 use Rattle.std.specs.declared.vec.Vec.{Vec}
@@ -11,6 +11,7 @@ use Rattle.vl_flat.specs.Surface as x
 use Rattle.vl_design.specs.Placed as p
 use Rattle.vl_flat.specs.Scopes.{Scope, range_of, number_of}
 use Rattle.vl_flat.specs.declared.binding.Binding.{Binding}
+use Rattle.vl_flat.specs.Expressions as flat
 use Rattle.vl_flat.specs.Expressions.{is_memory}
 use Rattle.vl_flat.specs.Targets as lefts
 use Rattle.vl_flat.specs.Connections as conn
@@ -23,11 +24,12 @@ use Rattle.vl_bind.specs.Listed.{of_list}
 use Rattle.vl_bind.proofs.LeftSides.{row_lefts-hidden}
 use Rattle.vl_expression.specs.Walked as n
 
--- a name that is no memory's
-pub written-plain : (S : Scope) (at : Place) (b : Option Binding) (ss : x.Selects) → is_memory b ≡ false → lefts.named S at b ss ≡ lefts.selected S at (range_of b) (p.Whole at (number_of b)) ss
-written-plain S at b x.NoSelects h = refl
-written-plain S at b (x.Index q i others) h = rw h refl
-written-plain S at b (x.Range q mark l r others) h = refl
+-- a name that is no memory's, and the word of a memory
+pub written-plain : (S : Scope) (at : Place) (b : Option Binding) (ss : x.Selects) → is_memory b ≡ false → lefts.named S at b ss ≡ n.selected S at (range_of b) (p.Whole at (number_of b)) ss
+written-plain S at b ss h = rw h refl
+
+pub written-word : (S : Scope) (at : Place) (b : Option Binding) (q : Place) (i : x.Ex) (ss : x.Selects) → is_memory b ≡ true → lefts.named S at b (x.Index q i ss) ≡ n.selected S at (range_of b) (p.WordAt at (number_of b) (flat.exp S i)) ss
+written-word S at b q i ss h = rw h refl
 
 row_targets-items : {m : _} (k : d.Row_of-Target m) → row_targets k ≡ n.targets_listed (map target_of (d.items-the_row-Target m k))
 row_targets-items d.end_of-Target = refl

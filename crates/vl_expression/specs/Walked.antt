@@ -1,10 +1,12 @@
 -- Labels, left sides, statements and items of cases in the design, one after another.
-use Rattle.std.specs.Prelude.{List, [], ◌∷◌, Bool}
+use Rattle.std.specs.Prelude.{List, [], ◌∷◌, fold, ℤ, None, Bool}
+use Rattle.vl_base.specs.declared.place.Place.{Place}
 use Rattle.vl_design.specs.declared.design.CaseItem.{CaseItem}
 use Rattle.vl_design.specs.Placed as p
 use Rattle.vl_flat.specs.Scopes.{Scope}
-use Rattle.vl_flat.specs.Expressions.{label}
-use Rattle.vl_flat.specs.Targets.{target}
+use Rattle.vl_flat.specs.Surface.{Selects}
+use Rattle.vl_flat.specs.Expressions.{label, steps}
+use Rattle.vl_flat.specs.Targets.{target, stepped}
 use Rattle.vl_flat.specs.Statements.{statement}
 use Rattle.vl_flat.specs.Connections.{left_of}
 use Rattle.vl_design.specs.Seen.{exps_of, stm_of}
@@ -47,3 +49,7 @@ item_with a others = p.MoreItems (exps_of a.labels.items) (stm_of a.body) others
 abbrev pub items_with : List CaseItem → p.Items → p.Items
 items_with [] others = others
 items_with (a ∷ as') others = item_with a (items_with as' others)
+
+-- a left side whose bits are numbered so behind selects
+abbrev pub selected : Scope → Place → ℤ × ℤ → p.Target → Selects → p.Target
+selected scope at r base ss = fold (stepped at) base (steps scope None r ss)

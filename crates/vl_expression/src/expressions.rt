@@ -146,7 +146,7 @@ fn parted(
     right: &Ex,
     width: u8,
 ) -> Result<Expr, AllocError>
-    ensures { IfOk result (λ e. exp_of e ≡ flat.part at (numbers from.range) (exp_of from.base) mark (flat.exp (seen_scope scope.now) (seen left.now)) (flat.constant (seen_scope scope.now) (seen right.now)) width) }
+    ensures { IfOk result (λ e. exp_of e ≡ flat.stepped at (exp_of from.base) (flat.part (numbers from.range) mark (flat.exp (seen_scope scope.now) (seen left.now)) (flat.constant (seen_scope scope.now) (seen left.now)) (flat.constant (seen_scope scope.now) (seen right.now)) width)) }
 {
     let Based { base, range } = from;
     match mark {
@@ -171,7 +171,7 @@ fn one_selected(
     from: Based,
     one: &Select,
 ) -> Result<Based, AllocError>
-    ensures { IfOk result (λ b. (others : x.Selects) → flat.selected (seen_scope scope.now) at (numbers b.range) (exp_of b.base) others ≡ flat.selected (seen_scope scope.now) at (numbers from.range) (exp_of from.base) (select one.now others)) }
+    ensures { IfOk result (λ b. (others : x.Selects) → n.selected (seen_scope scope.now) at (numbers b.range) (exp_of b.base) others ≡ n.selected (seen_scope scope.now) at (numbers from.range) (exp_of from.base) (select one.now others)) }
 {
     match one {
         Select::Index(_, i) => {
@@ -199,7 +199,7 @@ fn selected(
     from: Based,
     selects: &[Select],
 ) -> Result<Expr, AllocError>
-    ensures { IfOk result (λ e. exp_of e ≡ flat.selected (seen_scope scope.now) at (numbers from.range) (exp_of from.base) (selects_before selects.now x.NoSelects)) }
+    ensures { IfOk result (λ e. exp_of e ≡ n.selected (seen_scope scope.now) at (numbers from.range) (exp_of from.base) (selects_before selects.now x.NoSelects)) }
 {
     let mut all = from;
     for one in selects {
@@ -218,7 +218,7 @@ fn worded(
     selects: &[Select],
 ) -> Result<Expr, AllocError>
     requires { flat.is_memory (option_map binding_of known) ≡ true }
-    ensures { IfOk result (λ e. exp_of e ≡ flat.named (seen_scope scope.now) at (option_map binding_of known) (selects_before selects.now x.NoSelects)) }
+    ensures { IfOk result (λ e. exp_of e ≡ n.named (seen_scope scope.now) at (option_map binding_of known) (selects_before selects.now x.NoSelects)) }
 {
     let range = range_of(known);
     match selects {
@@ -246,7 +246,7 @@ fn named(
     known: Option<Known>,
     selects: &[Select],
 ) -> Result<Expr, AllocError>
-    ensures { IfOk result (λ e. exp_of e ≡ flat.named (seen_scope scope.now) at (option_map binding_of known) (selects_before selects.now x.NoSelects)) }
+    ensures { IfOk result (λ e. exp_of e ≡ n.named (seen_scope scope.now) at (option_map binding_of known) (selects_before selects.now x.NoSelects)) }
 {
     if is_memory(known) {
         return worded(alloc, scope, at, known, selects);

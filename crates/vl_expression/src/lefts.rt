@@ -10,6 +10,7 @@ ghost use Rattle.vl_design.specs.Seen.{exp_of, target_of};
 ghost use Rattle.vl_bind.specs.Seen.{seen, select, selects_before};
 ghost use Rattle.vl_constant.specs.Seen.{seen_scope, binding_of};
 ghost use Rattle.vl_constant.specs.Types.{numbers};
+ghost use Rattle.vl_expression.specs.Walked as n;
 
 use crate::expressions::exp;
 use std::alloc::{AllocError, Global};
@@ -53,7 +54,7 @@ fn picked(
     from: LowestBit,
     width: u8,
 ) -> Result<Target, AllocError>
-    ensures { IfOk result (λ t. target_of t ≡ p.Bits at (target_of base) (exp_of index) from width) }
+    ensures { IfOk result (λ t. target_of t ≡ p.PickAt at (target_of base) (exp_of index) from width) }
 {
     let base = Box::new(alloc, base)?;
     let index = Box::new(alloc, index)?;
@@ -65,7 +66,7 @@ fn picked(
 
 /// So many bits from a constant one on.
 fn sliced(alloc: Global, at: Place, base: Target, low: i32, width: u8) -> Result<Target, AllocError>
-    ensures { IfOk result (λ t. target_of t ≡ p.Part at (target_of base) low width) }
+    ensures { IfOk result (λ t. target_of t ≡ p.SliceAt at (target_of base) low width) }
 {
     let base = Box::new(alloc, base)?;
     Ok(Target {
@@ -94,7 +95,7 @@ fn parted(
     right: &Ex,
     width: u8,
 ) -> Result<Target, AllocError>
-    ensures { IfOk result (λ t. target_of t ≡ lefts.part at (numbers from.range) (target_of from.base) mark (flat.exp (seen_scope scope.now) (seen left.now)) (flat.constant (seen_scope scope.now) (seen right.now)) width) }
+    ensures { IfOk result (λ t. target_of t ≡ lefts.stepped at (target_of from.base) (flat.part (numbers from.range) mark (flat.exp (seen_scope scope.now) (seen left.now)) (flat.constant (seen_scope scope.now) (seen left.now)) (flat.constant (seen_scope scope.now) (seen right.now)) width)) }
 {
     let Based { base, range } = from;
     match mark {
@@ -118,7 +119,7 @@ fn one_selected(
     from: Based,
     one: &Select,
 ) -> Result<Based, AllocError>
-    ensures { IfOk result (λ b. (others : x.Selects) → lefts.selected (seen_scope scope.now) at (numbers b.range) (target_of b.base) others ≡ lefts.selected (seen_scope scope.now) at (numbers from.range) (target_of from.base) (select one.now others)) }
+    ensures { IfOk result (λ b. (others : x.Selects) → n.selected (seen_scope scope.now) at (numbers b.range) (target_of b.base) others ≡ n.selected (seen_scope scope.now) at (numbers from.range) (target_of from.base) (select one.now others)) }
 {
     match one {
         Select::Index(_, i) => {
@@ -145,7 +146,7 @@ fn selected(
     from: Based,
     selects: &[Select],
 ) -> Result<Target, AllocError>
-    ensures { IfOk result (λ t. target_of t ≡ lefts.selected (seen_scope scope.now) at (numbers from.range) (target_of from.base) (selects_before selects.now x.NoSelects)) }
+    ensures { IfOk result (λ t. target_of t ≡ n.selected (seen_scope scope.now) at (numbers from.range) (target_of from.base) (selects_before selects.now x.NoSelects)) }
 {
     let mut all = from;
     for one in selects {

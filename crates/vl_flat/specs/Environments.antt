@@ -1,5 +1,5 @@
 -- What the names of an instance stand for: parameters, signals and functions with their numbers (IEEE 1364-2005, clause 12).
-use Rattle.std.specs.Prelude.{ℕ, zero, suc, ◌+◌, ◌-◌, ◌*◌, ◌^◌, min, Bool, List, [], ◌∷◌, fold, find, length, Option, is_some, if◌then◌else◌}
+use Rattle.std.specs.Prelude.{ℕ, zero, suc, ◌+◌, ◌*◌, Bool, List, [], ◌∷◌, fold, find, length, Option, is_some, if◌then◌else◌}
 use Rattle.std.specs.List.{list_any}
 use Rattle.std.specs.Option.{option_map_or}
 use Rattle.std.specs.Str.{bytes_eq}
@@ -21,19 +21,11 @@ pub record Counts : Type 0 where
 abbrev pub no_more : Counts
 no_more = record { signals = 0; functions = 0 }
 
--- numbers have 32 bits: a count that is at their end stands still (limits 5 and 6 refuse so many)
-abbrev pub most_numbers : ℕ
-most_numbers = 2 ^ 32 - 1
-
--- the number behind a number
-abbrev pub after : ℕ → ℕ
-after n = min most_numbers (n + 1)
-
 abbrev pub plus : Counts → Counts → Counts
-plus a b = record { signals = min most_numbers (a.signals + b.signals); functions = min most_numbers (a.functions + b.functions) }
+plus a b = record { signals = a.signals + b.signals; functions = a.functions + b.functions }
 
 abbrev pub times : ℕ → Counts → Counts
-times n a = record { signals = min most_numbers (n * a.signals); functions = min most_numbers (n * a.functions) }
+times n a = record { signals = n * a.signals; functions = n * a.functions }
 
 -- ---- how many signals and functions an instance of a module has, with what is in it
 

@@ -118,6 +118,10 @@ module _ (scope : Scope) where
     argument_faults true (Text at text) fs = []
     argument_faults keeps e fs = fs
 
+  -- the faults of a name's selects
+  abbrev pub name_faults : Place → Option Binding → Selects → List Stop
+  name_faults at b ss = directions at b ss ++ selects_faults ss
+
   -- ---- texts to display: a string that an item of a format takes is an operand (clause 17.1.1)
 
   -- the faults of arguments of which so many first ones are taken by items

@@ -1,10 +1,10 @@
 -- The flat design of a source, part by part in its order (IEEE 1364-2005, clause 12): an instance stands for its input
 -- connections in port order, the items of its module, and its output connections in port order.
-use Rattle.std.specs.Prelude.{ℕ, zero, suc, nat_lt, Bool, false, not, ◌&&◌, List, [], ◌∷◌, ◌++◌, length, flat_map, find, Option, None, if◌then◌else◌}
-use Rattle.std.specs.List.{list_any}
-use Rattle.std.specs.Option.{option_map_or}
+use Rattle.std.specs.Prelude.{ℕ, zero, suc, nat_lt, Bool, false, not, ◌&&◌, List, [], ◌∷◌, ◌++◌, length, map, flat_map, position, slice_get, Option, None, if◌then◌else◌}
+use Rattle.std.specs.Option.{option_map_or, option_and_then, option_to_list}
 use Rattle.std.specs.Str.{bytes_eq}
 use Rattle.vl_base.specs.declared.place.Place.{Place}
+use Rattle.vl_source.specs.Hierarchy.{first_top}
 use Rattle.vl_design.specs.declared.design.Signal.{Signal}
 use Rattle.vl_design.specs.declared.stop.Stop.{Stop}
 use Rattle.vl_design.specs.Placed as p
@@ -133,14 +133,21 @@ design_of m parts = record {
   processes = flat_map (λ a. a.processes) parts;
 }
 
--- ---- the top module: the first that no item instantiates
+-- ---- the top module (clause 12.1.1)
 
-abbrev pub instantiates : List ℕ → Item → Bool
-instantiates t (Instantiates us) = bytes_eq t us.definition
-instantiates t item = false
+-- the number of the module that a name means: the first so called
+abbrev pub module_number : List Module → List ℕ → Option ℕ
+module_number ms t = position (λ m. bytes_eq t m.name.name) ms
 
-abbrev pub is_top : List Module → Module → Bool
-is_top ms m = not (list_any (λ n. list_any (instantiates m.name.name) n.items) ms)
+-- the numbers of the modules that an item instantiates, by what names mean
+abbrev pub item_steps : (List ℕ → Option ℕ) → Item → List ℕ
+item_steps number (Instantiates us) = option_to_list (number us.definition)
+item_steps number item = []
 
+-- for each module the numbers of those that it instantiates
+abbrev pub graph_of : List Module → List (List ℕ)
+graph_of ms = map (λ m. flat_map (item_steps (module_number ms)) m.items) ms
+
+-- the first module that none instantiates
 abbrev pub top_of : List Module → Option Module
-top_of ms = find (is_top ms) ms
+top_of ms = option_and_then (slice_get ms) (first_top (graph_of ms))

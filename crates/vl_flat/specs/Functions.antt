@@ -1,5 +1,5 @@
 -- Functions in the design (IEEE 1364-2005, clause 10.4): their locals are numbered behind the design's signals.
-use Rattle.std.specs.Prelude.{ℕ, pos, not, ◌&&◌, List, [], ◌∷◌, ◌++◌, map, flat_map, if◌then◌else◌}
+use Rattle.std.specs.Prelude.{ℕ, ◌+◌, pos, not, ◌&&◌, List, [], ◌∷◌, ◌++◌, map, flat_map, if◌then◌else◌}
 use Rattle.vl_grammar.specs.declared.tree.Identifier.{Identifier}
 use Rattle.vl_design.specs.declared.design.Signal.{Signal}
 use Rattle.vl_design.specs.declared.design.SigKind.{SigKind}
@@ -11,7 +11,6 @@ use Rattle.vl_flat.specs.Items.{Local, Function}
 use Rattle.vl_design.specs.Placed.{Func}
 use Rattle.vl_flat.specs.Scopes.{Env, Scope, bind}
 use Rattle.vl_flat.specs.Uses.{controls, strays}
-use Rattle.vl_flat.specs.Environments.{after}
 use Rattle.vl_flat.specs.Ranges.{type_range, type_faults, is_signed, has_range}
 use Rattle.vl_flat.specs.Statements.{statement, statement_faults}
 
@@ -36,7 +35,7 @@ local_shape env a l = record {
 abbrev pub with_locals : Env → Env → Function → ℕ → List Local → Env
 with_locals module_env env a n [] = env
 with_locals module_env env a n (l ∷ ls) =
-    with_locals module_env (bind env l.name.name (b.Signal n (local_shape module_env a l))) a (after n) ls
+    with_locals module_env (bind env l.name.name (b.Signal n (local_shape module_env a l))) a (n + 1) ls
 
 -- behind tells the number of the design's signals
 abbrev pub function_scope : ℕ → Env → Function → Scope
@@ -61,7 +60,7 @@ signal path n s = record {
 -- the numbers of the inputs, the first variable having this number
 abbrev pub input_numbers : ℕ → List Local → List ℕ
 input_numbers n [] = []
-input_numbers n (l ∷ ls) = if l.is_input then n ∷ input_numbers (after n) ls else input_numbers (after n) ls
+input_numbers n (l ∷ ls) = if l.is_input then n ∷ input_numbers (n + 1) ls else input_numbers (n + 1) ls
 
 -- a function of an instance of this path
 abbrev pub function : ℕ → Env → List ℕ → Function → Func

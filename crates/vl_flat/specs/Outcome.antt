@@ -1,6 +1,6 @@
 -- The flat design of a source, or the first fault in its order: refused constructs 10 to 13 and 24, and limits 5, 6, 7, 11
 -- (IEEE 1364-2005, clause 12; the limits and the order of faults are own).
-use Rattle.std.specs.Prelude.{ℕ, ◌+◌, min, nat_lt, Bool, true, false, ◌&&◌, ◌||◌, List, [], ◌∷◌, ◌++◌, fold, Option, Some, None, Result, Ok, Err, if◌then◌else◌}
+use Rattle.std.specs.Prelude.{ℕ, ◌+◌, nat_lt, Bool, true, false, ◌&&◌, ◌||◌, List, [], ◌∷◌, ◌++◌, fold, Option, Some, None, Result, Ok, Err, if◌then◌else◌}
 use Rattle.vl_base.specs.declared.place.Place.{Place}
 use Rattle.vl_source.specs.declared.tree.Source.{Source}
 use Rattle.vl_design.specs.declared.design.Signal.{Signal}
@@ -12,7 +12,6 @@ use Rattle.vl_design.specs.declared.stop.Stop.TheVariants.{Memory}
 use Rattle.vl_flat.specs.Expressions.{is_mem}
 use Rattle.vl_design.specs.Placed as p
 use Rattle.vl_design.specs.Stops.{limit_if, earliest}
-use Rattle.vl_flat.specs.Environments.{after, most_numbers}
 use Rattle.vl_flat.specs.Items.{Module}
 use Rattle.vl_flat.specs.Declarations.{modules}
 use Rattle.vl_flat.specs.Flat.{Part, is_long_path, parts_from, design_of, top_of}
@@ -31,7 +30,7 @@ most_words = 65536
 abbrev pub most_words_in_all : ℕ
 most_words_in_all = 262144
 
--- so many so far, kept within 32 bits; clocks and loop variables are no signals here
+-- so many so far; clocks and loop variables are no signals here
 pub record Totals : Type 0 where
   pub instances : ℕ
   pub signals : ℕ
@@ -46,10 +45,10 @@ abbrev pub memory_words : Signal → ℕ
 memory_words r = if is_mem r.kind then word_count r.kind r.first r.last else 0
 
 abbrev pub with_signal : Totals → Signal → Totals
-with_signal n r = record n { signals = (if is_counted r.kind then after n.signals else n.signals); words = min most_numbers (n.words + memory_words r) }
+with_signal n r = record n { signals = (if is_counted r.kind then n.signals + 1 else n.signals); words = n.words + memory_words r }
 
 abbrev pub with_instance : Totals → Place → Totals
-with_instance n _ = record n { instances = after n.instances }
+with_instance n _ = record n { instances = n.instances + 1 }
 
 abbrev pub with_part : Totals → Part → Totals
 with_part n a = fold with_signal (fold with_instance n a.begins) a.signals
@@ -67,7 +66,7 @@ signals_limits n (r ∷ rs) = signal_limits (with_signal n r) r ++ signals_limit
 
 abbrev pub instance_limits : Totals → List Place → List Stop
 instance_limits n [] = []
-instance_limits n (at ∷ as') = limit_if (nat_lt most_instances (after n.instances)) at 5 ++ instance_limits (with_instance n at) as'
+instance_limits n (at ∷ as') = limit_if (nat_lt most_instances (n.instances + 1)) at 5 ++ instance_limits (with_instance n at) as'
 
 -- ---- the first fault: of the first part that has one, the one of the least place, and there of the least number
 

@@ -1,5 +1,5 @@
 -- The signals and processes that an item of an instance stands for, and its faults (IEEE 1364-2005, clauses 6, 9 and 12).
-use Rattle.std.specs.Prelude.{ℕ, nat_lt, ℤ, Bool, true, false, not, ◌&&◌, ◌==◌, List, [], ◌∷◌, ◌++◌, map, flat_map, Option, Some, None, if◌then◌else◌}
+use Rattle.std.specs.Prelude.{ℕ, ◌+◌, nat_lt, ℤ, Bool, true, false, not, ◌&&◌, ◌==◌, List, [], ◌∷◌, ◌++◌, map, flat_map, Option, Some, None, if◌then◌else◌}
 use Rattle.std.specs.Option.{option_map_or}
 use Rattle.std.specs.Ordering.{int_eq}
 use Rattle.vl_base.specs.declared.place.Place.{Place}
@@ -31,7 +31,6 @@ use Rattle.vl_flat.specs.Statements.{statement, statement_faults}
 use Rattle.vl_flat.specs.Kinds.{signals_in}
 use Rattle.vl_flat.specs.Ranges.{is_signed, has_range, type_range, bits_in, type_faults, range_faults}
 use Rattle.vl_flat.specs.Parameters.{parameter_faults}
-use Rattle.vl_flat.specs.Environments.{after}
 use Rattle.vl_flat.specs.Functions.{signal, function, function_faults}
 
 -- where an item stands: the names and the path of its instance, and the number of the design's signals
@@ -54,7 +53,7 @@ signal_of path n b = []
 abbrev pub signals : Here → ℕ → List Declared → List Signal
 signals here next [] = []
 signals here next (d ∷ ds) =
-    if is_first here.env next d then signal_of here.path d.name (here.env d.name.name) ++ signals here (after next) ds
+    if is_first here.env next d then signal_of here.path d.name (here.env d.name.name) ++ signals here (next + 1) ds
     else signals here next ds
 
 abbrev pub is_clock : SigKind → Bool

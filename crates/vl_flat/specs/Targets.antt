@@ -8,7 +8,7 @@ use Rattle.vl_design.specs.Placed as p
 use Rattle.vl_design.specs.Stops.{construct_if}
 use Rattle.vl_flat.specs.Scopes.{Scope, number_of}
 use Rattle.vl_flat.specs.Expressions.{Step, Chosen, Picked, Sliced, part_low, steps_of, named_form}
-use Rattle.vl_flat.specs.ExpressionFaults.{directions, selects_faults}
+use Rattle.vl_flat.specs.ExpressionFaults.{name_faults}
 
 -- what a step leaves of a target
 abbrev pub stepped : Place → p.Target → Step → p.Target
@@ -43,7 +43,7 @@ module _ (scope : Scope) where
   abbrev mutual
     -- the faults of the selects in a left side
     pub left_faults : Left → List Stop
-    left_faults (LeftName at name ss) = directions scope at (scope.names name) ss ++ selects_faults scope ss
+    left_faults (LeftName at name ss) = name_faults scope at (scope.names name) ss
     left_faults (LeftList at ls) = lefts_faults ls
 
     pub lefts_faults : Lefts → List Stop

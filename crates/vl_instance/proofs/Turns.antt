@@ -1,7 +1,6 @@
 -- One more item of a list that a loop goes over.
-use Rattle.std.proofs.Common.{◌≡◌, ℕ, suc, ◌+◌, ◌<◌, Bool, true, false, List, [], ◌∷◌, ◌++◌, length, map, take, get_or, Option, Some, None, refl, sym, ap, ◌∙◌, arith}
-use Rattle.std.specs.Prelude.{fold, find, position, slice_get, option_map, if◌then◌else◌}
-use Rattle.std.specs.Option.{option_and_then}
+use Rattle.std.proofs.Common.{◌≡◌, ℕ, ◌+◌, ◌<◌, Bool, List, [], ◌∷◌, ◌++◌, length, map, take, get_or, Some, refl, sym, ap, ◌∙◌, arith}
+use Rattle.std.specs.Prelude.{fold, position, option_map, if◌then◌else◌}
 use Rattle.std.proofs.lemmas.List.{map_push, take_more}
 use Rattle.std.proofs.lemmas.List.Sums.{fold-append}
 use Rattle.std.proofs.lemmas.Bool.Decides.{nat_tests}
@@ -25,19 +24,10 @@ fold-turn-at f see start before after xs i d l h step =
 
 -- ---- the first of a list
 
-position-cons : {X : Type 0} (p : X → Bool) (y : X) (xs : List X) → position p (y ∷ xs) ≡ (if p y then Some 0 else option_map (λ k. k + 1) (position p xs))
+pub position-cons : {X : Type 0} (p : X → Bool) (y : X) (xs : List X) → position p (y ∷ xs) ≡ (if p y then Some 0 else option_map (λ k. k + 1) (position p xs))
 position-cons p y xs = grind (arith, nat_tests)
 
 pub position-map : {X Y : Type 0} (p : Y → Bool) (see : X → Y) (xs : List X) → position (λ y. p (see y)) xs ≡ position p (map see xs)
 position-map p see [] = refl
 position-map p see (y ∷ xs) =
     position-cons (λ y. p (see y)) y xs ∙ ap (λ o. if p (see y) then Some 0 else option_map (λ k. k + 1) o) (position-map p see xs) ∙ sym (position-cons p (see y) (map see xs))
-
-pub position-find : {X : Type 0} (p : X → Bool) (xs : List X) → option_and_then (slice_get xs) (position p xs) ≡ find p xs
-position-find p [] = grind (arith, nat_tests)
-position-find {X} p (y ∷ xs) = ap (option_and_then (slice_get (y ∷ xs))) (position-cons p y xs) ∙ by (p y) (position p xs) (find p xs) (position-find p xs)
-  where
-    by : (b : Bool) (o : Option ℕ) (f : Option X) → option_and_then (slice_get xs) o ≡ f → option_and_then (slice_get (y ∷ xs)) (if b then Some 0 else option_map (λ k. k + 1) o) ≡ (if b then Some y else f)
-    by true o f h = refl
-    by false None f h = h
-    by false (Some k) f h = let e : k + 1 ≡ suc k = omega arith in ap (slice_get (y ∷ xs)) e ∙ h

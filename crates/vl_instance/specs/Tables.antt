@@ -1,13 +1,14 @@
 -- What the program's tables of connections and of names stand for.
-use Rattle.std.specs.Prelude.{ℕ, Bool, ◌||◌, List, [], ◌∷◌, fold, map, Option, Some, None, option_map, if◌then◌else◌}
+use Rattle.std.specs.Prelude.{ℕ, nat_eq, Bool, ◌||◌, List, [], ◌∷◌, fold, map, flat_map, Option, Some, None, option_map, if◌then◌else◌}
 use Rattle.std.specs.List.{list_any}
 use Rattle.std.specs.Option.{option_or, option_map_or}
 use Rattle.std.specs.Borrow.{Bor}
 use Rattle.std.specs.Str.{bytes_eq}
 use Rattle.indexmap.specs.IndexMap.{IndexMap, get_by}
+use Rattle.indexmap.specs.IndexSet.{IndexSet, contains}
 use Rattle.vl_flat.specs.Items as x
 use Rattle.vl_flat.specs.Scopes.{Env, Scope}
-use Rattle.vl_flat.specs.Flat.{instantiates}
+use Rattle.vl_flat.specs.Flat.{item_steps}
 use Rattle.vl_items.specs.declared.items.Connection.{Connection}
 use Rattle.vl_items.specs.SeenItems.{seen_connection}
 use Rattle.vl_constant.specs.Seen.{names_of}
@@ -63,19 +64,16 @@ named qs = fold connect_named none qs
 abbrev pub among : List (List ℕ) → List x.Connection → Joined
 among names qs = fold (take_over (named qs)) none names
 
--- ---- the names of modules that are instantiated
+-- ---- the numbers of modules that are instantiated
 
--- one more name
-abbrev pub with_name : (List ℕ → Bool) → List ℕ → List ℕ → Bool
-with_name before name t = before t || bytes_eq t name
+-- the set has the number
+abbrev pub has_number : {S : Type 0} → IndexSet ℕ S → ℕ → Bool
+has_number s n = contains nat_eq s n
 
--- the name that an item instantiates too, and those that items do
-abbrev pub with_used : (List ℕ → Bool) → x.Item → List ℕ → Bool
-with_used before item t = before t || instantiates t item
+-- these numbers too
+abbrev pub with_steps : (ℕ → Bool) → List ℕ → ℕ → Bool
+with_steps before steps n = before n || list_any (nat_eq n) steps
 
-abbrev pub with_all_used : (List ℕ → Bool) → List x.Item → List ℕ → Bool
-with_all_used before items t = before t || list_any (instantiates t) items
-
--- the names that the items of modules instantiate
-abbrev pub used : List x.Module → List ℕ → Bool
-used ms t = list_any (λ n. list_any (instantiates t) n.items) ms
+-- the numbers that the items of modules instantiate, by what names mean
+abbrev pub used : (List ℕ → Option ℕ) → List x.Module → ℕ → Bool
+used number ms n = list_any (list_any (nat_eq n)) (map (λ m. flat_map (item_steps number) m.items) ms)

@@ -15,8 +15,8 @@ abbrev pub seen_variable : Variable → x.Local
 seen_variable v = seen_local (seen_type v.kind.now) v.is_input v.is_free v.name.now
 
 -- what is no memory, of these bits
-abbrev pub plain_shape : SigKind → Bool → ℤ × ℤ → Shape
-plain_shape kind signed range = record { kind = kind; signed = signed; left = range.0; right = range.1; first = pos 0; last = pos 0 }
+abbrev pub plain_shape : SigKind → Bool → Bool → ℤ × ℤ → Shape
+plain_shape kind signed ranged range = record { kind = kind; signed = signed; ranged = ranged; left = range.0; right = range.1; first = pos 0; last = pos 0 }
 
 -- the variables are the function's, and the table is of its body
 pub record IsFrame (frame : Frame) (f : x.Function) : Type 0 where

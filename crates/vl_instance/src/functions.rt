@@ -13,7 +13,7 @@ use crate::variables::{Frame, Variable};
 use indexmap::IndexMap;
 use std::alloc::{AllocError, Global};
 use vl_base::items::{Items, Text};
-use vl_constant::ranges::{Range, is_signed, type_range};
+use vl_constant::ranges::{Range, has_range, is_signed, type_range};
 use vl_constant::scope::{Known, Names, bind, module_scope};
 use vl_design::design::{SigKind, Signal};
 use vl_flat::binding::Shape;
@@ -52,12 +52,13 @@ pub fn signal(
 }
 
 /// What is no memory.
-fn plain_shape(kind: SigKind, signed: bool, range: Range) -> Shape
-    ensures { result ≡ v.plain_shape kind signed (numbers range) }
+fn plain_shape(kind: SigKind, signed: bool, ranged: bool, range: Range) -> Shape
+    ensures { result ≡ v.plain_shape kind signed ranged (numbers range) }
 {
     Shape {
         kind,
         signed,
+        ranged,
         left: range.left,
         right: range.right,
         first: 0,
@@ -71,7 +72,12 @@ fn local_shape(names: &Names<'_>, roles: &BodyRoles<'_>, variable: &Variable<'_>
 {
     let kind = local_kind(roles, variable.is_free, variable.name.name.as_slice());
     let range = type_range(&module_scope(names), variable.kind);
-    plain_shape(kind, is_signed(variable.kind), range)
+    plain_shape(
+        kind,
+        is_signed(variable.kind),
+        has_range(variable.kind),
+        range,
+    )
 }
 
 /// Gives a variable of a function its meaning.

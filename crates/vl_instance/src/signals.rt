@@ -11,7 +11,7 @@ ghost use Rattle.vl_instance.specs.Known as spec;
 use crate::given::{Above, is_clock, is_wired};
 use crate::scope::is_known;
 use std::alloc::AllocError;
-use vl_constant::ranges::{is_signed, optional_bounds, type_range};
+use vl_constant::ranges::{has_range, is_signed, optional_bounds, type_range};
 use vl_constant::scope::{Known, Names, bind, module_scope};
 use vl_design::design::SigKind;
 use vl_flat::binding::Shape;
@@ -29,6 +29,7 @@ fn shape(names: &Names<'_>, signal: SigKind, kind: &DataType, declared: &Declare
     Shape {
         kind: signal,
         signed: is_signed(kind),
+        ranged: has_range(kind),
         left: range.left,
         right: range.right,
         first: words.left,

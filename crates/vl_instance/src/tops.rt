@@ -1,71 +1,91 @@
 //! The top module (IEEE 1364-2005, clause 12.1.1).
 
-ghost use Rattle.std.specs.Prelude.{◌≡◌, not, map, slice_get, IfOk, OnOk};
-ghost use Rattle.std.specs.List.{position};
-ghost use Rattle.std.specs.Option.{option_and_then};
+ghost use Rattle.std.specs.Prelude.{◌≡◌, ◌∷◌, ◌<◌, [], not, map, flat_map, length, slice_get, IfOk, IfSome, OnOk};
+ghost use Rattle.std.specs.Option.{option_and_then, option_to_list};
+ghost use Rattle.vl_source.specs.Hierarchy.{first_from, first_top};
 ghost use Rattle.vl_flat.specs.Flat as flat;
 ghost use Rattle.vl_items.specs.SeenItems.{seen_item, seen_module};
-ghost use Rattle.vl_kinds.specs.Names.{has as has_lem};
+ghost use Rattle.vl_kinds.specs.Places.{place_of};
 ghost use Rattle.vl_instance.specs.Tables as spec;
 
 use indexmap::IndexSet;
 use std::alloc::{AllocError, Global};
 use vl_items::items::{Item, Module};
-use vl_kinds::names::{NameSet, has};
+use vl_kinds::index::{Index, index_of, module_at};
 
-/// Adds a name.
-fn add<'m>(used: &mut NameSet<'m>, name: &'m [u8]) -> Result<(), AllocError>
-    ensures { OnOk result (has_lem used.new ≡ spec.with_name (has_lem used.old) name.entry.now) }
+/// A set of numbers of modules.
+type Numbers = IndexSet<usize>;
+
+/// Adds a number.
+fn add(used: &mut Numbers, number: usize) -> Result<(), AllocError>
+    ensures { OnOk result (spec.has_number used.new ≡ spec.with_steps (spec.has_number used.old) (number ∷ [])) }
 {
-    let _is_new = used.insert(name)?;
+    let _is_new = used.insert(number)?;
     Ok(())
 }
 
-/// Adds the name of the module that an item instantiates.
-fn add_item<'m>(used: &mut NameSet<'m>, item: &'m Item) -> Result<(), AllocError>
-    ensures { OnOk result (has_lem used.new ≡ spec.with_used (has_lem used.old) (seen_item item.entry.now)) }
+/// Adds a number, if there is one.
+fn add_if(used: &mut Numbers, number: Option<usize>) -> Result<(), AllocError>
+    ensures { OnOk result (spec.has_number used.new ≡ spec.with_steps (spec.has_number used.old) (option_to_list number)) }
+{
+    match number {
+        Some(number) => add(used, number),
+        None => Ok(()),
+    }
+}
+
+/// Adds the number of the module that an item instantiates.
+fn add_item(used: &mut Numbers, index: &Index<'_>, item: &Item) -> Result<(), AllocError>
+    ensures { OnOk result (spec.has_number used.new ≡ spec.with_steps (spec.has_number used.old) (flat.item_steps (place_of index.now) (seen_item item.now))) }
 {
     match item {
-        Item::Instantiates(instances) => add(used, instances.definition.as_slice()),
+        Item::Instantiates(instances) => {
+            add_if(used, module_at(index, instances.definition.as_slice()))
+        }
         _ => Ok(()),
     }
 }
 
-/// Adds the names of the modules that items instantiate.
-fn add_items<'m>(used: &mut NameSet<'m>, items: &'m [Item]) -> Result<(), AllocError>
-    ensures { OnOk result (has_lem used.new ≡ spec.with_all_used (has_lem used.old) (map seen_item items.entry.now)) }
+/// Adds the numbers of the modules that items instantiate.
+fn add_items(used: &mut Numbers, index: &Index<'_>, items: &[Item]) -> Result<(), AllocError>
+    ensures { OnOk result (spec.has_number used.new ≡ spec.with_steps (spec.has_number used.old) (flat_map (flat.item_steps (place_of index.now)) (map seen_item items.now))) }
 {
     for item in items {
-        add_item(used, item)?;
+        add_item(used, index, item)?;
     }
     Ok(())
 }
 
-/// The names of the modules that some item instantiates.
-fn instantiated<'m>(alloc: Global, modules: &'m [Module]) -> Result<NameSet<'m>, AllocError>
-    ensures { IfOk result (λ used. has_lem used ≡ spec.used (map seen_module modules.entry.now)) }
+/// The numbers of the modules that some item instantiates.
+fn instantiated(alloc: Global, index: &Index<'_>, modules: &[Module]) -> Result<Numbers, AllocError>
+    ensures { IfOk result (λ used. spec.has_number used ≡ spec.used (place_of index.now) (map seen_module modules.now)) }
 {
     let mut used = IndexSet::new(alloc);
     for definition in modules {
-        add_items(&mut used, definition.items.as_slice())?;
+        add_items(&mut used, index, definition.items.as_slice())?;
     }
     Ok(used)
 }
 
-/// The place of the first module whose name isn't among these.
-fn first_unused(used: &NameSet<'_>, modules: &[Module]) -> Option<usize>
-    ensures { result ≡ position (λ m. not (has_lem used.now m.name.name)) modules.now }
+/// The first of so many numbers that isn't among these.
+fn first_unused(used: &Numbers, count: usize) -> Option<usize>
+    ensures first { result ≡ first_from (λ n. not (spec.has_number used.now n)) 0 count }
+    ensures within { IfSome result (λ n. n < count) }
 {
-    modules
-        .iter()
-        .position(|definition| !has(used, definition.name.name.as_slice()))
+    for number in 0..count {
+        if !used.contains(&number) {
+            return Some(number);
+        }
+    }
+    None
 }
 
-/// The place of the top module: the first that no item instantiates.
+/// The number of the top module: the first that no item instantiates.
 pub fn top_of(alloc: Global, modules: &[Module]) -> Result<Option<usize>, AllocError>
-    ensures place { IfOk result (λ k. k ≡ position (flat.is_top (map seen_module modules.now)) (map seen_module modules.now)) }
-    ensures top { IfOk result (λ k. option_and_then (slice_get (map seen_module modules.now)) k ≡ flat.top_of (map seen_module modules.now)) }
+    ensures number { IfOk result (λ k. k ≡ first_top (flat.graph_of (map seen_module modules.now))) }
+    ensures within { IfOk result (λ k. IfSome k (λ n. n < length modules.now)) }
 {
-    let used = instantiated(alloc, modules)?;
-    Ok(first_unused(&used, modules))
+    let index = index_of(alloc, modules)?;
+    let used = instantiated(alloc, &index, modules)?;
+    Ok(first_unused(&used, modules.len()))
 }

@@ -11,7 +11,7 @@ use Rattle.std.proofs.lemmas.Slice.Eq.{bytes_eq-Decides}
 use Rattle.indexmap.specs.IndexSet.{IndexSet, contains}
 use Rattle.vl_kinds.specs.Names.{has, nothing, Adds}
 
-abbrev Names : Type 0 → Type 0
+abbrev pub Names : Type 0 → Type 0
 Names S = IndexSet (Bor (List ℕ)) S
 
 -- ---- tests

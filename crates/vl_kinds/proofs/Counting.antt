@@ -5,8 +5,8 @@ use Rattle.std.specs.List.{list_any}
 use Rattle.std.specs.Str.{bytes_eq}
 use Rattle.std.proofs.lemmas.Slice.Eq.{bytes_eq-Decides}
 use Rattle.vl_flat.specs.Items as x
-use Rattle.vl_flat.specs.Environments.{new_ones, most_numbers}
-use Rattle.vl_kinds.specs.Sized.{count_new}
+use Rattle.vl_flat.specs.Environments.{new_ones}
+use Rattle.vl_kinds.specs.Sized.{count_new, kept_number}
 
 or-true : (b : Bool) → (b || true) ≡ true
 or-true true = refl
@@ -45,7 +45,7 @@ new-ones ks h (d ∷ ds) same =
         omega (arith, e)
 
 -- how many signals a module has, of what is known of the names
-pub own-count : (r l k z n m : ℕ) → r ≡ min l 4294967295 → l ≡ k → k ≡ z + n → z ≡ 0 → m ≡ n → r ≡ min most_numbers m
+pub own-count : (r l k z n m : ℕ) → r ≡ min l 4294967295 → l ≡ k → k ≡ z + n → z ≡ 0 → m ≡ n → r ≡ kept_number m
 own-count r l k z n m a b c d e = omega arith
 
 -- one more declaration

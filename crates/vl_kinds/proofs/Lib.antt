@@ -4,4 +4,5 @@ pub mod Parts
 pub mod Saying
 pub mod Placing
 pub mod Counting
+pub mod Keeping
 pub mod Sizing

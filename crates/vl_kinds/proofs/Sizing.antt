@@ -1,36 +1,39 @@
 -- The sizes of modules, round by round.
-use Rattle.std.proofs.Common.{◌≡◌, refl, sym, ap, ◌∙◌, subst, ℕ, zero, suc, ◌+◌, ◌-◌, ◌<◌, ◌≤◌, min, Bool, true, false, List, [], ◌∷◌, ◌++◌, map, fold, length, get_or, take, Option, Some, None, arith}
+use Rattle.std.proofs.Common.{◌≡◌, refl, sym, ap, ◌∙◌, subst, ℕ, zero, suc, ◌+◌, ◌-◌, ◌<◌, ◌≤◌, min, Bool, true, false, List, [], ◌∷◌, ◌++◌, map, length, get_or, take, Option, Some, None, arith}
 use Rattle.std.specs.Prelude.{if◌then◌else◌, option_map, slice_get}
 use Rattle.std.specs.Option.{option_map_or}
 use Rattle.std.specs.Str.{bytes_eq}
 use Rattle.std.specs.declared.alloc.Global.{Global}
 use Rattle.std.specs.declared.vec.Vec.{Vec}
 use Rattle.vl_flat.specs.Items as x
-use Rattle.std.specs.List.{flat_map}
 use Rattle.std.proofs.Math.Dec.{leb}
 use Rattle.std.proofs.lemmas.Bool.{leb-true, leb-false}
 use Rattle.std.proofs.lemmas.List.{length_push, length-map, get_or-map, take_more, map_push}
 use Rattle.std.proofs.lemmas.Option.{slice_get-get_or}
-use Rattle.vl_flat.specs.Kinds.{signals_of, signals_in}
-use Rattle.vl_flat.specs.Environments.{Counts as Numbers, no_more, most_numbers, plus, item_counts, module_counts, module_named, size, new_ones}
+use Rattle.vl_flat.specs.Environments.{Counts as Numbers, no_more, module_counts, module_named, size}
 use Rattle.vl_items.specs.declared.items.Module.{Module}
 use Rattle.vl_items.specs.SeenItems.{seen_module}
 use Rattle.vl_kinds.specs.declared.counts.Counts.{Counts}
 use Rattle.vl_kinds.specs.declared.index.Index.{Index}
 use Rattle.vl_kinds.specs.Places.{place_named, place_of}
-use Rattle.vl_kinds.specs.Sized.{counts_of, counts_at, told, items_counts, own_signals, round_at, next_counts, Grows}
+use Rattle.vl_kinds.specs.Sized.{counts_of, counts_at, kept, kept_size, told, own_signals, round_at, next_counts, Grows}
+use Rattle.vl_kinds.proofs.Keeping.{kept-twice, module-kept}
 
 -- ---- one round
 
--- the size at the next depth
+-- what is kept of the size at the next depth
 abbrev pub next_size : List x.Module → (List ℕ → Numbers) → List ℕ → Numbers
-next_size ms sizes t = option_map_or (module_counts sizes) (module_named ms t) no_more
+next_size ms sizes t = option_map_or (λ m. kept (module_counts sizes m)) (module_named ms t) no_more
 
-pub size-suc : (n : ℕ) (ms : List x.Module) → size (suc n) ms ≡ next_size ms (size n ms)
+pub size-suc : (n : ℕ) (ms : List x.Module) → kept_size (suc n) ms ≡ next_size ms (kept_size n ms)
 unfolding size
-size-suc n ms = refl
+size-suc n ms = λ i t. by (module_named ms t) i
+  where
+    by : (o : Option x.Module) → kept (option_map_or (module_counts (size n ms)) o no_more) ≡ option_map_or (λ m. kept (module_counts (kept_size n ms) m)) o no_more
+    by None = refl
+    by (Some m) = module-kept (size n ms) (kept_size n ms) (λ t. sym (kept-twice (size n ms t))) m
 
-pub size-zero : (ms : List x.Module) → size 0 ms ≡ (λ t. no_more)
+pub size-zero : (ms : List x.Module) → kept_size 0 ms ≡ (λ t. no_more)
 unfolding size
 size-zero ms = refl
 
@@ -56,7 +59,7 @@ at-named f (m ∷ ms) t = go (at-named f ms t) (bytes_eq t m.name.name)
     go rest false = later (numbers_at (map f (m ∷ ms))) (place_named ms t) no_more ∙ rest
 
 -- what the round behind tells
-pub told-next : (index : Index) (ms : List x.Module) (round : List Counts) (sizes : List ℕ → Numbers) → place_of index ≡ place_named ms → map counts_of round ≡ map (module_counts sizes) ms
+pub told-next : (index : Index) (ms : List x.Module) (round : List Counts) (sizes : List ℕ → Numbers) → place_of index ≡ place_named ms → map counts_of round ≡ map (λ m. kept (module_counts sizes m)) ms
     → told index round ≡ next_size ms sizes
 told-next index ms round sizes places made = λ i t. at t i
   where
@@ -65,13 +68,13 @@ told-next index ms round sizes places made = λ i t. at t i
         ap (λ (o : List ℕ → Option ℕ). option_map_or (counts_at round) (o t) no_more) places
         ∙ (ap (λ (g : ℕ → Numbers). option_map_or g (place_named ms t) no_more) (λ i p. at-numbers round p i)
         ∙ (ap (λ (cs : List Numbers). option_map_or (numbers_at cs) (place_named ms t) no_more) made
-        ∙ at-named (module_counts sizes) ms t))
+        ∙ at-named (λ m. kept (module_counts sizes m)) ms t))
 
 -- ---- rounds
 
 -- each round that is there is that of its depth
 abbrev pub Upto : Index → List x.Module → List (Vec Counts Global) → Type 0
-Upto index ms rounds = (k : ℕ) → k ≤ length rounds → told index (round_at rounds k) ≡ size k ms
+Upto index ms rounds = (k : ℕ) → k ≤ length rounds → told index (round_at rounds k) ≡ kept_size k ms
 
 none-told : (o : Option ℕ) → option_map_or (counts_at []) o no_more ≡ no_more
 none-told None = refl
@@ -126,7 +129,7 @@ round-new rounds v =
 
 -- the next round tells the next depth
 told-size : (index : Index) (ms : List x.Module) (rounds : List (Vec Counts Global)) (round : List Counts) → place_of index ≡ place_named ms → Upto index ms rounds
-    → map counts_of round ≡ next_counts index ms (round_at rounds (length rounds)) → told index round ≡ size (suc (length rounds)) ms
+    → map counts_of round ≡ next_counts index ms (round_at rounds (length rounds)) → told index round ≡ kept_size (suc (length rounds)) ms
 told-size index ms rounds round places upto made =
     told-next index ms round (told index (round_at rounds (length rounds))) places made
     ∙ (ap (next_size ms) (upto (length rounds) (omega arith)) ∙ sym (size-suc (length rounds) ms))
@@ -136,26 +139,26 @@ pub upto-more : (index : Index) (ms : List x.Module) (old new : List (Vec Counts
 upto-more index ms old new places upto (v, grown, made) =
     (subst (λ (z : List (Vec Counts Global)). Upto index ms z) (sym grown) each, ap length grown ∙ length_push old v)
   where
-    last : (k : ℕ) → k ≡ suc (length old) → told index (round_at (old ++ v ∷ []) k) ≡ size k ms
+    last : (k : ℕ) → k ≡ suc (length old) → told index (round_at (old ++ v ∷ []) k) ≡ kept_size k ms
     last k e =
-        subst (λ (z : ℕ). told index (round_at (old ++ v ∷ []) z) ≡ size z ms) (sym e)
+        subst (λ (z : ℕ). told index (round_at (old ++ v ∷ []) z) ≡ kept_size z ms) (sym e)
         (ap (told index) (round-new old v) ∙ told-size index ms old v.items places upto made)
 
     each : Upto index ms (old ++ v ∷ [])
     each k l = go (leb k (length old)) refl
       where
-        go : (b : Bool) → leb k (length old) ≡ b → told index (round_at (old ++ v ∷ []) k) ≡ size k ms
+        go : (b : Bool) → leb k (length old) ≡ b → told index (round_at (old ++ v ∷ []) k) ≡ kept_size k ms
         go true e = ap (told index) (round-before old v k (leb-true k (length old) e)) ∙ upto k (leb-true k (length old) e)
         go false e = last k (omega (arith, leb-false k (length old) e, l, length_push old v))
 
 -- ---- rounds that stay as they are
 
 -- from a depth on whose size is the next one's
-size-stays : (n : ℕ) (ms : List x.Module) → size n ms ≡ size (suc n) ms → (j : ℕ) → size (n + j) ms ≡ size n ms
-size-stays n ms e zero = ap (λ k. size k ms) (omega arith)
+size-stays : (n : ℕ) (ms : List x.Module) → kept_size n ms ≡ kept_size (suc n) ms → (j : ℕ) → kept_size (n + j) ms ≡ kept_size n ms
+size-stays n ms e zero = ap (λ k. kept_size k ms) (omega arith)
 size-stays n ms e (suc j) =
     let d : n + suc j ≡ suc (n + j) = omega arith in
-    ap (λ k. size k ms) d ∙ (size-suc (n + j) ms ∙ (ap (next_size ms) (size-stays n ms e j) ∙ (sym (size-suc n ms) ∙ sym e)))
+    ap (λ k. kept_size k ms) d ∙ (size-suc (n + j) ms ∙ (ap (next_size ms) (size-stays n ms e j) ∙ (sym (size-suc n ms) ∙ sym e)))
 
 round-stays : (rounds : List (Vec Counts Global)) (n : ℕ) → length rounds ≤ n → round_at rounds n ≡ round_at rounds (length rounds)
 round-stays [] zero l = refl
@@ -166,21 +169,21 @@ round-stays (r ∷ rs) (suc n) l =
     ap (λ i. items_or (slice_get (r ∷ rs) i)) a
 
 pub settled : (index : Index) (ms : List x.Module) (old new : List (Vec Counts Global)) → place_of index ≡ place_named ms → Upto index ms old → Grows index ms old new false
-    → (n : ℕ) → told index (round_at new n) ≡ size n ms
+    → (n : ℕ) → told index (round_at new n) ≡ kept_size n ms
 settled index ms old new places upto (same, made) n = ap (λ (z : List (Vec Counts Global)). told index (round_at z n)) same ∙ go (leb n (length old)) refl
   where
-    here : told index (round_at old (length old)) ≡ size (length old) ms
+    here : told index (round_at old (length old)) ≡ kept_size (length old) ms
     here = upto (length old) (omega arith)
 
-    stays : size (length old) ms ≡ size (suc (length old)) ms
+    stays : kept_size (length old) ms ≡ kept_size (suc (length old)) ms
     stays = sym here ∙ told-size index ms old (round_at old (length old)) places upto made
 
-    go : (b : Bool) → leb n (length old) ≡ b → told index (round_at old n) ≡ size n ms
+    go : (b : Bool) → leb n (length old) ≡ b → told index (round_at old n) ≡ kept_size n ms
     go true e = upto n (leb-true n (length old) e)
     go false e =
         let l : length old ≤ n = omega (arith, leb-false n (length old) e) in
         let d : length old + (n - length old) ≡ n = omega (arith, l) in
-        ap (told index) (round-stays old n l) ∙ (here ∙ (sym (size-stays (length old) ms stays (n - length old)) ∙ ap (λ k. size k ms) d))
+        ap (told index) (round-stays old n l) ∙ (here ∙ (sym (size-stays (length old) ms stays (n - length old)) ∙ ap (λ k. kept_size k ms) d))
 
 -- ---- modules one by one
 
@@ -197,19 +200,3 @@ next-more f ms i y all new v l at before grown is =
     ∙ (ap (λ z. z ++ counts_of v ∷ []) before
     ∙ (ap (λ z. map f (map seen_module (take i ms)) ++ z ∷ []) (is ∙ ap (λ z. f (seen_module z)) at)
     ∙ sym (ap (λ z. map f (map seen_module z)) (take_more ms i y l) ∙ (ap (map f) (map_push seen_module (take i ms) (get_or ms i y)) ∙ map_push f (map seen_module (take i ms)) (seen_module (get_or ms i y)))))))
-
--- ---- a module
-
-first-kept : (n : ℕ) (c : Numbers) → plus (record { signals = min most_numbers n; functions = 0 }) c ≡ plus (record { signals = n; functions = 0 }) c
-first-kept n c = ap (λ s. let r : Numbers = record { signals = s; functions = min most_numbers (0 + c.functions) } in r) (omega arith)
-
--- the signals of its own may be kept within 32 bits first
-pub own-kept : (sizes : List ℕ → Numbers) (m : x.Module) → items_counts sizes (record { signals = own_signals m; functions = 0 }) m.items ≡ module_counts sizes m
-own-kept sizes m = go m.items refl
-  where
-    kept : (n : ℕ) → n ≡ 0 → min most_numbers n ≡ n
-    kept n e = omega (arith, e)
-
-    go : (items : List x.Item) → m.items ≡ items → fold (λ c item. plus c (item_counts sizes item)) (record { signals = own_signals m; functions = 0 }) items ≡ fold (λ c item. plus c (item_counts sizes item)) (record { signals = length (new_ones [] (signals_of m)); functions = 0 }) items
-    go [] e = ap (λ n. let r : Numbers = record { signals = n; functions = 0 } in r) (kept (length (new_ones [] (signals_of m))) (ap (λ (is : List x.Item). length (new_ones [] (flat_map signals_in is))) e))
-    go (i ∷ is) e = ap (λ z. fold (λ c item. plus c (item_counts sizes item)) z is) (first-kept (length (new_ones [] (signals_of m))) (item_counts sizes i))

@@ -1,5 +1,5 @@
 -- Counts, and tables of the sizes of modules.
-use Rattle.std.specs.Prelude.{◌≡◌, ℕ, zero, suc, ◌-◌, ◌+◌, ◌≤◌, min, Bool, true, false, ◌||◌, List, [], ◌∷◌, ◌++◌, map, fold, length, slice_get, if◌then◌else◌}
+use Rattle.std.specs.Prelude.{◌≡◌, ℕ, zero, suc, ◌-◌, ◌+◌, ◌^◌, ◌≤◌, min, Bool, true, false, ◌||◌, List, [], ◌∷◌, ◌++◌, map, fold, length, slice_get, if◌then◌else◌}
 use Rattle.std.specs.Option.{option_map_or}
 use Rattle.std.specs.Str.{bytes_eq}
 use Rattle.std.specs.declared.alloc.Global.{Global}
@@ -15,14 +15,29 @@ use Rattle.vl_kinds.specs.Places.{place_of}
 abbrev pub counts_of : Counts → e.Counts
 counts_of c = record { signals = c.signals; functions = c.functions }
 
+-- the greatest number that is kept
+abbrev pub most_numbers : ℕ
+most_numbers = 2 ^ 32 - 1
+
+-- what is kept of a number in 32 bits: from the greatest on, that
+abbrev pub kept_number : ℕ → ℕ
+kept_number n = min most_numbers n
+
+abbrev pub kept : e.Counts → e.Counts
+kept c = record { signals = kept_number c.signals; functions = kept_number c.functions }
+
+-- what is kept of the sizes at a depth
+abbrev pub kept_size : ℕ → List x.Module → List ℕ → e.Counts
+kept_size n ms t = kept (e.size n ms t)
+
 -- how many of these declarations are of names that aren't known before
 abbrev pub count_new : (List ℕ → Bool) → List x.Declared → ℕ
 count_new known [] = 0
 count_new known (d ∷ ds) = (if known d.name.name then 0 else 1) + count_new (λ t. known t || bytes_eq t d.name.name) ds
 
--- how many signals a module declares, within 32 bits
+-- what is kept of how many signals a module declares
 abbrev pub own_signals : x.Module → ℕ
-own_signals m = min e.most_numbers (length (e.new_ones [] (signals_of m)))
+own_signals m = kept_number (length (e.new_ones [] (signals_of m)))
 
 -- the counts at a place of a round; none past its end
 abbrev pub counts_at : List Counts → ℕ → e.Counts
@@ -41,9 +56,9 @@ abbrev pub round_at : List (Vec Counts Global) → ℕ → List Counts
 round_at rounds zero = []
 round_at rounds (suc n) = option_map_or (λ (v : Vec Counts Global). v.items) (slice_get rounds (min n (length rounds - 1))) []
 
--- the counts of the modules in the round behind a round
+-- what is kept of the counts of the modules in the round behind a round
 abbrev pub next_counts : Index → List x.Module → List Counts → List e.Counts
-next_counts index ms round = map (e.module_counts (told index round)) ms
+next_counts index ms round = map (λ m. kept (e.module_counts (told index round) m)) ms
 
 -- the rounds have grown by the next one; or they stay, and the next one is the last again
 abbrev pub Grows : Index → List x.Module → List (Vec Counts Global) → List (Vec Counts Global) → Bool → Type 0
@@ -51,10 +66,10 @@ Grows index ms old new true =
     (v : Vec Counts Global) × (new ≡ old ++ v ∷ []) × (map counts_of v.items ≡ next_counts index ms (round_at old (length old)))
 Grows index ms old new false = (new ≡ old) × (map counts_of (round_at old (length old)) ≡ next_counts index ms (round_at old (length old)))
 
--- the size of a module of this name at a depth
+-- what the tables tell of a name at a depth
 abbrev pub size_of : Sizes → ℕ → List ℕ → e.Counts
 size_of s n t = told s.index (round_at s.rounds.items n) t
 
--- the tables stand for these modules, up to the deepest level
+-- the tables have what is kept of the sizes of these modules, up to the deepest level
 abbrev pub IsSizes : Sizes → List x.Module → Type 0
-IsSizes s ms = (n : ℕ) → n ≤ 129 → size_of s n ≡ e.size n ms
+IsSizes s ms = (n : ℕ) → n ≤ 129 → size_of s n ≡ kept_size n ms

@@ -209,31 +209,15 @@ fn add_item_strays<'m>(
     let mut hidden = IndexSet::new(alloc);
     match item {
         Item::Parameters(_, _) => Ok(()),
-        Item::Signals(_, ds) => {
-            add_values(names, &hidden, ds.as_slice())?;
-            Ok(())
-        }
-        Item::Assigns(settings) => {
-            add_settings(names, &hidden, settings.as_slice())?;
-            Ok(())
-        }
-        Item::Initial(_, body) => {
-            add_strays(names, &mut hidden, body)?;
-            Ok(())
-        }
+        Item::Signals(_, ds) => add_values(names, &hidden, ds.as_slice()),
+        Item::Assigns(settings) => add_settings(names, &hidden, settings.as_slice()),
+        Item::Initial(_, body) => add_strays(names, &mut hidden, body),
         Item::Always(_, trigger, body) => {
             add_trigger(names, &hidden, trigger)?;
-            add_strays(names, &mut hidden, body)?;
-            Ok(())
+            add_strays(names, &mut hidden, body)
         }
-        Item::Functions(f) => {
-            add_function_strays(alloc, names, f)?;
-            Ok(())
-        }
-        Item::Instantiates(us) => {
-            add_units(names, &hidden, us.units.as_slice())?;
-            Ok(())
-        }
+        Item::Functions(f) => add_function_strays(alloc, names, f),
+        Item::Instantiates(us) => add_units(names, &hidden, us.units.as_slice()),
     }
 }
 
@@ -247,18 +231,9 @@ fn add_item_controls<'m>(
 {
     let hidden = IndexSet::new(alloc);
     match item {
-        Item::Initial(_, body) => {
-            add_controls(names, &hidden, body)?;
-            Ok(())
-        }
-        Item::Always(_, _, body) => {
-            add_controls(names, &hidden, body)?;
-            Ok(())
-        }
-        Item::Functions(f) => {
-            add_function_controls(alloc, names, f)?;
-            Ok(())
-        }
+        Item::Initial(_, body) => add_controls(names, &hidden, body),
+        Item::Always(_, _, body) => add_controls(names, &hidden, body),
+        Item::Functions(f) => add_function_controls(alloc, names, f),
         _ => Ok(()),
     }
 }

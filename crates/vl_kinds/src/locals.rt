@@ -4,6 +4,8 @@ ghost use Rattle.std.specs.Prelude.{◌≡◌, IfOk};
 ghost use Rattle.vl_flat.specs.Items as x;
 ghost use Rattle.vl_flat.specs.Functions as f;
 ghost use Rattle.vl_bind.specs.SeenStatements.{seen_statement};
+ghost use Rattle.vl_kinds.specs.Names.{has as has_lem};
+ghost use Rattle.vl_kinds.specs.Parts.{controls_in, strays_in};
 ghost use Rattle.vl_kinds.specs.Facts.{body_facts, body_facts_of, free_kind};
 
 use crate::controls::add_controls;
@@ -14,7 +16,7 @@ use std::alloc::{AllocError, Global};
 use vl_bind::surface::Statement;
 use vl_design::design::SigKind;
 
-/// What a body does with each name.
+/// What a body, or items, do with each name.
 #[derive(Drop)]
 pub struct BodyRoles<'m> {
     /// The names that control a `for`.
@@ -23,15 +25,32 @@ pub struct BodyRoles<'m> {
     pub strays: NameSet<'m>,
 }
 
+/// The names that control a `for` of a body.
+fn body_controls(alloc: Global, body: &Statement) -> Result<NameSet<'_>, AllocError>
+    ensures { IfOk result (λ s. has_lem s ≡ (λ t. controls_in t body.entry.now)) }
+{
+    let hidden = IndexSet::new(alloc);
+    let mut controls = IndexSet::new(alloc);
+    add_controls(&mut controls, &hidden, body)?;
+    Ok(controls)
+}
+
+/// The names that a body names outside each `for` that they control.
+fn body_strays(alloc: Global, body: &Statement) -> Result<NameSet<'_>, AllocError>
+    ensures { IfOk result (λ s. has_lem s ≡ (λ t. strays_in t body.entry.now)) }
+{
+    let mut hidden = IndexSet::new(alloc);
+    let mut strays = IndexSet::new(alloc);
+    add_strays(&mut strays, &mut hidden, body)?;
+    Ok(strays)
+}
+
 /// What a body does with names, in a time that goes with its text.
 pub fn body_roles(alloc: Global, body: &Statement) -> Result<BodyRoles<'_>, AllocError>
     ensures { IfOk result (λ r. body_facts_of r ≡ body_facts (seen_statement body.entry.now)) }
 {
-    let mut hidden = IndexSet::new(alloc);
-    let mut controls = IndexSet::new(alloc);
-    let mut strays = IndexSet::new(alloc);
-    add_controls(&mut controls, &hidden, body)?;
-    add_strays(&mut strays, &mut hidden, body)?;
+    let controls = body_controls(alloc, body)?;
+    let strays = body_strays(alloc, body)?;
     Ok(BodyRoles { controls, strays })
 }
 

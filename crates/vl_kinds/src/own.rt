@@ -57,7 +57,7 @@ fn note_items<'m>(known: &mut NameSet<'m>, items: &'m [Item]) -> Result<(), Allo
     Ok(())
 }
 
-/// How many signals a module declares, within 32 bits.
+/// What is kept of how many signals a module declares.
 fn own_count(alloc: Global, m: &Module) -> Result<u32, AllocError>
     ensures { IfOk result (λ n. n ≡ own_signals (seen_module m.now)) }
 {
@@ -66,7 +66,7 @@ fn own_count(alloc: Global, m: &Module) -> Result<u32, AllocError>
     Ok(known.len().min(4294967295) as u32)
 }
 
-/// How many signals each module declares.
+/// What is kept of how many signals each module declares.
 pub(crate) fn own_counts(alloc: Global, modules: &[Module]) -> Result<Vec<u32>, AllocError>
     ensures { IfOk result (λ v. v.items ≡ map own_signals (map seen_module modules.now)) }
 {

@@ -1,18 +1,21 @@
 //! What the names of a module are (IEEE 1364-2005, clauses 4.2 and 9.6).
 
-ghost use Rattle.std.specs.Prelude.{◌≡◌, ◌&&◌, not, IfOk};
+ghost use Rattle.std.specs.Prelude.{◌≡◌, ◌&&◌, not, map, IfOk};
+ghost use Rattle.std.specs.List.{list_any};
 ghost use Rattle.vl_flat.specs.Items as x;
 ghost use Rattle.vl_flat.specs.Kinds as k;
-ghost use Rattle.vl_items.specs.SeenItems.{seen_module};
+ghost use Rattle.vl_items.specs.SeenItems.{seen_item, seen_module};
+ghost use Rattle.vl_kinds.specs.Names.{has as has_lem};
 ghost use Rattle.vl_kinds.specs.Facts.{facts, facts_of, variable_by, kind_by};
 
 pub use crate::declared::{Declaration, Declarations};
 use crate::declared::{declaration_at, declarations};
 use crate::items::{controls_of, strays_of, writes_of};
+use crate::locals::BodyRoles;
 use crate::names::{NameSet, has};
 use std::alloc::{AllocError, Global};
 use vl_design::design::SigKind;
-use vl_items::items::Module;
+use vl_items::items::{Item, Module};
 
 /// What the declarations of a module say of each name, and what its items do with it.
 #[derive(Drop)]
@@ -27,15 +30,24 @@ pub struct Roles<'m> {
     pub writes: NameSet<'m>,
 }
 
+/// The names that control a `for` of the items, and those that are named outside each `for` that they control.
+fn loops_of(alloc: Global, items: &[Item]) -> Result<BodyRoles<'_>, AllocError>
+    ensures controls { IfOk result (λ r. has_lem r.controls ≡ (λ t. list_any (k.item_controls t) (map seen_item items.entry.now))) }
+    ensures strays { IfOk result (λ r. has_lem r.strays ≡ (λ t. list_any (k.item_strays t) (map seen_item items.entry.now))) }
+{
+    let controls = controls_of(alloc, items)?;
+    let strays = strays_of(alloc, items)?;
+    Ok(BodyRoles { controls, strays })
+}
+
 /// What the names of a module are, in a time that goes with its text.
 pub fn make_roles(alloc: Global, m: &Module) -> Result<Roles<'_>, AllocError>
     ensures { IfOk result (λ r. facts_of r ≡ facts (seen_module m.entry.now)) }
 {
     let items = m.items.as_slice();
     let declared = declarations(alloc, items)?;
-    let controls = controls_of(alloc, items)?;
-    let strays = strays_of(alloc, items)?;
     let writes = writes_of(alloc, items)?;
+    let BodyRoles { controls, strays } = loops_of(alloc, items)?;
     Ok(Roles {
         declared,
         controls,

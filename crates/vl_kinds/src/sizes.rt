@@ -3,11 +3,11 @@
 ghost use Rattle.std.specs.Prelude.{◌≡◌, ◌≤◌, ◌↔◌, ℕ, List, map, length, IfOk, IsTrue};
 ghost use Rattle.vl_flat.specs.Items as x;
 ghost use Rattle.vl_flat.specs.Environments as e;
-ghost use Rattle.vl_items.specs.SeenItems.{seen_item, seen_module};
+ghost use Rattle.vl_items.specs.SeenItems.{seen_instances, seen_item, seen_module};
 ghost use Rattle.vl_kinds.specs.Sized as spec;
 ghost use Rattle.vl_kinds.specs.Places.{place_of, place_named};
 
-use crate::counts::{Counts, no_more, plus, times};
+use crate::counts::{Counts, exactly, no_more, plus, times};
 use crate::index::{Index, index_of, module_at};
 use crate::own::own_counts;
 use std::alloc::{AllocError, Global};
@@ -42,17 +42,17 @@ fn told(index: &Index<'_>, round: &[Counts], name: &[u8]) -> Counts
     }
 }
 
-/// The counts of instances.
+/// What is kept of the counts of instances.
 fn instances_counts(index: &Index<'_>, round: &[Counts], us: &Instances) -> Counts
-    ensures { spec.counts_of result ≡ e.times (length us.now.units.items) (spec.told index.now round.now us.now.definition) }
+    ensures { spec.counts_of result ≡ spec.kept (e.times (length us.now.units.items) (spec.told index.now round.now us.now.definition)) }
 {
     let one = told(index, round, us.definition.as_slice());
     times(us.units.len(), one)
 }
 
-/// The counts of an item beside signals of its own.
+/// What is kept of the counts of an item beside signals of its own.
 fn item_counts(index: &Index<'_>, round: &[Counts], item: &Item) -> Counts
-    ensures { spec.counts_of result ≡ e.item_counts (spec.told index.now round.now) (seen_item item.now) }
+    ensures { spec.counts_of result ≡ spec.kept (e.item_counts (spec.told index.now round.now) (seen_item item.now)) }
 {
     match item {
         Item::Functions(_) => Counts {
@@ -64,9 +64,9 @@ fn item_counts(index: &Index<'_>, round: &[Counts], item: &Item) -> Counts
     }
 }
 
-/// The counts of items, behind these.
+/// What is kept of the counts of items, behind these.
 fn items_counts(index: &Index<'_>, round: &[Counts], first: Counts, items: &[Item]) -> Counts
-    ensures { spec.counts_of result ≡ spec.items_counts (spec.told index.now round.now) (spec.counts_of first) (map seen_item items.now) }
+    ensures { spec.counts_of result ≡ spec.kept (spec.items_counts (spec.told index.now round.now) (spec.counts_of first) (map seen_item items.now)) }
 {
     let mut all = first;
     for item in items {
@@ -75,9 +75,9 @@ fn items_counts(index: &Index<'_>, round: &[Counts], first: Counts, items: &[Ite
     all
 }
 
-/// The counts of a module that declares so many signals.
+/// What is kept of the counts of a module that declares so many signals.
 fn module_counts(index: &Index<'_>, round: &[Counts], own: u32, m: &Module) -> Counts
-    ensures { own ≡ spec.own_signals (seen_module m.now) → spec.counts_of result ≡ e.module_counts (spec.told index.now round.now) (seen_module m.now) }
+    ensures { own ≡ spec.own_signals (seen_module m.now) → spec.counts_of result ≡ spec.kept (e.module_counts (spec.told index.now round.now) (seen_module m.now)) }
 {
     let first = Counts {
         signals: own,
@@ -164,7 +164,7 @@ fn rounds(
 ) -> Result<Vec<Vec<Counts>>, AllocError>
     requires places { place_of index.now ≡ place_named (map seen_module modules.now) }
     requires owns { owns.now ≡ map spec.own_signals (map seen_module modules.now) }
-    ensures { IfOk result (λ v. (n : ℕ) → n ≤ 129 → spec.told index.now (spec.round_at v.items n) ≡ e.size n (map seen_module modules.now)) }
+    ensures { IfOk result (λ v. (n : ℕ) → n ≤ 129 → spec.told index.now (spec.round_at v.items n) ≡ spec.kept_size n (map seen_module modules.now)) }
 {
     let mut rounds = Vec::new(alloc);
     for _depth in 0..129usize {
@@ -199,10 +199,28 @@ fn round_at(rounds: &[Vec<Counts>], depth: u8) -> &[Counts]
     rounds[place].as_slice()
 }
 
-/// The size of a module of this name at a depth.
-pub fn size_at(sizes: &Sizes<'_>, depth: u8, name: &[u8]) -> Counts
-    ensures told { spec.counts_of result ≡ spec.size_of sizes.now depth name.now }
-    ensures size { (ms : List x.Module) → spec.IsSizes sizes.now ms → depth ≤ 129 → spec.counts_of result ≡ e.size depth ms name.now }
+/// What is kept of the size of a module of this name at a depth.
+fn kept_size_at(sizes: &Sizes<'_>, depth: u8, name: &[u8]) -> Counts
+    ensures { spec.counts_of result ≡ spec.size_of sizes.now depth name.now }
 {
     told(&sizes.index, round_at(sizes.rounds.as_slice(), depth), name)
+}
+
+/// The size of a module of this name at a depth; want of memory from 2^32 - 1 on.
+pub fn size_at(sizes: &Sizes<'_>, depth: u8, name: &[u8]) -> Result<Counts, AllocError>
+    ensures { IfOk result (λ c. (ms : List x.Module) → spec.IsSizes sizes.now ms → depth ≤ 129 → spec.counts_of c ≡ e.size depth ms name.now) }
+{
+    Ok(exactly(kept_size_at(sizes, depth, name))?)
+}
+
+/// How many signals and functions instances have at a depth; want of memory from 2^32 - 1 on.
+pub fn instances_size(
+    sizes: &Sizes<'_>,
+    depth: u8,
+    instances: &Instances,
+) -> Result<Counts, AllocError>
+    ensures { IfOk result (λ c. (ms : List x.Module) → spec.IsSizes sizes.now ms → depth ≤ 129 → spec.counts_of c ≡ e.item_counts (e.size depth ms) (x.Instantiates (seen_instances instances.now))) }
+{
+    let round = round_at(sizes.rounds.as_slice(), depth);
+    Ok(exactly(instances_counts(&sizes.index, round, instances))?)
 }

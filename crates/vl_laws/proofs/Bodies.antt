@@ -1,5 +1,5 @@
 -- A function's body stands in the design as the expressions of its module do.
-use Rattle.std.proofs.Common.{◌≡◌, ℕ, ◌+◌, ◌<◌, ◌≤◌, Bool, true, false, if◌then◌else◌, List, [], ◌∷◌, ◌++◌, map, length, Option, Some, None, refl, sym, ap, ◌∙◌, subst, arith}
+use Rattle.std.proofs.Common.{◌≡◌, ℕ, ◌+◌, ◌<◌, Bool, true, false, if◌then◌else◌, List, [], ◌∷◌, ◌++◌, map, length, Option, Some, None, refl, sym, ap, ◌∙◌, subst, arith}
 use Rattle.std.specs.Prelude.{slice_get}
 use Rattle.std.specs.Str.{bytes_eq}
 use Rattle.std.proofs.lemmas.List.{append_assoc, length-append, get_or_append_left}
@@ -15,7 +15,6 @@ use Rattle.vl_flat.specs.declared.binding.Shape.{Shape}
 use Rattle.vl_flat.specs.Items as x
 use Rattle.vl_design.specs.Plainly as plain
 use Rattle.vl_flat.specs.Scopes.{Env, plainly, bind, shape_form}
-use Rattle.vl_flat.specs.Environments.{after, most_numbers}
 use Rattle.vl_flat.specs.Functions.{local_shape, with_locals, function_scope, function, signal, dotted}
 use Rattle.vl_laws.specs.Naming.{StandsIn}
 
@@ -69,13 +68,10 @@ module _ (module_env : Env) (a : x.Function) (path : List ℕ) where
   abbrev rows-of : List x.Local → List Row
   rows-of ls = map row_of (map (λ l. signal path l.name (local_shape module_env a l)) ls)
 
-  after-is : (pre : List Row) (r : Row) → length pre + 1 ≤ most_numbers → after (length pre) ≡ length (pre ++ r ∷ [])
-  after-is pre r h = omega (arith, h, length-append pre (r ∷ []))
-
-  locals-fit : (pre : List Row) (ls : List x.Local) (env : Env) → length pre + length ls ≤ most_numbers → Fits (pre ++ rows-of ls) env
+  locals-fit : (pre : List Row) (ls : List x.Local) (env : Env) → Fits (pre ++ rows-of ls) env
       → Fits (pre ++ rows-of ls) (with_locals module_env env a (length pre) ls)
-  locals-fit pre [] env h f = f
-  locals-fit pre (l ∷ ls) env h f =
+  locals-fit pre [] env f = f
+  locals-fit pre (l ∷ ls) env f =
       let shape = local_shape module_env a l in
       let r = row_of (signal path l.name shape) in
       let one = pre ++ r ∷ [] in
@@ -83,9 +79,9 @@ module _ (module_env : Env) (a : x.Function) (path : List ℕ) where
       let more : Env = bind env l.name.name (Signal (length pre) shape) in
       let same : rows ≡ one ++ rows-of ls = sym (append_assoc pre (r ∷ []) (rows-of ls)) in
       let bound : Fits rows more = fits-bind rows env l.name.name (length pre) shape f (ap w.row_form (seam-row pre r (rows-of ls))) (omega (arith, length-append pre (r ∷ rows-of ls))) in
-      let is : length one ≡ after (length pre) = sym (after-is pre r (omega (arith, h))) in
-      let rest = locals-fit one ls more (omega (arith, h, length-append pre (r ∷ []))) (subst (λ z. Fits z more) same bound) in
-      subst (λ z. Fits z (with_locals module_env more a (after (length pre)) ls)) (sym same)
+      let is : length one ≡ length pre + 1 = length-append pre (r ∷ []) in
+      let rest = locals-fit one ls more (subst (λ z. Fits z more) same bound) in
+      subst (λ z. Fits z (with_locals module_env more a (length pre + 1) ls)) (sym same)
       (subst (λ n. Fits (one ++ rows-of ls) (with_locals module_env more a n ls)) is rest)
 
 -- ---- the body
@@ -94,13 +90,13 @@ result-same : (d : w.Names) (g : Fun) (o : Option Fun) → w.result_form_of (nam
 result-same d g None = refl
 result-same d g (Some f) = refl
 
-pub body-stands : (d : w.Names) (env : Env) (path : List ℕ) (a : x.Function) → d.rows ≡ d.signals → length d.signals + length a.locals ≤ most_numbers
+pub body-stands : (d : w.Names) (env : Env) (path : List ℕ) (a : x.Function) → d.rows ≡ d.signals
     → StandsIn (plainly env) d → StandsIn (function_scope (length d.signals) env a) (names_in d (plain.fun (function (length d.signals) env path a)))
-body-stands d env path a whole room h =
+body-stands d env path a whole h =
     let name = dotted path a.name.name in
     let g = plain.fun (function (length d.signals) env path a) in
     let outside : Fits d.signals env = subst (λ z. Fits z env) whole (record { forms = h.signals; inside = h.inside }) in
-    let fits = locals-fit env a name d.signals a.locals env room (fits-left d.signals (rows-of env a name a.locals) env outside) in
+    let fits = locals-fit env a name d.signals a.locals env (fits-left d.signals (rows-of env a name a.locals) env outside) in
     record {
       signals = fits.forms;
       inside = fits.inside;

@@ -1,6 +1,6 @@
 -- A flat design with a path within its limit has no more levels than there are.
 use Rattle.std.proofs.Common.{◌≡◌, ℕ, zero, suc, ◌+◌, ◌*◌, ◌<◌, ◌≤◌, Bool, true, false, true≢false, if◌then◌else◌, ◌⊎◌, inl, inr, List, [], ◌∷◌, ◌++◌, length, Option, Some, None, Result, Ok, Err, refl, sym, ap, ◌∙◌, subst, arith}
-use Rattle.std.specs.Prelude.{fold, flat_map, find, min, not, All}
+use Rattle.std.specs.Prelude.{fold, flat_map, find, not, All}
 use Rattle.std.specs.List.{list_any}
 use Rattle.std.specs.Option.{option_map_or}
 use Rattle.std.specs.Str.{bytes_eq}
@@ -14,7 +14,7 @@ use Rattle.vl_flat.specs.Items as x
 use Rattle.vl_design.specs.Placed as p
 use Rattle.vl_design.specs.Stops.{limit_if, is_before, earliest}
 use Rattle.vl_flat.specs.Scopes.{Env, none}
-use Rattle.vl_flat.specs.Environments.{Counts, Given, Known, plus, times, most_numbers, no_more, new_ones, item_counts, module_counts, module_named, size, environment, with_item}
+use Rattle.vl_flat.specs.Environments.{Counts, Given, Known, plus, times, no_more, new_ones, item_counts, module_counts, module_named, size, environment, with_item}
 use Rattle.vl_flat.specs.Kinds.{signals_in, signals_of}
 use Rattle.vl_flat.specs.Processes.{Here, signals}
 use Rattle.vl_flat.specs.Connections.{given, override_faults}
@@ -96,7 +96,7 @@ times-none : (a e : Counts) → times 0 a ≡ times 0 e
 times-none a e =
     let p : 0 * a.signals ≡ 0 * e.signals = omega arith in
     let q : 0 * a.functions ≡ 0 * e.functions = omega arith in
-    ap (λ z. record { signals = min most_numbers z; functions = min most_numbers (0 * a.functions) }) p ∙ ap (λ z. record { signals = min most_numbers (0 * e.signals); functions = min most_numbers z }) q
+    ap (λ z. record { signals = z; functions = 0 * a.functions }) p ∙ ap (λ z. record { signals = 0 * e.signals; functions = z }) q
 
 module _ (one other : List ℕ → Counts) (g : Given) (m : x.Module) where
   Agree : List x.Item → Type 0

@@ -1,6 +1,6 @@
 -- An instance has as many functions as its size says, and the number of a function's name is the place of its function.
-use Rattle.std.proofs.Common.{◌≡◌, ℕ, zero, suc, ◌+◌, ◌*◌, ◌<◌, min, Bool, true, false, if◌then◌else◌, List, [], ◌∷◌, ◌++◌, length, Option, Some, None, Ok, refl, sym, ap, ◌∙◌, subst, arith}
-use Rattle.std.specs.Prelude.{slice_get, fold, flat_map, is_some, not, ◌&&◌}
+use Rattle.std.proofs.Common.{◌≡◌, ℕ, zero, suc, ◌+◌, ◌*◌, Bool, true, false, if◌then◌else◌, List, [], ◌∷◌, ◌++◌, length, Option, Some, None, Ok, refl, sym, ap, ◌∙◌, subst, arith}
+use Rattle.std.specs.Prelude.{slice_get, fold, flat_map, is_some}
 use Rattle.std.specs.Option.{option_map_or}
 use Rattle.std.specs.Str.{bytes_eq}
 use Rattle.std.proofs.lemmas.Slice.Eq.{bytes_eq-Decides}
@@ -11,22 +11,20 @@ use Rattle.vl_flat.specs.declared.binding.Binding.{Binding}
 use Rattle.vl_flat.specs.declared.binding.Binding.TheVariants as b
 use Rattle.vl_design.specs.declared.design.Form.{Form}
 use Rattle.vl_flat.specs.Scopes.{Env, none, bind}
-use Rattle.vl_flat.specs.Surface.{Ex}
-use Rattle.vl_grammar.specs.declared.tree.Identifier.{Identifier}
 use Rattle.vl_flat.specs.Items as x
 use Rattle.vl_design.specs.Placed as p
-use Rattle.vl_flat.specs.Kinds.{signals_of, kind_of, is_input}
-use Rattle.vl_flat.specs.Environments.{Counts, Given, Known, plus, most_numbers, no_more, new_ones, item_counts, module_counts, module_named, size, environment, shape, with_signal, with_parameter, with_item}
+use Rattle.vl_flat.specs.Kinds.{signals_of, kind_of}
+use Rattle.vl_flat.specs.Environments.{Counts, Given, Known, plus, no_more, new_ones, item_counts, module_counts, module_named, size, environment, shape, with_signal, with_parameter, with_item}
 use Rattle.vl_flat.specs.Functions.{function}
 use Rattle.vl_flat.specs.Processes.{Here}
 use Rattle.vl_flat.specs.Ranges.{type_form}
-use Rattle.vl_flat.specs.Connections.{given, port_connection, place_in, expression_of, is_clock_binding, input_process, input_faults, output_process, output_faults}
+use Rattle.vl_flat.specs.Connections.{given}
 use Rattle.vl_flat.specs.Flat as f
 use Rattle.vl_flat.specs.Flat.{instance}
 use Rattle.vl_flat.specs.Outcome as o
 use Rattle.vl_laws.proofs.Lists.{left-part, seam-part, Stands-at, stands-part}
 use Rattle.vl_laws.proofs.Numbers.{design-is}
-use Rattle.vl_laws.proofs.Splits.{base-units, split-count, split-parts}
+use Rattle.vl_laws.proofs.Splits.{base-units, body-only, split-parts}
 use Rattle.vl_laws.specs.Instances.{IsInstance, of_top, of_item, here_of}
 
 abbrev pub funs : List f.Part → List p.Func
@@ -45,7 +43,7 @@ module _ (sizes : List ℕ → Counts) (ms : List x.Module) where
   insts [] = 0
   insts (item ∷ items) = inst item + insts items
 
-  item-count : (item : x.Item) → (item_counts sizes item).functions ≡ min most_numbers (inst item)
+  item-count : (item : x.Item) → (item_counts sizes item).functions ≡ inst item
   unfolding inst
   item-count (x.Parameters type ps) = omega arith
   item-count (x.Signals ds) = omega arith
@@ -55,62 +53,56 @@ module _ (sizes : List ℕ → Counts) (ms : List x.Module) where
   item-count (x.Always at trigger a) = omega arith
   item-count (x.Instantiates us) = refl
 
-  counts-fold : (items : List x.Item) (c : Counts) → (fold (λ (z : Counts) item. plus z (item_counts sizes item)) c items).functions < most_numbers
+  counts-fold : (items : List x.Item) (c : Counts)
       → (fold (λ (z : Counts) item. plus z (item_counts sizes item)) c items).functions ≡ c.functions + insts items
   unfolding insts
-  counts-fold [] c room = omega arith
-  counts-fold (item ∷ items) c room =
-      let rest = counts-fold items (plus c (item_counts sizes item)) room in
-      omega (arith, rest, room, item-count item)
-
-  insts-append : (xs : List x.Item) (us : x.Instances) (ys : List x.Item) → insts (xs ++ x.Instantiates us ∷ ys) ≡ insts xs + (length us.units * (sizes us.definition).functions + insts ys)
-  unfolding insts inst
-  insts-append [] us ys = omega arith
-  insts-append (item ∷ xs) us ys = let rest = insts-append xs us ys in omega (arith, rest)
+  counts-fold [] c = omega arith
+  counts-fold (item ∷ items) c =
+      let rest = counts-fold items (plus c (item_counts sizes item)) in
+      omega (arith, rest, item-count item)
 
   module _ (inner : f.Inner) (spot : Here) (g : Given) (m : x.Module)
       (added : (base : Counts) (us : x.Instances) (u : x.NamedUnit) (of : x.Module) → module_named ms us.definition ≡ Some of
-      → (sizes us.definition).functions < most_numbers → length (funs (inner spot base us u of)) ≡ (sizes us.definition).functions)
+      → length (funs (inner spot base us u of)) ≡ (sizes us.definition).functions)
       (absent : (t : List ℕ) → module_named ms t ≡ None → (sizes t).functions ≡ 0) where
     units-add : (us : x.Instances) (of : x.Module) → module_named ms us.definition ≡ Some of → (units : List x.NamedUnit) (base : Counts)
-        → length units * (sizes us.definition).functions < most_numbers
         → length (funs (f.instances inner spot base us of (sizes us.definition) units)) ≡ length units * (sizes us.definition).functions
-    units-add us of is [] base room = omega arith
-    units-add us of is (u ∷ others) base room =
+    units-add us of is [] base = omega arith
+    units-add us of is (u ∷ others) base =
         let c = (sizes us.definition).functions in
         let step = suc-mul (length others) c in
-        let rest = units-add us of is others (plus base (sizes us.definition)) (omega (arith, room, step)) in
-        let one = added base us u of is (omega (arith, room, step)) in
+        let rest = units-add us of is others (plus base (sizes us.definition)) in
+        let one = added base us u of is in
         let all = ap (length {A = p.Func}) (flat_map-append (λ (a : f.Part). a.funcs) (inner spot base us u of) (f.instances inner spot (plus base (sizes us.definition)) us of (sizes us.definition) others)) in
         omega (arith, all, rest, one, step, length-append (funs (inner spot base us u of)) (funs (f.instances inner spot (plus base (sizes us.definition)) us of (sizes us.definition) others)))
 
-    instances-add : (us : x.Instances) (next : Counts) → length us.units * (sizes us.definition).functions < most_numbers
+    instances-add : (us : x.Instances) (next : Counts)
         → length (funs (option_map_or (λ of. f.instances inner spot next us of (sizes us.definition) us.units) (module_named ms us.definition) [])) ≡ length us.units * (sizes us.definition).functions
-    instances-add us next room = by (module_named ms us.definition) refl
+    instances-add us next = by (module_named ms us.definition) refl
       where
         by : (q : Option x.Module) → module_named ms us.definition ≡ q
             → length (funs (option_map_or (λ of. f.instances inner spot next us of (sizes us.definition) us.units) q [])) ≡ length us.units * (sizes us.definition).functions
         by None e = let nothing = ap (λ z. length us.units * z) (absent us.definition e) in omega (arith, nothing)
-        by (Some of) e = units-add us of e us.units next room
+        by (Some of) e = units-add us of e us.units next
 
-    item-adds : (item : x.Item) (next : Counts) → inst item < most_numbers → length (funs (f.item_parts inner sizes ms spot g next item)) ≡ inst item
+    item-adds : (item : x.Item) (next : Counts) → length (funs (f.item_parts inner sizes ms spot g next item)) ≡ inst item
     unfolding inst
-    item-adds (x.Parameters type ps) next room = refl
-    item-adds (x.Signals ds) next room = refl
-    item-adds (x.Functions a) next room = refl
-    item-adds (x.Assigns as') next room = refl
-    item-adds (x.Initial at a) next room = refl
-    item-adds (x.Always at trigger a) next room = refl
-    item-adds (x.Instantiates us) next room = instances-add us next room
+    item-adds (x.Parameters type ps) next = refl
+    item-adds (x.Signals ds) next = refl
+    item-adds (x.Functions a) next = refl
+    item-adds (x.Assigns as') next = refl
+    item-adds (x.Initial at a) next = refl
+    item-adds (x.Always at trigger a) next = refl
+    item-adds (x.Instantiates us) next = instances-add us next
 
-    items-add : (items : List x.Item) (next : Counts) → insts items < most_numbers → length (funs (f.items_parts inner sizes ms spot g next items)) ≡ insts items
+    items-add : (items : List x.Item) (next : Counts) → length (funs (f.items_parts inner sizes ms spot g next items)) ≡ insts items
     unfolding insts
-    items-add [] next room = refl
-    items-add (item ∷ items) next room =
+    items-add [] next = refl
+    items-add (item ∷ items) next =
         let first = f.item_parts inner sizes ms spot g next item in
         let more = f.items_parts inner sizes ms spot g (f.behind_item sizes spot next item) items in
         let all = ap (length {A = p.Func}) (flat_map-append (λ (a : f.Part). a.funcs) first more) in
-        omega (arith, all, item-adds item next (omega (arith, room)), items-add items (f.behind_item sizes spot next item) (omega (arith, room)), length-append (funs first) (funs more))
+        omega (arith, all, item-adds item next, items-add items (f.behind_item sizes spot next item), length-append (funs first) (funs more))
 
 -- ---- where: the names of an instance
 
@@ -149,8 +141,8 @@ module _ (sizes : List ℕ → Counts) (g : Given) (m : x.Module) (whole : Env) 
   params-at o xs type (a ∷ as') k h =
       params-at o xs type as' (with_parameter g type k a) (same-next o xs k (with_parameter g type k a) h refl (λ t n c e. back-of k.env a.name.name _ t n c (λ q. absurd cc) e))
 
-  signal-at : (o : ℕ) (xs : List p.Func) (k : Known) (d : x.Declared) → k.next.functions < most_numbers → At o k xs → At o (with_signal g m k d) xs
-  signal-at o xs k d room h = by (is_some (k.env d.name.name))
+  signal-at : (o : ℕ) (xs : List p.Func) (k : Known) (d : x.Declared) → At o k xs → At o (with_signal g m k d) xs
+  signal-at o xs k d h = by (is_some (k.env d.name.name))
     where
       y : Binding
       y = b.Signal k.next.signals (shape k.env (kind_of m (g.clocks d.name.name) (g.wired d.name.name) d.name.name) d)
@@ -160,16 +152,16 @@ module _ (sizes : List ℕ → Counts) (g : Given) (m : x.Module) (whole : Env) 
 
       by : (q : Bool) → At o (if q then k else more) xs
       by true = h
-      by false = same-next o xs k more h (omega (arith, room)) (λ t n c e. back-of k.env d.name.name y t n c (λ q. absurd cc) e)
+      by false = same-next o xs k more h (omega arith) (λ t n c e. back-of k.env d.name.name y t n c (λ q. absurd cc) e)
 
-  signals-at : (o : ℕ) (xs : List p.Func) (ds : List x.Declared) (k : Known) → o + length xs < most_numbers → At o k xs → At o (fold (with_signal g m) k ds) xs
-  signals-at o xs [] k room h = h
-  signals-at o xs (d ∷ ds) k room h = signals-at o xs ds (with_signal g m k d) room (signal-at o xs k d (omega (arith, room, h.len)) h)
+  signals-at : (o : ℕ) (xs : List p.Func) (ds : List x.Declared) (k : Known) → At o k xs → At o (fold (with_signal g m) k ds) xs
+  signals-at o xs [] k h = h
+  signals-at o xs (d ∷ ds) k h = signals-at o xs ds (with_signal g m k d) (signal-at o xs k d h)
 
-  function-at : (o : ℕ) (xs : List p.Func) (a : x.Function) (k : Known) → o + length xs < most_numbers → At o k xs
+  function-at : (o : ℕ) (xs : List p.Func) (a : x.Function) (k : Known) → At o k xs
       → At o (with_item sizes g m k (x.Functions a)) (xs ++ function behind whole g.path a ∷ [])
-  function-at o xs a k room h = record {
-    len = omega (arith, h.len, room, length-append xs (function behind whole g.path a ∷ []));
+  function-at o xs a k h = record {
+    len = omega (arith, h.len, length-append xs (function behind whole g.path a ∷ []));
     at = λ t n c e. at t n c (bytes_eq a.name.name t) refl e;
   }
     where
@@ -194,88 +186,48 @@ module _ (sizes : List ℕ → Counts) (g : Given) (m : x.Module) (whole : Env) 
 
   module _ (ms : List x.Module) (inner : f.Inner)
       (added : (base : Counts) (us : x.Instances) (u : x.NamedUnit) (of : x.Module) → module_named ms us.definition ≡ Some of
-      → (sizes us.definition).functions < most_numbers → length (funs (inner spot base us u of)) ≡ (sizes us.definition).functions)
+      → length (funs (inner spot base us u of)) ≡ (sizes us.definition).functions)
       (absent : (t : List ℕ) → module_named ms t ≡ None → (sizes t).functions ≡ 0) where
-    item-at : (item : x.Item) (o : ℕ) (xs : List p.Func) (k : Known) (next : Counts) → o + (length xs + inst sizes ms item) < most_numbers → At o k xs
+    item-at : (item : x.Item) (o : ℕ) (xs : List p.Func) (k : Known) (next : Counts) → At o k xs
         → At o (with_item sizes g m k item) (xs ++ funs (f.item_parts inner sizes ms spot g next item))
     unfolding inst spot
-    item-at (x.Parameters type as') o xs k next room h = subst (λ z. At o (fold (with_parameter g type) k as') z) (sym (append-nil xs)) (params-at o xs type as' k h)
-    item-at (x.Signals ds) o xs k next room h = subst (λ z. At o (fold (with_signal g m) k ds) z) (sym (append-nil xs)) (signals-at o xs ds k (omega (arith, room)) h)
-    item-at (x.Functions a) o xs k next room h = function-at o xs a k (omega (arith, room)) h
-    item-at (x.Assigns as') o xs k next room h =
-        subst (λ z. At o (with_item sizes g m k (x.Assigns as')) z) (sym (append-nil xs)) (same-next o xs k (with_item sizes g m k (x.Assigns as')) h (omega (arith, room, h.len)) (λ t n c e. e))
-    item-at (x.Initial at a) o xs k next room h =
-        subst (λ z. At o (with_item sizes g m k (x.Initial at a)) z) (sym (append-nil xs)) (same-next o xs k (with_item sizes g m k (x.Initial at a)) h (omega (arith, room, h.len)) (λ t n c e. e))
-    item-at (x.Always at trigger a) o xs k next room h =
-        subst (λ z. At o (with_item sizes g m k (x.Always at trigger a)) z) (sym (append-nil xs)) (same-next o xs k (with_item sizes g m k (x.Always at trigger a)) h (omega (arith, room, h.len)) (λ t n c e. e))
-    item-at (x.Instantiates us) o xs k next room h =
+    item-at (x.Parameters type as') o xs k next h = subst (λ z. At o (fold (with_parameter g type) k as') z) (sym (append-nil xs)) (params-at o xs type as' k h)
+    item-at (x.Signals ds) o xs k next h = subst (λ z. At o (fold (with_signal g m) k ds) z) (sym (append-nil xs)) (signals-at o xs ds k h)
+    item-at (x.Functions a) o xs k next h = function-at o xs a k h
+    item-at (x.Assigns as') o xs k next h =
+        subst (λ z. At o (with_item sizes g m k (x.Assigns as')) z) (sym (append-nil xs)) (same-next o xs k (with_item sizes g m k (x.Assigns as')) h (omega arith) (λ t n c e. e))
+    item-at (x.Initial at a) o xs k next h =
+        subst (λ z. At o (with_item sizes g m k (x.Initial at a)) z) (sym (append-nil xs)) (same-next o xs k (with_item sizes g m k (x.Initial at a)) h (omega arith) (λ t n c e. e))
+    item-at (x.Always at trigger a) o xs k next h =
+        subst (λ z. At o (with_item sizes g m k (x.Always at trigger a)) z) (sym (append-nil xs)) (same-next o xs k (with_item sizes g m k (x.Always at trigger a)) h (omega arith) (λ t n c e. e))
+    item-at (x.Instantiates us) o xs k next h =
         let own = funs (f.item_parts inner sizes ms spot g next (x.Instantiates us)) in
-        let count = instances-add sizes ms inner spot g m added absent us next (omega (arith, room)) in
+        let count = instances-add sizes ms inner spot g m added absent us next in
         record {
-          len = omega (arith, h.len, room, count, length-append xs own);
+          len = omega (arith, h.len, count, length-append xs own);
           at = λ t n c e. where-more o xs own t n (h.at t n c e);
         }
 
-    items-at : (items : List x.Item) (o : ℕ) (xs : List p.Func) (k : Known) (next : Counts) → o + (length xs + insts sizes ms items) < most_numbers → At o k xs
+    items-at : (items : List x.Item) (o : ℕ) (xs : List p.Func) (k : Known) (next : Counts) → At o k xs
         → At o (fold (with_item sizes g m) k items) (xs ++ funs (f.items_parts inner sizes ms spot g next items))
     unfolding insts
-    items-at [] o xs k next room h = subst (λ z. At o k z) (sym (append-nil xs)) h
-    items-at (item ∷ items) o xs k next room h =
+    items-at [] o xs k next h = subst (λ z. At o k z) (sym (append-nil xs)) h
+    items-at (item ∷ items) o xs k next h =
         let j = with_item sizes g m k item in
         let first = f.item_parts inner sizes ms spot g next item in
         let more = f.items_parts inner sizes ms spot g (f.behind_item sizes spot next item) items in
-        let now = item-at item o xs k next (omega (arith, room)) h in
-        let count = item-adds sizes ms inner spot g m added absent item next (omega (arith, room)) in
-        let rest = items-at items o (xs ++ funs first) j (f.behind_item sizes spot next item) (omega (arith, room, count, length-append xs (funs first))) now in
+        let now = item-at item o xs k next h in
+        let rest = items-at items o (xs ++ funs first) j (f.behind_item sizes spot next item) now in
         let split : funs (first ++ more) ≡ funs first ++ funs more = flat_map-append (λ (a : f.Part). a.funcs) first more in
         subst (λ z. At o (fold (with_item sizes g m) j items) (xs ++ z)) (sym split)
         (subst (λ z. At o (fold (with_item sizes g m) j items) z) (append_assoc xs (funs first) (funs more)) rest)
 
 -- ---- instances
 
--- connections add no functions
-inputs-none : (above : Here) (env : Env) (m : x.Module) (u : x.NamedUnit) (ports : List Identifier) → funs (flat_map (λ t. f.input_part above env m u t.name) ports) ≡ []
-inputs-none above env m u [] = refl
-inputs-none above env m u (t ∷ ports) =
-    flat_map-append (λ (a : f.Part). a.funcs) (f.input_part above env m u t.name) (flat_map (λ t. f.input_part above env m u t.name) ports)
-    ∙ (ap (λ z. z ++ funs (flat_map (λ t. f.input_part above env m u t.name) ports)) (by (is_input m t.name && not (is_clock_binding (env t.name))) (expression_of (port_connection m u t.name))) ∙ inputs-none above env m u ports)
-  where
-    part : Ex → List f.Part
-    part e = f.connection (input_process above env (place_in u (port_connection m u t.name)) t.name e ∷ []) (input_faults above.env e) ∷ []
-
-    by : (c : Bool) (e : Option Ex) → funs (if c then option_map_or part e [] else []) ≡ []
-    by true None = refl
-    by true (Some e) = refl
-    by false e = refl
-
-outputs-none : (above : Here) (env : Env) (m : x.Module) (u : x.NamedUnit) (ports : List Identifier) → funs (flat_map (λ t. f.output_part above env m u t.name) ports) ≡ []
-outputs-none above env m u [] = refl
-outputs-none above env m u (t ∷ ports) =
-    flat_map-append (λ (a : f.Part). a.funcs) (f.output_part above env m u t.name) (flat_map (λ t. f.output_part above env m u t.name) ports)
-    ∙ (ap (λ z. z ++ funs (flat_map (λ t. f.output_part above env m u t.name) ports)) (by (is_input m t.name) (expression_of (port_connection m u t.name))) ∙ outputs-none above env m u ports)
-  where
-    part : Ex → List f.Part
-    part e = f.connection (output_process above env (place_in u (port_connection m u t.name)) t.name e ∷ []) (output_faults above.env (place_in u (port_connection m u t.name)) e) ∷ []
-
-    by : (c : Bool) (e : Option Ex) → funs (if c then [] else option_map_or part e []) ≡ []
-    by true e = refl
-    by false None = refl
-    by false (Some e) = refl
-
 -- the functions of an instance are those of its body
 instance-funs : (n : ℕ) (ms : List x.Module) (above : Here) (base : Counts) (us : x.Instances) (u : x.NamedUnit) (m : x.Module)
     → funs (f.instance (suc n) ms above base us u m) ≡ funs (f.body (f.instance n ms) (size n ms) ms above.behind (environment (size n ms) (given above base us u m) m) (given above base us u m) m)
-unfolding instance
-instance-funs n ms above base us u m =
-    let g = given above base us u m in
-    let env = environment (size n ms) g m in
-    let ins = flat_map (λ t. f.input_part above env m u t.name) m.ports in
-    let bod = f.body (f.instance n ms) (size n ms) ms above.behind env g m in
-    let outs = flat_map (λ t. f.output_part above env m u t.name) m.ports in
-    flat_map-append (λ (a : f.Part). a.funcs) ins (bod ++ outs)
-    ∙ (ap (λ z. z ++ funs (bod ++ outs)) (inputs-none above env m u m.ports)
-    ∙ (flat_map-append (λ (a : f.Part). a.funcs) bod outs
-    ∙ (ap (λ z. funs bod ++ z) (outputs-none above env m u m.ports) ∙ append-nil (funs bod))))
+instance-funs n ms above base us u m = body-only (λ a. a.funcs) (λ ps es. refl) (λ env g us. refl) n ms above base us u m
 
 size-absent : (n : ℕ) (ms : List x.Module) (t : List ℕ) → module_named ms t ≡ None → (size n ms t).functions ≡ 0
 unfolding size
@@ -287,26 +239,26 @@ unfolding size
 size-named n ms t m e = ap (λ (q : Option x.Module). (option_map_or (module_counts (size n ms)) q no_more).functions) e
 
 instance-adds : (n : ℕ) (ms : List x.Module) (above : Here) (base : Counts) (us : x.Instances) (u : x.NamedUnit) (m : x.Module) → module_named ms us.definition ≡ Some m
-    → (size n ms us.definition).functions < most_numbers → length (funs (f.instance n ms above base us u m)) ≡ (size n ms us.definition).functions
+    → length (funs (f.instance n ms above base us u m)) ≡ (size n ms us.definition).functions
 unfolding instance size
-instance-adds zero ms above base us u m is room = refl
-instance-adds (suc n) ms above base us u m is room =
+instance-adds zero ms above base us u m is = refl
+instance-adds (suc n) ms above base us u m is =
     let g = given above base us u m in
     let sizes = size n ms in
     let place : Here = record { env = environment sizes g m; path = g.path; behind = above.behind } in
     let counted = size-named n ms us.definition m is in
-    let folded = counts-fold sizes ms m.items (record { signals = length (new_ones [] (signals_of m)); functions = 0 }) (omega (arith, room, counted)) in
-    let added = items-add sizes ms (f.instance n ms) place g m (instance-adds n ms place) (size-absent n ms) m.items g.base (omega (arith, room, counted, folded)) in
+    let folded = counts-fold sizes ms m.items (record { signals = length (new_ones [] (signals_of m)); functions = 0 }) in
+    let added = items-add sizes ms (f.instance n ms) place g m (instance-adds n ms place) (size-absent n ms) m.items g.base in
     let same = ap (length {A = p.Func}) (instance-funs n ms above base us u m) in
     omega (arith, same, added, folded, counted)
 
-behind-functions : (sizes : List ℕ → Counts) (ms : List x.Module) (place : Here) (items : List x.Item) (next : Counts) → next.functions + insts sizes ms items < most_numbers
+behind-functions : (sizes : List ℕ → Counts) (ms : List x.Module) (place : Here) (items : List x.Item) (next : Counts)
     → (fold (f.behind_item sizes place) next items).functions ≡ next.functions + insts sizes ms items
 unfolding insts
-behind-functions sizes ms place [] next room = omega arith
-behind-functions sizes ms place (item ∷ items) next room =
-    let rest = behind-functions sizes ms place items (f.behind_item sizes place next item) (omega (arith, room, item-count sizes ms item)) in
-    omega (arith, rest, room, item-count sizes ms item)
+behind-functions sizes ms place [] next = omega arith
+behind-functions sizes ms place (item ∷ items) next =
+    let rest = behind-functions sizes ms place items (f.behind_item sizes place next item) in
+    omega (arith, rest, item-count sizes ms item)
 
 -- ---- the instances of a design: each one's functions stand together, from its first number on
 
@@ -317,9 +269,8 @@ module _ (ms : List x.Module) (top : x.Module) (whole : List p.Func) where
   abbrev body-of : ℕ → Given → x.Module → List f.Part
   body-of n g m = f.body (f.instance n ms) (size n ms) ms behind-all (environment (size n ms) g m) g m
 
-  record Together (n : ℕ) (g : Given) (m : x.Module) : Type 0 where
-    room : g.base.functions + (module_counts (size n ms) m).functions < most_numbers
-    stands : Stands-at whole g.base.functions (funs (body-of n g m))
+  abbrev Together : ℕ → Given → x.Module → Type 0
+  Together n g m = Stands-at whole g.base.functions (funs (body-of n g m))
 
   unit-together : (n : ℕ) (g : Given) (m of : x.Module) (before after : List x.Item) (us : x.Instances) (first others : List x.NamedUnit) (u : x.NamedUnit)
       → Together (suc n) g m → m.items ≡ before ++ x.Instantiates us ∷ after → us.units ≡ first ++ u ∷ others → module_named ms us.definition ≡ Some of
@@ -334,27 +285,19 @@ module _ (ms : List x.Module) (top : x.Module) (whole : List p.Func) where
       let absent = size-absent (suc n) ms in
       let next = fold (f.behind_item sizes place) g.base before in
       let base = fold (λ (z : Counts) (v : x.NamedUnit). plus z (sizes us.definition)) next first in
-      let counted = counts-fold sizes ms m.items (record { signals = length (new_ones [] (signals_of m)); functions = 0 }) (omega (arith, h.room)) in
-      let insts-all : insts sizes ms m.items ≡ insts sizes ms (before ++ x.Instantiates us ∷ after) = ap (insts sizes ms) is in
-      let insts-split = insts-append sizes ms before us after in
-      let units : length us.units * c ≡ length first * c + (c + length others * c) = ap (λ (z : List x.NamedUnit). length z * c) split ∙ split-count first others u c in
       let P = f.items_parts inner sizes ms place g g.base before in
       let R = f.items_parts inner sizes ms place g (f.behind_item sizes place next (x.Instantiates us)) after in
       let F = f.instances inner place next us of (sizes us.definition) first in
       let X = inner place base us u of in
       let O = f.instances inner place (plus base (sizes us.definition)) us of (sizes us.definition) others in
-      let front-length = items-add sizes ms inner place g m added absent before g.base (omega (arith, h.room, counted, insts-all, insts-split)) in
-      let next-is = behind-functions sizes ms place before g.base (omega (arith, h.room, counted, insts-all, insts-split)) in
-      let first-length = units-add sizes ms inner place g m added absent us of named first next (omega (arith, h.room, counted, insts-all, insts-split, units)) in
-      let base-is = base-units (λ (c : Counts). c.functions) (λ a c room. omega (arith, room)) (sizes us.definition) first next (omega (arith, next-is, h.room, counted, insts-all, insts-split, units)) in
+      let front-length = items-add sizes ms inner place g m added absent before g.base in
+      let next-is = behind-functions sizes ms place before g.base in
+      let first-length = units-add sizes ms inner place g m added absent us of named first next in
+      let base-is = base-units (λ (c : Counts). c.functions) (λ a c. refl) (sizes us.definition) first next in
       let shape = split-parts (λ (a : f.Part). a.funcs) inner sizes ms place g before after us of first others u m.items is split named in
-      let counted-of = size-named n ms us.definition of named in
-      record {
-        room = omega (arith, base-is, counted-of, next-is, h.room, counted, insts-all, insts-split, units);
-        stands = subst (λ z. Stands-at whole base.functions z) (instance-funs n ms place base us u of)
-            (stands-part whole (funs P ++ funs F) (funs X) (funs O ++ funs R) g.base.functions base.functions (subst (λ z. Stands-at whole g.base.functions z) shape h.stands)
-            (omega (arith, base-is, next-is, front-length, first-length, length-append (funs P) (funs F))));
-      }
+      subst (λ z. Stands-at whole base.functions z) (instance-funs n ms place base us u of)
+      (stands-part whole (funs P ++ funs F) (funs X) (funs O ++ funs R) g.base.functions base.functions (subst (λ z. Stands-at whole g.base.functions z) shape h)
+      (omega (arith, base-is, next-is, front-length, first-length, length-append (funs P) (funs F))))
 
   all-together : Together f.deepest (f.top_given top) top → (n : ℕ) (g : Given) (m : x.Module) → IsInstance ms top n g m → Together n g m
   all-together start n g m of_top = start
@@ -369,23 +312,20 @@ module _ (ms : List x.Module) (top : x.Module) (whole : List p.Func) where
       let env = environment sizes g m in
       let start : Known = record { env = none; next = g.base } in
       let place = spot sizes g m env behind-all in
-      let counted = counts-fold sizes ms m.items (record { signals = length (new_ones [] (signals_of m)); functions = 0 }) (omega (arith, h.room)) in
-      let end = items-at sizes g m env behind-all ms (f.instance n ms) (instance-adds n ms place) (size-absent n ms) m.items g.base.functions [] start g.base (omega (arith, h.room, counted))
+      let end = items-at sizes g m env behind-all ms (f.instance n ms) (instance-adds n ms place) (size-absent n ms) m.items g.base.functions [] start g.base
       (record { len = omega arith; at = λ t k c e. absurd cc }) in
       let at = end.at t k c e in
-      (at.source, at.spelt, ap (slice_get whole) at.is ∙ h.stands at.i (function behind-all env g.path at.source) at.there)
+      (at.source, at.spelt, ap (slice_get whole) at.is ∙ h at.i (function behind-all env g.path at.source) at.there)
 
 -- in the flat design each instance's functions stand where their numbers say
-pub function-places : (ms : List x.Module) (top : x.Module) → (module_counts (size f.deepest ms) top).functions < most_numbers
+pub function-places : (ms : List x.Module) (top : x.Module)
     → (d : p.Design) → o.flattened_from ms top ≡ Ok d → (n : ℕ) (g : Given) (m : x.Module) → IsInstance ms top n g m
     → (t : List ℕ) (k : ℕ) (c : Form) → environment (size n ms) g m t ≡ Some (b.Function k c)
     → (a : x.Function) × (a.name.name ≡ t) × (slice_get d.funcs k ≡ Some (function (size (suc f.deepest) ms top.name.name).signals (environment (size n ms) g m) g.path a))
-function-places ms top room d is n g m h =
+function-places ms top d is n g m h =
     let parts = f.parts_from ms top in
     let design = design-is (o.judged o.nothing_yet parts) (f.design_of top parts) d is in
-    let start : Together ms top d.funcs f.deepest (f.top_given top) top = record {
-      room = omega (arith, room);
-      stands = λ i r e. let zero-first : i ≡ 0 + i = omega arith in
-          subst (λ z. slice_get d.funcs z ≡ Some r) zero-first (subst (λ (z : p.Design). slice_get z.funcs i ≡ Some r) design e);
-    } in
+    let start : Together ms top d.funcs f.deepest (f.top_given top) top = λ i r e.
+    let zero-first : i ≡ 0 + i = omega arith in
+    subst (λ z. slice_get d.funcs z ≡ Some r) zero-first (subst (λ (z : p.Design). slice_get z.funcs i ≡ Some r) design e) in
     place-of ms top d.funcs n g m (all-together ms top d.funcs start n g m h)

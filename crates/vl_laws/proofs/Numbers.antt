@@ -1,6 +1,6 @@
 -- An instance has as many signals as its size says, and the number of a name is the place of its signal.
-use Rattle.std.proofs.Common.{◌≡◌, ℕ, zero, suc, ◌+◌, ◌*◌, ◌<◌, min, Bool, true, false, true≢false, if◌then◌else◌, List, [], ◌∷◌, ◌++◌, length, Option, Some, None, Result, Ok, Err, refl, sym, ap, ◌∙◌, subst, arith}
-use Rattle.std.specs.Prelude.{slice_get, fold, flat_map, is_some, not, ◌&&◌, ◌==◌, ◌||◌, All}
+use Rattle.std.proofs.Common.{◌≡◌, ℕ, zero, suc, ◌+◌, ◌*◌, ◌<◌, Bool, true, false, true≢false, if◌then◌else◌, List, [], ◌∷◌, ◌++◌, length, Option, Some, None, Result, Ok, Err, refl, sym, ap, ◌∙◌, subst, arith}
+use Rattle.std.specs.Prelude.{slice_get, fold, flat_map, is_some, ◌==◌, ◌||◌, All}
 use Rattle.std.specs.List.{list_any}
 use Rattle.std.specs.Option.{option_map_or}
 use Rattle.std.specs.Str.{bytes_eq}
@@ -18,12 +18,11 @@ use Rattle.vl_flat.specs.declared.binding.Binding.TheVariants as b
 use Rattle.vl_flat.specs.declared.binding.Shape.{Shape}
 use Rattle.vl_flat.specs.Scopes.{Env, none, bind, number_of}
 use Rattle.vl_flat.specs.Items as x
-use Rattle.vl_flat.specs.Kinds.{signals_in, signals_of, kind_of, is_input}
-use Rattle.vl_flat.specs.Environments.{Counts, Given, Known, after, plus, most_numbers, no_more, new_ones, item_counts, module_counts, module_named, size, environment, shape, with_signal, with_parameter, with_item}
+use Rattle.vl_flat.specs.Kinds.{signals_in, signals_of, kind_of}
+use Rattle.vl_flat.specs.Environments.{Counts, Given, Known, plus, no_more, new_ones, item_counts, module_counts, module_named, size, environment, shape, with_signal, with_parameter, with_item}
 use Rattle.vl_flat.specs.Functions.{signal}
 use Rattle.vl_flat.specs.Processes.{Here, is_first, signal_of, signals}
-use Rattle.vl_flat.specs.Surface.{Ex}
-use Rattle.vl_flat.specs.Connections.{given, port_connection, place_in, expression_of, is_clock_binding, input_process, input_faults, output_process, output_faults}
+use Rattle.vl_flat.specs.Connections.{given}
 use Rattle.vl_flat.specs.Flat.{instance}
 use Rattle.vl_flat.specs.Flat as f
 use Rattle.vl_design.specs.declared.stop.Stop.{Stop}
@@ -31,6 +30,7 @@ use Rattle.vl_design.specs.Placed as p
 use Rattle.vl_flat.specs.Outcome as o
 use Rattle.vl_flat.specs.Outcome.{◌>>=◌}
 use Rattle.vl_laws.proofs.Lists.{left-part, seam-part, Each, each-from, found-holds}
+use Rattle.vl_laws.proofs.Splits.{body-only}
 use Rattle.vl_laws.specs.Apart.{declared, IsApart, AreApart}
 
 -- ---- texts and lists
@@ -150,11 +150,11 @@ module _ (sizes : List ℕ → Counts) (g : Given) (m : x.Module) where
   binding-is n r (b.Function k c) e = absurd cc
 
   -- a new name stands at the end
-  new-at : (o : ℕ) (xs : List Signal) (known : List (List ℕ)) (k : Known) (d : x.Declared) → k.next.signals < most_numbers → At o known k xs
+  new-at : (o : ℕ) (xs : List Signal) (known : List (List ℕ)) (k : Known) (d : x.Declared) → At o known k xs
       → At o (d.name.name ∷ known) (more k d) (xs ++ signal g.path d.name (shape-of k d) ∷ [])
   unfolding more shape-of
-  new-at o xs known k d room h = record {
-    len = omega (arith, h.len, room, length-append xs (signal g.path d.name (shape-of k d) ∷ []));
+  new-at o xs known k d h = record {
+    len = omega (arith, h.len, length-append xs (signal g.path d.name (shape-of k d) ∷ []));
     at = λ u n s e. at u n s (bytes_eq d.name.name u) refl e;
     only = λ u i y e. only u i y (bytes_eq d.name.name u) e;
     names = λ u i. names u i (bytes_eq d.name.name u) refl;
@@ -211,7 +211,7 @@ module _ (sizes : List ℕ → Counts) (g : Given) (m : x.Module) where
         record {
           own = [];
           emits =
-              ap (λ (c : Bool). if c then signal_of g.path d.name (whole d.name.name) ++ signals here (after k.next.signals) rest else signals here k.next.signals rest) first
+              ap (λ (c : Bool). if c then signal_of g.path d.name (whole d.name.name) ++ signals here (k.next.signals + 1) rest else signals here k.next.signals rest) first
               ∙ ap (λ (q : Known). signals here q.next.signals rest) (sym same);
           counts = let e = ap (λ (c : Bool). length (if c then new_ones known rest else d ∷ new_ones (d.name.name ∷ known) rest)) seen-it ∙ ap (λ z. length (new_ones z rest)) (sym kept) in omega (arith, e);
           goes = ap (λ (c : Bool). if c then seen known rest else seen (d.name.name ∷ known) rest) seen-it ∙ ap (λ z. seen z rest) (sym kept);
@@ -223,9 +223,9 @@ module _ (sizes : List ℕ → Counts) (g : Given) (m : x.Module) where
 
     -- the first declaration of a name
     fresh : (o : ℕ) (xs : List Signal) (known : List (List ℕ)) (k : Known) (d : x.Declared) (rest : List x.Declared)
-        → Inside d.name.name → k.next.signals < most_numbers → At o known k xs → k.env d.name.name ≡ None → whole d.name.name ≡ (more k d).env d.name.name → Declares o known k xs d rest
+        → Inside d.name.name → At o known k xs → k.env d.name.name ≡ None → whole d.name.name ≡ (more k d).env d.name.name → Declares o known k xs d rest
     unfolding here seen more shape-of
-    fresh o xs known k d rest inside room h e w =
+    fresh o xs known k d rest inside h e w =
         let t = d.name.name in
         let n = k.next.signals in
         let s = shape-of k d in
@@ -238,12 +238,12 @@ module _ (sizes : List ℕ → Counts) (g : Given) (m : x.Module) where
         record {
           own = r ∷ [];
           emits =
-              ap (λ (c : Bool). if c then signal_of g.path d.name (whole t) ++ signals here (after n) rest else signals here n rest) first
-              ∙ (ap (λ (z : Option Binding). signal_of g.path d.name z ++ signals here (after n) rest) is
+              ap (λ (c : Bool). if c then signal_of g.path d.name (whole t) ++ signals here (n + 1) rest else signals here n rest) first
+              ∙ (ap (λ (z : Option Binding). signal_of g.path d.name z ++ signals here (n + 1) rest) is
               ∙ ap (λ (q : Known). r ∷ signals here q.next.signals rest) (sym new));
           counts = let e = ap (λ (c : Bool). length (if c then new_ones known rest else d ∷ new_ones (t ∷ known) rest)) unseen ∙ ap (λ z. length (d ∷ new_ones z rest)) (sym grown) in omega (arith, e);
           goes = ap (λ (c : Bool). if c then seen known rest else seen (t ∷ known) rest) unseen ∙ ap (λ z. seen z rest) (sym grown);
-          stands = subst (λ (q : Known). At o (seen known (d ∷ [])) q (xs ++ r ∷ [])) (sym new) (subst (λ z. At o z (more k d) (xs ++ r ∷ [])) (sym grown) (new-at o xs known k d room h));
+          stands = subst (λ (q : Known). At o (seen known (d ∷ [])) q (xs ++ r ∷ [])) (sym new) (subst (λ z. At o z (more k d) (xs ++ r ∷ [])) (sym grown) (new-at o xs known k d h));
         }
 
     -- what the names of these declarations stand for, they stand for in the end
@@ -251,9 +251,9 @@ module _ (sizes : List ℕ → Counts) (g : Given) (m : x.Module) where
     Lasts k = (t : List ℕ) → Inside t → (y : Binding) → k.env t ≡ Some y → whole t ≡ Some y
 
     one-declared : (o : ℕ) (xs : List Signal) (known : List (List ℕ)) (k : Known) (d : x.Declared) (rest : List x.Declared)
-        → Inside d.name.name → k.next.signals < most_numbers → At o known k xs → Lasts (with_signal g m k d) → Declares o known k xs d rest
+        → Inside d.name.name → At o known k xs → Lasts (with_signal g m k d) → Declares o known k xs d rest
     unfolding more shape-of
-    one-declared o xs known k d rest inside room h lasts = by (k.env d.name.name) refl
+    one-declared o xs known k d rest inside h lasts = by (k.env d.name.name) refl
       where
         t : List ℕ
         t = d.name.name
@@ -264,7 +264,7 @@ module _ (sizes : List ℕ → Counts) (g : Given) (m : x.Module) where
         by : (e : Option Binding) → k.env d.name.name ≡ e → Declares o known k xs d rest
         by (Some y) e = other o xs known k d rest y inside h (lasts t inside y (stays k d t y e)) e
         by None e =
-            fresh o xs known k d rest inside room h e
+            fresh o xs known k d rest inside h e
             (lasts t inside y' (ap (λ (q : Known). q.env t) (is-new k d e) ∙ bound-here k.env t y') ∙ sym (bound-here k.env t y'))
 
     record AllDeclared (o : ℕ) (xs : List Signal) (known : List (List ℕ)) (k : Known) (es : List x.Declared) : Type 0 where
@@ -272,15 +272,14 @@ module _ (sizes : List ℕ → Counts) (g : Given) (m : x.Module) where
       counts : length (signals here k.next.signals es) ≡ length (new_ones known es)
 
     all-declared : (es : List x.Declared) (o : ℕ) (xs : List Signal) (known : List (List ℕ)) (k : Known)
-        → Each (λ d. Inside d.name.name) es → k.next.signals + length (new_ones known es) < most_numbers → At o known k xs
+        → Each (λ d. Inside d.name.name) es → At o known k xs
         → Lasts (fold (with_signal g m) k es) → AllDeclared o xs known k es
     unfolding Each seen
-    all-declared [] o xs known k i room h lasts = record { stands = subst (λ z. At o known k z) (sym (append-nil xs)) h; counts = refl }
-    all-declared (d ∷ es) o xs known k i room h lasts =
+    all-declared [] o xs known k i h lasts = record { stands = subst (λ z. At o known k z) (sym (append-nil xs)) h; counts = refl }
+    all-declared (d ∷ es) o xs known k i h lasts =
         let w = with_signal g m k d in
-        let now = one-declared o xs known k d es i.0 (omega (arith, room)) h (λ t j y e. lasts t j y (all-stay es w t y e)) in
-        let rest = all-declared es o (xs ++ now.own) (seen known (d ∷ [])) w i.1
-        (omega (arith, room, now.stands.len, now.counts, h.len, length-append xs now.own)) now.stands lasts in
+        let now = one-declared o xs known k d es i.0 h (λ t j y e. lasts t j y (all-stay es w t y e)) in
+        let rest = all-declared es o (xs ++ now.own) (seen known (d ∷ [])) w i.1 now.stands lasts in
         record {
           stands = subst (λ z. At o (seen known (d ∷ es)) (fold (with_signal g m) w es) (xs ++ z)) (sym now.emits)
               (subst (λ z. At o (seen known (d ∷ es)) (fold (with_signal g m) w es) z) (append_assoc xs now.own (signals here w.next.signals es))
@@ -336,7 +335,7 @@ module _ (sizes : List ℕ → Counts) (g : Given) (m : x.Module) where
 
     module _ (ms : List x.Module) (inner : f.Inner)
         (added : (base : Counts) (us : x.Instances) (u : x.NamedUnit) (of : x.Module) → module_named ms us.definition ≡ Some of
-        → base.signals + (sizes us.definition).signals < most_numbers → length (sigs (inner here base us u of)) ≡ (sizes us.definition).signals)
+        → length (sigs (inner here base us u of)) ≡ (sizes us.definition).signals)
         (absent : (t : List ℕ) → module_named ms t ≡ None → (sizes t).signals ≡ 0) where
       -- the signals of the instances in an item
       inst : x.Item → ℕ
@@ -344,25 +343,24 @@ module _ (sizes : List ℕ → Counts) (g : Given) (m : x.Module) where
       inst item = 0
 
       pub units-add : (us : x.Instances) (of : x.Module) → module_named ms us.definition ≡ Some of → (units : List x.NamedUnit) (base : Counts)
-          → base.signals + length units * (sizes us.definition).signals < most_numbers
           → length (sigs (f.instances inner here base us of (sizes us.definition) units)) ≡ length units * (sizes us.definition).signals
-      units-add us of is [] base room = omega arith
-      units-add us of is (u ∷ others) base room =
+      units-add us of is [] base = omega arith
+      units-add us of is (u ∷ others) base =
           let c = (sizes us.definition).signals in
           let step = suc-mul (length others) c in
-          let rest = units-add us of is others (plus base (sizes us.definition)) (omega (arith, room, step)) in
-          let one = added base us u of is (omega (arith, room, step)) in
+          let rest = units-add us of is others (plus base (sizes us.definition)) in
+          let one = added base us u of is in
           let whole-list = ap (length {A = Signal}) (flat_map-append (λ (a : f.Part). a.signals) (inner here base us u of) (f.instances inner here (plus base (sizes us.definition)) us of (sizes us.definition) others)) in
           omega (arith, whole-list, rest, one, step, length-append (sigs (inner here base us u of)) (sigs (f.instances inner here (plus base (sizes us.definition)) us of (sizes us.definition) others)))
 
-      instances-add : (us : x.Instances) (next : Counts) → next.signals + length us.units * (sizes us.definition).signals < most_numbers
+      instances-add : (us : x.Instances) (next : Counts)
           → length (sigs (option_map_or (λ of. f.instances inner here next us of (sizes us.definition) us.units) (module_named ms us.definition) [])) ≡ length us.units * (sizes us.definition).signals
-      instances-add us next room = by (module_named ms us.definition) refl
+      instances-add us next = by (module_named ms us.definition) refl
         where
           by : (q : Option x.Module) → module_named ms us.definition ≡ q
               → length (sigs (option_map_or (λ of. f.instances inner here next us of (sizes us.definition) us.units) q [])) ≡ length us.units * (sizes us.definition).signals
           by None e = let nothing = ap (λ z. length us.units * z) (absent us.definition e) in omega (arith, nothing)
-          by (Some of) e = units-add us of e us.units next room
+          by (Some of) e = units-add us of e us.units next
 
       record One (o : ℕ) (xs : List Signal) (known : List (List ℕ)) (k : Known) (next : Counts) (item : x.Item) : Type 0 where
         own : List Signal
@@ -371,15 +369,15 @@ module _ (sizes : List ℕ → Counts) (g : Given) (m : x.Module) where
         counts : length own ≡ length (new_ones known (signals_in item)) + inst item
         next-is : (f.behind_item sizes here next item).signals ≡ (with_item sizes g m k item).next.signals
 
-      plain-item : (o : ℕ) (xs : List Signal) (known : List (List ℕ)) (k j : Known) (next : Counts) → next.signals ≡ k.next.signals → k.next.signals < most_numbers
-          → At o known k xs → At o known j xs → j.next.signals ≡ k.next.signals → min most_numbers (min most_numbers (next.signals + 0) + 0) ≡ j.next.signals
-      plain-item o xs known k j next same room h i is = omega (arith, same, room, is)
+      plain-item : (o : ℕ) (xs : List Signal) (known : List (List ℕ)) (k j : Known) (next : Counts) → next.signals ≡ k.next.signals
+          → At o known k xs → At o known j xs → j.next.signals ≡ k.next.signals → next.signals + 0 + 0 ≡ j.next.signals
+      plain-item o xs known k j next same h i is = omega (arith, same, is)
 
       one-item : (item : x.Item) (o : ℕ) (xs : List Signal) (known : List (List ℕ)) (k : Known) (next : Counts) → next.signals ≡ k.next.signals
-          → IsApart (signals_of m) item → Each (λ d. Inside d.name.name) (signals_in item) → k.next.signals + (length (new_ones known (signals_in item)) + inst item) < most_numbers
+          → IsApart (signals_of m) item → Each (λ d. Inside d.name.name) (signals_in item)
           → At o known k xs → Lasts (with_item sizes g m k item) → One o xs known k next item
       unfolding Each seen here inst
-      one-item (x.Parameters type ps) o xs known k next same apart i room h lasts =
+      one-item (x.Parameters type ps) o xs known k next same apart i h lasts =
           let j = fold (with_parameter g type) k ps in
           let is : j.next.signals ≡ k.next.signals = ap (λ (c : Counts). c.signals) (params-next type ps k) in
           let stands = at-same o xs known k j h is (params-env type ps k apart) (params-back type ps k) in
@@ -388,76 +386,76 @@ module _ (sizes : List ℕ → Counts) (g : Given) (m : x.Module) where
             emits = refl;
             stands = subst (λ z. At o known j z) (sym (append-nil xs)) stands;
             counts = refl;
-            next-is = plain-item o xs known k j next same (omega (arith, room)) h stands is;
+            next-is = plain-item o xs known k j next same h stands is;
           }
-      one-item (x.Functions a) o xs known k next same apart i room h lasts =
+      one-item (x.Functions a) o xs known k next same apart i h lasts =
           let j = with_item sizes g m k (x.Functions a) in
-          let is : j.next.signals ≡ k.next.signals = omega (arith, room) in
+          let is : j.next.signals ≡ k.next.signals = omega arith in
           let stands = at-same o xs known k j h is (λ t inside. bound-elsewhere k.env a.name.name t _ (apart-text a.name.name t apart inside)) (λ t n s e. back-of k.env a.name.name _ t n s (λ q. absurd cc) e) in
           record {
             own = [];
             emits = refl;
             stands = subst (λ z. At o known j z) (sym (append-nil xs)) stands;
             counts = refl;
-            next-is = plain-item o xs known k j next same (omega (arith, room)) h stands is;
+            next-is = plain-item o xs known k j next same h stands is;
           }
-      one-item (x.Signals ds) o xs known k next same apart i room h lasts =
-          let all = all-declared ds o xs known k i (omega (arith, room)) h lasts in
+      one-item (x.Signals ds) o xs known k next same apart i h lasts =
+          let all = all-declared ds o xs known k i h lasts in
           record {
             own = signals here k.next.signals ds;
             emits = append-nil (signals here next.signals ds) ∙ ap (λ n. signals here n ds) same;
             stands = all.stands;
             counts = omega (arith, all.counts);
-            next-is = omega (arith, same, room, h.len, all.counts, all.stands.len, length-append xs (signals here k.next.signals ds), ap (λ n. length (signals here n ds)) same);
+            next-is = omega (arith, same, h.len, all.counts, all.stands.len, length-append xs (signals here k.next.signals ds), ap (λ n. length (signals here n ds)) same);
           }
-      one-item (x.Assigns as') o xs known k next same apart i room h lasts =
+      one-item (x.Assigns as') o xs known k next same apart i h lasts =
           let j = with_item sizes g m k (x.Assigns as') in
-          let is : j.next.signals ≡ k.next.signals = omega (arith, room) in
+          let is : j.next.signals ≡ k.next.signals = omega arith in
           let stands = at-same o xs known k j h is (λ t inside. refl) (λ t n s e. e) in
           record {
             own = [];
             emits = refl;
             stands = subst (λ z. At o known j z) (sym (append-nil xs)) stands;
             counts = refl;
-            next-is = plain-item o xs known k j next same (omega (arith, room)) h stands is;
+            next-is = plain-item o xs known k j next same h stands is;
           }
-      one-item (x.Initial at a) o xs known k next same apart i room h lasts =
+      one-item (x.Initial at a) o xs known k next same apart i h lasts =
           let j = with_item sizes g m k (x.Initial at a) in
-          let is : j.next.signals ≡ k.next.signals = omega (arith, room) in
+          let is : j.next.signals ≡ k.next.signals = omega arith in
           let stands = at-same o xs known k j h is (λ t inside. refl) (λ t n s e. e) in
           record {
             own = [];
             emits = refl;
             stands = subst (λ z. At o known j z) (sym (append-nil xs)) stands;
             counts = refl;
-            next-is = plain-item o xs known k j next same (omega (arith, room)) h stands is;
+            next-is = plain-item o xs known k j next same h stands is;
           }
-      one-item (x.Always at trigger a) o xs known k next same apart i room h lasts =
+      one-item (x.Always at trigger a) o xs known k next same apart i h lasts =
           let j = with_item sizes g m k (x.Always at trigger a) in
-          let is : j.next.signals ≡ k.next.signals = omega (arith, room) in
+          let is : j.next.signals ≡ k.next.signals = omega arith in
           let stands = at-same o xs known k j h is (λ t inside. refl) (λ t n s e. e) in
           record {
             own = [];
             emits = refl;
             stands = subst (λ z. At o known j z) (sym (append-nil xs)) stands;
             counts = refl;
-            next-is = plain-item o xs known k j next same (omega (arith, room)) h stands is;
+            next-is = plain-item o xs known k j next same h stands is;
           }
-      one-item (x.Instantiates us) o xs known k next same apart i room h lasts =
+      one-item (x.Instantiates us) o xs known k next same apart i h lasts =
           let own : List Signal = sigs (f.item_parts inner sizes ms here g next (x.Instantiates us)) in
-          let size : length own ≡ length us.units * (sizes us.definition).signals = instances-add us next (omega (arith, room, same)) in
+          let size : length own ≡ length us.units * (sizes us.definition).signals = instances-add us next in
           let j = with_item sizes g m k (x.Instantiates us) in
           record {
             own = own;
             emits = refl;
             stands = record {
-              len = omega (arith, h.len, room, size, length-append xs own);
+              len = omega (arith, h.len, size, length-append xs own);
               at = λ t n s e. where-more o xs own t n s (h.at t n s e);
               only = h.only;
               names = h.names;
             };
             counts = omega (arith, size);
-            next-is = omega (arith, same, room);
+            next-is = omega (arith, same);
           }
 
       -- ---- all items
@@ -490,16 +488,14 @@ module _ (sizes : List ℕ → Counts) (g : Given) (m : x.Module) where
 
       pub all-items : (items : List x.Item) (o : ℕ) (xs : List Signal) (known : List (List ℕ)) (k : Known) (next : Counts) → next.signals ≡ k.next.signals
           → Each (IsApart (signals_of m)) items → Each (λ item. Each (λ d. Inside d.name.name) (signals_in item)) items
-          → k.next.signals + (news known items + insts items) < most_numbers → At o known k xs → Lasts (fold (with_item sizes g m) k items) → All-items o xs k next known items
+          → At o known k xs → Lasts (fold (with_item sizes g m) k items) → All-items o xs k next known items
       unfolding Each news insts
-      all-items [] o xs known k next same apart i room h lasts =
+      all-items [] o xs known k next same apart i h lasts =
           record { own = []; emits = refl; last = known; stands = subst (λ z. At o known k z) (sym (append-nil xs)) h; counts = refl; next-are = same }
-      all-items (item ∷ items) o xs known k next same apart i room h lasts =
+      all-items (item ∷ items) o xs known k next same apart i h lasts =
           let j = with_item sizes g m k item in
-          let now = one-item item o xs known k next same apart.0 i.0 (omega (arith, room)) h (λ t inside y e. lasts t inside y (items-stay items j apart.1 t inside y e)) in
-          let grown = now.stands.len in
-          let rest = all-items items o (xs ++ now.own) (seen known (signals_in item)) j (f.behind_item sizes here next item) now.next-is apart.1 i.1
-          (omega (arith, room, grown, now.counts, h.len, length-append xs now.own)) now.stands lasts in
+          let now = one-item item o xs known k next same apart.0 i.0 h (λ t inside y e. lasts t inside y (items-stay items j apart.1 t inside y e)) in
+          let rest = all-items items o (xs ++ now.own) (seen known (signals_in item)) j (f.behind_item sizes here next item) now.next-is apart.1 i.1 now.stands lasts in
           let parts = flat_map-append (λ (a : f.Part). a.signals) (f.item_parts inner sizes ms here g next item) (f.items_parts inner sizes ms here g (f.behind_item sizes here next item) items) in
           record {
             own = now.own ++ rest.own;
@@ -510,7 +506,7 @@ module _ (sizes : List ℕ → Counts) (g : Given) (m : x.Module) where
             next-are = rest.next-are;
           }
 
-      item-count : (item : x.Item) → (item_counts sizes item).signals ≡ min most_numbers (inst item)
+      item-count : (item : x.Item) → (item_counts sizes item).signals ≡ inst item
       unfolding inst
       item-count (x.Parameters type ps) = omega arith
       item-count (x.Signals ds) = omega arith
@@ -520,18 +516,13 @@ module _ (sizes : List ℕ → Counts) (g : Given) (m : x.Module) where
       item-count (x.Always at trigger a) = omega arith
       item-count (x.Instantiates us) = refl
 
-      pub counts-fold : (items : List x.Item) (c : Counts) → (fold (λ (z : Counts) item. plus z (item_counts sizes item)) c items).signals < most_numbers
+      pub counts-fold : (items : List x.Item) (c : Counts)
           → (fold (λ (z : Counts) item. plus z (item_counts sizes item)) c items).signals ≡ c.signals + insts items
       unfolding insts
-      counts-fold [] c room = omega arith
-      counts-fold (item ∷ items) c room =
-          let rest = counts-fold items (plus c (item_counts sizes item)) room in
-          omega (arith, rest, room, item-count item)
-
-      pub insts-append : (xs : List x.Item) (us : x.Instances) (ys : List x.Item) → insts (xs ++ x.Instantiates us ∷ ys) ≡ insts xs + (length us.units * (sizes us.definition).signals + insts ys)
-      unfolding insts inst
-      insts-append [] us ys = omega arith
-      insts-append (item ∷ xs) us ys = let rest = insts-append xs us ys in omega (arith, rest)
+      counts-fold [] c = omega arith
+      counts-fold (item ∷ items) c =
+          let rest = counts-fold items (plus c (item_counts sizes item)) in
+          omega (arith, rest, item-count item)
 
 -- ---- lists of declarations
 
@@ -603,21 +594,21 @@ pub size-named : (n : ℕ) (ms : List x.Module) (t : List ℕ) (m : x.Module) �
 unfolding size
 size-named n ms t m e = ap (λ (o : Option x.Module). (option_map_or (module_counts (size n ms)) o no_more).signals) e
 
-pub body-adds : (n : ℕ) (ms : List x.Module) (behind : ℕ) (g : Given) (m : x.Module) → AreApart m → g.base.signals + (module_counts (size n ms) m).signals < most_numbers
+pub body-adds : (n : ℕ) (ms : List x.Module) (behind : ℕ) (g : Given) (m : x.Module) → AreApart m
     → ((above : Here) (base : Counts) (us : x.Instances) (u : x.NamedUnit) (of : x.Module) → module_named ms us.definition ≡ Some of
-    → base.signals + (size n ms us.definition).signals < most_numbers → length (sigs (f.instance n ms above base us u of)) ≡ (size n ms us.definition).signals)
+    → length (sigs (f.instance n ms above base us u of)) ≡ (size n ms us.definition).signals)
     → Body n ms behind g m
 unfolding here
-body-adds n ms behind g m apart room inner =
+body-adds n ms behind g m apart inner =
     let sizes = size n ms in
     let env = environment sizes g m in
     let start : Known = record { env = none; next = g.base } in
     let added = inner (here sizes g m env behind) in
-    let counted = counts-fold sizes g m env behind ms (f.instance n ms) added (size-absent n ms) m.items (record { signals = length (new_ones [] (signals_of m)); functions = 0 }) (omega (arith, room)) in
+    let counted = counts-fold sizes g m env behind ms (f.instance n ms) added (size-absent n ms) m.items (record { signals = length (new_ones [] (signals_of m)); functions = 0 }) in
     let declared-ones = news-is [] m.items in
     let at-start : At sizes g m g.base.signals [] start [] = record { len = omega arith; at = λ t k s e. absurd cc; only = λ t i y e. absurd cc; names = λ t i. refl } in
     let all = all-items sizes g m env behind ms (f.instance n ms) added (size-absent n ms) m.items g.base.signals [] [] start g.base refl
-    (each-from (IsApart (signals_of m)) m.items apart) (items-between [] m.items) (omega (arith, room, counted, declared-ones)) at-start (λ t i y e. e) in
+    (each-from (IsApart (signals_of m)) m.items apart) (items-between [] m.items) at-start (λ t i y e. e) in
     record {
       own = all.own;
       emits = all.emits;
@@ -625,57 +616,18 @@ body-adds n ms behind g m apart room inner =
       at = λ t k s e. all.stands.at t k s e;
     }
 
--- connections add no signals
-inputs-add : (above : Here) (env : Env) (m : x.Module) (u : x.NamedUnit) (ports : List Identifier) → sigs (flat_map (λ t. f.input_part above env m u t.name) ports) ≡ []
-inputs-add above env m u [] = refl
-inputs-add above env m u (t ∷ ports) =
-    flat_map-append (λ (a : f.Part). a.signals) (f.input_part above env m u t.name) (flat_map (λ t. f.input_part above env m u t.name) ports)
-    ∙ (ap (λ z. z ++ sigs (flat_map (λ t. f.input_part above env m u t.name) ports)) (by (is_input m t.name && not (is_clock_binding (env t.name))) (expression_of (port_connection m u t.name))) ∙ inputs-add above env m u ports)
-  where
-    part : Ex → List f.Part
-    part e = f.connection (input_process above env (place_in u (port_connection m u t.name)) t.name e ∷ []) (input_faults above.env e) ∷ []
-
-    by : (c : Bool) (e : Option Ex) → sigs (if c then option_map_or part e [] else []) ≡ []
-    by true None = refl
-    by true (Some e) = refl
-    by false e = refl
-
-outputs-add : (above : Here) (env : Env) (m : x.Module) (u : x.NamedUnit) (ports : List Identifier) → sigs (flat_map (λ t. f.output_part above env m u t.name) ports) ≡ []
-outputs-add above env m u [] = refl
-outputs-add above env m u (t ∷ ports) =
-    flat_map-append (λ (a : f.Part). a.signals) (f.output_part above env m u t.name) (flat_map (λ t. f.output_part above env m u t.name) ports)
-    ∙ (ap (λ z. z ++ sigs (flat_map (λ t. f.output_part above env m u t.name) ports)) (by (is_input m t.name) (expression_of (port_connection m u t.name))) ∙ outputs-add above env m u ports)
-  where
-    part : Ex → List f.Part
-    part e = f.connection (output_process above env (place_in u (port_connection m u t.name)) t.name e ∷ []) (output_faults above.env (place_in u (port_connection m u t.name)) e) ∷ []
-
-    by : (c : Bool) (e : Option Ex) → sigs (if c then [] else option_map_or part e []) ≡ []
-    by true e = refl
-    by false None = refl
-    by false (Some e) = refl
-
 -- the signals of an instance are those of its body
 pub instance-sigs : (n : ℕ) (ms : List x.Module) (above : Here) (base : Counts) (us : x.Instances) (u : x.NamedUnit) (m : x.Module)
     → sigs (f.instance (suc n) ms above base us u m) ≡ sigs (f.body (f.instance n ms) (size n ms) ms above.behind (environment (size n ms) (given above base us u m) m) (given above base us u m) m)
-unfolding instance
-instance-sigs n ms above base us u m =
-    let g = given above base us u m in
-    let env = environment (size n ms) g m in
-    let ins = flat_map (λ t. f.input_part above env m u t.name) m.ports in
-    let bod = f.body (f.instance n ms) (size n ms) ms above.behind env g m in
-    let outs = flat_map (λ t. f.output_part above env m u t.name) m.ports in
-    flat_map-append (λ (a : f.Part). a.signals) ins (bod ++ outs)
-    ∙ (ap (λ z. z ++ sigs (bod ++ outs)) (inputs-add above env m u m.ports)
-    ∙ (flat_map-append (λ (a : f.Part). a.signals) bod outs
-    ∙ (ap (λ z. sigs bod ++ z) (outputs-add above env m u m.ports) ∙ append-nil (sigs bod))))
+instance-sigs n ms above base us u m = body-only (λ a. a.signals) (λ ps es. refl) (λ env g us. refl) n ms above base us u m
 
 pub instance-adds : (n : ℕ) (ms : List x.Module) → All AreApart ms → (above : Here) (base : Counts) (us : x.Instances) (u : x.NamedUnit) (m : x.Module) → module_named ms us.definition ≡ Some m
-    → base.signals + (size n ms us.definition).signals < most_numbers → length (sigs (f.instance n ms above base us u m)) ≡ (size n ms us.definition).signals
+    → length (sigs (f.instance n ms above base us u m)) ≡ (size n ms us.definition).signals
 unfolding instance size
-instance-adds zero ms apart above base us u m is room = refl
-instance-adds (suc n) ms apart above base us u m is room =
+instance-adds zero ms apart above base us u m is = refl
+instance-adds (suc n) ms apart above base us u m is =
     let counted = size-named n ms us.definition m is in
-    let body = body-adds n ms above.behind (given above base us u m) m (found-holds AreApart (λ z. bytes_eq us.definition z.name.name) ms m apart is) (omega (arith, room, counted)) (instance-adds n ms apart) in
+    let body = body-adds n ms above.behind (given above base us u m) m (found-holds AreApart (λ z. bytes_eq us.definition z.name.name) ms m apart is) (instance-adds n ms apart) in
     ap (length {A = Signal}) (instance-sigs n ms above base us u m) ∙ (ap (length {A = Signal}) body.emits ∙ (body.count ∙ sym counted))
 
 -- a design that isn't stopped is that of the parts

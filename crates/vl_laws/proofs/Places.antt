@@ -1,5 +1,5 @@
 -- In a flat design the signals of each instance stand together, from its first number on.
-use Rattle.std.proofs.Common.{◌≡◌, ℕ, suc, ◌+◌, ◌*◌, ◌<◌, ◌≤◌, List, [], ◌∷◌, ◌++◌, length, Some, Ok, refl, sym, ap, ◌∙◌, subst, arith}
+use Rattle.std.proofs.Common.{◌≡◌, ℕ, suc, ◌+◌, List, [], ◌∷◌, ◌++◌, length, Some, Ok, refl, sym, ap, ◌∙◌, subst, arith}
 use Rattle.std.specs.Prelude.{slice_get, fold, All}
 use Rattle.std.specs.Str.{bytes_eq}
 use Rattle.std.proofs.lemmas.List.Sums.{fold-append}
@@ -11,7 +11,7 @@ use Rattle.vl_flat.specs.declared.binding.Shape.{Shape}
 use Rattle.vl_flat.specs.Scopes.{none}
 use Rattle.vl_flat.specs.Items as x
 use Rattle.vl_flat.specs.Kinds.{signals_in, signals_of}
-use Rattle.vl_flat.specs.Environments.{Counts, Given, Known, after, plus, most_numbers, new_ones, module_counts, module_named, size, environment, with_item}
+use Rattle.vl_flat.specs.Environments.{Counts, Given, Known, plus, module_named, size, environment, with_item}
 use Rattle.vl_flat.specs.Functions.{signal}
 use Rattle.vl_flat.specs.Connections.{given}
 use Rattle.vl_flat.specs.Flat.{instance}
@@ -19,15 +19,10 @@ use Rattle.vl_flat.specs.Flat as f
 use Rattle.vl_design.specs.Placed as p
 use Rattle.vl_flat.specs.Outcome as o
 use Rattle.vl_laws.proofs.Lists.{Stands-at, stands-part, Each, each-from, each-left, each-right, found-holds}
-use Rattle.vl_laws.proofs.Splits.{base-units, split-count, split-parts}
+use Rattle.vl_laws.proofs.Splits.{base-units, split-parts}
 use Rattle.vl_laws.specs.Apart.{IsApart, AreApart}
 use Rattle.vl_laws.specs.Instances.{IsInstance, of_top, of_item, here_of}
-use Rattle.vl_laws.proofs.Numbers.{all-items, body-adds, counts-fold, design-is, here, Inside, instance-adds, instance-sigs, insts, insts-append, items-between, items-stay, news, news-is, seen, sigs, size-absent, size-named, units-add}
-
-news-append : (known : List (List ℕ)) (xs ys : List x.Item) → news known xs ≤ news known (xs ++ ys)
-unfolding news
-news-append known [] ys = omega arith
-news-append known (item ∷ xs) ys = let rest = news-append (seen known (signals_in item)) xs ys in omega (arith, rest)
+use Rattle.vl_laws.proofs.Numbers.{all-items, body-adds, design-is, here, Inside, instance-adds, instance-sigs, items-between, items-stay, sigs, size-absent, units-add}
 
 module _ (ms : List x.Module) (top : x.Module) (whole : List Signal) (apart : All AreApart ms) where
   behind-all : ℕ
@@ -39,7 +34,6 @@ module _ (ms : List x.Module) (top : x.Module) (whole : List Signal) (apart : Al
   -- an instance's signals stand together
   record Together (n : ℕ) (g : Given) (m : x.Module) : Type 0 where
     own-names : AreApart m
-    room : g.base.signals + (module_counts (size n ms) m).signals < most_numbers
     stands : Stands-at whole g.base.signals (sigs (body-of n g m))
 
   unit-together : (n : ℕ) (g : Given) (m of : x.Module) (before after : List x.Item) (us : x.Instances) (first others : List x.NamedUnit) (u : x.NamedUnit)
@@ -58,17 +52,10 @@ module _ (ms : List x.Module) (top : x.Module) (whole : List Signal) (apart : Al
       let next = fold (f.behind_item sizes spot) g.base before in
       let base = fold (λ (z : Counts) (v : x.NamedUnit). plus z (sizes us.definition)) next first in
       let start : Known = record { env = none; next = g.base } in
-      let counted = counts-fold sizes g m env behind-all ms inner added absent m.items (record { signals = length (new_ones [] (signals_of m)); functions = 0 }) (omega (arith, h.room)) in
-      let declared-ones = news-is [] m.items in
-      let news-front : news [] before ≤ news [] m.items = subst (λ z. news [] before ≤ news [] z) (sym is) (news-append [] before (x.Instantiates us ∷ after)) in
-      let insts-all : insts sizes g m env behind-all ms inner added absent m.items ≡ insts sizes g m env behind-all ms inner added absent (before ++ x.Instantiates us ∷ after) = ap (insts sizes g m env behind-all ms inner added absent) is in
-      let insts-split = insts-append sizes g m env behind-all ms inner added absent before us after in
-      let units : length us.units * c ≡ length first * c + (c + length others * c) = ap (λ (z : List x.NamedUnit). length z * c) split ∙ split-count first others u c in
       let front = all-items sizes g m env behind-all ms inner added absent before g.base.signals [] [] start g.base refl
       (each-left (IsApart (signals_of m)) before (x.Instantiates us ∷ after) (subst (λ z. Each (IsApart (signals_of m)) z) is (each-from (IsApart (signals_of m)) m.items h.own-names)))
       (each-left (λ item. Each (λ d. Inside sizes g m d.name.name) (signals_in item)) before (x.Instantiates us ∷ after)
       (subst (λ z. Each (λ item. Each (λ d. Inside sizes g m d.name.name) (signals_in item)) z) is (items-between [] m.items)))
-      (omega (arith, h.room, counted, declared-ones, news-front, insts-all, insts-split))
       (record { len = omega arith; at = λ t k s e. absurd cc; only = λ t i y e. absurd cc; names = λ t i. refl })
       (λ t i y e. subst (λ (z : List x.Item). (fold (with_item sizes g m) start z).env t ≡ Some y) (sym is)
       (subst (λ (z : Known). z.env t ≡ Some y) (sym (fold-append (with_item sizes g m) start before (x.Instantiates us ∷ after)))
@@ -81,14 +68,11 @@ module _ (ms : List x.Module) (top : x.Module) (whole : List Signal) (apart : Al
       let O = f.instances inner spot (plus base (sizes us.definition)) us of (sizes us.definition) others in
       let front-length : length (sigs P) ≡ length front.own = ap (length {A = Signal}) front.emits in
       let next-is : next.signals ≡ g.base.signals + length (sigs P) = omega (arith, front.next-are, front.stands.len, front-length) in
-      let room-first : next.signals + length first * c < most_numbers = omega (arith, next-is, front-length, front.counts, h.room, counted, declared-ones, news-front, insts-all, insts-split, units) in
-      let first-length = units-add sizes g m env behind-all ms inner added absent us of named first next room-first in
-      let base-is = base-units (λ (c : Counts). c.signals) (λ a c room. omega (arith, room)) (sizes us.definition) first next room-first in
+      let first-length = units-add sizes g m env behind-all ms inner added absent us of named first next in
+      let base-is = base-units (λ (c : Counts). c.signals) (λ a c. refl) (sizes us.definition) first next in
       let shape = split-parts (λ (a : f.Part). a.signals) inner sizes ms spot g before after us of first others u m.items is split named in
-      let counted-of = size-named n ms us.definition of named in
       record {
         own-names = found-holds AreApart (λ z. bytes_eq us.definition z.name.name) ms of apart named;
-        room = omega (arith, base-is, counted-of, next-is, front-length, front.counts, h.room, counted, declared-ones, news-front, insts-all, insts-split, units);
         stands = subst (λ z. Stands-at whole base.signals z) (instance-sigs n ms spot base us u of)
             (stands-part whole (sigs P ++ sigs F) (sigs X) (sigs O ++ sigs R) g.base.signals base.signals (subst (λ z. Stands-at whole g.base.signals z) shape h.stands)
             (omega (arith, base-is, next-is, first-length, length-append (sigs P) (sigs F))));
@@ -103,23 +87,22 @@ module _ (ms : List x.Module) (top : x.Module) (whole : List Signal) (apart : Al
       → (name : Identifier) × (name.name ≡ t) × (slice_get whole k ≡ Some (signal g.path name s))
   unfolding behind-all body-of
   place-of n g m h t k s e =
-      let body = body-adds n ms behind-all g m h.own-names h.room (instance-adds n ms apart) in
+      let body = body-adds n ms behind-all g m h.own-names (instance-adds n ms apart) in
       let at = body.at t k s e in
       let there : slice_get (sigs (body-of n g m)) at.i ≡ Some (signal g.path at.name s) = ap (λ z. slice_get z at.i) body.emits ∙ at.there in
       (at.name, at.spelt, ap (slice_get whole) at.is ∙ h.stands at.i (signal g.path at.name s) there)
 
 -- in the flat design each instance's names stand where their numbers say
-pub places : (ms : List x.Module) (top : x.Module) → All AreApart ms → AreApart top → (module_counts (size f.deepest ms) top).signals < most_numbers
+pub places : (ms : List x.Module) (top : x.Module) → All AreApart ms → AreApart top
     → (d : p.Design) → o.flattened_from ms top ≡ Ok d → (n : ℕ) (g : Given) (m : x.Module) → IsInstance ms top n g m
     → (t : List ℕ) (k : ℕ) (s : Shape) → environment (size n ms) g m t ≡ Some (b.Signal k s)
     → (name : Identifier) × (name.name ≡ t) × (slice_get d.signals k ≡ Some (signal g.path name s))
 unfolding behind-all body-of
-places ms top apart own room d is n g m h =
+places ms top apart own d is n g m h =
     let parts = f.parts_from ms top in
     let design = design-is (o.judged o.nothing_yet parts) (f.design_of top parts) d is in
     let start : Together ms top d.signals apart f.deepest (f.top_given top) top = record {
       own-names = own;
-      room = omega (arith, room);
       stands = λ i r e. let zero-first : i ≡ 0 + i = omega arith in
           subst (λ z. slice_get d.signals z ≡ Some r) zero-first (subst (λ (z : p.Design). slice_get z.signals i ≡ Some r) design e);
     } in

@@ -11,7 +11,7 @@ use Rattle.vl_flat.specs.declared.binding.Shape.{Shape}
 use Rattle.vl_flat.specs.Items as x
 use Rattle.vl_design.specs.Placed as p
 use Rattle.vl_flat.specs.Declarations.{modules}
-use Rattle.vl_flat.specs.Environments.{Given, module_counts, size, environment, most_numbers}
+use Rattle.vl_flat.specs.Environments.{Given, size, environment}
 use Rattle.vl_flat.specs.Functions.{signal, function}
 use Rattle.vl_flat.specs.Flat as f
 use Rattle.vl_flat.specs.Outcome.{flattened, flattened_by}
@@ -25,19 +25,19 @@ use Rattle.vl_laws.proofs.Places.{places}
 use Rattle.vl_laws.proofs.Functions.{function-places}
 
 pub source-places : (s : Source) → ((e : Fault) → IsDeclarationFault s e → ⊥) → (top : x.Module) → f.top_of (modules s) ≡ Some top
-    → (module_counts (size f.deepest (modules s)) top).signals < most_numbers → (d : p.Design) → flattened s ≡ Ok d
+    → (d : p.Design) → flattened s ≡ Ok d
     → (n : ℕ) (g : Given) (m : x.Module) → IsInstance (modules s) top n g m → (t : List ℕ) (k : ℕ) (r : Shape) → environment (size n (modules s)) g m t ≡ Some (Signal k r)
     → (name : Identifier) × (name.name ≡ t) × (slice_get d.signals k ≡ Some (signal g.path name r))
-source-places s none top is room d e n g m h t k r at =
+source-places s none top is d e n g m h t k r at =
     let apart = all-apart s none in
-    places (modules s) top apart (found-holds AreApart (f.is_top (modules s)) (modules s) top apart is) room d (ap (flattened_by (modules s)) (sym is) ∙ e) n g m h t k r at
+    places (modules s) top apart (found-holds AreApart (f.is_top (modules s)) (modules s) top apart is) d (ap (flattened_by (modules s)) (sym is) ∙ e) n g m h t k r at
 
 pub source-functions : (s : Source) → (top : x.Module) → f.top_of (modules s) ≡ Some top
-    → (module_counts (size f.deepest (modules s)) top).functions < most_numbers → (d : p.Design) → flattened s ≡ Ok d
+    → (d : p.Design) → flattened s ≡ Ok d
     → (n : ℕ) (g : Given) (m : x.Module) → IsInstance (modules s) top n g m → (t : List ℕ) (k : ℕ) (c : Form) → environment (size n (modules s)) g m t ≡ Some (Function k c)
     → (a : x.Function) × (a.name.name ≡ t)
     × (slice_get d.funcs k ≡ Some (function (size (suc f.deepest) (modules s) top.name.name).signals (environment (size n (modules s)) g m) g.path a))
-source-functions s top is room d e n g m h t k c at = function-places (modules s) top room d (ap (flattened_by (modules s)) (sym is) ∙ e) n g m h t k c at
+source-functions s top is d e n g m h t k c at = function-places (modules s) top d (ap (flattened_by (modules s)) (sym is) ∙ e) n g m h t k c at
 
 pub source-levels : (s : Source) → All AreSpelt (modules s) → (top : x.Module) → f.top_of (modules s) ≡ Some top → 0 < length top.name.name → (d : p.Design) → flattened s ≡ Ok d
     → (n : ℕ) → f.deepest ≤ n → parts_at n (modules s) top ≡ f.parts_from (modules s) top

@@ -15,7 +15,7 @@ ghost use Rattle.vl_flat.specs.Items as items;
 ghost use Rattle.vl_design.specs.Placed as placed;
 ghost use Rattle.vl_flat.specs.Declarations.{modules};
 ghost use Rattle.vl_flat.specs.Scopes.{Env, Scope, plainly};
-ghost use Rattle.vl_flat.specs.Environments.{Counts, Given, most_numbers, module_counts, module_named, size, environment};
+ghost use Rattle.vl_flat.specs.Environments.{Counts, Given, module_named, size, environment};
 ghost use Rattle.vl_flat.specs.Functions.{function, function_scope, signal};
 ghost use Rattle.vl_flat.specs.Processes.{Here};
 ghost use Rattle.vl_flat.specs.Flat as flat;
@@ -37,7 +37,7 @@ pub fn an_expression_has_the_width_by_which_it_is_judged()
 /// its locals come: also where it calls another function.
 pub fn a_function_stands_in_the_design_as_its_module_does()
     ensures { (design : width.Names) (env : Env) (path : List ℕ) (a : items.Function) → design.rows ≡ design.signals
-        → length design.signals + length a.locals ≤ most_numbers → StandsIn (plainly env) design
+        → StandsIn (plainly env) design
         → StandsIn (function_scope (length design.signals) env a) (names_in design (plain.fun (function (length design.signals) env path a))) }
 {}
 
@@ -50,7 +50,6 @@ pub fn signals_have_names_of_their_own()
 pub fn an_instance_has_as_many_signals_as_its_size_says()
     ensures { (s : Source) → ((f : Fault) → IsDeclarationFault s f → ⊥)
         → (n : ℕ) (above : Here) (base : Counts) (us : items.Instances) (u : items.NamedUnit) (m : items.Module) → module_named (modules s) us.definition ≡ Some m
-        → base.signals + (size n (modules s) us.definition).signals < most_numbers
         → length (flat_map (λ (a : flat.Part). a.signals) (flat.instance n (modules s) above base us u m)) ≡ (size n (modules s) us.definition).signals }
 {}
 
@@ -58,7 +57,7 @@ pub fn an_instance_has_as_many_signals_as_its_size_says()
 /// path.
 pub fn the_number_of_a_name_is_the_place_of_its_signal()
     ensures { (s : Source) → ((f : Fault) → IsDeclarationFault s f → ⊥)
-        → (top : items.Module) → flat.top_of (modules s) ≡ Some top → (module_counts (size flat.deepest (modules s)) top).signals < most_numbers
+        → (top : items.Module) → flat.top_of (modules s) ≡ Some top
         → (d : placed.Design) → flattened s ≡ Ok d → (n : ℕ) (g : Given) (m : items.Module) → IsInstance (modules s) top n g m
         → (t : List ℕ) (k : ℕ) (r : Shape) → environment (size n (modules s)) g m t ≡ Some (Signal k r)
         → (name : Identifier) × (name.name ≡ t) × (slice_get d.signals k ≡ Some (signal g.path name r)) }
@@ -68,7 +67,6 @@ pub fn the_number_of_a_name_is_the_place_of_its_signal()
 /// instance that declares it. Its locals come behind all the design's signals.
 pub fn the_number_of_a_function_is_its_place()
     ensures { (s : Source) → (top : items.Module) → flat.top_of (modules s) ≡ Some top
-        → (module_counts (size flat.deepest (modules s)) top).functions < most_numbers
         → (d : placed.Design) → flattened s ≡ Ok d → (n : ℕ) (g : Given) (m : items.Module) → IsInstance (modules s) top n g m
         → (t : List ℕ) (k : ℕ) (c : Form) → environment (size n (modules s)) g m t ≡ Some (Function k c)
         → (a : items.Function) × (a.name.name ≡ t)

@@ -24,8 +24,8 @@ exp-returns-in-Named t c =
     let name = c.in-Named.name in
     let P : p.Exp → Type 0 = λ z. IfOk c.named.result (λ b. exp_of b ≡ z) in
     subst P
-    (ap (λ o. flat.named s at o (selects_before c.as_slice-in-Named-2.result.now x.NoSelects)) (c.meaning-known.ensures ∙ ap s.names c.as_slice-in-Named.ensures)
-    ∙ (ap (λ ss. flat.named s at (s.names name) (selects_before ss x.NoSelects)) c.as_slice-in-Named-2.ensures.value
+    (ap (λ o. n.named s at o (selects_before c.as_slice-in-Named-2.result.now x.NoSelects)) (c.meaning-known.ensures ∙ ap s.names c.as_slice-in-Named.ensures)
+    ∙ (ap (λ ss. n.named s at (s.names name) (selects_before ss x.NoSelects)) c.as_slice-in-Named-2.ensures.value
     ∙ sym (ap (flat.exp s) (ap seen c.in-Named.is ∙ named-seen at name c.in-Named.selects))))
     c.named.ensures
 
@@ -94,13 +94,13 @@ pub selected-loop-one-preserved : goal.selected-loop-one-preserved
 selected-loop-one-preserved t c =
     let s = seen_scope c.args.scope.now in
     c.in_ok-all.ensures (selects_before (drop (c.loop-one.one-index + 1) c.args.selects.now) x.NoSelects)
-    ∙ (sym (ap (flat.selected s c.args.at (numbers c.loop-one.all.range) (exp_of c.loop-one.all.base)) (selects-step c.args.selects.now c.loop-one.one-index c.one-item.result x.NoSelects c.loop-one-test.true c.one-item.is))
+    ∙ (sym (ap (n.selected s c.args.at (numbers c.loop-one.all.range) (exp_of c.loop-one.all.base)) (selects-step c.args.selects.now c.loop-one.one-index c.one-item.result x.NoSelects c.loop-one-test.true c.one-item.is))
     ∙ c.loop-one.invariant)
 
 pub selected-returns : goal.selected-returns
 selected-returns t c =
     let s = seen_scope c.args.scope.now in
-    sym (ap (flat.selected s c.args.at (numbers c.loop-one.all.range) (exp_of c.loop-one.all.base)) (selects-end c.args.selects.now c.loop-one.one-index x.NoSelects c.loop-one-test.false))
+    sym (ap (n.selected s c.args.at (numbers c.loop-one.all.range) (exp_of c.loop-one.all.base)) (selects-end c.args.selects.now c.loop-one.one-index x.NoSelects c.loop-one-test.false))
     ∙ c.loop-one.invariant
 
 pub named-returns : goal.named-returns
@@ -110,7 +110,7 @@ named-returns t c =
     let ss = selects_before c.args.selects.now x.NoSelects in
     let P : p.Exp → Type 0 = λ z. IfOk c.selected.result (λ b. exp_of b ≡ z) in
     subst P
-    (ap (λ r. flat.selected s c.args.at r (exp_of c.whole-base.result) ss) c.range_of-range.ensures
-    ∙ (ap (λ b. flat.selected s c.args.at (range_of o) b ss) c.whole-base.ensures
+    (ap (λ r. n.selected s c.args.at r (exp_of c.whole-base.result) ss) c.range_of-range.ensures
+    ∙ (ap (λ b. n.selected s c.args.at (range_of o) b ss) c.whole-base.ensures
     ∙ sym (named-plain s c.args.at o ss (sym c.is_memory.ensures ∙ c.if-is_memory.false))))
     c.selected.ensures

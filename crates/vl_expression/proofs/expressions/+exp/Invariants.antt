@@ -13,8 +13,8 @@ invariant-exps-loop-e l = map exp_of l.all.items ≡ map (n.seen_exp (seen_scope
 
 abbrev pub invariant-selected-loop-one : goal.invariant-selected-loop-one
 invariant-selected-loop-one l =
-    flat.selected (seen_scope l.scope) l.at (numbers l.all.range) (exp_of l.all.base) (selects_before (drop l.one-index l.selects) x.NoSelects)
-    ≡ flat.selected (seen_scope l.scope) l.at (numbers l.initial.all.range) (exp_of l.initial.all.base) (selects_before l.selects x.NoSelects)
+    n.selected (seen_scope l.scope) l.at (numbers l.all.range) (exp_of l.all.base) (selects_before (drop l.one-index l.selects) x.NoSelects)
+    ≡ n.selected (seen_scope l.scope) l.at (numbers l.initial.all.range) (exp_of l.initial.all.base) (selects_before l.selects x.NoSelects)
 
 abbrev pub invariant-arguments-loop-a : goal.invariant-arguments-loop-a
 invariant-arguments-loop-a l = (o : x.Args) → n.args_with l.all.items (flat.args (seen_scope l.scope) l.keeps o) ≡ flat.args (seen_scope l.scope) l.keeps (args_before (take l.a-index l.given) o)

@@ -1,6 +1,6 @@
 use Rattle.std.proofs.Common.{ap, ◌∙◌, sym, drop, ◌+◌}
 use Rattle.vl_flat.specs.Surface as x
-use Rattle.vl_flat.specs.Targets as lefts
+use Rattle.vl_expression.specs.Walked as n
 use Rattle.vl_design.specs.Seen.{target_of}
 use Rattle.vl_bind.specs.Seen.{selects_before}
 use Rattle.vl_constant.specs.Seen.{seen_scope}
@@ -12,11 +12,11 @@ pub loop-one-preserved : goal.loop-one-preserved
 loop-one-preserved c =
     let s = seen_scope c.args.scope.now in
     c.in_ok-all.ensures (selects_before (drop (c.loop-one.one-index + 1) c.args.selects.now) x.NoSelects)
-    ∙ (sym (ap (lefts.selected s c.args.at (numbers c.loop-one.all.range) (target_of c.loop-one.all.base)) (selects-step c.args.selects.now c.loop-one.one-index c.one-item.result x.NoSelects c.loop-one-test.true c.one-item.is))
+    ∙ (sym (ap (n.selected s c.args.at (numbers c.loop-one.all.range) (target_of c.loop-one.all.base)) (selects-step c.args.selects.now c.loop-one.one-index c.one-item.result x.NoSelects c.loop-one-test.true c.one-item.is))
     ∙ c.loop-one.invariant)
 
 pub returns : goal.returns
 returns c =
     let s = seen_scope c.args.scope.now in
-    sym (ap (lefts.selected s c.args.at (numbers c.loop-one.all.range) (target_of c.loop-one.all.base)) (selects-end c.args.selects.now c.loop-one.one-index x.NoSelects c.loop-one-test.false))
+    sym (ap (n.selected s c.args.at (numbers c.loop-one.all.range) (target_of c.loop-one.all.base)) (selects-end c.args.selects.now c.loop-one.one-index x.NoSelects c.loop-one-test.false))
     ∙ c.loop-one.invariant

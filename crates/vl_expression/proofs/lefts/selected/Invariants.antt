@@ -1,6 +1,6 @@
 use Rattle.std.proofs.Common.{◌≡◌, drop}
 use Rattle.vl_flat.specs.Surface as x
-use Rattle.vl_flat.specs.Targets as lefts
+use Rattle.vl_expression.specs.Walked as n
 use Rattle.vl_design.specs.Seen.{target_of}
 use Rattle.vl_bind.specs.Seen.{selects_before}
 use Rattle.vl_constant.specs.Seen.{seen_scope}
@@ -9,5 +9,5 @@ use Rattle.vl_expression.proofs.lefts.selected.Given as goal
 
 abbrev pub invariant-loop-one : goal.invariant-loop-one
 invariant-loop-one l =
-    lefts.selected (seen_scope l.scope) l.at (numbers l.all.range) (target_of l.all.base) (selects_before (drop l.one-index l.selects) x.NoSelects)
-    ≡ lefts.selected (seen_scope l.scope) l.at (numbers l.initial.all.range) (target_of l.initial.all.base) (selects_before l.selects x.NoSelects)
+    n.selected (seen_scope l.scope) l.at (numbers l.all.range) (target_of l.all.base) (selects_before (drop l.one-index l.selects) x.NoSelects)
+    ≡ n.selected (seen_scope l.scope) l.at (numbers l.initial.all.range) (target_of l.initial.all.base) (selects_before l.selects x.NoSelects)

@@ -3,7 +3,7 @@ use Rattle.std.specs.Prelude.{IfOk, option_map}
 use Rattle.vl_flat.specs.Surface as x
 use Rattle.vl_design.specs.Placed as p
 use Rattle.vl_flat.specs.Scopes.{range_of}
-use Rattle.vl_flat.specs.Targets as lefts
+use Rattle.vl_expression.specs.Walked as n
 use Rattle.vl_design.specs.Seen.{target_of}
 use Rattle.vl_bind.specs.Seen.{selects_before}
 use Rattle.vl_constant.specs.Seen.{seen_scope, binding_of}
@@ -17,7 +17,7 @@ returns c =
     let ss = selects_before c.args.selects.now x.NoSelects in
     let P : p.Target → Type 0 = λ z. IfOk c.selected.result (λ b. target_of b ≡ z) in
     subst P
-    (ap (λ r. lefts.selected s c.args.at r (target_of c.entire-base.result) ss) c.range_of-range.ensures
-    ∙ (ap (λ b. lefts.selected s c.args.at (range_of o) b ss) c.entire-base.ensures
+    (ap (λ r. n.selected s c.args.at r (target_of c.entire-base.result) ss) c.range_of-range.ensures
+    ∙ (ap (λ b. n.selected s c.args.at (range_of o) b ss) c.entire-base.ensures
     ∙ sym (written-plain s c.args.at o ss (sym c.is_memory.ensures ∙ c.if-is_memory.false))))
     c.selected.ensures

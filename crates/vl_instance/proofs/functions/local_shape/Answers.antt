@@ -10,6 +10,7 @@ returns c =
     let l = seen_variable c.args.variable.now in
     let range = numbers c.type_range-range.result in
     λ a h. c.plain_shape.ensures
-    ∙ ap (λ k. plain_shape k c.is_signed.result range) (c.local_kind-kind.ensures.local a l h refl (sym c.as_slice.ensures))
-    ∙ ap (λ s. plain_shape (f.local_kind a l) s range) c.is_signed.ensures
-    ∙ ap (plain_shape (f.local_kind a l) (r.is_signed l.type)) (c.type_range-range.ensures.same ∙ ap (λ s. r.type_range s.names l.type) c.module_scope.ensures)
+    ∙ ap (λ k. plain_shape k c.is_signed.result c.has_range.result range) (c.local_kind-kind.ensures.local a l h refl (sym c.as_slice.ensures))
+    ∙ ap (λ s. plain_shape (f.local_kind a l) s c.has_range.result range) c.is_signed.ensures
+    ∙ ap (λ b. plain_shape (f.local_kind a l) (r.is_signed l.type) b range) c.has_range.ensures
+    ∙ ap (plain_shape (f.local_kind a l) (r.is_signed l.type) (r.has_range l.type)) (c.type_range-range.ensures.same ∙ ap (λ s. r.type_range s.names l.type) c.module_scope.ensures)

@@ -1,19 +1,19 @@
-use Rattle.std.proofs.Common.{map, ap, ◌∙◌}
-use Rattle.std.specs.List.{position}
-use Rattle.std.specs.Prelude.{not, slice_get}
-use Rattle.std.specs.Option.{option_and_then}
-use Rattle.vl_flat.specs.Flat.{is_top}
+use Rattle.std.proofs.Common.{◌≡◌, ℕ, Bool, List, length, map, not, Option, ap, ◌∙◌, sym}
+use Rattle.std.specs.Prelude.{flat_map}
+use Rattle.vl_source.specs.Hierarchy.{first_from}
+use Rattle.vl_flat.specs.Flat.{module_number, item_steps, graph_of}
 use Rattle.vl_items.specs.SeenItems.{seen_module}
-use Rattle.vl_instance.proofs.Turns.{position-map, position-find}
+use Rattle.vl_kinds.specs.Places.{place_of}
+use Rattle.vl_instance.specs.Tables.{used}
+use Rattle.vl_instance.proofs.Unused.{place-number, same-length}
 use Rattle.vl_instance.proofs.tops.top_of.Goals as goal
 
-pub returns-clause-place : goal.returns-clause-place
-returns-clause-place c =
-    c.first_unused.ensures
-    ∙ ap (λ names. position (λ m. not (names m.name.name)) c.args.modules.now) c.in_ok-used.ensures
-    ∙ position-map (is_top (map seen_module c.args.modules.now)) seen_module c.args.modules.now
-
-pub returns-clause-top : goal.returns-clause-top
-returns-clause-top c =
-    ap (option_and_then (slice_get (map seen_module c.args.modules.now))) (returns-clause-place c)
-    ∙ position-find (is_top (map seen_module c.args.modules.now)) (map seen_module c.args.modules.now)
+pub returns-clause-number : goal.returns-clause-number
+returns-clause-number c =
+    let xs = c.args.modules.now in
+    let ms = map seen_module xs in
+    let number : place_of c.in_ok-index.index ≡ module_number ms = c.in_ok-index.ensures ∙ (λ i t. place-number ms t i) in
+    let count : length xs ≡ length (graph_of ms) = sym (same-length (λ m. flat_map (item_steps (module_number ms)) m.items) ms ∙ same-length seen_module xs) in
+    c.first_unused.ensures.first
+    ∙ (ap (λ (p : ℕ → Bool). first_from (λ n. not (p n)) 0 (length xs)) (c.in_ok-used.ensures ∙ ap (λ (f : List ℕ → Option ℕ). used f ms) number)
+    ∙ ap (first_from (λ n. not (used (module_number ms) ms n)) 0) count)

@@ -1,12 +1,4 @@
-use Rattle.vl_kinds.specs.Names.{has}
-use Rattle.vl_kinds.specs.Parts.{controls_in, strays_in}
-use Rattle.vl_kinds.proofs.Adding.{adds-under}
-use Rattle.vl_kinds.proofs.Parts.{from-empty, empty-hides}
 use Rattle.vl_kinds.proofs.locals.body_roles.Goals as goal
 
 pub returns : goal.returns
-returns c =
-    let shown = empty-hides c.new-hidden.result c.new-hidden.ensures.empty in
-    let controls = from-empty c.new-controls.result c.add_controls.new.names (λ t. controls_in t c.args.body.now) c.new-controls.ensures.empty (adds-under (has c.new-hidden.result) shown c.in_ok-add_controls.ensures) in
-    let strays = from-empty c.new-strays.result c.add_strays.new.names (λ t. strays_in t c.args.body.now) c.new-strays.ensures.empty (adds-under (has c.new-hidden.result) shown c.in_ok-add_strays.ensures.names) in
-    λ i t. record { controls = controls i t; strays = strays i t }
+returns c = λ i t. record { controls = c.in_ok-controls.ensures i t; strays = c.in_ok-strays.ensures i t }

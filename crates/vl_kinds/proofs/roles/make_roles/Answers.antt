@@ -10,8 +10,8 @@ pub returns : goal.returns
 returns c =
     let same = c.as_slice-items.ensures.value in
     let declared = c.in_ok-declared.ensures ∙ ap (λ (z : List Item). said (flat_map signals_in (map seen_item z))) same in
-    let controls = c.in_ok-controls.ensures ∙ ap (λ (z : List Item). λ t. list_any (item_controls t) (map seen_item z)) same in
-    let strays = c.in_ok-strays.ensures ∙ ap (λ (z : List Item). λ t. list_any (item_strays t) (map seen_item z)) same in
+    let controls = c.in_ok-controls.ensures.controls ∙ ap (λ (z : List Item). λ t. list_any (item_controls t) (map seen_item z)) same in
+    let strays = c.in_ok-controls.ensures.strays ∙ ap (λ (z : List Item). λ t. list_any (item_strays t) (map seen_item z)) same in
     let writes = c.in_ok-writes.ensures ∙ ap (λ (z : List Item). λ t. list_any (item_writes t) (map seen_item z)) same in
     λ i t. record {
       input = (declared i t).input;

@@ -1,10 +1,6 @@
-use Rattle.std.proofs.Common.{ap, ◌∙◌}
-use Rattle.vl_kinds.specs.Sized.{told, round_at}
+use Rattle.std.proofs.Common.{◌∙◌}
+use Rattle.vl_flat.specs.Environments as e
 use Rattle.vl_kinds.proofs.sizes.size_at.Goals as goal
 
-pub returns-clause-told : goal.returns-clause-told
-returns-clause-told c =
-    c.told.ensures ∙ ap (λ z. told c.args.sizes.now.index z c.args.name.now) (c.round_at.ensures ∙ ap (λ z. round_at z c.args.depth) c.as_slice.ensures.value)
-
-pub returns-clause-size : goal.returns-clause-size
-returns-clause-size c = λ ms sized deep. returns-clause-told c ∙ (λ i. sized c.args.depth deep i c.args.name.now)
+pub returns : goal.returns
+returns c = λ ms sized deep. c.in_ok-exactly.ensures (e.size c.args.depth ms c.args.name.now) (c.kept_size_at.ensures ∙ (λ i. sized c.args.depth deep i c.args.name.now))

@@ -1,0 +1,10 @@
+use Rattle.vl_kinds.specs.Names.{has}
+use Rattle.vl_kinds.specs.Parts.{controls_in}
+use Rattle.vl_kinds.proofs.Adding.{adds-under}
+use Rattle.vl_kinds.proofs.Parts.{from-empty, empty-hides}
+use Rattle.vl_kinds.proofs.locals.body_controls.Goals as goal
+
+pub returns : goal.returns
+returns c =
+    let shown = empty-hides c.new-hidden.result c.new-hidden.ensures.empty in
+    from-empty c.new-controls.result c.add_controls.new.names (λ t. controls_in t c.args.body.now) c.new-controls.ensures.empty (adds-under (has c.new-hidden.result) shown c.in_ok-add_controls.ensures)

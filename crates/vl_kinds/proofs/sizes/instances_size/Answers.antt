@@ -1,0 +1,18 @@
+use Rattle.std.proofs.Common.{ap, sym, ◌∙◌, length}
+use Rattle.std.proofs.lemmas.List.{length-map}
+use Rattle.vl_flat.specs.Environments as e
+use Rattle.vl_items.specs.SeenItems.{seen_unit}
+use Rattle.vl_kinds.specs.Sized.{kept, told, round_at}
+use Rattle.vl_kinds.proofs.Keeping.{kept-times, kept-twice}
+use Rattle.vl_kinds.proofs.sizes.instances_size.Goals as goal
+
+pub returns : goal.returns
+returns c = λ ms sized deep.
+    let units = c.args.instances.now.units.items in
+    let n = length units in
+    let t = c.args.instances.now.definition in
+    let size = e.size c.args.depth ms t in
+    let known = told c.args.sizes.now.index c.round_at-round.result.now t in
+    let one = ap (λ z. told c.args.sizes.now.index z t) (c.round_at-round.ensures ∙ ap (λ z. round_at z c.args.depth) c.as_slice.ensures.value) ∙ (λ i. sized c.args.depth deep i t) in
+    c.in_ok-exactly.ensures (e.times n size) (c.instances_counts.ensures ∙ kept-times n known size (ap kept one ∙ kept-twice size))
+    ∙ ap (λ k. e.times k size) (sym (length-map units seen_unit))

@@ -25,7 +25,7 @@ def place(source):
 
 shown = []
 for wanted, source in cases((TOOLS / "name_rows.txt").read_text()):
-    if wanted == "fine":
+    if wanted == "named":
         assert MARK not in source, source
         shown.append("= fine\n" + source)
     else:

@@ -146,14 +146,10 @@ pub fn bind(alloc: Global, e: &Expression) -> Result<Ex, AllocError>
         None => Ok(first),
         Some(two) => {
             let two = two.get();
-            let chosen = bind(alloc, &two.chosen)?;
-            let otherwise = bind(alloc, &two.otherwise)?;
-            Ok(Ex::Choice(
-                e.place,
-                Box::new(alloc, first)?,
-                Box::new(alloc, chosen)?,
-                Box::new(alloc, otherwise)?,
-            ))
+            let first = Box::new(alloc, first)?;
+            let chosen = Box::new(alloc, bind(alloc, &two.chosen)?)?;
+            let otherwise = Box::new(alloc, bind(alloc, &two.otherwise)?)?;
+            Ok(Ex::Choice(e.place, first, chosen, otherwise))
         }
     }
 }
@@ -211,9 +207,9 @@ fn bind_primary(alloc: Global, p: &Primary) -> Result<Ex, AllocError>
         }
         Primary::Concatenation(at, es) => Ok(Ex::Joined(*at, bind_all(alloc, es.as_slice())?)),
         Primary::Replication(at, count, es) => {
-            let count = bind(alloc, count.get())?;
+            let count = Box::new(alloc, bind(alloc, count.get())?)?;
             let parts = bind_all(alloc, es.as_slice())?;
-            Ok(Ex::Repeated(*at, Box::new(alloc, count)?, parts))
+            Ok(Ex::Repeated(*at, count, parts))
         }
         Primary::Call(name, es) => {
             let arguments = bind_all(alloc, es.as_slice())?;

@@ -48,24 +48,16 @@ fn bind_for(
     start: &Assignment,
     test: &Expression,
     step: &Assignment,
-    body: Statement,
+    body: Box<Statement>,
 ) -> Result<Statement, AllocError>
-    ensures { IfOk result (λ a. s.seen_statement a ≡ x.For at (f.left start.now.target) (f.ex start.now.value) (f.ex test.now) (f.left step.now.target) (f.ex step.now.value) (s.seen_statement body)) }
+    ensures { IfOk result (λ a. s.seen_statement a ≡ x.For at (f.left start.now.target) (f.ex start.now.value) (f.ex test.now) (f.left step.now.target) (f.ex step.now.value) (s.seen_statement body.value)) }
 {
     let target = bind_left(alloc, &start.target)?;
     let first = bind(alloc, &start.value)?;
     let test = bind(alloc, test)?;
     let stepped = bind_left(alloc, &step.target)?;
     let next = bind(alloc, &step.value)?;
-    Ok(Statement::For(
-        at,
-        target,
-        first,
-        test,
-        stepped,
-        next,
-        Box::new(alloc, body)?,
-    ))
+    Ok(Statement::For(at, target, first, test, stepped, next, body))
 }
 
 /// A condition with these branches.
@@ -74,18 +66,13 @@ fn bind_if(
     alloc: Global,
     at: Place,
     test: &Expression,
-    chosen: Statement,
-    otherwise: Statement,
+    chosen: Box<Statement>,
+    otherwise: Box<Statement>,
 ) -> Result<Statement, AllocError>
-    ensures { IfOk result (λ a. s.seen_statement a ≡ x.If at (f.ex test.now) (s.seen_statement chosen) (s.seen_statement otherwise)) }
+    ensures { IfOk result (λ a. s.seen_statement a ≡ x.If at (f.ex test.now) (s.seen_statement chosen.value) (s.seen_statement otherwise.value)) }
 {
     let test = bind(alloc, test)?;
-    Ok(Statement::If(
-        at,
-        test,
-        Box::new(alloc, chosen)?,
-        Box::new(alloc, otherwise)?,
-    ))
+    Ok(Statement::If(at, test, chosen, otherwise))
 }
 
 /// A statement with its operators bound.
@@ -100,11 +87,14 @@ pub fn bind_statement(alloc: Global, a: &StatementTree) -> Result<Statement, All
             Ok(Statement::Block(*at, bind_statements(alloc, parts.as_slice())?))
         }
         StatementTree::If(at, test, chosen, otherwise) => {
-            let chosen = bind_statement(alloc, chosen.get())?;
+            let chosen = Box::new(alloc, bind_statement(alloc, chosen.get())?)?;
             match otherwise {
-                None => bind_if(alloc, *at, test, chosen, Statement::Null(*at)),
+                None => {
+                    let none = Box::new(alloc, Statement::Null(*at))?;
+                    bind_if(alloc, *at, test, chosen, none)
+                }
                 Some(other) => {
-                    let other = bind_statement(alloc, other.get())?;
+                    let other = Box::new(alloc, bind_statement(alloc, other.get())?)?;
                     bind_if(alloc, *at, test, chosen, other)
                 }
             }
@@ -115,13 +105,13 @@ pub fn bind_statement(alloc: Global, a: &StatementTree) -> Result<Statement, All
             Ok(Statement::Case(*at, wild, subject, bind_items(alloc, items.as_slice())?))
         }
         StatementTree::For(at, start, test, step, body) => {
-            let body = bind_statement(alloc, body.get())?;
+            let body = Box::new(alloc, bind_statement(alloc, body.get())?)?;
             bind_for(alloc, *at, start, test, step, body)
         }
         StatementTree::Repeat(at, count, body) => {
-            let body = bind_statement(alloc, body.get())?;
+            let body = Box::new(alloc, bind_statement(alloc, body.get())?)?;
             let count = bind(alloc, count)?;
-            Ok(Statement::Repeat(*at, count, Box::new(alloc, body)?))
+            Ok(Statement::Repeat(*at, count, body))
         }
         StatementTree::Assign(at, target, mark, value) => {
             let blocking = *mark == AssignMark::Blocking;

@@ -1,6 +1,6 @@
 -- Whole numbers in ranges.
 use Rattle.std.proofs.Common.{◌≡◌, refl, ap, sym, ◌∙◌, ℕ, zero, suc, ◌+◌, ◌-◌, ◌*◌, ◌%◌, ◌^◌, max, ◌≤◌, ◌<◌, Bool, true, false, arith}
-use Rattle.std.specs.Prelude.{pos, neg_ℤ, int_le, if◌then◌else◌}
+use Rattle.std.specs.Prelude.{pos, neg_ℤ, int_le, unsigned_abs, if◌then◌else◌}
 use Rattle.std.proofs.lemmas.Grind.{common_steps}
 use Rattle.std.proofs.lemmas.Int.{ints}
 use Rattle.std.proofs.Math.Pow.{pow-add, pow_pos}
@@ -9,8 +9,7 @@ use Rattle.vl_base.specs.Value.{reading, is_negative}
 use Rattle.vl_design.specs.Value.{value}
 use Rattle.vl_design.specs.Width.{assigned}
 use Rattle.vl_design.specs.Plainly as plain
-use Rattle.vl_flat.specs.Constants.{closed, nothing, is_within, lowest, highest, constant_form, constant_value, assigned_value, constant_reading}
-use Rattle.vl_constant.specs.Wholes.{turns}
+use Rattle.vl_flat.specs.Constants.{closed, nothing, is_within, lowest, highest, nearest, clamped, constant_form, constant_value, assigned_value, constant_reading}
 use Rattle.vl_flat.specs.Scopes.{Scope}
 use Rattle.vl_flat.specs.Surface.{Ex, place_of}
 use Rattle.vl_design.specs.Placed as p
@@ -80,6 +79,43 @@ positive-width n h = grind (arith, ints)
 pub width-zero : (n : ℕ) → n < 1 → int_le (pos 1) (pos n) ≡ false
 width-zero n h = grind (arith, ints)
 
+-- ---- the nearest numbers
+
+pub negative-clamped : (n : ℕ) → n < 2147483648 → clamped (neg_ℤ (pos n)) ≡ neg_ℤ (pos n)
+negative-clamped n h = grind (arith, ints)
+
+pub lowest-clamped : (n : ℕ) → 2147483648 ≤ n → clamped (neg_ℤ (pos n)) ≡ lowest
+lowest-clamped n h = grind (arith, ints)
+
+pub positive-clamped : (n : ℕ) → n < 2147483648 → clamped (pos n) ≡ pos n
+positive-clamped n h = grind (arith, ints)
+
+pub highest-clamped : (n : ℕ) → 2147483648 ≤ n → clamped (pos n) ≡ highest
+highest-clamped n h = grind (arith, ints)
+
+pub negative-counted : (n : ℕ) → unsigned_abs (nearest (pos 1) (pos 129) (neg_ℤ (pos n))) ≡ 1
+negative-counted zero = refl
+negative-counted (suc n) = refl
+
+pub zero-counted : (n : ℕ) → n < 1 → unsigned_abs (nearest (pos 1) (pos 129) (pos n)) ≡ 1
+zero-counted n h = grind (arith, ints)
+
+pub positive-counted : (n : ℕ) → 1 ≤ n → n < 129 → unsigned_abs (nearest (pos 1) (pos 129) (pos n)) ≡ n
+positive-counted n h k = grind (arith, ints)
+
+pub highest-counted : (n : ℕ) → 129 ≤ n → unsigned_abs (nearest (pos 1) (pos 129) (pos n)) ≡ 129
+highest-counted n h = grind (arith, ints)
+
+pub negative-turned : (n : ℕ) → unsigned_abs (nearest (pos 0) (pos (2 ^ 32 - 1)) (neg_ℤ (pos n))) ≡ 0
+negative-turned zero = refl
+negative-turned (suc n) = refl
+
+pub positive-turned : (n : ℕ) → n < 4294967296 → unsigned_abs (nearest (pos 0) (pos (2 ^ 32 - 1)) (pos n)) ≡ n
+positive-turned n h = grind (arith, ints)
+
+pub highest-turned : (n : ℕ) → 4294967296 ≤ n → unsigned_abs (nearest (pos 0) (pos (2 ^ 32 - 1)) (pos n)) ≡ 4294967295
+highest-turned n h = grind (arith, ints)
+
 -- ---- readings of constants
 
 pub chosen : (b : Bool) (e : Ex) (x : p.Exp) → b ≡ true → constant_reading (if b then x else p.Num (place_of e) 0 1 false) ≡ constant_reading x
@@ -130,12 +166,8 @@ assigned-none s e w h =
     of-left_out (λ x. assigned_value x w) (is_constant s.names e) e (exp s e) h
     ∙ (ap (λ n. n % 2 ^ w) (zero-rest (max w 1)) ∙ zero-rest w)
 
-pub negative-turns : (n : ℕ) → turns (neg_ℤ (pos n)) ≡ 0
-negative-turns zero = refl
-negative-turns (suc n) = refl
-
 pub ruleset halves = (common_steps, half_twice, below-half, above-half, unsigned-reading)
 
-pub ruleset wholes = (common_steps, negative-turns, negative-bound, negative-none, positive-bound, positive-none, negative-count, positive-count, count-none, count-zero, negative-width, positive-width, width-zero)
+pub ruleset wholes = (common_steps, negative-clamped, lowest-clamped, positive-clamped, highest-clamped, negative-counted, zero-counted, positive-counted, highest-counted, negative-turned, positive-turned, highest-turned, negative-bound, negative-none, positive-bound, positive-none, negative-count, positive-count, count-none, count-zero, negative-width, positive-width, width-zero)
 
 pub ruleset readings = (common_steps, no-reading, own-value_is, own-form_is, none-value, none-form, assigned-is, assigned-none)

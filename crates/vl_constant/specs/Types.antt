@@ -1,10 +1,9 @@
 -- The plain data of types and ranges.
-use Rattle.std.specs.Prelude.{nat_lt, ℤ, pos, ◌-ℤ◌, Bool, ◌||◌, if◌then◌else◌}
+use Rattle.std.specs.Prelude.{ℤ, ◌-ℤ◌, Bool, ◌||◌, if◌then◌else◌}
 use Rattle.vl_flat.specs.declared.binding.Constant.{Constant}
 use Rattle.vl_design.specs.Placed.{Exp}
 use Rattle.vl_flat.specs.Constants.{constant_form, constant_value}
 use Rattle.vl_flat.specs.Expressions.{falls}
-use Rattle.vl_flat.specs.Ranges.{bits_in}
 use Rattle.vl_flat.specs.Parameters as p
 use Rattle.vl_constant.specs.declared.ranges.Range.{Range}
 use Rattle.vl_constant.specs.declared.scope.Value.{Value}
@@ -15,10 +14,6 @@ numbers r = (r.left, r.right)
 
 abbrev pub constant_of : Value → Constant
 constant_of v = record { value = v.bits.value; width = v.bits.width; signed = v.signed; left = v.left; right = v.right }
-
--- a range of more than 128 bits counts as that of one bit
-abbrev pub narrowed : ℤ × ℤ → ℤ × ℤ
-narrowed r = if nat_lt 128 (bits_in r) then (pos 0, pos 0) else r
 
 -- a parameter's value with bits of its own
 abbrev pub unranged : Bool → Exp → Constant

@@ -18,7 +18,7 @@ use crate::constant::text_bits;
 use crate::forms::{binary_form, bit, joined, mark, operated, unary_form};
 use crate::ranges::{Range, bits_in};
 use crate::scope::{Known, Scope, found_in, meaning};
-use crate::whole::{bound, count, width};
+use crate::whole::{bound, count};
 use vl_base::bits::UnOp;
 use vl_bind::surface::{Argument, Ex, Select};
 use vl_design::design::{Form, SigKind};
@@ -69,7 +69,7 @@ pub fn taken(scope: &Scope<'_, '_>, mark: SelectMark, left: &Ex, right: &Ex) -> 
             left: bound(scope, left),
             right: bound(scope, right),
         }),
-        SelectMark::Up | SelectMark::Down => width(scope, right).min(129) as u32,
+        SelectMark::Up | SelectMark::Down => u32::from(count(scope, right)),
     }
 }
 

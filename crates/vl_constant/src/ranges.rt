@@ -1,13 +1,13 @@
 //! The types of declarations, and the values of parameters (IEEE 1364-2005, clauses 4.3, 4.8, 4.10 and 12.2).
 
-ghost use Rattle.std.specs.Prelude.{◌≡◌, ◌≤◌, option_map};
+ghost use Rattle.std.specs.Prelude.{◌≡◌, ◌≤◌, ◌<◌, option_map};
 ghost use Rattle.vl_flat.specs.Scopes.{plainly};
 ghost use Rattle.vl_flat.specs.Expressions as flat;
 ghost use Rattle.vl_flat.specs.Ranges as r;
 ghost use Rattle.vl_flat.specs.Parameters as p;
 ghost use Rattle.vl_bind.specs.Seen.{seen};
 ghost use Rattle.vl_constant.specs.Seen.{seen_scope};
-ghost use Rattle.vl_constant.specs.Types.{numbers, constant_of, narrowed, unranged};
+ghost use Rattle.vl_constant.specs.Types.{numbers, constant_of, unranged};
 ghost use Rattle.vl_items.specs.SeenItems.{seen_bounds, seen_type};
 
 use crate::scope::{Scope, Value};
@@ -32,7 +32,14 @@ pub fn bits_in(range: Range) -> u64
     u64::from(range.left.abs_diff(range.right)) + 1
 }
 
-/// The two bounds of a range; one with a fault counts as 0.
+/// The numbers fall to the right.
+pub fn falls(range: Range) -> bool
+    ensures { result ≡ flat.falls (numbers range) }
+{
+    range.right <= range.left
+}
+
+/// The two bounds of a range.
 pub fn bounds_of(scope: &Scope<'_, '_>, range: &Bounds) -> Range
     ensures { numbers result ≡ r.bounds_of (seen_scope scope.now).names (seen_bounds range.now) }
 {
@@ -79,11 +86,43 @@ pub fn is_wide(scope: &Scope<'_, '_>, kind: &DataType) -> bool
     bits_in(written(scope, kind)) > 128
 }
 
-/// A range, or that of one bit where it has more than 128.
-fn narrowed(range: Range) -> Range
-    ensures same { numbers result ≡ narrowed (numbers range) }
+/// 129 bits in the direction of a range of more than 128.
+#[tactic(auto, using(crate::proofs::WideRanges::ranges))]
+fn too_wide(range: Range) -> Range
+    requires { 128 < r.bits_in (numbers range) }
+    ensures { numbers result ≡ r.too_wide (numbers range) }
+{
+    let left = if falls(range) {
+        range.right + 128
+    } else {
+        range.right - 128
+    };
+    Range {
+        left,
+        right: range.right,
+    }
+}
+
+/// The range of a type; one of more than 128 bits counts as that of 129 in its direction.
+#[tactic(auto, using(crate::proofs::WideRanges::ranges))]
+pub fn type_range(scope: &Scope<'_, '_>, kind: &DataType) -> Range
+    ensures same { numbers result ≡ r.type_range (seen_scope scope.now).names (seen_type kind.now) }
+    ensures narrow { r.bits_in (numbers result) ≤ 129 }
+{
+    let range = written(scope, kind);
+    if bits_in(range) > 128 {
+        too_wide(range)
+    } else {
+        range
+    }
+}
+
+/// The range of a parameter's type; one of more than 128 bits counts as that of one bit.
+fn parameter_range(scope: &Scope<'_, '_>, kind: &DataType) -> Range
+    ensures same { numbers result ≡ r.parameter_range (seen_scope scope.now).names (seen_type kind.now) }
     ensures narrow { r.bits_in (numbers result) ≤ 128 }
 {
+    let range = written(scope, kind);
     if bits_in(range) > 128 {
         Range { left: 0, right: 0 }
     } else {
@@ -91,12 +130,14 @@ fn narrowed(range: Range) -> Range
     }
 }
 
-/// The range of a type; one of more than 128 bits counts as that of one bit.
-pub fn type_range(scope: &Scope<'_, '_>, kind: &DataType) -> Range
-    ensures same { numbers result ≡ r.type_range (seen_scope scope.now).names (seen_type kind.now) }
-    ensures narrow { r.bits_in (numbers result) ≤ 128 }
+/// A declaration of a type says which bits there are: by a range, or as an `integer`.
+pub fn has_range(kind: &DataType) -> bool
+    ensures { result ≡ r.has_range (seen_type kind.now) }
 {
-    narrowed(written(scope, kind))
+    match kind {
+        DataType::Integer => true,
+        DataType::Vector(_, range) => range.is_some(),
+    }
 }
 
 /// The width and the sign of a type.
@@ -143,6 +184,6 @@ pub fn converted(scope: &Scope<'_, '_>, kind: &DataType, above: &Scope<'_, '_>, 
 {
     match kind {
         DataType::Vector(signed, None) => unranged(*signed, above, e),
-        _ => ranged(type_range(scope, kind), is_signed(kind), above, e),
+        _ => ranged(parameter_range(scope, kind), is_signed(kind), above, e),
     }
 }

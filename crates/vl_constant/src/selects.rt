@@ -7,16 +7,9 @@ ghost use Rattle.vl_flat.specs.Constants.{clamped};
 ghost use Rattle.vl_constant.specs.Seen.{binding_of};
 ghost use Rattle.vl_constant.specs.Types.{numbers, distance};
 
-use crate::ranges::Range;
+use crate::ranges::{Range, falls};
 use crate::scope::Known;
 use vl_design::design::LowestBit;
-
-/// The numbers fall to the right.
-pub fn falls(range: Range) -> bool
-    ensures { result ≡ flat.falls (numbers range) }
-{
-    range.right <= range.left
-}
 
 /// So many bits, numbered from 0 at the right.
 pub fn bits_of(width: u8) -> Range

@@ -1,14 +1,14 @@
 //! The whole numbers of constants (IEEE 1364-2005, clause 4.1.3).
 
-ghost use Rattle.std.specs.Prelude.{◌≡◌, ◌≤◌, pos, int_le, unsigned_abs, is_some, IfSome};
+ghost use Rattle.std.specs.Prelude.{◌≡◌, ◌≤◌, ◌-◌, ◌^◌, pos, int_le, unsigned_abs};
 ghost use Rattle.vl_base.specs.Value as v;
-ghost use Rattle.vl_flat.specs.Constants.{is_within, lowest, highest};
+ghost use Rattle.vl_flat.specs.Constants.{is_within, lowest, highest, nearest};
 ghost use Rattle.vl_flat.specs.Scopes.{plainly};
 ghost use Rattle.vl_flat.specs.Expressions as flat;
 ghost use Rattle.vl_flat.specs.Constants as constants;
 ghost use Rattle.vl_bind.specs.Seen.{seen};
 ghost use Rattle.vl_constant.specs.Seen.{seen_scope};
-ghost use Rattle.vl_constant.specs.Wholes.{whole_of, turns};
+ghost use Rattle.vl_constant.specs.Wholes.{whole_of};
 
 use crate::constant::{constant_form, evaluate, is_constant};
 use crate::forms::assigned;
@@ -61,54 +61,72 @@ pub fn reading(scope: &Scope<'_, '_>, e: &Ex) -> Whole
     }
 }
 
-/// A whole number from -2^31 to 2^31 - 1.
+/// A whole number is one from -2^31 to 2^31 - 1.
 #[tactic(auto, using(crate::proofs::Wholes::wholes))]
-pub fn bound_in(w: Whole) -> Option<i32>
-    ensures some { is_some result ≡ is_within lowest highest (whole_of w) }
-    ensures value { IfSome result (λ z. z ≡ whole_of w) }
+fn fits_bound(w: Whole) -> bool
+    ensures { result ≡ is_within lowest highest (whole_of w) }
 {
     if w.negative {
-        if w.size <= 2147483648 {
-            return Some((0 - w.size as i64) as i32);
+        w.size <= 2147483648
+    } else {
+        w.size < 2147483648
+    }
+}
+
+/// A whole number is one from 1 to 128.
+#[tactic(auto, using(crate::proofs::Wholes::wholes))]
+fn fits_count(w: Whole) -> bool
+    ensures { result ≡ is_within (pos 1) (pos 128) (whole_of w) }
+{
+    !w.negative && 1 <= w.size && w.size <= 128
+}
+
+/// A whole number is at least 1.
+#[tactic(auto, using(crate::proofs::Wholes::wholes))]
+fn fits_width(w: Whole) -> bool
+    ensures { result ≡ int_le (pos 1) (whole_of w) }
+{
+    !w.negative && 1 <= w.size
+}
+
+/// A whole number kept within 32 bits.
+#[tactic(auto, using(crate::proofs::Wholes::wholes))]
+fn clamped(w: Whole) -> i32
+    ensures { result ≡ constants.clamped (whole_of w) }
+{
+    if w.negative {
+        if w.size < 2147483648 {
+            0 - w.size as i32
+        } else {
+            -2147483648
         }
-        return None;
-    }
-    if w.size < 2147483648 {
-        return Some(w.size as i32);
-    }
-    None
-}
-
-/// A whole number from 1 to 128.
-#[tactic(auto, using(crate::proofs::Wholes::wholes))]
-pub fn count_in(w: Whole) -> Option<u8>
-    ensures some { is_some result ≡ is_within (pos 1) (pos 128) (whole_of w) }
-    ensures value { IfSome result (λ n. n ≡ unsigned_abs (whole_of w)) }
-{
-    if !w.negative && w.size >= 1 && w.size <= 128 {
-        Some(w.size as u8)
+    } else if w.size < 2147483648 {
+        w.size as i32
     } else {
-        None
+        2147483647
     }
 }
 
-/// A whole number of at least 1.
+/// A whole number, or the nearest one from 1 to 129.
 #[tactic(auto, using(crate::proofs::Wholes::wholes))]
-pub fn width_in(w: Whole) -> Option<u128>
-    ensures some { is_some result ≡ int_le (pos 1) (whole_of w) }
-    ensures value { IfSome result (λ n. n ≡ unsigned_abs (whole_of w)) }
+fn counted(w: Whole) -> u8
+    ensures same { result ≡ unsigned_abs (nearest (pos 1) (pos 129) (whole_of w)) }
+    ensures wide { 1 ≤ result }
+    ensures narrow { result ≤ 129 }
 {
-    if !w.negative && w.size >= 1 {
-        Some(w.size)
+    if w.negative || w.size < 1 {
+        1
+    } else if w.size < 129 {
+        w.size as u8
     } else {
-        None
+        129
     }
 }
 
 /// How often `repeat` does its body.
 #[tactic(auto, using(crate::proofs::Wholes::wholes))]
-fn turns_in(w: Whole) -> u32
-    ensures { result ≡ turns (whole_of w) }
+fn turned(w: Whole) -> u32
+    ensures { result ≡ unsigned_abs (nearest (pos 0) (pos (2 ^ 32 - 1)) (whole_of w)) }
 {
     if w.negative {
         0
@@ -119,45 +137,49 @@ fn turns_in(w: Whole) -> u32
     }
 }
 
-/// The bound of a range; what is no constant from -2^31 to 2^31 - 1 counts as 0.
+/// The expression is a constant from -2^31 to 2^31 - 1.
+pub fn is_bound(scope: &Scope<'_, '_>, e: &Ex) -> bool
+    ensures { result ≡ constants.is_bound (flat.constant (seen_scope scope.now) (seen e.now)) }
+{
+    fits_bound(reading(scope, e))
+}
+
+/// The expression is a constant from 1 to 128.
+pub fn is_count(scope: &Scope<'_, '_>, e: &Ex) -> bool
+    ensures { result ≡ constants.is_count (flat.constant (seen_scope scope.now) (seen e.now)) }
+{
+    fits_count(reading(scope, e))
+}
+
+/// The expression is a constant of at least 1.
+pub fn is_width(scope: &Scope<'_, '_>, e: &Ex) -> bool
+    ensures { result ≡ constants.is_width (flat.constant (seen_scope scope.now) (seen e.now)) }
+{
+    fits_width(reading(scope, e))
+}
+
+/// The bound of a range, kept within 32 bits; what is no constant counts as 0.
 pub fn bound(scope: &Scope<'_, '_>, e: &Ex) -> i32
     ensures same { result ≡ constants.bound_of (flat.constant (seen_scope scope.now) (seen e.now)) }
     ensures plain { result ≡ constants.bound_of (flat.constant (plainly (seen_scope scope.now).names) (seen e.now)) }
 {
-    match bound_in(reading(scope, e)) {
-        Some(z) => z,
-        None => 0,
-    }
+    clamped(reading(scope, e))
 }
 
-/// The count of a replication; what is no constant from 1 to 128 counts as 1.
+/// The count of a replication, or the width behind `+:` or `-:`: the nearest number from 1 to 129.
 pub fn count(scope: &Scope<'_, '_>, e: &Ex) -> u8
     ensures same { result ≡ constants.count_of (flat.constant (seen_scope scope.now) (seen e.now)) }
     ensures wide { 1 ≤ result }
-    ensures narrow { result ≤ 128 }
+    ensures narrow { result ≤ 129 }
 {
-    match count_in(reading(scope, e)) {
-        Some(n) => n,
-        None => 1,
-    }
-}
-
-/// The width behind `+:` or `-:`; what is no constant of at least 1 counts as 1.
-pub fn width(scope: &Scope<'_, '_>, e: &Ex) -> u128
-    ensures same { result ≡ constants.width_of (flat.constant (seen_scope scope.now) (seen e.now)) }
-    ensures wide { 1 ≤ result }
-{
-    match width_in(reading(scope, e)) {
-        Some(n) => n,
-        None => 1,
-    }
+    counted(reading(scope, e))
 }
 
 /// How often `repeat` with this count does its body.
 pub fn repeats(scope: &Scope<'_, '_>, e: &Ex) -> u32
     ensures { result ≡ constants.turns_of (flat.constant (seen_scope scope.now) (seen e.now)) }
 {
-    turns_in(reading(scope, e))
+    turned(reading(scope, e))
 }
 
 /// A value and its sign.

@@ -9,14 +9,14 @@ use Rattle.vl_design.specs.Plainly.{exp}
 
 -- no signals and no functions
 abbrev pub closed : Scope
-closed = record { rows = []; signals = []; funs = []; files = []; call = λ f args. 0 }
+closed = record { names = record { rows = []; signals = []; funs = [] }; files = []; call = λ f args. 0 }
 
 abbrev pub nothing : Sample
 nothing = record { values = []; time = 0; answer = 0 }
 
 -- the width and the sign of a constant read for itself
 abbrev pub constant_form : Exp → Form
-constant_form e = form closed (exp e)
+constant_form e = form closed.names (exp e)
 
 -- its value read for itself, and the whole number that this is by its own sign
 abbrev pub constant_value : Exp → ℕ
@@ -60,17 +60,13 @@ bound_of e = clamped (constant_reading e)
 abbrev pub is_count : Exp → Bool
 is_count e = is_within (pos 1) (pos 128) (constant_reading e)
 
--- a count past 128 counts as 129
-abbrev pub count_of : Exp → ℕ
-count_of e = unsigned_abs (nearest (pos 1) (pos 129) (constant_reading e))
-
 -- the width behind `+:` or `-:`: at least 1
 abbrev pub is_width : Exp → Bool
 is_width e = int_le (pos 1) (constant_reading e)
 
--- a width past 128 counts as 129
-abbrev pub width_of : Exp → ℕ
-width_of e = unsigned_abs (nearest (pos 1) (pos 129) (constant_reading e))
+-- a count or a width; one past 128 counts as 129
+abbrev pub count_of : Exp → ℕ
+count_of e = unsigned_abs (nearest (pos 1) (pos 129) (constant_reading e))
 
 -- how often `repeat` does its body: never where the count is negative; no more than 2^32 - 1 times
 abbrev pub turns_of : Exp → ℕ

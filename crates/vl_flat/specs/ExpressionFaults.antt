@@ -1,19 +1,19 @@
 -- The faults of expressions: refused constructs 10, 11 and 24 (own; what they bound is of IEEE 1364-2005, clauses 4.2, 5.2 and 5.4).
-use Rattle.std.specs.Prelude.{ℕ, zero, suc, nat_lt, ℤ, int_lt, Bool, true, false, not, ◌&&◌, ◌||◌, List, [], ◌++◌, Option, if◌then◌else◌, codes}
+use Rattle.std.specs.Prelude.{ℕ, zero, suc, nat_lt, ℤ, int_lt, Bool, true, false, not, ◌&&◌, ◌||◌, List, [], ◌++◌, flat_map, Option, if◌then◌else◌, codes}
 use Rattle.std.specs.Str.{bytes_eq}
 use Rattle.vl_base.specs.declared.place.Place.{Place}
 use Rattle.vl_grammar.specs.declared.tree.SelectMark.{SelectMark}
 use Rattle.vl_grammar.specs.declared.tree.SelectMark.TheVariants as m
-use Rattle.vl_design.specs.Formats.{Between, format_pieces}
+use Rattle.vl_design.specs.Formats.{InText, format_pieces}
 use Rattle.vl_design.specs.Formats as formats
 use Rattle.vl_flat.specs.declared.binding.Binding.{Binding}
 use Rattle.vl_design.specs.declared.stop.Stop.{Stop}
 use Rattle.vl_flat.specs.Surface.{Ex, Exs, Selects, Args, Number, Text, Named, Paren, Unary, Binary, Choice, Joined, Repeated, Called, System, NoExs, MoreExs, NoSelects, Index, Range, NoArgs, NullArg, MoreArgs, node_place}
 use Rattle.vl_design.specs.Placed.{Exp}
 use Rattle.vl_design.specs.Stops.{construct_if}
-use Rattle.vl_flat.specs.Scopes.{Scope, range_of}
-use Rattle.vl_flat.specs.Constants.{is_bound, is_count, is_width, bound_of}
-use Rattle.vl_flat.specs.Expressions.{is_long, is_memory, falls, bits_of, constant, taken, form, keeps_texts}
+use Rattle.vl_flat.specs.Scopes.{Scope}
+use Rattle.vl_flat.specs.Constants.{is_bound, is_count, is_width}
+use Rattle.vl_flat.specs.Expressions.{Step, Sliced, is_long, falls, constant, form, steps_of, keeps_texts}
 
 -- ---- strings that are too long as operands
 
@@ -54,7 +54,7 @@ turns_round range l r = if falls range then int_lt l r else int_lt r l
 
 -- how many arguments the items of a format take
 abbrev pub items_in : List ℕ → ℕ
-items_in text = formats.taken (format_pieces [] Between text [])
+items_in text = formats.taken (format_pieces [] InText text [])
 
 module _ (scope : Scope) where
   -- the expression is more than 128 bits wide, and holds no string that is too long
@@ -65,10 +65,13 @@ module _ (scope : Scope) where
   abbrev pub constant_must : (Exp → Bool) → Ex → ℕ → List Stop
   constant_must test e number = construct_if (not (holds_long e) && not (test (constant scope e))) (node_place e) number
 
-  -- `:` against the declared direction, in a select whose first token stands at this place
-  abbrev pub direction : Place → ℤ × ℤ → SelectMark → Ex → Ex → List Stop
-  direction at range m.Range l r = construct_if (turns_round range (bound_of (constant scope l)) (bound_of (constant scope r))) at 11
-  direction at range mark l r = []
+  -- `:` against the declared direction, in the selects behind a name whose first token stands at this place
+  abbrev pub direction : Place → Step → List Stop
+  direction at (Sliced range l r w) = construct_if (turns_round range l r) at 11
+  direction at step = []
+
+  abbrev pub directions : Place → Option Binding → Selects → List Stop
+  directions at b ss = flat_map (direction at) (steps_of scope b ss)
 
   -- the bounds of `:` are constants, and so is the width behind `+:` and `-:`
   abbrev pub left_bound : SelectMark → Ex → List Stop
@@ -79,16 +82,13 @@ module _ (scope : Scope) where
   right_bound m.Range r = constant_must is_bound r 10
   right_bound mark r = constant_must is_width r 11
 
-  abbrev pub index_range : Option Binding → ℤ × ℤ
-  index_range b = if is_memory b then range_of b else bits_of 1
-
   -- ---- expressions
 
   abbrev mutual
     pub faults : Ex → List Stop
     faults (Number at n) = []
     faults (Text at text) = construct_if (is_long text) at 24
-    faults (Named at name ss) = past (Named at name ss) ++ name_faults at (scope.names name) ss
+    faults (Named at name ss) = past (Named at name ss) ++ (directions at (scope.names name) ss ++ selects_faults ss)
     faults (Paren at a) = faults a
     faults (Unary at op a) = past (Unary at op a) ++ faults a
     faults (Binary at op a b) = past (Binary at op a b) ++ (faults a ++ faults b)
@@ -102,21 +102,11 @@ module _ (scope : Scope) where
     all_faults NoExs = []
     all_faults (MoreExs e es) = faults e ++ all_faults es
 
-    -- a name with its selects, whose first token stands at this place
-    pub name_faults : Place → Option Binding → Selects → List Stop
-    name_faults at b NoSelects = []
-    name_faults at b (Index q i others) = faults i ++ selects_faults at (index_range b) others
-    name_faults at b (Range q mark l r others) =
-        direction at (range_of b) mark l r ++ (faults l ++ (left_bound mark l ++ (faults r ++ (right_bound mark r
-        ++ selects_faults at (bits_of (taken scope mark l r)) others))))
-
-    -- selects on a value whose bits are numbered so
-    pub selects_faults : Place → ℤ × ℤ → Selects → List Stop
-    selects_faults at range NoSelects = []
-    selects_faults at range (Index q i others) = faults i ++ selects_faults at (bits_of 1) others
-    selects_faults at range (Range q mark l r others) =
-        direction at range mark l r ++ (faults l ++ (left_bound mark l ++ (faults r ++ (right_bound mark r
-        ++ selects_faults at (bits_of (taken scope mark l r)) others))))
+    -- what stands in selects
+    pub selects_faults : Selects → List Stop
+    selects_faults NoSelects = []
+    selects_faults (Index q i others) = faults i ++ selects_faults others
+    selects_faults (Range q mark l r others) = faults l ++ (left_bound mark l ++ (faults r ++ (right_bound mark r ++ selects_faults others)))
 
     -- arguments of a system call; keeps tells whether a string is none of them, but a format or a name
     pub args_faults : Bool → Args → List Stop

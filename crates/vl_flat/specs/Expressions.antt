@@ -1,5 +1,5 @@
 -- The expressions of an instance in its design, and their forms (IEEE 1364-2005, clauses 3.6, 5 and 12).
-use Rattle.std.specs.Prelude.{ℕ, ◌+◌, ◌*◌, max, min, nat_lt, ℤ, pos, neg_ℤ, ◌+ℤ◌, ◌-ℤ◌, int_le, Bool, true, false, not, ◌&&◌, List, length, Option, Some, None, if◌then◌else◌, codes}
+use Rattle.std.specs.Prelude.{ℕ, ◌+◌, ◌*◌, max, min, nat_lt, ℤ, pos, neg_ℤ, ◌+ℤ◌, ◌-ℤ◌, int_le, Bool, true, false, not, ◌&&◌, List, [], ◌∷◌, fold, length, Option, Some, None, if◌then◌else◌, codes}
 use Rattle.std.specs.Int.Digits.{number_from_digits}
 use Rattle.std.specs.Str.{bytes_eq}
 use Rattle.vl_base.specs.declared.place.Place.{Place}
@@ -17,14 +17,14 @@ use Rattle.vl_design.specs.declared.design.Form.{Form}
 use Rattle.vl_design.specs.declared.design.LowestBit.{LowestBit}
 use Rattle.vl_design.specs.declared.design.SigKind.{SigKind}
 use Rattle.vl_design.specs.declared.design.SigKind.TheVariants.{Mem}
-use Rattle.vl_design.specs.Trees.{range_width}
+use Rattle.vl_design.specs.Rows.{range_width}
 use Rattle.vl_design.specs.Width.{unsigned, joined, unary_form, binary_form}
 use Rattle.vl_flat.specs.declared.binding.Binding.{Binding}
 use Rattle.vl_flat.specs.declared.binding.Binding.TheVariants.{Constant, Signal, Function}
 use Rattle.vl_flat.specs.Surface.{Ex, Exs, Selects, Args, Number, Text, Named, Paren, Unary, Binary, Choice, Joined, Repeated, Called, System, NoExs, MoreExs, NoSelects, Index, Range, NoArgs, NullArg, MoreArgs, place_of}
 use Rattle.vl_design.specs.Placed as p
 use Rattle.vl_flat.specs.Scopes.{Env, Scope, form_of, range_of, number_of}
-use Rattle.vl_flat.specs.Constants.{bound_of, count_of, width_of, clamped}
+use Rattle.vl_flat.specs.Constants.{bound_of, count_of, clamped}
 
 -- ---- operators (table 5-1); unary `+` has no node
 
@@ -149,17 +149,42 @@ part_low r z = clamped (if falls r then z -ℤ r.1 else r.1 -ℤ z)
 -- how many bits two bounds around a mark choose; more than 128 are refused, and counted as 129
 abbrev pub part_width : SelectMark → p.Exp → p.Exp → ℕ
 part_width m.Range a b = min 129 (range_width (bound_of a) (bound_of b))
-part_width m.Up a b = width_of b
-part_width m.Down a b = width_of b
+part_width m.Up a b = count_of b
+part_width m.Down a b = count_of b
 
--- so many bits of a value, by what stands before the mark and the constant behind it
-abbrev pub part : Place → ℤ × ℤ → p.Exp → SelectMark → p.Exp → p.Exp → ℕ → p.Exp
-part at r base m.Range a b w = p.Slice at base (part_low r (bound_of b)) w
-part at r base m.Up a b w = p.Pick at base a (from_lowest r w) w
-part at r base m.Down a b w = p.Pick at base a (from_highest r w) w
+-- ---- selects step by step: each chooses a word of a memory, or bits of what the ones before it left (clauses 4.9 and 5.2)
 
-abbrev pub bit : Place → ℤ × ℤ → p.Exp → p.Exp → p.Exp
-bit at r base i = p.Pick at base i (from_lowest r 1) 1
+pub data Step : Type 0 where
+  -- the word of the memory of a number
+  Chosen : (memory : ℕ) (address : p.Exp) → Step
+  -- so many bits from the one on that an index names
+  Picked : (index : p.Exp) (from : LowestBit) (width : ℕ) → Step
+  -- so many bits between two bounds, of a value whose bits are numbered so
+  Sliced : (range : ℤ × ℤ) (left right : ℤ) (width : ℕ) → Step
+
+abbrev pub bit : ℤ × ℤ → p.Exp → Step
+bit r i = Picked i (from_lowest r 1) 1
+
+-- two bounds around a mark: what stands before it, and the constants before and behind it
+abbrev pub part : ℤ × ℤ → SelectMark → p.Exp → p.Exp → p.Exp → ℕ → Step
+part r m.Range i a b w = Sliced r (bound_of a) (bound_of b) w
+part r m.Up i a b w = Picked i (from_lowest r w) w
+part r m.Down i a b w = Picked i (from_highest r w) w
+
+-- the number of the memory that a name stands for
+abbrev pub memory_of : Option Binding → Option ℕ
+memory_of b = if is_memory b then Some (number_of b) else None
+
+-- what a step leaves of a value, and of its form
+abbrev pub stepped : Place → p.Exp → Step → p.Exp
+stepped at base (Chosen k a) = p.Word at k a
+stepped at base (Picked i from w) = p.Pick at base i from w
+stepped at base (Sliced r a b w) = p.Slice at base (part_low r b) w
+
+abbrev pub step_form : Form → Step → Form
+step_form f (Chosen k a) = f
+step_form f (Picked i from w) = unsigned w
+step_form f (Sliced r a b w) = unsigned w
 
 -- ---- expressions
 
@@ -194,7 +219,7 @@ module _ (scope : Scope) where
     pub exp : Ex → p.Exp
     exp (Number at n) = p.Num at n.value n.width n.signed
     exp (Text at text) = operand at text
-    exp (Named at name ss) = named at (scope.names name) ss
+    exp (Named at name ss) = fold (stepped at) (whole at (scope.names name)) (steps (memory_of (scope.names name)) (range_of (scope.names name)) ss)
     exp (Paren at a) = exp a
     exp (Unary at op a) = marked at (unary_of op) (exp a)
     exp (Binary at op a b) = p.Bin at (operation op) (exp a) (exp b)
@@ -208,23 +233,15 @@ module _ (scope : Scope) where
     exps NoExs = p.NoExps
     exps (MoreExs e es) = p.MoreExps (exp e) (exps es)
 
-    -- a name with its selects: the first select of a memory chooses a word
-    pub named : Place → Option Binding → Selects → p.Exp
-    named at b NoSelects = whole at b
-    named at b (Index q i others) =
-        if is_memory b then selected at (range_of b) (p.Word at (number_of b) (exp i)) others
-        else selected at (bits_of 1) (bit at (range_of b) (whole at b) (exp i)) others
-    named at b (Range q mark l r others) =
-        let w = part_width mark (kept l (exp l)) (kept r (exp r)) in
-        selected at (bits_of w) (part at (range_of b) (whole at b) mark (exp l) (kept r (exp r)) w) others
-
-    -- selects on a value whose bits are numbered so
-    pub selected : Place → ℤ × ℤ → p.Exp → Selects → p.Exp
-    selected at range base NoSelects = base
-    selected at range base (Index q i others) = selected at (bits_of 1) (bit at range base (exp i)) others
-    selected at range base (Range q mark l r others) =
-        let w = part_width mark (kept l (exp l)) (kept r (exp r)) in
-        selected at (bits_of w) (part at range base mark (exp l) (kept r (exp r)) w) others
+    -- the selects behind a value whose bits, or the bits of whose words, are numbered so: the first of a memory of a
+    -- number chooses a word
+    pub steps : Option ℕ → ℤ × ℤ → Selects → List Step
+    steps memory r NoSelects = []
+    steps (Some k) r (Index q i others) = Chosen k (exp i) ∷ steps None r others
+    steps None r (Index q i others) = bit r (exp i) ∷ steps None (bits_of 1) others
+    steps memory r (Range q mark a b others) =
+        let w = part_width mark (kept a (exp a)) (kept b (exp b)) in
+        part r mark (exp a) (kept a (exp a)) (kept b (exp b)) w ∷ steps None (bits_of w) others
 
     -- arguments of a system call; keeps tells whether strings stay as they are
     pub args : Bool → Args → p.Args
@@ -258,16 +275,12 @@ module _ (scope : Scope) where
   abbrev pub taken : SelectMark → Ex → Ex → ℕ
   taken mark l r = part_width mark (constant l) (constant r)
 
-  -- what is left behind selects
-  abbrev pub selects_form : Form → Selects → Form
-  selects_form f NoSelects = f
-  selects_form f (Index q i others) = selects_form (unsigned 1) others
-  selects_form f (Range q mark l r others) = selects_form (unsigned (taken mark l r)) others
+  -- the selects behind a name, and what they leave of its form
+  abbrev pub steps_of : Option Binding → Selects → List Step
+  steps_of b ss = steps (memory_of b) (range_of b) ss
 
   abbrev pub named_form : Option Binding → Selects → Form
-  named_form b NoSelects = form_of b
-  named_form b (Index q i others) = selects_form (if is_memory b then form_of b else unsigned 1) others
-  named_form b (Range q mark l r others) = selects_form (unsigned (taken mark l r)) others
+  named_form b ss = fold step_form (form_of b) (steps_of b ss)
 
   abbrev pub system_form : List ℕ → Form → Form
   system_form name f =

@@ -6,7 +6,7 @@ use Rattle.vl_source.specs.declared.tree.Source.{Source}
 use Rattle.vl_design.specs.declared.design.Signal.{Signal}
 use Rattle.vl_design.specs.declared.design.SigKind.{SigKind}
 use Rattle.vl_design.specs.declared.design.SigKind.TheVariants.{Loop, Clock}
-use Rattle.vl_design.specs.Trees.{words_of_kind}
+use Rattle.vl_design.specs.Rows.{word_count}
 use Rattle.vl_design.specs.declared.stop.Stop.{Stop}
 use Rattle.vl_design.specs.declared.stop.Stop.TheVariants.{Memory}
 use Rattle.vl_flat.specs.Expressions.{is_mem}
@@ -43,7 +43,7 @@ is_counted Loop = false
 is_counted kind = true
 
 abbrev pub memory_words : Signal → ℕ
-memory_words r = if is_mem r.kind then words_of_kind r.kind r.first r.last else 0
+memory_words r = if is_mem r.kind then word_count r.kind r.first r.last else 0
 
 abbrev pub with_signal : Totals → Signal → Totals
 with_signal n r = record n { signals = (if is_counted r.kind then after n.signals else n.signals); words = min most_numbers (n.words + memory_words r) }

@@ -3,7 +3,7 @@
 use Rattle.std.specs.Prelude.{ℕ, nat_lt, ℤ, pos, ◌+ℤ◌, ◌-ℤ◌, Bool, true, List, [], ◌++◌, Option, Some, None, is_some, if◌then◌else◌}
 use Rattle.vl_base.specs.declared.place.Place.{Place}
 use Rattle.vl_design.specs.declared.design.Form.{Form}
-use Rattle.vl_design.specs.Trees.{range_width}
+use Rattle.vl_design.specs.Rows.{range_width}
 use Rattle.vl_design.specs.declared.stop.Stop.{Stop}
 use Rattle.vl_flat.specs.Surface.{Ex}
 use Rattle.vl_flat.specs.Items.{Bounds, DataType, Integer, Vector}

@@ -3,7 +3,7 @@ use Rattle.std.specs.Prelude.{ℕ, ℤ, pos, List, Option, Some, None, if◌then
 use Rattle.std.specs.Str.{bytes_eq}
 use Rattle.vl_design.specs.declared.design.Form.{Form}
 use Rattle.vl_design.specs.Width.{unsigned}
-use Rattle.vl_design.specs.Trees.{range_width}
+use Rattle.vl_design.specs.Rows.{range_width}
 use Rattle.vl_flat.specs.declared.binding.Binding.{Binding}
 use Rattle.vl_flat.specs.declared.binding.Binding.TheVariants.{Constant, Signal, Function}
 use Rattle.vl_flat.specs.declared.binding.Shape.{Shape}

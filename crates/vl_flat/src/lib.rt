@@ -2,5 +2,4 @@
 #![tactic(auto)]
 
 pub mod binding;
-pub mod laws;
 pub mod rows;

@@ -148,7 +148,7 @@ behind_more : {es : List Expression} {ts rest : List Token} → ReadsMore es ts 
 behind_more ReadsMore.no_more h = h
 behind_more (ReadsMore.more c d f) h = ends_before (codes ",") _ _ c refl refl refl refl
 
-select_ends : (u : Token) (us : List Token) (m : SelectMark) → select_mark u ≡ Some m → Ends (u ∷ us)
+pub select_ends : (u : Token) (us : List Token) (m : SelectMark) → select_mark u ≡ Some m → Ends (u ∷ us)
 unfolding select_mark binary_operator mark
 select_ends u us m h = record {
   binary = record {
@@ -224,7 +224,7 @@ pub expression_starts : {e : Expression} {ts rest : List Token} → ReadsExpress
 expression_starts (ReadsExpression.expression (ReadsBinary.binary (ReadsUnary.unary d p) ls) c) = operators_start d (primary_starts p)
 
 -- the mark that closes a select is no mark between bounds
-closing_apart : (u : Token) (us : List Token) → IsMark (codes "]") u → next_by select_mark (u ∷ us) ≡ None
+pub closing_apart : (u : Token) (us : List Token) → IsMark (codes "]") u → next_by select_mark (u ∷ us) ≡ None
 unfolding select_mark
 closing_apart u us h = none_here select_mark u us (table_row select_marks u (codes "]") None h refl)
 

@@ -1,6 +1,7 @@
 -- Faults as the program walks for them.
 use Rattle.std.specs.Prelude.{ℕ, ℤ, Bool, true, false, ◌||◌, ◌==◌, List, [], ◌++◌, codes}
 use Rattle.std.specs.Str.{bytes_eq}
+use Rattle.vl_base.specs.declared.place.Place.{Place}
 use Rattle.vl_base.specs.Display.{lower_case}
 use Rattle.vl_design.specs.Formats.{Reading}
 use Rattle.vl_design.specs.Formats as r
@@ -12,13 +13,14 @@ use Rattle.vl_flat.specs.ExpressionFaults.{faults, direction, left_bound, right_
 use Rattle.vl_judge.specs.declared.formats.Mode.{Mode}
 use Rattle.vl_judge.specs.declared.formats.Mode.TheVariants as m
 
--- the faults of selects on a value whose bits are numbered so; those of what one index chooses are numbered by the other
-abbrev pub walked : Scope → ℤ × ℤ → ℤ × ℤ → Selects → List Stop
-walked scope range indexed NoSelects = []
-walked scope range indexed (Index q i others) = faults scope i ++ walked scope indexed (bits_of 1) others
-walked scope range indexed (Range q mark l r others) =
-    direction scope range q mark l r ++ (faults scope l ++ (left_bound scope mark l ++ (faults scope r ++ (right_bound scope mark r
-    ++ walked scope (bits_of (taken scope mark l r)) (bits_of 1) others))))
+-- the faults of selects behind a name at this place, on a value whose bits are numbered so; those of what one index chooses
+-- are numbered by the other
+abbrev pub walked : Scope → Place → ℤ × ℤ → ℤ × ℤ → Selects → List Stop
+walked scope at range indexed NoSelects = []
+walked scope at range indexed (Index q i others) = faults scope i ++ walked scope at indexed (bits_of 1) others
+walked scope at range indexed (Range q mark l r others) =
+    direction scope at range mark l r ++ (faults scope l ++ (left_bound scope mark l ++ (faults scope r ++ (right_bound scope mark r
+    ++ walked scope at (bits_of (taken scope mark l r)) (bits_of 1) others))))
 
 -- a bare string
 abbrev pub is_text : Ex → Bool

@@ -16,10 +16,9 @@ use crate::stops::construct_if;
 use vl_base::place::Place;
 use vl_bind::surface::Ex;
 use vl_constant::form::form;
-use vl_constant::ranges::Range;
+use vl_constant::ranges::{Range, falls};
 use vl_constant::scope::Scope;
-use vl_constant::selects::falls;
-use vl_constant::whole::{bound, bound_in, count_in, reading, width_in};
+use vl_constant::whole::{bound, is_bound, is_count, is_width};
 use vl_design::stop::Stop;
 use vl_grammar::tree::SelectMark;
 
@@ -83,27 +82,6 @@ pub fn past(best: Option<Stop>, scope: &Scope<'_, '_>, e: &Ex) -> Option<Stop>
     construct_if(best, is_past, node_place(e), 10)
 }
 
-/// The expression is a constant from -2^31 to 2^31 - 1.
-fn is_bound(scope: &Scope<'_, '_>, e: &Ex) -> bool
-    ensures { result ≡ c.is_bound (flat.constant (seen_scope scope.now) (seen e.now)) }
-{
-    bound_in(reading(scope, e)).is_some()
-}
-
-/// The expression is a constant from 1 to 128.
-fn is_count(scope: &Scope<'_, '_>, e: &Ex) -> bool
-    ensures { result ≡ c.is_count (flat.constant (seen_scope scope.now) (seen e.now)) }
-{
-    count_in(reading(scope, e)).is_some()
-}
-
-/// The expression is a constant of at least 1.
-fn is_width(scope: &Scope<'_, '_>, e: &Ex) -> bool
-    ensures { result ≡ c.is_width (flat.constant (seen_scope scope.now) (seen e.now)) }
-{
-    width_in(reading(scope, e)).is_some()
-}
-
 /// What is no bound, unless a string in it is too long.
 pub fn must_be_bound(best: Option<Stop>, scope: &Scope<'_, '_>, e: &Ex) -> Option<Stop>
     ensures { result ≡ s.earliest best (f.constant_must (seen_scope scope.now) c.is_bound (seen e.now) 10) }
@@ -139,17 +117,17 @@ fn turns_round(range: Range, left: i32, right: i32) -> bool
     }
 }
 
-/// Bounds around `:` against the declared direction.
+/// Bounds around `:` against the declared direction, in a select whose first token stands at a place.
 pub fn direction(
     best: Option<Stop>,
     scope: &Scope<'_, '_>,
-    range: Range,
     at: Place,
+    range: Range,
     mark: SelectMark,
     left: &Ex,
     right: &Ex,
 ) -> Option<Stop>
-    ensures { result ≡ s.earliest best (f.direction (seen_scope scope.now) (numbers range) at mark (seen left.now) (seen right.now)) }
+    ensures { result ≡ s.earliest best (f.direction (seen_scope scope.now) at (numbers range) mark (seen left.now) (seen right.now)) }
 {
     match mark {
         SelectMark::Range => {

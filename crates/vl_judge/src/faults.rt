@@ -13,6 +13,7 @@ ghost use Rattle.vl_judge.specs.Walked.{walked};
 
 use crate::checks::{direction, is_kept, left_bound, must_be_count, past, right_bound};
 use crate::stops::construct_if;
+use vl_base::place::Place;
 use vl_bind::surface::{Argument, Ex, Select};
 use vl_constant::form::{is_memory, keeps_texts, taken};
 use vl_constant::ranges::Range;
@@ -50,10 +51,10 @@ pub fn faults(best: Option<Stop>, scope: &Scope<'_, '_>, e: &Ex) -> Option<Stop>
     match e {
         Ex::Number(_, _) => best,
         Ex::Text(at, text) => construct_if(best, text.as_slice().len() > 16, *at, 24),
-        Ex::Named(_, name, selects) => {
+        Ex::Named(at, name, selects) => {
             let own = past(best, scope, e);
             let known = meaning(scope, name.as_slice());
-            name_faults(own, scope, known, selects.as_slice())
+            name_faults(own, scope, *at, known, selects.as_slice())
         }
         Ex::Paren(_, a) => faults(best, scope, a),
         Ex::Unary(_, _, a) => {
@@ -104,8 +105,8 @@ pub fn all_faults(best: Option<Stop>, scope: &Scope<'_, '_>, es: &[Ex]) -> Optio
 
 /// The faults of one select, and what is selected from behind it.
 #[cycle(faults)]
-fn one_select(from: Judged, scope: &Scope<'_, '_>, one: &Select) -> Judged
-    ensures { (others : x.Selects) → s.earliest result.best (walked (seen_scope scope.now) (numbers result.range) (numbers result.indexed) others) ≡ s.earliest from.best (walked (seen_scope scope.now) (numbers from.range) (numbers from.indexed) (select one.now others)) }
+fn one_select(from: Judged, scope: &Scope<'_, '_>, at: Place, one: &Select) -> Judged
+    ensures { (others : x.Selects) → s.earliest result.best (walked (seen_scope scope.now) at (numbers result.range) (numbers result.indexed) others) ≡ s.earliest from.best (walked (seen_scope scope.now) at (numbers from.range) (numbers from.indexed) (select one.now others)) }
 {
     match one {
         Select::Index(_, i) => {
@@ -116,8 +117,8 @@ fn one_select(from: Judged, scope: &Scope<'_, '_>, one: &Select) -> Judged
                 indexed: bits_of(1),
             }
         }
-        Select::Range(at, mark, left, right) => {
-            let turned = direction(from.best, scope, from.range, *at, *mark, left, right);
+        Select::Range(_, mark, left, right) => {
+            let turned = direction(from.best, scope, at, from.range, *mark, left, right);
             let before = faults(turned, scope, left);
             let bound = left_bound(before, scope, *mark, left);
             let behind = faults(bound, scope, right);
@@ -134,32 +135,38 @@ fn one_select(from: Judged, scope: &Scope<'_, '_>, one: &Select) -> Judged
 
 /// The faults of selects one by one.
 #[cycle(faults)]
-fn selects_faults(from: Judged, scope: &Scope<'_, '_>, selects: &[Select]) -> Option<Stop>
-    ensures { result ≡ s.earliest from.best (walked (seen_scope scope.now) (numbers from.range) (numbers from.indexed) (selects_before selects.now x.NoSelects)) }
+fn selects_faults(
+    from: Judged,
+    scope: &Scope<'_, '_>,
+    at: Place,
+    selects: &[Select],
+) -> Option<Stop>
+    ensures { result ≡ s.earliest from.best (walked (seen_scope scope.now) at (numbers from.range) (numbers from.indexed) (selects_before selects.now x.NoSelects)) }
 {
     let mut all = from;
     for one in selects {
-        all = one_select(all, scope, one);
+        all = one_select(all, scope, at, one);
     }
     all.best
 }
 
-/// The faults of the selects behind a name.
+/// The faults of the selects behind a name at a place.
 #[cycle(faults)]
 pub fn name_faults(
     best: Option<Stop>,
     scope: &Scope<'_, '_>,
+    at: Place,
     known: Option<Known>,
     selects: &[Select],
 ) -> Option<Stop>
-    ensures { result ≡ s.earliest best (f.name_faults (seen_scope scope.now) (option_map binding_of known) (selects_before selects.now x.NoSelects)) }
+    ensures { result ≡ s.earliest best (f.name_faults (seen_scope scope.now) at (option_map binding_of known) (selects_before selects.now x.NoSelects)) }
 {
     let from = Judged {
         best,
         range: range_of(known),
         indexed: index_range(known),
     };
-    selects_faults(from, scope, selects)
+    selects_faults(from, scope, at, selects)
 }
 
 /// The faults of an argument of a system call.

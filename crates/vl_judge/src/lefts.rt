@@ -63,9 +63,9 @@ fn left_faults(best: Option<Stop>, scope: &Scope<'_, '_>, l: &Left) -> Option<St
     ensures { result ≡ s.earliest best (t.left_faults (seen_scope scope.now) (seen_left l.now)) }
 {
     match l {
-        Left::Name(_, name, selects) => {
+        Left::Name(at, name, selects) => {
             let known = meaning(scope, name.as_slice());
-            name_faults(best, scope, known, selects.as_slice())
+            name_faults(best, scope, *at, known, selects.as_slice())
         }
         Left::List(_, parts) => lefts_faults(best, scope, parts.as_slice()),
     }

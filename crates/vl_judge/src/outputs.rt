@@ -66,9 +66,9 @@ fn faults_as_left(best: Option<Stop>, scope: &Scope<'_, '_>, e: &Ex) -> Option<S
     ensures { result ≡ s.earliest best (t.left_faults (seen_scope scope.now) (k.left_of (seen e.now))) }
 {
     match e {
-        Ex::Named(_, name, selects) => {
+        Ex::Named(at, name, selects) => {
             let known = meaning(scope, name.as_slice());
-            name_faults(best, scope, known, selects.as_slice())
+            name_faults(best, scope, *at, known, selects.as_slice())
         }
         Ex::Paren(_, a) => faults_as_left(best, scope, a),
         Ex::Joined(_, parts) => faults_as_lefts(best, scope, parts.as_slice()),

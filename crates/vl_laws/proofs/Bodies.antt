@@ -90,12 +90,12 @@ module _ (module_env : Env) (a : x.Function) (path : List ℕ) where
 
 -- ---- the body
 
-result-same : (d : w.Names) (g : Fun) (o : Option Fun) → w.result_form_of (inner d g) o ≡ w.result_form_of d o
+result-same : (d : w.Names) (g : Fun) (o : Option Fun) → w.result_form_of (names_in d g) o ≡ w.result_form_of d o
 result-same d g None = refl
 result-same d g (Some f) = refl
 
 pub body-stands : (d : w.Names) (env : Env) (path : List ℕ) (a : x.Function) → d.rows ≡ d.signals → length d.signals + length a.locals ≤ most_numbers
-    → StandsIn (plainly env) d → StandsIn (function_scope (length d.signals) env a) (inner d (plain.fun (function (length d.signals) env path a)))
+    → StandsIn (plainly env) d → StandsIn (function_scope (length d.signals) env a) (names_in d (plain.fun (function (length d.signals) env path a)))
 body-stands d env path a whole room h =
     let name = dotted path a.name.name in
     let g = plain.fun (function (length d.signals) env path a) in

@@ -1,6 +1,6 @@
 -- An expression has in the design the width and the sign by which it is judged.
 use Rattle.std.proofs.Common.{◌≡◌, ℕ, ◌+◌, ◌*◌, Bool, true, false, if◌then◌else◌, List, length, Option, Some, None, refl, ap, ◌∙◌}
-use Rattle.std.specs.Prelude.{ℤ, max, codes}
+use Rattle.std.specs.Prelude.{ℤ, max, fold, codes}
 use Rattle.std.specs.Str.{bytes_eq}
 use Rattle.vl_base.specs.declared.place.Place.{Place}
 use Rattle.vl_base.specs.declared.bits.UnOp.{UnOp}
@@ -35,44 +35,45 @@ module _ (scope : Scope) (design : w.Names) (stands : StandsIn scope design) whe
   whole-same at (Some (Signal k s)) v h = h k s refl
   whole-same at (Some (Function k f)) v h = absurd v
 
-  -- so many bits of a value are unsigned
-  part-same : (at : Place) (r : ℤ × ℤ) (base : p.Exp) (mark : SelectMark) (a b : p.Exp) (n : ℕ) → form-of (e.part at r base mark a b n) ≡ w.unsigned n
-  part-same at r base m.Range a b n = refl
-  part-same at r base m.Up a b n = refl
-  part-same at r base m.Down a b n = refl
+  -- ---- selects
 
-  selected-same : (at : Place) (r : ℤ × ℤ) (base : p.Exp) (f : Form) (ss : x.Selects) → form-of base ≡ f → form-of (e.selected scope at r base ss) ≡ e.selects_form scope f ss
-  selected-same at r base f x.NoSelects h = h
-  selected-same at r base f (x.Index q i others) h = selected-same at (e.bits_of 1) (e.bit at r base (e.exp scope i)) (w.unsigned 1) others refl
-  selected-same at r base f (x.Range q mark left right others) h =
-      let n = e.taken scope mark left right in
-      selected-same at (e.bits_of n) (e.part at r base mark (e.exp scope left) (e.constant scope right) n) (w.unsigned n) others
-      (part-same at r base mark (e.exp scope left) (e.constant scope right) n)
+  -- a word of the memory of a number has the form of what is selected
+  abbrev Fits : Option ℕ → Form → Type 0
+  Fits None f = Unit {0}
+  Fits (Some k) f = w.signal_form design.rows k ≡ f
 
-  indexed-same : (at : Place) (b : Option Binding) (i : x.Ex) (others : x.Selects) → IsValue b → Stands b
-      → form-of (e.named scope at b (x.Index at i others)) ≡ e.named_form scope b (x.Index at i others)
-  indexed-same at None i others v h = selected-same at (e.bits_of 1) _ (w.unsigned 1) others refl
-  indexed-same at (Some (Constant c)) i others v h = selected-same at (e.bits_of 1) _ (w.unsigned 1) others refl
-  indexed-same at (Some (Function k f)) i others v h = absurd v
-  indexed-same at (Some (Signal k s)) i others v h = by (e.is_mem s.kind)
+  fits : (b : Option Binding) → Stands b → Fits (e.memory_of b) (form_of b)
+  fits None h = tt
+  fits (Some (Constant c)) h = tt
+  fits (Some (Function k f)) h = tt
+  fits (Some (Signal k s)) h = by (e.is_mem s.kind)
     where
-      word : p.Exp
-      word = e.selected scope at (range_of (Some (Signal k s))) (p.Word at k (e.exp scope i)) others
+      by : (c : Bool) → Fits (if c then Some k else None) (shape_form s)
+      by true = h k s refl
+      by false = tt
 
-      one : p.Exp
-      one = e.selected scope at (e.bits_of 1) (e.bit at (range_of (Some (Signal k s))) (p.Sig at k) (e.exp scope i)) others
+  part-same : (at : Place) (base : p.Exp) (f : Form) (r : ℤ × ℤ) (mark : SelectMark) (i a b : p.Exp) (n : ℕ)
+      → form-of (e.stepped at base (e.part r mark i a b n)) ≡ e.step_form f (e.part r mark i a b n)
+  part-same at base f r m.Range i a b n = refl
+  part-same at base f r m.Up i a b n = refl
+  part-same at base f r m.Down i a b n = refl
 
-      by : (c : Bool) → form-of (if c then word else one) ≡ e.selects_form scope (if c then shape_form s else w.unsigned 1) others
-      by true = selected-same at (range_of (Some (Signal k s))) (p.Word at k (e.exp scope i)) (shape_form s) others (h k s refl)
-      by false = selected-same at (e.bits_of 1) (e.bit at (range_of (Some (Signal k s))) (p.Sig at k) (e.exp scope i)) (w.unsigned 1) others refl
+  -- each step leaves of a value what it leaves of its form
+  steps-same : (at : Place) (memory : Option ℕ) (r : ℤ × ℤ) (ss : x.Selects) (base : p.Exp) (f : Form) → Fits memory f → form-of base ≡ f
+      → form-of (fold (e.stepped at) base (e.steps scope memory r ss)) ≡ fold e.step_form f (e.steps scope memory r ss)
+  steps-same at memory r x.NoSelects base f k h = h
+  steps-same at (Some m) r (x.Index q i others) base f k h = steps-same at None r others (p.Word at m (e.exp scope i)) f tt k
+  steps-same at None r (x.Index q i others) base f k h =
+      steps-same at None (e.bits_of 1) others (e.stepped at base (e.bit r (e.exp scope i))) (w.unsigned 1) tt refl
+  steps-same at memory r (x.Range q mark a b others) base f k h =
+      let n = e.part_width mark (e.constant scope a) (e.constant scope b) in
+      let step = e.part r mark (e.exp scope a) (e.constant scope a) (e.constant scope b) n in
+      steps-same at None (e.bits_of n) others (e.stepped at base step) (e.step_form f step) tt
+      (part-same at base f r mark (e.exp scope a) (e.constant scope a) (e.constant scope b) n)
 
-  named-same : (at : Place) (b : Option Binding) (ss : x.Selects) → IsValue b → Stands b → form-of (e.named scope at b ss) ≡ e.named_form scope b ss
-  named-same at b x.NoSelects v h = whole-same at b v h
-  named-same at b (x.Index q i others) v h = indexed-same at b i others v h
-  named-same at b (x.Range q mark left right others) v h =
-      let n = e.taken scope mark left right in
-      selected-same at (e.bits_of n) (e.part at (range_of b) (e.whole at b) mark (e.exp scope left) (e.constant scope right) n) (w.unsigned n) others
-      (part-same at (range_of b) (e.whole at b) mark (e.exp scope left) (e.constant scope right) n)
+  named-same : (at : Place) (b : Option Binding) (ss : x.Selects) → IsValue b → Stands b
+      → form-of (fold (e.stepped at) (e.whole at b) (e.steps_of scope b ss)) ≡ e.named_form scope b ss
+  named-same at b ss v h = steps-same at (e.memory_of b) (range_of b) ss (e.whole at b) (form_of b) (fits b h) (whole-same at b v h)
 
   -- ---- operators
 

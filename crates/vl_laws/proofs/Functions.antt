@@ -1,6 +1,6 @@
 -- An instance has as many functions as its size says, and the number of a function's name is the place of its function.
 use Rattle.std.proofs.Common.{◌≡◌, ℕ, zero, suc, ◌+◌, ◌*◌, ◌<◌, min, Bool, true, false, if◌then◌else◌, List, [], ◌∷◌, ◌++◌, length, Option, Some, None, Ok, refl, sym, ap, ◌∙◌, subst, arith}
-use Rattle.std.specs.Prelude.{slice_get, fold, flat_map, is_some}
+use Rattle.std.specs.Prelude.{slice_get, fold, flat_map, is_some, not, ◌&&◌}
 use Rattle.std.specs.Option.{option_map_or}
 use Rattle.std.specs.Str.{bytes_eq}
 use Rattle.std.proofs.lemmas.Slice.Eq.{bytes_eq-Decides}
@@ -238,11 +238,14 @@ inputs-none : (above : Here) (env : Env) (m : x.Module) (u : x.NamedUnit) (ports
 inputs-none above env m u [] = refl
 inputs-none above env m u (t ∷ ports) =
     flat_map-append (λ (a : f.Part). a.funcs) (f.input_part above env m u t.name) (flat_map (λ t. f.input_part above env m u t.name) ports)
-    ∙ (ap (λ z. z ++ funs (flat_map (λ t. f.input_part above env m u t.name) ports)) (by (is_input m t.name) (is_clock_binding (env t.name))) ∙ inputs-none above env m u ports)
+    ∙ (ap (λ z. z ++ funs (flat_map (λ t. f.input_part above env m u t.name) ports)) (by (is_input m t.name && not (is_clock_binding (env t.name))) (expression_of (port_connection m u t.name))) ∙ inputs-none above env m u ports)
   where
-    by : (c e : Bool) → funs (if c then (if e then [] else f.connection (input_process above env m u t.name ∷ []) (input_faults above.env m u t.name) ∷ []) else []) ≡ []
-    by true true = refl
-    by true false = refl
+    part : Ex → List f.Part
+    part e = f.connection (input_process above env (place_in u (port_connection m u t.name)) t.name e ∷ []) (input_faults above.env e) ∷ []
+
+    by : (c : Bool) (e : Option Ex) → funs (if c then option_map_or part e [] else []) ≡ []
+    by true None = refl
+    by true (Some e) = refl
     by false e = refl
 
 outputs-none : (above : Here) (env : Env) (m : x.Module) (u : x.NamedUnit) (ports : List Identifier) → funs (flat_map (λ t. f.output_part above env m u t.name) ports) ≡ []

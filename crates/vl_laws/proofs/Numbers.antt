@@ -1,6 +1,6 @@
 -- An instance has as many signals as its size says, and the number of a name is the place of its signal.
 use Rattle.std.proofs.Common.{◌≡◌, ℕ, zero, suc, ◌+◌, ◌*◌, ◌<◌, min, Bool, true, false, true≢false, if◌then◌else◌, List, [], ◌∷◌, ◌++◌, length, Option, Some, None, Result, Ok, Err, refl, sym, ap, ◌∙◌, subst, arith}
-use Rattle.std.specs.Prelude.{slice_get, fold, flat_map, is_some, ◌==◌, ◌||◌, All}
+use Rattle.std.specs.Prelude.{slice_get, fold, flat_map, is_some, not, ◌&&◌, ◌==◌, ◌||◌, All}
 use Rattle.std.specs.List.{list_any}
 use Rattle.std.specs.Option.{option_map_or}
 use Rattle.std.specs.Str.{bytes_eq}
@@ -630,11 +630,14 @@ inputs-add : (above : Here) (env : Env) (m : x.Module) (u : x.NamedUnit) (ports 
 inputs-add above env m u [] = refl
 inputs-add above env m u (t ∷ ports) =
     flat_map-append (λ (a : f.Part). a.signals) (f.input_part above env m u t.name) (flat_map (λ t. f.input_part above env m u t.name) ports)
-    ∙ (ap (λ z. z ++ sigs (flat_map (λ t. f.input_part above env m u t.name) ports)) (by (is_input m t.name) (is_clock_binding (env t.name))) ∙ inputs-add above env m u ports)
+    ∙ (ap (λ z. z ++ sigs (flat_map (λ t. f.input_part above env m u t.name) ports)) (by (is_input m t.name && not (is_clock_binding (env t.name))) (expression_of (port_connection m u t.name))) ∙ inputs-add above env m u ports)
   where
-    by : (c e : Bool) → sigs (if c then (if e then [] else f.connection (input_process above env m u t.name ∷ []) (input_faults above.env m u t.name) ∷ []) else []) ≡ []
-    by true true = refl
-    by true false = refl
+    part : Ex → List f.Part
+    part e = f.connection (input_process above env (place_in u (port_connection m u t.name)) t.name e ∷ []) (input_faults above.env e) ∷ []
+
+    by : (c : Bool) (e : Option Ex) → sigs (if c then option_map_or part e [] else []) ≡ []
+    by true None = refl
+    by true (Some e) = refl
     by false e = refl
 
 outputs-add : (above : Here) (env : Env) (m : x.Module) (u : x.NamedUnit) (ports : List Identifier) → sigs (flat_map (λ t. f.output_part above env m u t.name) ports) ≡ []

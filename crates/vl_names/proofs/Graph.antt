@@ -16,7 +16,8 @@ use Rattle.vl_scope.specs.Faults.{In}
 use Rattle.vl_scope.proofs.Members.{In-flat_map, In-flat_map_cases}
 use Rattle.vl_names.specs.declared.interface.Listed.{Listed}
 use Rattle.vl_names.specs.declared.interface.Interface.{Interface}
-use Rattle.vl_names.specs.Modules.{ports, overridable, instances, module_number, steps_of, graph_of, Instantiates, Leads, along, on}
+use Rattle.vl_source.specs.Hierarchy.{ports, overridable, instances, module_number, steps_of, graph_of}
+use Rattle.vl_names.specs.Modules.{Instantiates, Leads, along, on}
 use Rattle.vl_names.specs.Connections.{connection_faults}
 use Rattle.vl_names.specs.HierarchyFaults.{faults_of, faults_by, instance_faults}
 use Rattle.vl_names.specs.Seen.{Lists, Describes, DescribeAll, faults_to, faults_at, faults_by_number, faults_in}

@@ -5,3 +5,4 @@ pub mod Graph
 pub mod Listed
 pub mod Whole
 pub mod Sound
+pub mod Unmarked

@@ -1,5 +1,5 @@
 -- The lists have just the faults of the relations.
-use Rattle.std.proofs.Common.{◌≡◌, ℕ, zero, suc, ◌≤◌, ◌⊎◌, ◌↔◌, inl, inr, ⊎_elim, Bool, true, false, not, ◌||◌, ◌&&◌, nat_le, if◌then◌else◌, List, [], ◌∷◌, ◌++◌, length, flat_map, slice_get, Option, Some, None, refl, sym, ap, ◌∙◌, subst, arith}
+use Rattle.std.proofs.Common.{◌≡◌, ℕ, zero, suc, ◌≤◌, ◌⊎◌, ◌↔◌, inl, inr, ⊎_elim, Bool, true, false, not, ◌||◌, ◌&&◌, nat_eq, nat_le, is_some, if◌then◌else◌, List, [], ◌∷◌, ◌++◌, length, flat_map, slice_get, Option, Some, None, refl, sym, ap, ◌∙◌, subst, arith}
 use Rattle.std.specs.List.{list_any, list_all}
 use Rattle.std.specs.Option.{option_map_or}
 use Rattle.std.specs.Str.{bytes_eq}
@@ -17,7 +17,8 @@ use Rattle.vl_scope.specs.declared.fault.Fault.{Fault}
 use Rattle.vl_scope.specs.DeclarationFaults.{names_have}
 use Rattle.vl_scope.specs.Faults.{at, In, each_after}
 use Rattle.vl_scope.proofs.Members.{In-append_left, In-append_right, In-append_cases, In-split, In-middle, In-flat_map, In-flat_map_cases, In-fault_if, In-fault_if_cases, In-each_after, In-each_after_cases}
-use Rattle.vl_names.specs.Modules.{ports, overridable, instances, all_instances, module_number, is_instantiated, graph_of, is_top, has_one_input}
+use Rattle.vl_source.specs.Hierarchy.{ports, overridable, instances, module_number, graph_of, is_top, first_top}
+use Rattle.vl_names.specs.Modules.{all_instances, has_one_input}
 use Rattle.vl_names.specs.Walks.{is_cyclic}
 use Rattle.vl_names.proofs.Graph.{itself-law}
 use Rattle.vl_names.specs.Connections as c
@@ -133,30 +134,21 @@ faults_of-ports u m n f there k = In-append_right f (option_map_or (c.connection
 
 -- what stands behind the faults of repeated modules
 abbrev later : Source → List Fault
-later s = h.given_faults s ++ h.itself_faults (graph_of s) s.modules
+later s = h.given_faults s ++ h.graph_faults (graph_of s) s.modules
 
 of_given : (s : Source) (f : Fault) → In f (h.given_faults s) → In f (hierarchy_faults s)
-of_given s f k = In-append_right f (each_after h.repeated_fault [] s.modules) (later s) (In-append_left f (h.given_faults s) (h.itself_faults (graph_of s) s.modules) k)
+of_given s f k = In-append_right f (each_after h.repeated_fault [] s.modules) (later s) (In-append_left f (h.given_faults s) (h.graph_faults (graph_of s) s.modules) k)
+
+of_graph : (s : Source) (f : Fault) → In f (h.graph_faults (graph_of s) s.modules) → In f (hierarchy_faults s)
+of_graph s f k = In-append_right f (each_after h.repeated_fault [] s.modules) (later s) (In-append_right f (h.given_faults s) (h.graph_faults (graph_of s) s.modules) k)
 
 -- a fault of an instance in a module is listed
 of_instance : (s : Source) (m : Module) (u : Instance) (f : Fault) → In m s.modules → In u (instances m) → In f (h.instance_faults s u) → In f (hierarchy_faults s)
 of_instance s m u f there inside k =
-    of_given s f (In-append_left f (flat_map (h.instance_faults s) (all_instances s)) (h.all_top_faults (is_instantiated s) s.modules)
-    (In-flat_map (h.instance_faults s) u f (all_instances s) (In-flat_map instances m u s.modules there inside) k))
+    of_given s f (In-flat_map (h.instance_faults s) u f (all_instances s) (In-flat_map instances m u s.modules there inside) k)
 
 of_module : (s : Source) (u : Instance) (of : Module) (f : Fault) → IsOf s u of → In f (h.faults_of u of) → In f (h.instance_faults s u)
 of_module s u of f is k = subst (λ o. In f (h.faults_by s u o)) (sym is.1) (subst (λ o. In f (option_map_or (h.faults_of u) o [])) (sym is.2) k)
-
--- a fault of a top is listed
-of_top : (s : Source) (f : Fault) → In f (h.all_top_faults (is_instantiated s) s.modules) → In f (hierarchy_faults s)
-of_top s f k = of_given s f (In-append_right f (flat_map (h.instance_faults s) (all_instances s)) (h.all_top_faults (is_instantiated s) s.modules) k)
-
-top_at : (s : Source) (before after : List Module) (m : Module) → s.modules ≡ before ++ m ∷ after → is_top s m ≡ true → (list_any (is_top s) before || not (has_one_input m)) ≡ true → In (at m.name.place 6) (hierarchy_faults s)
-top_at s before after m is top wrong = of_top s (at m.name.place 6)
-    (In-append_left (at m.name.place 6) (each_after (h.top_fault (is_instantiated s)) [] s.modules) (h.no_top_faults (is_instantiated s) s.modules)
-    (subst (λ l. In (at m.name.place 6) (each_after (h.top_fault (is_instantiated s)) [] l)) (sym is)
-    (In-each_after (h.top_fault (is_instantiated s)) (at m.name.place 6) [] before m after
-    (In-fault_if (is_top s m && (list_any (is_top s) before || not (has_one_input m))) m.name.place 6 (rw (top, wrong) refl)))))
 
 split-at : {X : Type 0} (xs : List X) (i : ℕ) (x : X) → slice_get xs i ≡ Some x → (before : List X) × (after : List X) × (xs ≡ before ++ x ∷ after) × (length before ≡ i)
 split-at [] i x e = absurd cc
@@ -167,21 +159,62 @@ at-split : {X : Type 0} (before : List X) (x : X) (after : List X) → slice_get
 at-split [] x after = refl
 at-split (y ∷ before) x after = at-split before x after
 
+-- ---- tops
+
+-- the faults of tops
+abbrev tops_of : Source → List Fault
+tops_of s = h.top_faults (is_top (graph_of s)) (first_top (graph_of s)) s.modules
+
+of_top : (s : Source) (f : Fault) → In f (tops_of s) → In f (hierarchy_faults s)
+of_top s f k = of_graph s f (In-append_left f (tops_of s) (h.itself_faults (graph_of s) s.modules) k)
+
+top_at : (s : Source) (i : ℕ) (m : Module) → slice_get s.modules i ≡ Some m → is_top (graph_of s) i ≡ true → (not (h.is_number (first_top (graph_of s)) i) || not (has_one_input m)) ≡ true → In (at m.name.place 6) (hierarchy_faults s)
+top_at s i m here top wrong =
+    let r = split-at s.modules i m here in
+    let fault = h.top_fault (is_top (graph_of s)) (first_top (graph_of s)) in
+    of_top s (at m.name.place 6) (In-append_left (at m.name.place 6) (each_after fault [] s.modules) (h.no_top_faults (first_top (graph_of s)) s.modules)
+    (subst (λ l. In (at m.name.place 6) (each_after fault [] l)) (sym r.2)
+    (In-each_after fault (at m.name.place 6) [] r.0 m r.1
+    (In-fault_if (is_top (graph_of s) (length r.0) && (not (h.is_number (first_top (graph_of s)) (length r.0)) || not (has_one_input m))) m.name.place 6
+    (ap (λ k. is_top (graph_of s) k && (not (h.is_number (first_top (graph_of s)) k) || not (has_one_input m))) r.3 ∙ rw (top, wrong) refl)))))
+
+equal : (a b : ℕ) → nat_eq a b ≡ true → a ≡ b
+equal a b e = grind (arith, nat_tests)
+
+equal-self : (a : ℕ) → nat_eq a a ≡ true
+equal-self a = grind (arith, nat_tests)
+
+other_number : (o : Option ℕ) (i : ℕ) → (o ≡ Some i → ⊥) → h.is_number o i ≡ false
+other_number None i other = refl
+other_number (Some k) i other = by (nat_eq k i) refl
+  where
+    by : (t : Bool) → nat_eq k i ≡ t → t ≡ false
+    by true e = absurd (other (ap Some (equal k i e)))
+    by false e = refl
+
+not_number : (o : Option ℕ) (i : ℕ) → not (h.is_number o i) ≡ true → o ≡ Some i → ⊥
+not_number None i wrong e = absurd cc
+not_number (Some k) i wrong e = let same : k ≡ i = cc in let yes : nat_eq k i ≡ true = ap (λ j. nat_eq k j) (sym same) ∙ equal-self k in absurd (let f : not true ≡ true = ap not (sym yes) ∙ wrong in cc)
+
+none-there : (o : Option ℕ) → not (is_some o) ≡ true → o ≡ None
+none-there None e = refl
+none-there (Some k) e = absurd cc
+
 pub hierarchy-In : (s : Source) (f : Fault) → IsHierarchyFault s f → In f (hierarchy_faults s)
 hierarchy-In s f (absent m u there inside missing) = (of_instance s m u f there inside (subst (λ o. In (at u.place 5) (h.faults_by s u o)) (sym missing) (inl refl)))
 hierarchy-In s f (defined_twice before after m is again) = (In-append_left f (each_after h.repeated_fault [] s.modules) (later s)
     (subst (λ l. In (at m.name.place 5) (each_after h.repeated_fault [] l)) (sym is)
     (In-each_after h.repeated_fault (at m.name.place 5) [] before m after (In-fault_if (list_any (λ b. bytes_eq m.name.name b.name.name) before) m.name.place 5 again))))
-hierarchy-In s f (contains_itself i m here leads) = In-append_right f (each_after h.repeated_fault [] s.modules) (later s) (In-append_right f (h.given_faults s) (h.itself_faults (graph_of s) s.modules)
+hierarchy-In s f (contains_itself i m here leads) = of_graph s f (In-append_right f (tops_of s) (h.itself_faults (graph_of s) s.modules)
     (let r = split-at s.modules i m here in
     subst (λ l. In (at m.name.place 5) (h.itself_faults (graph_of s) l)) (sym r.2)
     (In-each_after (h.itself_fault (graph_of s)) (at m.name.place 5) [] r.0 m r.1 (In-fault_if (is_cyclic (graph_of s) (length r.0)) m.name.place 5 (ap (is_cyclic (graph_of s)) r.3 ∙ (itself-law s i).1 leads)))))
 hierarchy-In s f (no_top m after is none) = (of_top s f
-    (In-append_right f (each_after (h.top_fault (is_instantiated s)) [] s.modules) (h.no_top_faults (is_instantiated s) s.modules)
-    (subst (λ l. In (at m.name.place 6) (h.no_top_faults (is_instantiated s) l)) (sym is)
-    (In-fault_if (not (list_any (is_top s) (m ∷ after))) m.name.place 6 (ap not (ap (list_any (is_top s)) (sym is) ∙ none))))))
-hierarchy-In s f (second_top before after m is top again) = (top_at s before after m is top (rw again refl))
-hierarchy-In s f (top_ports m there top wrong) = let r = In-split m s.modules there in (top_at s r.0 r.1 m r.2 top (rw wrong (or-true (list_any (is_top s) r.0))))
+    (In-append_right f (each_after (h.top_fault (is_top (graph_of s)) (first_top (graph_of s))) [] s.modules) (h.no_top_faults (first_top (graph_of s)) s.modules)
+    (subst (λ l. In (at m.name.place 6) (h.no_top_faults (first_top (graph_of s)) l)) (sym is)
+    (In-fault_if (not (is_some (first_top (graph_of s)))) m.name.place 6 (ap (λ o. not (is_some o)) none)))))
+hierarchy-In s f (second_top i m here top other) = (top_at s i m here top (rw (other_number (first_top (graph_of s)) i other) refl))
+hierarchy-In s f (top_ports i m here top wrong) = (top_at s i m here top (rw wrong (or-true (not (h.is_number (first_top (graph_of s)) i)))))
 hierarchy-In s f (override m of u cs f' there inside is given k) = (of_instance s m u f there inside (of_module s u of f is (faults_of-overrides u of cs f given k)))
 hierarchy-In s f (connection m of u n f' there inside is among k) = (of_instance s m u f there inside (of_module s u of f is (faults_of-ports u of n f among k)))
 
@@ -214,21 +247,24 @@ module _ (s : Source) (f : Fault) where
       by None e (inr k) = absurd k
       by (Some j) e k = at-number j e (slice_get s.modules j) refl k
 
-  top_cases : In f (each_after (h.top_fault (is_instantiated s)) [] s.modules) → IsHierarchyFault s f
+  top_cases : In f (each_after (h.top_fault (is_top (graph_of s)) (first_top (graph_of s))) [] s.modules) → IsHierarchyFault s f
   top_cases k =
-      let r = In-each_after_cases (h.top_fault (is_instantiated s)) f [] s.modules k in
-      let t = In-fault_if_cases (is_top s r.1 && (list_any (is_top s) r.0 || not (has_one_input r.1))) r.1.name.place 6 f r.4 in
-      let both = and_parts (is_top s r.1) (list_any (is_top s) r.0 || not (has_one_input r.1)) t.0 in
+      let g = graph_of s in
+      let r = In-each_after_cases (h.top_fault (is_top g) (first_top g)) f [] s.modules k in
+      let n = length r.0 in
+      let t = In-fault_if_cases (is_top g n && (not (h.is_number (first_top g) n) || not (has_one_input r.1))) r.1.name.place 6 f r.4 in
+      let both = and_parts (is_top g n) (not (h.is_number (first_top g) n) || not (has_one_input r.1)) t.0 in
+      let here : slice_get s.modules n ≡ Some r.1 = ap (λ l. slice_get l n) r.3 ∙ at-split r.0 r.1 r.2 in
       subst (IsHierarchyFault s) (sym t.1) (⊎_elim
-      (λ again. second_top r.0 r.2 r.1 r.3 both.0 again)
-      (λ wrong. top_ports r.1 (subst (In r.1) (sym r.3) (In-middle r.1 r.0 r.2)) both.0 (not-true _ wrong))
-      (or_cases (list_any (is_top s) r.0) (not (has_one_input r.1)) both.1))
+      (λ other. second_top n r.1 here both.0 (not_number (first_top g) n other))
+      (λ wrong. top_ports n r.1 here both.0 (not-true _ wrong))
+      (or_cases (not (h.is_number (first_top g) n)) (not (has_one_input r.1)) both.1))
 
-  no_top_cases : (ms : List Module) → s.modules ≡ ms → In f (h.no_top_faults (is_instantiated s) ms) → IsHierarchyFault s f
+  no_top_cases : (ms : List Module) → s.modules ≡ ms → In f (h.no_top_faults (first_top (graph_of s)) ms) → IsHierarchyFault s f
   no_top_cases [] e k = absurd k
   no_top_cases (m ∷ ms) e k =
-      let t = In-fault_if_cases (not (list_any (is_top s) (m ∷ ms))) m.name.place 6 f k in
-      subst (IsHierarchyFault s) (sym t.1) (no_top m ms e (ap (list_any (is_top s)) e ∙ not-true _ t.0))
+      let t = In-fault_if_cases (not (is_some (first_top (graph_of s)))) m.name.place 6 f k in
+      subst (IsHierarchyFault s) (sym t.1) (no_top m ms e (none-there (first_top (graph_of s)) t.0))
 
   itself_cases : In f (h.itself_faults (graph_of s) s.modules) → IsHierarchyFault s f
   itself_cases k =
@@ -237,14 +273,17 @@ module _ (s : Source) (f : Fault) where
       subst (IsHierarchyFault s) (sym t.1) (contains_itself (length r.0) r.1 (ap (λ l. slice_get l (length r.0)) r.3 ∙ at-split r.0 r.1 r.2) ((itself-law s (length r.0)).0 t.0))
 
   given_faults_cases : In f (h.given_faults s) → IsHierarchyFault s f
-  given_faults_cases k = ⊎_elim
-      (λ k. let u = In-flat_map_cases (h.instance_faults s) f (all_instances s) k in let m = In-flat_map_cases instances u.0 s.modules u.1 in instance_cases m.0 u.0 m.1 m.2 u.2)
-      (λ k. ⊎_elim top_cases (no_top_cases s.modules refl) (In-append_cases f (each_after (h.top_fault (is_instantiated s)) [] s.modules) (h.no_top_faults (is_instantiated s) s.modules) k))
-      (In-append_cases f (flat_map (h.instance_faults s) (all_instances s)) (h.all_top_faults (is_instantiated s) s.modules) k)
+  given_faults_cases k = let u = In-flat_map_cases (h.instance_faults s) f (all_instances s) k in let m = In-flat_map_cases instances u.0 s.modules u.1 in instance_cases m.0 u.0 m.1 m.2 u.2
+
+  graph_cases : In f (h.graph_faults (graph_of s) s.modules) → IsHierarchyFault s f
+  graph_cases k = ⊎_elim
+      (λ k. ⊎_elim top_cases (no_top_cases s.modules refl) (In-append_cases f (each_after (h.top_fault (is_top (graph_of s)) (first_top (graph_of s))) [] s.modules) (h.no_top_faults (first_top (graph_of s)) s.modules) k))
+      itself_cases
+      (In-append_cases f (tops_of s) (h.itself_faults (graph_of s) s.modules) k)
 
   pub hierarchy_cases : In f (hierarchy_faults s) → IsHierarchyFault s f
   hierarchy_cases k = ⊎_elim repeated_cases
-      (λ k. ⊎_elim given_faults_cases itself_cases (In-append_cases f (h.given_faults s) (h.itself_faults (graph_of s) s.modules) k))
+      (λ k. ⊎_elim given_faults_cases graph_cases (In-append_cases f (h.given_faults s) (h.graph_faults (graph_of s) s.modules) k))
       (In-append_cases f (each_after h.repeated_fault [] s.modules) (later s) k)
 
 pub hierarchy-law : (s : Source) (f : Fault) → IsHierarchyFault s f ↔ In f (hierarchy_faults s)

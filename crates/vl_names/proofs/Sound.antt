@@ -6,7 +6,8 @@ use Rattle.vl_source.specs.declared.tree.Module.{Module}
 use Rattle.vl_source.specs.declared.tree.Instance.{Instance}
 use Rattle.vl_scope.specs.declared.fault.Fault.{Fault}
 use Rattle.vl_scope.specs.Faults.{at, In}
-use Rattle.vl_names.specs.Modules.{instances, module_number, Instantiates, Leads, along, on}
+use Rattle.vl_source.specs.Hierarchy.{instances, module_number}
+use Rattle.vl_names.specs.Modules.{Instantiates, Leads, along, on}
 use Rattle.vl_names.specs.HierarchyFaults.{IsOf, absent, contains_itself}
 use Rattle.vl_names.specs.NameFaults.{IsNameFault, of_modules}
 use Rattle.vl_names.proofs.Graph.{number-within}

@@ -22,9 +22,8 @@ use Rattle.vl_scope.proofs.Listed.{bytes_eq-to}
 use Rattle.vl_scope.specs.declared.fault.Fault.{Fault}
 use Rattle.vl_scope.specs.Faults.{earliest, fault_if, each_after}
 use Rattle.vl_scope.proofs.Orders.{earliest-append}
-use Rattle.vl_names.specs.HierarchyFaults.{repeated_fault, itself_fault, itself_faults}
-use Rattle.vl_names.specs.Walks.{is_cyclic}
-use Rattle.vl_names.specs.Seen.{has, look, with_name, none, is_used, number_in, with_number, faults_in, faults_at, faults_by_number, Describes, DescribeAll}
+use Rattle.vl_names.specs.HierarchyFaults.{repeated_fault}
+use Rattle.vl_names.specs.Seen.{has, look, with_name, none, number_in, with_number, faults_in, faults_at, faults_by_number, Describes, DescribeAll}
 
 either : {A : Type 0} (b : Bool) (w : A) (o : Option A) → is_some (cond b (Some w) o) ≡ (is_some o || b)
 either true w None = refl
@@ -60,10 +59,6 @@ names_have-push t ns n = list_any-append (λ m. bytes_eq t m.name) ns (n ∷ [])
 pub with_name-names_have : (ns : List Identifier) (n : Identifier) → with_name (names_have ns) n.name ≡ names_have (ns ++ n ∷ [])
 unfolding with_name
 with_name-names_have ns n = λ i t. (sym (names_have-push t ns n)) i
-
-pub with_name-used : (us : List Instance) (u : Instance) → with_name (is_used us) u.definition.name ≡ is_used (us ++ u ∷ [])
-unfolding with_name
-with_name-used us u = λ i t. (sym (list_any-append (λ x. bytes_eq t x.definition.name) us (u ∷ []) ∙ ap (λ b. is_used us t || b) (or-false (bytes_eq t u.definition.name)))) i
 
 -- ---- the numbers of modules
 
@@ -142,15 +137,21 @@ repeated-turn ms i m known first old new h e f g before =
     ∙ sym (earliest-append first (each_after repeated_fault [] (take i ms)) (repeated_fault (take i ms) m))
     ∙ ap (earliest first) (sym (each_after-push repeated_fault [] (take i ms) m) ∙ ap (each_after repeated_fault []) (sym (next_of ms i m h e)))
 
-pub itself-turn : (graph : List (List ℕ)) (ms : List Module) (i : ℕ) (m : Module) (first old new : Option Fault) → i < length ms → m ≡ get_or ms i m
-    → new ≡ earliest old (fault_if (is_cyclic graph i) m.name.place 5) → old ≡ earliest first (itself_faults graph (take i ms)) → new ≡ earliest first (itself_faults graph (take (i + 1) ms))
-itself-turn graph ms i m first old new h e g before =
+-- one more module, of which a fault depends on its number
+pub numbered-turn : (faults : ℕ → Module → List Fault) (ms : List Module) (i : ℕ) (m : Module) (first old new : Option Fault) → i < length ms → m ≡ get_or ms i m
+    → new ≡ earliest old (faults i m) → old ≡ earliest first (each_after (λ before x. faults (length before) x) [] (take i ms)) → new ≡ earliest first (each_after (λ before x. faults (length before) x) [] (take (i + 1) ms))
+numbered-turn faults ms i m first old new h e g before =
+    let here : List Module → Module → List Fault = λ before x. faults (length before) x in
     let long : i ≡ length (take i ms) = grind (arith, common_steps) in
     g
-    ∙ ap (λ k. earliest old (fault_if (is_cyclic graph k) m.name.place 5)) long
-    ∙ ap (λ o. earliest o (itself_fault graph (take i ms) m)) before
-    ∙ sym (earliest-append first (itself_faults graph (take i ms)) (itself_fault graph (take i ms) m))
-    ∙ ap (earliest first) (sym (each_after-push (itself_fault graph) [] (take i ms) m) ∙ ap (itself_faults graph) (sym (next_of ms i m h e)))
+    ∙ ap (λ k. earliest old (faults k m)) long
+    ∙ ap (λ o. earliest o (here (take i ms) m)) before
+    ∙ sym (earliest-append first (each_after here [] (take i ms)) (here (take i ms) m))
+    ∙ ap (earliest first) (sym (each_after-push here [] (take i ms) m) ∙ ap (each_after here []) (sym (next_of ms i m h e)))
+
+-- one more element of which a test is made
+pub any-turn : {X : Type 0} (p : X → Bool) (xs : List X) (i : ℕ) (x : X) → i < length xs → x ≡ get_or xs i x → list_any p (take (i + 1) xs) ≡ (list_any p (take i xs) || p x)
+any-turn p xs i x h e = ap (list_any p) (next_of xs i x h e) ∙ list_any-append p (take i xs) (x ∷ []) ∙ ap (λ b. list_any p (take i xs) || b) (or-false (p x))
 
 -- ---- what instances may be given
 
@@ -167,4 +168,4 @@ describe-turn old new ms k i m h e n d before = subst (λ l. DescribeAll l (take
 pub faults_in-at : (number : List ℕ → Option ℕ) (is : List Interface) (u : Instance) (j : ℕ) (i : Interface) → number u.definition.name ≡ Some j → j < length is → i ≡ get_or is j i → faults_in number is u ≡ faults_at u i
 faults_in-at number is u j i e h r = ap (faults_by_number is u) e ∙ ap (λ o. option_map_or (faults_at u) o []) (slice_get_read is (length is) j i refl h r)
 
-pub ruleset walks = (common_steps, look-empty, number_in-some, with_number-in, has-empty, with_name-names_have, with_name-used, each_after-push, list_any-append, or-false)
+pub ruleset walks = (common_steps, look-empty, number_in-some, with_number-in, has-empty, with_name-names_have, each_after-push, list_any-append, or-false)

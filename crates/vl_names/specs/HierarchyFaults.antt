@@ -1,5 +1,5 @@
 -- The faults of the modules of a source: refused constructs 5, 6 and 7.
-use Rattle.std.specs.Prelude.{◌≡◌, ℕ, Bool, true, false, not, ◌&&◌, ◌||◌, List, [], ◌∷◌, ◌++◌, length, flat_map, slice_get, Option, Some, None}
+use Rattle.std.specs.Prelude.{◌≡◌, ℕ, Bool, true, false, not, ◌&&◌, ◌||◌, nat_eq, is_some, List, [], ◌∷◌, ◌++◌, length, flat_map, slice_get, Option, Some, None}
 use Rattle.std.specs.List.{list_any}
 use Rattle.std.specs.Option.{option_map_or}
 use Rattle.std.specs.Str.{bytes_eq}
@@ -11,7 +11,8 @@ use Rattle.vl_source.specs.declared.tree.Connection.{Connection}
 use Rattle.vl_scope.specs.declared.fault.Fault.{Fault}
 use Rattle.vl_scope.specs.DeclarationFaults.{names_have}
 use Rattle.vl_scope.specs.Faults.{at, In, fault_if, each_after}
-use Rattle.vl_names.specs.Modules.{instances, all_instances, module_number, is_instantiated, graph_of, Instantiates, Leads, is_top, has_one_input, ports, overridable}
+use Rattle.vl_source.specs.Hierarchy.{instances, module_number, graph_of, is_top, first_top, ports, overridable}
+use Rattle.vl_names.specs.Modules.{all_instances, Instantiates, Leads, has_one_input}
 use Rattle.vl_names.specs.Walks.{is_cyclic}
 use Rattle.vl_names.specs.Connections.{IsConnectionFault, connection_faults}
 
@@ -28,11 +29,11 @@ pub data IsHierarchyFault (s : Source) : Fault → Type 0 where
   -- a module that contains itself: at its name
   contains_itself : (i : ℕ) (m : Module) → slice_get s.modules i ≡ Some m → Leads (Instantiates s) i i → IsHierarchyFault s (at m.name.place 5)
   -- no top: at the first module's name
-  no_top : (m : Module) (after : List Module) → s.modules ≡ m ∷ after → list_any (is_top s) s.modules ≡ false → IsHierarchyFault s (at m.name.place 6)
+  no_top : (m : Module) (after : List Module) → s.modules ≡ m ∷ after → first_top (graph_of s) ≡ None → IsHierarchyFault s (at m.name.place 6)
   -- a second top: at its name
-  second_top : (before after : List Module) (m : Module) → s.modules ≡ before ++ m ∷ after → is_top s m ≡ true → list_any (is_top s) before ≡ true → IsHierarchyFault s (at m.name.place 6)
+  second_top : (i : ℕ) (m : Module) → slice_get s.modules i ≡ Some m → is_top (graph_of s) i ≡ true → (first_top (graph_of s) ≡ Some i → ⊥) → IsHierarchyFault s (at m.name.place 6)
   -- a top whose ports aren't one input: at its name
-  top_ports : (m : Module) → In m s.modules → is_top s m ≡ true → has_one_input m ≡ false → IsHierarchyFault s (at m.name.place 6)
+  top_ports : (i : ℕ) (m : Module) → slice_get s.modules i ≡ Some m → is_top (graph_of s) i ≡ true → has_one_input m ≡ false → IsHierarchyFault s (at m.name.place 6)
   -- an override of a parameter
   override : (m of : Module) (u : Instance) (cs : List Connection) (f : Fault) → In m s.modules → In u (instances m) → IsOf s u of → u.overrides ≡ Some cs → IsConnectionFault (overridable of) cs f → IsHierarchyFault s f
   -- a connection to a port
@@ -59,22 +60,23 @@ instance_faults s u = faults_by s u (module_number s u.definition.name)
 abbrev pub repeated_fault : List Module → Module → List Fault
 repeated_fault before m = fault_if (list_any (λ b. bytes_eq m.name.name b.name.name) before) m.name.place 5
 
--- no instance is of a module of this one's name, by a test of which names instances use
-abbrev pub is_unused : (List ℕ → Bool) → Module → Bool
-is_unused used m = not (used m.name.name)
+-- the number is this one
+abbrev pub is_number : Option ℕ → ℕ → Bool
+is_number None i = false
+is_number (Some k) i = nat_eq k i
 
--- the fault of a top that stands behind another, or whose ports aren't one input
-abbrev pub top_fault : (List ℕ → Bool) → List Module → Module → List Fault
-top_fault used before m = fault_if (is_unused used m && (list_any (is_unused used) before || not (has_one_input m))) m.name.place 6
+-- the fault of a top that isn't the first, or whose ports aren't one input: its number is how many stand before it
+abbrev pub top_fault : (ℕ → Bool) → Option ℕ → List Module → Module → List Fault
+top_fault top first before m = fault_if (top (length before) && (not (is_number first (length before)) || not (has_one_input m))) m.name.place 6
 
 -- the fault of the first module, where there is no top
-abbrev pub no_top_faults : (List ℕ → Bool) → List Module → List Fault
-no_top_faults used [] = []
-no_top_faults used (m ∷ ms) = fault_if (not (list_any (is_unused used) (m ∷ ms))) m.name.place 6
+abbrev pub no_top_faults : Option ℕ → List Module → List Fault
+no_top_faults first [] = []
+no_top_faults first (m ∷ ms) = fault_if (not (is_some first)) m.name.place 6
 
--- the faults of tops, or that there is none
-abbrev pub all_top_faults : (List ℕ → Bool) → List Module → List Fault
-all_top_faults used ms = each_after (top_fault used) [] ms ++ no_top_faults used ms
+-- the faults of tops, by a test of which are, and by the number of the first
+abbrev pub top_faults : (ℕ → Bool) → Option ℕ → List Module → List Fault
+top_faults top first ms = each_after (top_fault top first) [] ms ++ no_top_faults first ms
 
 -- the fault of a module that contains itself: its number is how many stand before it
 abbrev pub itself_fault : List (List ℕ) → List Module → Module → List Fault
@@ -84,10 +86,14 @@ itself_fault graph before m = fault_if (is_cyclic graph (length before)) m.name.
 abbrev pub itself_faults : List (List ℕ) → List Module → List Fault
 itself_faults graph ms = each_after (itself_fault graph) [] ms
 
--- the faults of instances and of tops
+-- the faults of tops and of modules that contain themselves
+abbrev pub graph_faults : List (List ℕ) → List Module → List Fault
+graph_faults graph ms = top_faults (is_top graph) (first_top graph) ms ++ itself_faults graph ms
+
+-- the faults of instances
 abbrev pub given_faults : Source → List Fault
-given_faults s = flat_map (instance_faults s) (all_instances s) ++ all_top_faults (is_instantiated s) s.modules
+given_faults s = flat_map (instance_faults s) (all_instances s)
 
 -- the faults of the modules of a source, in no special order
 abbrev pub hierarchy_faults : Source → List Fault
-hierarchy_faults s = each_after repeated_fault [] s.modules ++ (given_faults s ++ itself_faults (graph_of s) s.modules)
+hierarchy_faults s = each_after repeated_fault [] s.modules ++ (given_faults s ++ graph_faults (graph_of s) s.modules)

@@ -1,6 +1,6 @@
 -- What the program's own values stand for.
 use Rattle.std.specs.Prelude.{◌≡◌, ℕ, Bool, false, ◌||◌, is_some, if◌then◌else◌, List, [], ◌∷◌, ◌++◌, length, map, flat_map, slice_get, Option, Some, None}
-use Rattle.std.specs.List.{list_any, position}
+use Rattle.std.specs.List.{position}
 use Rattle.std.specs.Option.{option_or, option_map_or}
 use Rattle.std.specs.Borrow.{Bor}
 use Rattle.std.specs.Str.{bytes_eq}
@@ -14,7 +14,7 @@ use Rattle.vl_scope.specs.DeclarationFaults.{names_have}
 use Rattle.vl_scope.specs.Faults.{at}
 use Rattle.vl_names.specs.declared.interface.Listed.{Listed}
 use Rattle.vl_names.specs.declared.interface.Interface.{Interface}
-use Rattle.vl_names.specs.Modules.{ports, overridable}
+use Rattle.vl_source.specs.Hierarchy.{ports, overridable}
 use Rattle.vl_names.specs.Connections.{connection_faults}
 
 -- what references point to
@@ -70,10 +70,6 @@ faults_by_number is u (Some j) = option_map_or (faults_at u) (slice_get is j) []
 -- the faults of an instance, by the numbers of the modules and by what each may be given
 abbrev pub faults_in : (List ℕ → Option ℕ) → List Interface → Instance → List Fault
 faults_in number is u = faults_by_number is u (number u.definition.name)
-
--- one of the instances is of a module of this name
-abbrev pub is_used : List Instance → List ℕ → Bool
-is_used us t = list_any (λ u. bytes_eq t u.definition.name) us
 
 -- the number of the first of these modules that is so called
 abbrev pub number_in : List Module → List ℕ → Option ℕ

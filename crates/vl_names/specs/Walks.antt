@@ -21,6 +21,10 @@ leads_within graph (suc n) a b = list_any (λ c. nat_eq c b || leads_within grap
 abbrev pub is_cyclic : List (List ℕ) → ℕ → Bool
 is_cyclic graph k = leads_within graph (length graph) k k
 
+-- a node isn't marked
+abbrev pub is_unmarked : List Bool → ℕ → Bool
+is_unmarked marks k = not (slice_index_or marks k false)
+
 -- a node is marked
 abbrev pub IsMarked : List Bool → ℕ → Type 0
 IsMarked marks k = slice_index_or marks k false ≡ true

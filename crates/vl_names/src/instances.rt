@@ -3,7 +3,8 @@
 ghost use Rattle.std.specs.Prelude.{◌≡◌, ◌++◌, ◌∷◌, [], flat_map, IfOk, OnOk};
 ghost use Rattle.std.specs.Option.{option_map_or};
 ghost use Rattle.vl_scope.specs.Faults.{at, earliest};
-ghost use Rattle.vl_names.specs.Modules as spec;
+ghost use Rattle.vl_source.specs.Hierarchy.{instances};
+ghost use Rattle.vl_names.specs.Modules.{all_instances};
 ghost use Rattle.vl_names.specs.Seen as seen;
 
 use crate::connections::note_connections;
@@ -17,7 +18,7 @@ use vl_source::tree::{Connection, Instance, Item, Module, NamedInstance, Source}
 
 /// Adds the instances in a module.
 pub fn add_instances<'a>(all: &mut Vec<&'a Instance>, tree: &'a Module) -> Result<(), AllocError>
-    ensures { OnOk result (seen.nows all.new.items ≡ seen.nows all.old.items ++ spec.instances tree.now) }
+    ensures { OnOk result (seen.nows all.new.items ≡ seen.nows all.old.items ++ instances tree.now) }
 {
     for item in tree.items.as_slice() {
         if let Item::Instance(instance) = item {
@@ -29,7 +30,7 @@ pub fn add_instances<'a>(all: &mut Vec<&'a Instance>, tree: &'a Module) -> Resul
 
 /// The instances in the modules of a source.
 pub fn all_instances(alloc: Global, source: &Source) -> Result<Vec<&Instance>, AllocError>
-    ensures { IfOk result (λ all. seen.nows all.items ≡ spec.all_instances source.now) }
+    ensures { IfOk result (λ all. seen.nows all.items ≡ all_instances source.now) }
 {
     let mut all = Vec::new(alloc);
     for tree in source.modules.as_slice() {

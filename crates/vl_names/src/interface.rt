@@ -3,7 +3,7 @@
 ghost use Rattle.std.specs.Prelude.{◌≡◌, ◌++◌, flat_map, map, IfOk, OnOk, length};
 ghost use Rattle.std.specs.Option.{option_map_or};
 ghost use Rattle.vl_scope.specs.DeclarationFaults.{names_have};
-ghost use Rattle.vl_names.specs.Modules as spec;
+ghost use Rattle.vl_source.specs.Hierarchy as spec;
 ghost use Rattle.vl_names.specs.Seen as seen;
 
 use indexmap::IndexMap;

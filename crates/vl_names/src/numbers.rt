@@ -4,7 +4,7 @@ ghost use Rattle.std.specs.Prelude.{◌≡◌, ◌++◌, [], is_some, map, flat_
 ghost use Rattle.std.specs.Option.{option_to_list};
 ghost use Rattle.vl_scope.specs.Faults.{earliest, fault_if, each_after};
 ghost use Rattle.vl_names.specs.HierarchyFaults.{repeated_fault};
-ghost use Rattle.vl_names.specs.Modules as spec;
+ghost use Rattle.vl_source.specs.Hierarchy as spec;
 ghost use Rattle.vl_names.specs.Seen as seen;
 
 use crate::instances::add_instances;

@@ -1,31 +1,22 @@
 //! Which modules are tops, and their ports.
 
-ghost use Rattle.std.specs.Prelude.{◌≡◌, ◌++◌, ◌∷◌, [], ◌||◌, not, flat_map, IfOk, OnOk};
+ghost use Rattle.std.specs.Prelude.{◌≡◌, ◌<◌, ◌++◌, ℕ, nat_eq, [], ◌||◌, ◌&&◌, not, false, length, slice_index_or, IfOk, OnOk};
 ghost use Rattle.std.specs.List.{list_any};
+ghost use Rattle.vl_source.specs.Hierarchy.{first_from, first_top};
+ghost use Rattle.vl_source.specs.Hierarchy.{is_top as is_top_lem};
 ghost use Rattle.vl_scope.specs.DeclarationFaults.{is_input};
-ghost use Rattle.vl_scope.specs.Faults.{at, earliest, fault_if, each_after};
-ghost use Rattle.vl_names.specs.HierarchyFaults.{is_unused, top_fault, no_top_faults};
+ghost use Rattle.vl_scope.specs.Faults.{earliest, fault_if, each_after};
+ghost use Rattle.vl_names.specs.HierarchyFaults as faults;
 ghost use Rattle.vl_names.specs.Modules as spec;
 ghost use Rattle.vl_names.specs.Seen as seen;
+ghost use Rattle.vl_names.specs.Walks as walk;
 
-use crate::interface::{Known, add, declares, ports};
-use indexmap::IndexMap;
+use crate::interface::{declares, ports};
 use std::alloc::{AllocError, Global};
+use vl_base::items::Items;
 use vl_grammar::tree::Identifier;
 use vl_scope::fault::{Fault, earlier};
-use vl_source::tree::{Direction, Instance, Item, Module, PortDeclaration, Ports};
-
-/// The names of the modules that instances are of.
-#[tactic(auto, using(crate::proofs::Steps::walks))]
-pub fn used<'a>(alloc: Global, instances: &[&'a Instance]) -> Result<Known<'a>, AllocError>
-    ensures { IfOk result (λ used. seen.has used ≡ seen.is_used (seen.nows instances.now)) }
-{
-    let mut used = IndexMap::new(alloc);
-    for instance in instances {
-        add(&mut used, instance.definition.name.as_slice())?;
-    }
-    Ok(used)
-}
+use vl_source::tree::{Direction, Item, Module, PortDeclaration, Ports};
 
 /// Adds port declarations.
 fn add_declarations<'a>(
@@ -131,18 +122,78 @@ fn has_one_input(alloc: Global, tree: &Module) -> Result<bool, AllocError>
     is_one_input(alloc, &declarations, &names)
 }
 
-/// Whether a module is a top.
-#[tactic(auto, unfolding(crate::specs::Seen::has, crate::specs::Seen::look))]
-fn is_top(used: &Known<'_>, tree: &Module) -> bool
-    ensures { result ≡ is_unused (seen.has used.now) tree.now }
+/// Marks a node, if it is there.
+fn mark(marks: &mut Vec<bool>, node: usize)
+    ensures same_length { length marks.new.items ≡ length marks.old.items }
+    ensures marks { (k : ℕ) → k < length marks.old.items → slice_index_or marks.new.items k false ≡ (slice_index_or marks.old.items k false || nat_eq k node) }
 {
-    !used.contains_key(tree.name.name.as_slice())
+    if node < marks.len() {
+        marks[node] = true;
+    }
 }
 
-/// Notes construct 6 at a module's name.
-fn note(tree: &Module, best: Option<Fault>) -> Option<Fault>
-    ensures { result ≡ earliest best (at tree.now.name.place 6 ∷ []) }
+/// Marks the nodes to which a node's steps lead.
+fn mark_all(marks: &mut Vec<bool>, steps: &[usize])
+    ensures same_length { length marks.new.items ≡ length marks.old.items }
+    ensures marks { (k : ℕ) → k < length marks.old.items → slice_index_or marks.new.items k false ≡ (slice_index_or marks.old.items k false || list_any (nat_eq k) steps.now) }
 {
+    for step in steps {
+        mark(marks, *step);
+    }
+}
+
+/// Marks the nodes to which steps lead: the others are the tops.
+fn instantiated(alloc: Global, graph: &[Items<usize>]) -> Result<Vec<bool>, AllocError>
+    requires { walk.IsWithin graph.now }
+    ensures same_length { IfOk result (λ marks. length marks.items ≡ length graph.now) }
+    ensures tops { IfOk result (λ marks. walk.is_unmarked marks.items ≡ is_top_lem graph.now) }
+{
+    let mut marks = vec![in alloc; false; graph.len()]?;
+    for steps in graph {
+        mark_all(&mut marks, steps.as_slice());
+    }
+    Ok(marks)
+}
+
+/// Whether a node isn't marked.
+fn is_unmarked(marks: &[bool], node: usize) -> bool
+    ensures { result ≡ walk.is_unmarked marks.now node }
+{
+    match marks.get(node) {
+        Some(mark) => !*mark,
+        None => true,
+    }
+}
+
+/// The first node that isn't marked.
+fn first_unmarked(marks: &[bool]) -> Option<usize>
+    ensures { result ≡ first_from (walk.is_unmarked marks.now) 0 (length marks.now) }
+{
+    for node in 0..marks.len() {
+        if is_unmarked(marks, node) {
+            return Some(node);
+        }
+    }
+    None
+}
+
+/// Whether a number is this one.
+fn is_number(number: Option<usize>, node: usize) -> bool
+    ensures { result ≡ faults.is_number number node }
+{
+    match number {
+        None => false,
+        Some(number) => number == node,
+    }
+}
+
+/// Notes construct 6 at a module's name, if it holds.
+fn note_if(is_fault: bool, tree: &Module, best: Option<Fault>) -> Option<Fault>
+    ensures { result ≡ earliest best (fault_if is_fault tree.now.name.place 6) }
+{
+    if !is_fault {
+        return best;
+    }
     earlier(
         best,
         Fault {
@@ -152,66 +203,93 @@ fn note(tree: &Module, best: Option<Fault>) -> Option<Fault>
     )
 }
 
-/// Notes a top that stands behind another, or whose ports aren't one input.
+/// Notes a top that isn't the first, or whose ports aren't one input.
 fn note_top(
     alloc: Global,
     tree: &Module,
-    found: bool,
+    is_first: bool,
     best: Option<Fault>,
 ) -> Result<Option<Fault>, AllocError>
-    ensures { IfOk result (λ r. r ≡ earliest best (fault_if (found || not (spec.has_one_input tree.now)) tree.now.name.place 6)) }
+    ensures { IfOk result (λ r. r ≡ earliest best (fault_if (not is_first || not (spec.has_one_input tree.now)) tree.now.name.place 6)) }
 {
-    if found || !has_one_input(alloc, tree)? {
-        return Ok(note(tree, best));
-    }
-    Ok(best)
+    let is_fault = !is_first || !has_one_input(alloc, tree)?;
+    Ok(note_if(is_fault, tree, best))
 }
 
-/// Notes each top that stands behind another, and each whose ports aren't one input.
-#[tactic(auto, using(crate::proofs::Steps::walks))]
-pub fn note_tops(
+/// Notes a module, if it is a top that isn't the first, or whose ports aren't one input.
+fn note_if_top(
     alloc: Global,
-    used: &Known<'_>,
+    tree: &Module,
+    is_top: bool,
+    is_first: bool,
+    best: Option<Fault>,
+) -> Result<Option<Fault>, AllocError>
+    ensures { IfOk result (λ r. r ≡ earliest best (fault_if (is_top && (not is_first || not (spec.has_one_input tree.now))) tree.now.name.place 6)) }
+{
+    if is_top {
+        note_top(alloc, tree, is_first, best)
+    } else {
+        Ok(best)
+    }
+}
+
+/// Notes each top that isn't the first, and each whose ports aren't one input. Tops aren't marked.
+fn note_tops(
+    alloc: Global,
+    marks: &[bool],
+    first: Option<usize>,
     modules: &[Module],
     best: Option<Fault>,
 ) -> Result<Option<Fault>, AllocError>
-    ensures { IfOk result (λ r. r ≡ earliest best (each_after (top_fault (seen.has used.now)) [] modules.now)) }
+    ensures { IfOk result (λ r. r ≡ earliest best (each_after (faults.top_fault (walk.is_unmarked marks.now) first) [] modules.now)) }
 {
     let mut best = best;
-    let mut found = false;
-    for tree in modules {
-        if is_top(used, tree) {
-            best = note_top(alloc, tree, found, best)?;
-            found = true;
-        }
+    for (node, tree) in modules.iter().enumerate() {
+        best = note_if_top(
+            alloc,
+            tree,
+            is_unmarked(marks, node),
+            is_number(first, node),
+            best,
+        )?;
     }
     Ok(best)
 }
 
-/// Whether one of the modules is a top.
-fn has_top(used: &Known<'_>, modules: &[Module]) -> bool
-    ensures { result ≡ list_any (is_unused (seen.has used.now)) modules.now }
-{
-    for tree in modules {
-        if is_top(used, tree) {
-            return true;
-        }
-    }
-    false
-}
-
 /// Notes the first module, where there is no top.
-pub fn note_no_top(used: &Known<'_>, modules: &[Module], best: Option<Fault>) -> Option<Fault>
-    ensures { result ≡ earliest best (no_top_faults (seen.has used.now) modules.now) }
+fn note_no_top(first: Option<usize>, modules: &[Module], best: Option<Fault>) -> Option<Fault>
+    ensures { result ≡ earliest best (faults.no_top_faults first modules.now) }
 {
     match modules {
         [] => best,
-        [first, ..] => {
-            if has_top(used, modules) {
-                best
-            } else {
-                note(first, best)
-            }
-        }
+        [tree, ..] => note_if(first.is_none(), tree, best),
     }
+}
+
+/// Notes the faults of tops, or that there is none, by marks: tops aren't marked.
+fn note_unmarked(
+    alloc: Global,
+    marks: &[bool],
+    modules: &[Module],
+    best: Option<Fault>,
+) -> Result<Option<Fault>, AllocError>
+    ensures { IfOk result (λ r. r ≡ earliest best (faults.top_faults (walk.is_unmarked marks.now) (first_from (walk.is_unmarked marks.now) 0 (length marks.now)) modules.now)) }
+{
+    let first = first_unmarked(marks);
+    let best = note_tops(alloc, marks, first, modules, best)?;
+    Ok(note_no_top(first, modules, best))
+}
+
+/// Notes the faults of tops, or that there is none.
+pub fn note_all_tops(
+    alloc: Global,
+    graph: &[Items<usize>],
+    modules: &[Module],
+    best: Option<Fault>,
+) -> Result<Option<Fault>, AllocError>
+    requires { walk.IsWithin graph.now }
+    ensures { IfOk result (λ r. r ≡ earliest best (faults.top_faults (is_top_lem graph.now) (first_top graph.now) modules.now)) }
+{
+    let marks = instantiated(alloc, graph)?;
+    note_unmarked(alloc, &marks, modules, best)
 }

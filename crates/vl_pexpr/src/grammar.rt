@@ -42,24 +42,6 @@ pub fn expression_at(
     .level(tokens)
 }
 
-/// The selects of a name, from behind the name. Their expressions nest less deep than `depth`.
-pub fn selects_at(
-    alloc: Global,
-    tokens: &[Token],
-    depth: usize,
-) -> Result<(Parts<Select>, &[Token]), Fault<'_>>
-    requires { length tokens.now < depth }
-    ensures reads { Gives result (spec.selects (spec.expr depth) depth tokens.now) }
-    ensures no_longer { IfOk result (λ x. length x.1.now ≤ length tokens.now) }
-{
-    Grammar {
-        alloc,
-        depth,
-        expression: expression_at,
-    }
-    .selects(tokens)
-}
-
 /// The productions inside an expression.
 #[derive(Clone, Copy)]
 struct Grammar<F> {

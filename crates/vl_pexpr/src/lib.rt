@@ -4,5 +4,5 @@
 mod grammar;
 pub mod parse;
 
-pub use grammar::{expression_at, selects_at};
+pub use grammar::expression_at;
 pub use parse::{ParseFault, expression};

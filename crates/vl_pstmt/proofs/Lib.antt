@@ -1,5 +1,4 @@
 pub mod Passing
 pub mod Opening
-pub mod Lvalues
 pub mod Windows
 pub mod CaseItems

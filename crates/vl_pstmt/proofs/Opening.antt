@@ -11,10 +11,10 @@ use Rattle.vl_source.specs.declared.tree.Statement.TheVariants as s
 use Rattle.vl_source.specs.Parsers.{Parser, ◌>>=◌, pure, must}
 use Rattle.vl_source.specs.Parsing.{assignment, begins_statement, loop, too_deep, lvalue, target_level, statement, statement_level}
 
-pub lvalue_opens : (n : ℕ) → 0 < n → lvalue n ≡ target_level (lvalue (n - 1)) (n - 1)
+pub lvalue_opens : (n k : ℕ) → 0 < n → lvalue n k ≡ target_level (lvalue (n - 1)) (n - 1) k
 unfolding lvalue
-lvalue_opens zero h = absurd (omega arith)
-lvalue_opens (suc n) h = rw sub-one refl
+lvalue_opens zero k h = absurd (omega (arith, h))
+lvalue_opens (suc n) k h = rw sub-one refl
 
 module _ (whole : Parser Expression) (target : Parser Lvalue) (n : ℕ) where
   pub statement_opens : (room : ℕ) → 0 < room → statement whole target n room ≡ statement_level whole target n (statement whole target n (room - 1))

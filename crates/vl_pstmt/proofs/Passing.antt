@@ -1,12 +1,15 @@
 -- What the functions of a parser give, step by step.
-use Rattle.std.proofs.Common.{◌≡◌, ℕ, zero, suc, ◌<◌, length, List, [], ◌∷◌, ◌++◌, Result, Ok, Err, Option, Some, None, Bool, true, false, Bor, refl, sym, ap, arith, append_assoc, append-nil, ◌∙◌}
+use Rattle.std.proofs.Common.{◌≡◌, ℕ, zero, suc, ◌+◌, ◌<◌, ◌≤◌, length, List, [], ◌∷◌, ◌++◌, Result, Ok, Err, Option, Some, None, Bool, true, false, Bor, refl, sym, ap, arith, append_assoc, append-nil, ◌∙◌}
 use Rattle.std.specs.Result.{IsErrAnd}
 use Rattle.std.proofs.lemmas.Result.{err_from_is_err_and}
+use Rattle.std.proofs.lemmas.Bool.{lt-ltb, le-ltb}
 use Rattle.vl_tree.specs.declared.token.Token.{Token}
 use Rattle.vl_grammar.specs.Reading.{next_by, is_next}
 use Rattle.vl_source.specs.declared.fault.Fault.{Fault}
 use Rattle.vl_source.specs.declared.fault.Fault.TheVariants as fault
-use Rattle.vl_source.specs.Parsers.{Outcome, Parser, and_then, pure, with_front, many, before, Fails, Gives}
+use Rattle.vl_source.specs.declared.fault.Cause.TheVariants.{Tokens}
+use Rattle.vl_source.specs.Bounds.{most_tokens}
+use Rattle.vl_source.specs.Parsers.{Outcome, Parser, and_then, pure, with_front, many, before, many_counted, with_counted_front, Fails, Gives}
 
 -- a fault stands, whatever were to come behind
 pub fails_on : {A B : Type 0} (e : Fault) (o : Outcome A) (f : A → Parser B) → Fails e o → Fails e (and_then o f)
@@ -82,3 +85,44 @@ before_fails f p front ts e whole a b (zero, h, q) = absurd (omega arith)
 before_fails f p front ts e whole a b (suc k, h, q) =
     let g : Fails e (with_front front (before f p (suc k) ts)) = rw (← a) (fails_on e _ _ (fails_on e _ _ b)) in
     rw q at g
+
+-- ---- lists whose tokens count
+
+with_counted_more : {A : Type 0} (front : List A) (e : A) (o : Outcome (List A × ℕ)) → with_counted_front (front ++ e ∷ []) o ≡ with_counted_front front (and_then o (λ others. pure (e ∷ others.0, others.1)))
+with_counted_more front e (Ok x) = ap (λ es. Ok ((es, x.0.1), x.1)) (append_assoc front (e ∷ []) x.0.0)
+with_counted_more front e (Err r) = refl
+
+pub with_counted_none : {A : Type 0} (o : Outcome (List A × ℕ)) → with_counted_front [] o ≡ o
+with_counted_none (Ok x) = refl
+with_counted_none (Err r) = refl
+
+-- what a list is from here on, where so many count before, with these in front, is the whole
+abbrev pub GoesOnCounted : {X A : Type 0} → (Token → Option X) → (ℕ → X → Parser (A × ℕ)) → List A → ℕ → List Token → Outcome (List A × ℕ) → Type 0
+GoesOnCounted f p front count ts whole = (k : ℕ) × (length ts < k) × (with_counted_front front (many_counted f p k count ts) ≡ whole)
+
+-- what is left of a list after a turn
+pub counted_turn : {X A : Type 0} (f : Token → Option X) (p : ℕ → X → Parser (A × ℕ)) (front : List A) (count j : ℕ) (ts us vs : List Token) (x : X) (e : A) (whole : Outcome (List A × ℕ)) → Some (x, us) ≡ next_by f ts → count < most_tokens → p (count + 1) x us ≡ Ok ((e, j), vs) → length vs < length ts
+    → GoesOnCounted f p front count ts whole → GoesOnCounted f p (front ++ e ∷ []) j vs whole
+unfolding many_counted
+counted_turn f p front count j ts us vs x e whole a m b l (zero, h, q) = absurd (omega (arith, h))
+counted_turn f p front count j ts us vs x e whole a m b l (suc k, h, q) = (k, omega (arith, h, l), with_counted_more front e (many_counted f p k j vs) ∙ (rw (← a, lt-ltb count most_tokens m, b) at q))
+
+-- a list ends before another token
+pub counted_end : {X A : Type 0} (f : Token → Option X) (p : ℕ → X → Parser (A × ℕ)) (front : List A) (count : ℕ) (ts : List Token) (whole : Outcome (List A × ℕ)) → None ≡ next_by f ts → GoesOnCounted f p front count ts whole → whole ≡ Ok ((front, count), ts)
+unfolding many_counted
+counted_end f p front count ts whole a (zero, h, q) = absurd (omega (arith, h))
+counted_end f p front count ts whole a (suc k, h, q) = sym (rw (← a, append-nil) at q)
+
+-- a fault in an item is one of the list
+pub counted_fails : {X A : Type 0} (f : Token → Option X) (p : ℕ → X → Parser (A × ℕ)) (front : List A) (count : ℕ) (ts us : List Token) (x : X) (e : Fault) (whole : Outcome (List A × ℕ)) → Some (x, us) ≡ next_by f ts → count < most_tokens → Fails e (p (count + 1) x us) → GoesOnCounted f p front count ts whole → Fails e whole
+unfolding many_counted
+counted_fails f p front count ts us x e whole a m b (zero, h, q) = absurd (omega (arith, h))
+counted_fails f p front count ts us x e whole a m b (suc k, h, q) =
+    let g : Fails e (with_counted_front front (many_counted f p (suc k) count ts)) = rw (← a, lt-ltb count most_tokens m) (fails_on e _ _ (fails_on e _ _ b)) in
+    rw q at g
+
+-- a token is one too many
+pub counted_full : {X A : Type 0} (f : Token → Option X) (p : ℕ → X → Parser (A × ℕ)) (front : List A) (count : ℕ) (ts us : List Token) (x : X) (whole : Outcome (List A × ℕ)) → Some (x, us) ≡ next_by f ts → most_tokens ≤ count → GoesOnCounted f p front count ts whole → whole ≡ Err (Tokens, ts)
+unfolding many_counted
+counted_full f p front count ts us x whole a m (zero, h, q) = absurd (omega (arith, h))
+counted_full f p front count ts us x whole a m (suc k, h, q) = sym (rw (← a, le-ltb count most_tokens m) at q)

@@ -3,8 +3,6 @@ use Rattle.std.specs.Prelude.{ℕ, ◌+◌, ◌<◌, length, List, Result, IfOk}
 use Rattle.std.specs.Borrow.{Bor}
 use Rattle.std.specs.declared.alloc.Global.{Global}
 use Rattle.vl_tree.specs.declared.token.Token.{Token}
-use Rattle.vl_grammar.specs.declared.fault.Fault as plain_fault
-use Rattle.vl_grammar.specs.Reading as plain
 use Rattle.vl_source.specs.declared.tree.Lvalue.{Lvalue}
 use Rattle.vl_source.specs.declared.tree.Statement.{Statement}
 use Rattle.vl_source.specs.declared.fault.Fault.{Fault}
@@ -13,10 +11,10 @@ use Rattle.vl_source.specs.Parsing.{lvalue, statement, whole, target}
 use Rattle.vl_pstmt.specs.declared.reader.Reader.{Reader}
 
 -- it reads left sides to a depth
-pub record NestsTargets (depth : ℕ) (pre : Global → Bor (List Token) → ℕ → Type 0) (post : Global → Bor (List Token) → ℕ → Result (Lvalue × Bor (List Token)) plain_fault.Fault → Type 0) : Type 0 where
-  pub callable : (alloc : Global) (tokens : Bor (List Token)) → length tokens.now + 1 < depth → pre alloc tokens depth
-  pub reads : (alloc : Global) (tokens : Bor (List Token)) (r : Result (Lvalue × Bor (List Token)) plain_fault.Fault) → post alloc tokens depth r → plain.Gives r (lvalue depth tokens.now)
-  pub shorter : (alloc : Global) (tokens : Bor (List Token)) (r : Result (Lvalue × Bor (List Token)) plain_fault.Fault) → post alloc tokens depth r → IfOk r (λ x. length x.1.now < length tokens.now)
+pub record NestsTargets (depth : ℕ) (pre : Global → Bor (List Token) → ℕ → ℕ → Type 0) (post : Global → Bor (List Token) → ℕ → ℕ → Result ((Lvalue × ℕ) × Bor (List Token)) Fault → Type 0) : Type 0 where
+  pub callable : (alloc : Global) (tokens : Bor (List Token)) (before : ℕ) → length tokens.now + 1 < depth → pre alloc tokens depth before
+  pub reads : (alloc : Global) (tokens : Bor (List Token)) (before : ℕ) (r : Result ((Lvalue × ℕ) × Bor (List Token)) Fault) → post alloc tokens depth before r → Gives r (lvalue depth before tokens.now)
+  pub shorter : (alloc : Global) (tokens : Bor (List Token)) (before : ℕ) (r : Result ((Lvalue × ℕ) × Bor (List Token)) Fault) → post alloc tokens depth before r → IfOk r (λ x. length x.1.now < length tokens.now)
 
 -- a statement in which so many may nest, itself included, where there are fewer than n tokens
 abbrev pub nested : ℕ → ℕ → Parser Statement

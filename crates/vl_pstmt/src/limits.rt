@@ -1,4 +1,4 @@
-//! How many tokens an expression or a left side may have.
+//! How many tokens an expression may have, and a left side but for its indices.
 
 ghost use Rattle.std.specs.Prelude.{◌≡◌, ℕ, ◌+◌, ◌<◌, ◌≤◌, length, drop, IfOk};
 ghost use Rattle.vl_grammar.specs.Reading as plain;
@@ -10,8 +10,8 @@ use vl_grammar::fault::Fault as PlainFault;
 use vl_source::fault::{Cause, Fault};
 use vl_tree::token::Token;
 
-/// The most tokens of an expression, or of a left side, that stands in no other: limit 4.
-const MOST_TOKENS: usize = 1000;
+/// The most tokens of an expression that stands in no other, and of a left side but for those in its indices: limit 4.
+pub const MOST_TOKENS: usize = 1000;
 
 /// As many tokens as the limit allows, and one more.
 #[tactic(auto, using(crate::proofs::Windows::take_least))]

@@ -15,7 +15,8 @@ use Rattle.vl_source.specs.Bounds.{most_statements}
 use Rattle.vl_source.specs.Statements.{ReadsWhole, ReadsStatement}
 use Rattle.vl_source.specs.Parsers.{Parser, and_then, ◌>>=◌, pure, must, is_word, parenthesized, many, list}
 use Rattle.vl_source.specs.Parsing.{whole, target, outer, too_deep, assignment_of, assignment, argument, system_argument, task, assign_mark, assign_of, assign, label, block, when, labels_of, labels, default_item, case_item, case_items, cases, loop, repeat, by_keyword, by_kind, statement_by, statement_level, statement}
-use Rattle.vl_source.proofs.Wholes.{follows_whole, follows_target, shorter_whole}
+use Rattle.vl_source.proofs.Wholes.{shorter_whole}
+use Rattle.vl_source.proofs.Lvalues.{follows_whole, follows_target}
 use Rattle.vl_source.proofs.StatementsShorter.{shorter_statement}
 use Rattle.vl_source.proofs.StatementsFollow.{follows_statement}
 use Rattle.vl_source.proofs.Agreeing.{Agree, AgreeMaybe, Keeps, Takes, agree_pure, agree_bind, agree_placed, agree_if, agree_must, agree_ahead, agree_by, maybe_cond, keeps_bind, keeps_pure, takes_bind, takes_if, takes_placed, takes_follows, step_bind, agree_many, agree_list, agree_parenthesized, agree_optional, agree_identifier, agree_before, cond_same, cond_less}

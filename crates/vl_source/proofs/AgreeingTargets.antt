@@ -1,100 +1,92 @@
 -- Expressions and left sides: the number of each parser doesn't matter once it is more than there are tokens.
-use Rattle.std.proofs.Common.{◌≡◌, ℕ, zero, suc, ◌+◌, ◌<◌, ◌≤◌, length, List, ◌∷◌, Ok, Err, Option, Some, None, refl, ap, arith}
+use Rattle.std.proofs.Common.{◌≡◌, ℕ, zero, suc, ◌+◌, ◌<◌, ◌≤◌, length, List, ◌∷◌, Err, cond, Option, refl, ap, arith}
 use Rattle.std.specs.Prelude.{codes}
+use Rattle.std.proofs.Math.Dec.{ltb}
 use Rattle.vl_base.specs.declared.place.Place.{Place}
 use Rattle.vl_tree.specs.declared.token.Token.{Token}
 use Rattle.vl_grammar.specs.declared.tree.Identifier.{Identifier}
 use Rattle.vl_grammar.specs.Marks.{select_mark}
-use Rattle.vl_grammar.specs.Reading.{Outcome, Parser, and_then, pure, next_or, next_by, many, mark}
-use Rattle.vl_grammar.specs.Expressions.{expr, selects, select, bound}
-use Rattle.vl_grammar.proofs.Follows.{Follows, no_longer, left, next_by_some}
-use Rattle.vl_grammar.proofs.Sound.{follows_select, follows_expr}
+use Rattle.vl_grammar.specs.Reading.{mark, next_by}
+use Rattle.vl_grammar.specs.Reading as plain
+use Rattle.vl_grammar.specs.Expressions.{expr}
 use Rattle.vl_grammar.proofs.Enough.{expr_agrees}
+use Rattle.vl_source.specs.declared.fault.Cause.TheVariants.{Tokens}
 use Rattle.vl_source.specs.Bounds.{most_tokens}
-use Rattle.vl_source.specs.Parsers.{limited, identifier_token}
-use Rattle.vl_source.specs.Parsing.{lvalue, target_level, target_name, targets, more_targets, whole, target}
-use Rattle.vl_source.proofs.Follows as sf
-use Rattle.vl_source.proofs.Lvalues.{follows_lvalue}
-use Rattle.vl_source.proofs.Wholes.{follows_whole, follows_target}
-use Rattle.vl_source.proofs.Agreeing.{Agree}
+use Rattle.vl_source.specs.Parsers.{Outcome, Parser, and_then, pure, next_or, limited, many_counted, identifier_token}
+use Rattle.vl_source.specs.Parsing.{whole, target, index_bound, index, indices, lvalue, target_level, target_name, targets, more_targets}
+use Rattle.vl_source.proofs.Follows.{left, no_longer}
+use Rattle.vl_source.proofs.Lvalues.{follows_whole, follows_index, follows_lvalue, follows_target}
+use Rattle.vl_source.proofs.Agreeing.{Agree, step_if, step_bind, cond_same}
 
--- ---- steps
+-- ---- within limit 4
 
-bind_same : {A B : Type 0} (o : Outcome A) (f g : A → Parser B) → ((a : A) (us : List Token) → o ≡ Ok (a, us) → f a us ≡ g a us) → and_then o f ≡ and_then o g
-bind_same (Ok x) f g h = h x.0 x.1 refl
-bind_same (Err e) f g h = refl
+limited_agrees : {A : Type 0} (p q : plain.Parser A) (ts : List Token) → p ts ≡ q ts → limited most_tokens p ts ≡ limited most_tokens q ts
+unfolding limited
+limited_agrees p q ts h = rw h refl
 
-next_same : {X A : Type 0} (f : Token → Option X) (p q : X → Parser A) (ts : List Token) (y z : Outcome A) (o : Option (X × List Token)) → next_by f ts ≡ o → ((v : Token) (us : List Token) (x : X) → ts ≡ v ∷ us → p x us ≡ q x us) → y ≡ z → next_or o p y ≡ next_or o q z
-next_same f p q ts y z (Some x) e h i = let s = next_by_some f ts x.1 x.0 e in h s.0 x.1 x.0 s.1
-next_same f p q ts y z None e h i = i
+whole_agrees : (n m : ℕ) (ts : List Token) → length ts + 1 < n → length ts + 1 < m → whole n ts ≡ whole m ts
+whole_agrees n m ts h g = limited_agrees (expr n) (expr m) ts (expr_agrees n m ts h g)
 
-if_same : {X A : Type 0} (f : Token → Option X) (p q : X → Parser A) (y z : Outcome A) (ts : List Token) → ((v : Token) (us : List Token) (x : X) → ts ≡ v ∷ us → p x us ≡ q x us) → y ≡ z → next_or (next_by f ts) p y ≡ next_or (next_by f ts) q z
-if_same f p q y z ts h i = next_same f p q ts y z (next_by f ts) refl h i
+step_counted : {X A : Type 0} (k : ℕ) (f : Token → Option X) (p q : X → Parser A) (y z : Outcome A) (ts : List Token) → ((v : Token) (us : List Token) (x : X) → ts ≡ v ∷ us → p x us ≡ q x us) → y ≡ z
+    → next_or (next_by f ts) (λ x us. cond (ltb k most_tokens) (p x us) (Err (Tokens, ts))) y ≡ next_or (next_by f ts) (λ x us. cond (ltb k most_tokens) (q x us) (Err (Tokens, ts))) z
+step_counted k f p q y z ts h i = step_if f (λ x us. cond (ltb k most_tokens) (p x us) (Err (Tokens, ts))) (λ x us. cond (ltb k most_tokens) (q x us) (Err (Tokens, ts))) y z ts (λ v us x e. cond_same (ltb k most_tokens) (p x us) (q x us) (Err (Tokens, ts)) (Err (Tokens, ts)) (h v us x e) refl) i
 
-many_same : {X A : Type 0} (f : Token → Option X) (p q : X → Parser A) (b : ℕ) → ((x : X) (us : List Token) → length us < b → p x us ≡ q x us) → ((x : X) (us : List Token) → left (p x us) ≤ length us)
-    → (n m : ℕ) (ts : List Token) → length ts ≤ b → length ts < n → length ts < m → many f p n ts ≡ many f q m ts
-unfolding many
-many_same f p q b h s zero m ts i j l = absurd (omega arith)
-many_same f p q b h s (suc n) zero ts i j l = absurd (omega arith)
-many_same f p q b h s (suc n) (suc m) ts i j l =
-    if_same f _ _ _ _ ts (λ v us x e. let size = ap length e in rw (← h x us (omega (arith, size)))
-    (bind_same (p x us) _ _ (λ a vs g. let less : length vs ≤ length us = omega (arith, s x us, ap left g) in
-    ap (λ o. and_then o (λ others. pure (a ∷ others))) (many_same f p q b h s n m vs (omega (arith, size)) (omega (arith, size)) (omega (arith, size)))))) refl
-
-took_no_longer : {A : Type 0} {R : A → List Token → List Token → Type 0} (p : Parser A) → Follows R p → (ts us : List Token) (a : A) → p ts ≡ Ok (a, us) → length us ≤ length ts
-took_no_longer p l ts us a e = omega (arith, no_longer p l ts, ap left e)
+many_counted_same : {X A : Type 0} (f : Token → Option X) (p q : ℕ → X → Parser (A × ℕ)) (b : ℕ) → ((k : ℕ) (x : X) (us : List Token) → length us < b → p k x us ≡ q k x us) → ((k : ℕ) (x : X) (us : List Token) → left (p k x us) ≤ length us)
+    → (n m k : ℕ) (ts : List Token) → length ts ≤ b → length ts < n → length ts < m → many_counted f p n k ts ≡ many_counted f q m k ts
+unfolding many_counted
+many_counted_same f p q b h s zero m k ts i j l = absurd (omega (arith, j))
+many_counted_same f p q b h s (suc n) zero k ts i j l = absurd (omega (arith, l))
+many_counted_same f p q b h s (suc n) (suc m) k ts i j l =
+    step_counted k f _ _ _ _ ts (λ v us x e. let size = ap length e in rw (← h (k + 1) x us (omega (arith, i, size)))
+    (step_bind (p (k + 1) x us) _ _ (λ a vs g. let less : length vs ≤ length us = omega (arith, s (k + 1) x us, ap left g) in
+    ap (λ o. and_then o (λ others. pure (a.0 ∷ others.0, others.1))) (many_counted_same f p q b h s n m a.1 vs (omega (arith, size, i)) (omega (arith, size, j)) (omega (arith, size, l)))))) refl
 
 -- ---- the productions, where what is inside agrees on fewer tokens
 
 module _ (n m b : ℕ) (nb : b < n) (mb : b < m) where
-  inside : (ts : List Token) → length ts < b → expr n ts ≡ expr m ts
-  inside ts h = expr_agrees n m ts (omega (arith, h)) (omega (arith, h))
+  inside : (ts : List Token) → length ts < b → whole n ts ≡ whole m ts
+  inside ts h = whole_agrees n m ts (omega (arith, h, nb)) (omega (arith, h, mb))
 
-  bound_same : (ts : List Token) → length ts ≤ b → bound (expr n) n ts ≡ bound (expr m) m ts
-  unfolding bound
-  bound_same ts h = if_same select_mark _ _ _ _ ts (λ v us x e. let size = ap length e in rw (← inside us (omega (arith, size))) refl) refl
+  bound_same : (k : ℕ) (ts : List Token) → length ts ≤ b → index_bound n k ts ≡ index_bound m k ts
+  unfolding index_bound
+  bound_same k ts h = step_counted k select_mark _ _ _ _ ts (λ v us x e. let size = ap length e in rw (← inside us (omega (arith, h, size))) refl) refl
 
-  select_same : (p : Place) (ts : List Token) → length ts < b → select (expr n) n p ts ≡ select (expr m) m p ts
-  unfolding select
-  select_same p ts h = rw (← inside ts h) (bind_same (expr n ts) _ _ (λ a us e. let less = took_no_longer (expr n) (follows_expr n) ts us a e in rw (← bound_same us (omega (arith, less))) refl))
+  index_same : (k : ℕ) (p : Place) (ts : List Token) → length ts < b → index n k p ts ≡ index m k p ts
+  unfolding index
+  index_same k p ts h = rw (← inside ts h) (step_bind (whole n ts) _ _ (λ a us e. let less = no_longer (whole n) (follows_whole n) ts in rw (← bound_same k us (omega (arith, h, less, ap left e))) refl))
 
-  selects_same : (ts : List Token) → length ts ≤ b → selects (expr n) n ts ≡ selects (expr m) m ts
-  unfolding selects
-  selects_same ts h = many_same (mark (codes "[")) (select (expr n) n) (select (expr m) m) b (λ p us. select_same p us) (λ p us. no_longer (select (expr n) n p) (follows_select (expr n) (follows_expr n) n p) us) n m ts h (omega arith) (omega arith)
+  indices_same : (k : ℕ) (ts : List Token) → length ts ≤ b → indices n k ts ≡ indices m k ts
+  unfolding indices
+  indices_same k ts h = many_counted_same (mark (codes "[")) (index n) (index m) b index_same (λ k p us. no_longer (index n k p) (follows_index n k p) us) n m k ts h (omega (arith, h, nb)) (omega (arith, h, mb))
 
-  name_same : (i : Identifier) (ts : List Token) → length ts ≤ b → target_name (lvalue n) n i ts ≡ target_name (lvalue m) m i ts
+  name_same : (k : ℕ) (i : Identifier) (ts : List Token) → length ts ≤ b → target_name (lvalue n) n k i ts ≡ target_name (lvalue m) m k i ts
   unfolding target_name
-  name_same i ts h = rw (← selects_same ts h) refl
+  name_same k i ts h = rw (← indices_same k ts h) refl
 
-  module _ (same : (ts : List Token) → length ts < b → lvalue n ts ≡ lvalue m ts) where
-    more_same : (ts : List Token) → length ts ≤ b → more_targets (lvalue n) n ts ≡ more_targets (lvalue m) m ts
+  module _ (same : (k : ℕ) (ts : List Token) → length ts < b → lvalue n k ts ≡ lvalue m k ts) where
+    more_same : (k : ℕ) (ts : List Token) → length ts ≤ b → more_targets (lvalue n) n k ts ≡ more_targets (lvalue m) m k ts
     unfolding more_targets
-    more_same ts h = many_same (mark (codes ",")) (λ _. lvalue n) (λ _. lvalue m) b (λ x us. same us) (λ x us. no_longer (lvalue n) (follows_lvalue n) us) n m ts h (omega arith) (omega arith)
+    more_same k ts h = many_counted_same (mark (codes ",")) (λ j _. lvalue n j) (λ j _. lvalue m j) b (λ j x us. same j us) (λ j x us. no_longer (lvalue n j) (follows_lvalue n j) us) n m k ts h (omega (arith, h, nb)) (omega (arith, h, mb))
 
-    targets_same : (p : Place) (ts : List Token) → length ts < b → targets (lvalue n) n p ts ≡ targets (lvalue m) m p ts
+    targets_same : (k : ℕ) (p : Place) (ts : List Token) → length ts < b → targets (lvalue n) n k p ts ≡ targets (lvalue m) m k p ts
     unfolding targets
-    targets_same p ts h = rw (← same ts h) (bind_same (lvalue n ts) _ _ (λ a us e. let less = took_no_longer (lvalue n) (follows_lvalue n) ts us a e in rw (← more_same us (omega (arith, less))) refl))
+    targets_same k p ts h = rw (← same k ts h) (step_bind (lvalue n k ts) _ _ (λ a us e. let less = no_longer (lvalue n k) (follows_lvalue n k) ts in rw (← more_same a.1 us (omega (arith, h, less, ap left e))) refl))
 
-    level_same : (ts : List Token) → length ts ≤ b → target_level (lvalue n) n ts ≡ target_level (lvalue m) m ts
+    level_same : (k : ℕ) (ts : List Token) → length ts ≤ b → target_level (lvalue n) n k ts ≡ target_level (lvalue m) m k ts
     unfolding target_level
-    level_same ts h = if_same (mark (codes "{")) _ _ _ _ ts (λ v us p e. let size = ap length e in targets_same p us (omega (arith, size)))
-        (if_same identifier_token _ _ _ _ ts (λ v us i e. let size = ap length e in name_same i us (omega (arith, size))) refl)
+    level_same k ts h = step_counted k (mark (codes "{")) _ _ _ _ ts (λ v us p e. let size = ap length e in targets_same (k + 1) p us (omega (arith, h, size)))
+        (step_counted k identifier_token _ _ _ _ ts (λ v us i e. let size = ap length e in name_same (k + 1) i us (omega (arith, h, size))) refl)
 
-pub lvalue_agrees : (n m : ℕ) (ts : List Token) → length ts + 1 < n → length ts + 1 < m → lvalue n ts ≡ lvalue m ts
+pub lvalue_agrees : (n m k : ℕ) (ts : List Token) → length ts + 1 < n → length ts + 1 < m → lvalue n k ts ≡ lvalue m k ts
 unfolding lvalue
-lvalue_agrees zero m ts h g = absurd (omega arith)
-lvalue_agrees (suc n) zero ts h g = absurd (omega arith)
-lvalue_agrees (suc n) (suc m) ts h g = level_same n m (length ts) (omega arith) (omega arith) (λ us less. lvalue_agrees n m us (omega arith) (omega arith)) ts (omega arith)
-
--- ---- within limit 4
-
-limited_agrees : {A : Type 0} (p q : Parser A) (ts : List Token) → p ts ≡ q ts → limited most_tokens p ts ≡ limited most_tokens q ts
-unfolding limited
-limited_agrees p q ts h = rw h refl
+lvalue_agrees zero m k ts h g = absurd (omega (arith, h))
+lvalue_agrees (suc n) zero k ts h g = absurd (omega (arith, g))
+lvalue_agrees (suc n) (suc m) k ts h g = level_same n m (length ts) (omega (arith, h)) (omega (arith, g)) (λ j us less. lvalue_agrees n m j us (omega (arith, less, h)) (omega (arith, less, g))) k ts (omega arith)
 
 module _ (n m b : ℕ) (nb : b + 1 < n) (mb : b + 1 < m) where
   pub agree_whole : Agree b (whole n) (whole m)
-  agree_whole = record { same = λ ts h. limited_agrees (expr n) (expr m) ts (expr_agrees n m ts (omega (arith, h)) (omega (arith, h))); less = λ ts. sf.no_longer (whole n) (follows_whole n) ts }
+  agree_whole = record { same = λ ts h. whole_agrees n m ts (omega (arith, h, nb)) (omega (arith, h, mb)); less = λ ts. no_longer (whole n) (follows_whole n) ts }
 
   pub agree_target : Agree b (target n) (target m)
-  agree_target = record { same = λ ts h. limited_agrees (lvalue n) (lvalue m) ts (lvalue_agrees n m ts (omega (arith, h)) (omega (arith, h))); less = λ ts. sf.no_longer (target n) (follows_target n) ts }
+  unfolding target
+  agree_target = record { same = λ ts h. ap (λ o. and_then o (λ v. pure v.0)) (lvalue_agrees n m 0 ts (omega (arith, h, nb)) (omega (arith, h, mb))); less = λ ts. no_longer (target n) (follows_target n) ts }

@@ -25,7 +25,8 @@ use Rattle.vl_source.proofs.Words.{keyword_some}
 use Rattle.vl_source.proofs.Follows.{Follows, Then, After, Nothing, bounds, follows_weaker, follows_pure, follows_bind, follows_if, follows_mark}
 use Rattle.vl_source.proofs.FollowsLists.{follows_identifier, follows_word, follows_optional}
 use Rattle.vl_source.proofs.Completing.{Reads, Opens, read_now, reads_bind, reads_opens, reads_optional, identifier_reads, word_reads, mark_next, mark_apart, keyword_next}
-use Rattle.vl_source.proofs.Wholes.{follows_whole, shorter_whole}
+use Rattle.vl_source.proofs.Lvalues.{follows_whole}
+use Rattle.vl_source.proofs.Wholes.{shorter_whole}
 use Rattle.vl_source.proofs.Parts.{shorter_identifier, no_longer_word, no_longer_optional, Named, named_identifier, named_no_word, named_no_mark, word_no_word, mark_no_word, Closes, reads_whole}
 
 -- ---- what is read follows the grammar

@@ -27,7 +27,7 @@ use Rattle.vl_source.proofs.Words.{keyword_some, keyword_here}
 use Rattle.vl_source.proofs.Follows.{Relation, Follows, Then, After, Nothing, bounds, follows_weaker, follows_pure, follows_bind, follows_mark, follows_keyword}
 use Rattle.vl_source.proofs.FollowsLists.{Closed, follows_identifier, follows_word, follows_optional, follows_closed, closed_parenthesized, follows_list, follows_each, follows_groups, list_of_groups, list_grows}
 use Rattle.vl_source.proofs.Completing.{Reads, Opens, ReadsGrown, read_now, reads_bind, reads_optional, reads_list, reads_each, reads_groups, groups_of_list, identifier_reads, word_reads, mark_next, mark_apart, keyword_next, keyword_apart}
-use Rattle.vl_source.proofs.Wholes.{follows_whole, follows_target}
+use Rattle.vl_source.proofs.Lvalues.{follows_whole, follows_target}
 use Rattle.vl_source.proofs.StatementsShorter.{shorter_statement}
 use Rattle.vl_source.proofs.StatementsFollow.{follows_statement}
 use Rattle.vl_source.proofs.StatementsComplete.{first_token, statement_starts, reads_statement}

@@ -23,7 +23,7 @@ use Rattle.vl_source.specs.Parsing.{whole, target, outer, assignment, optional_r
 use Rattle.vl_source.proofs.Follows.{Relation, Follows, follows_weaker, follows_pure, follows_bind, follows_mark}
 use Rattle.vl_source.proofs.FollowsLists.{follows_word, follows_list, follows_each}
 use Rattle.vl_source.proofs.Completing.{ReadsGrown}
-use Rattle.vl_source.proofs.Wholes.{follows_whole, follows_target}
+use Rattle.vl_source.proofs.Lvalues.{follows_whole, follows_target}
 use Rattle.vl_source.proofs.StatementsFollow.{follows_assignment, follows_statement}
 use Rattle.vl_source.proofs.Declarations.{follows_optional_range, follows_parameter_type, follows_parameter_assignment, follows_declaration_assignment, follows_variable_type}
 use Rattle.vl_source.proofs.Ports.{PortGrows, PortBehind, grown_port, follows_net_head, follows_output_head, follows_port_names}

@@ -3,6 +3,7 @@ pub mod Follows
 pub mod FollowsLists
 pub mod Limited
 pub mod Completing
+pub mod Counting
 pub mod Lvalues
 pub mod Wholes
 pub mod WholesComplete

@@ -10,7 +10,7 @@ use Rattle.vl_tree.specs.declared.token.TokenKind.TheVariants as k
 use Rattle.vl_grammar.specs.declared.tree.Expression.{Expression}
 use Rattle.vl_grammar.specs.declared.tree.SystemArgument.{SystemArgument}
 use Rattle.vl_grammar.specs.Marks.{IsMark, IsKeyword}
-use Rattle.vl_grammar.specs.Grammar.{first_place, ReadsName, system_of}
+use Rattle.vl_grammar.specs.Grammar.{first_place, system_of}
 use Rattle.vl_grammar.specs.Reading.{next_by, is_next, mark, mark_by, keyword, keyword_by}
 use Rattle.vl_grammar.specs.Expressions.{ends_argument}
 use Rattle.vl_grammar.proofs.MarkLemmas.{mark_here, mark_other}
@@ -86,9 +86,9 @@ starts_by : (v : Token) (us : List Token) (kind : TokenKind) → v.kind ≡ kind
 unfolding begins_statement
 starts_by v us kind h e = (v, us, refl, kind_first begins_kind true v kind h e)
 
-lvalue_starts : {v : _} {ts rest : List Token} → ReadsLvalue v ts rest → Starts ts
-lvalue_starts (ReadsLvalue.name (ReadsName.name {n} {ss} {t} {ts} h d)) = starts_by t ts (k.Name n) h refl
-lvalue_starts (ReadsLvalue.concatenation {v} {vs} {opening} {closing} {ts} h d f i) = starts_by opening ts (k.Mark (codes "{")) h refl
+lvalue_starts : {b : Bounds} {n m : ℕ} {v : _} {ts rest : List Token} → ReadsLvalue b n m v ts rest → Starts ts
+lvalue_starts (ReadsLvalue.name {i = n} {t} {ts} w h d) = starts_by t ts (k.Name n) h refl
+lvalue_starts (ReadsLvalue.concatenation {opening} {ts} w h d f z i) = starts_by opening ts (k.Mark (codes "{")) h refl
 
 case_starts : {word : CaseKeyword} (v : Token) (us : List Token) → IsCaseKeyword word v → Starts (v ∷ us)
 case_starts v us (IsCaseKeyword.case h) = starts_by v us (k.Keyword (codes "case")) h refl
@@ -166,10 +166,10 @@ module _ (n : ℕ) where
   label_reads (ReadsLabel.label {n = m} {colon} {t} {rest} i j) h = (Some (record { place = t.place; name = m }), rw (mark_next (codes ":") colon (t ∷ rest) i refl, identifier_reads (ReadsIdentifier.identifier {t = t} {rest = rest} j)) refl)
 
   -- the left side's first token begins no other statement
-  lvalue_no_other : (inner : Parser Statement) {v : _} {ts rest : List Token} → ReadsLvalue v ts rest → next_by (statement_by (whole n) (target n) n inner) ts ≡ None
+  lvalue_no_other : (inner : Parser Statement) {b : Bounds} {k j : ℕ} {v : _} {ts rest : List Token} → ReadsLvalue b k j v ts rest → next_by (statement_by (whole n) (target n) n inner) ts ≡ None
   unfolding statement_by
-  lvalue_no_other inner (ReadsLvalue.name (ReadsName.name {n = m} {ss} {t} {ts} h d)) = none_here _ t ts (ap (by_kind (whole n) (target n) n inner t.place) h)
-  lvalue_no_other inner (ReadsLvalue.concatenation {v} {vs} {opening} {closing} {ts} h d f i) = none_here _ opening ts (ap (by_kind (whole n) (target n) n inner opening.place) h)
+  lvalue_no_other inner (ReadsLvalue.name {t} {ts} w h d) = none_here _ t ts (ap (by_kind (whole n) (target n) n inner t.place) h)
+  lvalue_no_other inner (ReadsLvalue.concatenation {opening} {ts} w h d f z i) = none_here _ opening ts (ap (by_kind (whole n) (target n) n inner opening.place) h)
 
   ending_word : (w : List ℕ) (v : Token) (us : List Token) → IsKeyword w v → bytes_eq w w ≡ true → is_next (is_word w) (v ∷ us) ≡ true
   ending_word w v us h e = rw (keyword_here w w v h e) refl

@@ -11,7 +11,7 @@ use Rattle.vl_grammar.specs.declared.tree.Expression.{Expression}
 use Rattle.vl_grammar.specs.declared.tree.Identifier.{Identifier}
 use Rattle.vl_grammar.specs.declared.tree.SystemArgument.{SystemArgument}
 use Rattle.vl_grammar.specs.Marks.{IsMark, IsKeyword}
-use Rattle.vl_grammar.specs.Grammar.{ReadsName, ReadsSelects, name_of, system_of, argument_of}
+use Rattle.vl_grammar.specs.Grammar.{name_of, system_of, argument_of}
 use Rattle.vl_grammar.specs.Reading.{is_next, mark, keyword}
 use Rattle.vl_grammar.specs.Expressions.{ends_argument}
 use Rattle.vl_grammar.proofs.Follows.{next, Free, is_next_same}
@@ -28,15 +28,15 @@ use Rattle.vl_source.specs.declared.tree.Lvalue.{Lvalue}
 use Rattle.vl_source.specs.declared.tree.Lvalue.TheVariants as l
 use Rattle.vl_source.specs.declared.fault.Cause.{Cause}
 use Rattle.vl_source.specs.declared.fault.Cause.TheVariants as c
-use Rattle.vl_source.specs.Bounds.{Bounds, MayBegin, most_statements, most_tokens}
+use Rattle.vl_source.specs.Bounds.{Bounds, MayBegin, most_statements}
 use Rattle.vl_source.specs.Lists.{Next, ReadsOptional, ReadsMany, ReadsList, ReadsParenthesized, ReadsMarkOrNothing, ReadsIdentifier}
-use Rattle.vl_source.specs.Statements.{ReadsLvalue, ReadsMoreLvalues, ReadsWhole, ReadsTarget, IsCaseKeyword, IsAssignMark, ReadsLabel, ReadsAssignment, ReadsWholeArgument, ReadsSystemTask, ReadsStatement, ReadsInside, ReadsStatements, ReadsCaseItem, ReadsMoreCaseItems}
+use Rattle.vl_source.specs.Statements.{ReadsIndices, ReadsLvalue, ReadsMoreLvalues, ReadsWhole, ReadsTarget, IsCaseKeyword, IsAssignMark, ReadsLabel, ReadsAssignment, ReadsWholeArgument, ReadsSystemTask, ReadsStatement, ReadsInside, ReadsStatements, ReadsCaseItem, ReadsMoreCaseItems}
 use Rattle.vl_source.specs.Parsers.{Parser, ◌>>=◌, pure, fails, is_some, is_word, identifier, parenthesized, list, before}
 use Rattle.vl_source.specs.Parsing.{begins_word, begins_kind, begins_statement, too_deep, assignment_of, assignment, argument, system_argument, task, assign_mark_by, assign_mark, assign_of, assign, label, block, when, labels_of, labels, default_item, case_item, case_items, cases, loop, repeat, by_keyword, by_kind, statement_by, statement_level, statement}
 use Rattle.vl_source.proofs.Words.{keyword_some}
 use Rattle.vl_source.proofs.Follows.{Relation, Follows, Beyond, IsLimit, Then, After, Either, Nothing, Both, bounds, Spare, err_parts, spare_behind, spare_tail, follows_within, follows_weaker, follows_pure, follows_fault, follows_bind, follows_if, follows_must, follows_mark, follows_keyword, follows_ahead, follows_placed, token_of, token_free}
 use Rattle.vl_source.proofs.FollowsLists.{IfElse, follows_identifier, follows_parenthesized, follows_list, follows_before, follows_else}
-use Rattle.vl_source.proofs.Limited.{reach_spare}
+use Rattle.vl_source.proofs.Counting.{count_within, count_spare}
 use Rattle.vl_source.proofs.Wholes.{shorter_whole, shorter_target}
 use Rattle.vl_source.proofs.StatementsShorter.{shorter_wholes, shorter_statement}
 
@@ -318,17 +318,16 @@ module _ (whole : Parser Expression) (target : Parser Lvalue) (n : ℕ) (lw : Fo
       (f.word, f.value, λ s t u h o z y. ReadsStatement.statement (begin_lacking s t u (suc d) (v ∷ (f.word ++ o)) h) (f.some s t u o z y))
 
   -- an assignment, by its left side
-  assigned : (d : ℕ) (v : Token) (ws : List Token) (left : Lvalue) → ((other : List Token) → ReadsLvalue left (v ∷ (ws ++ other)) other) → GoesOn d v
+  assigned : (d : ℕ) (v : Token) (ws : List Token) (left : Lvalue) → ((s t : Bool) (u : ℕ) (other : List Token) → Spare s t u (ws ++ other) → ReadsTarget (bounds s t u) left (v ∷ (ws ++ other)) other) → GoesOn d v
   assigned d v ws left reads = (
     ws ++ token_of (codes "=") ∷ (lw.word ++ token_of (codes ";") ∷ []),
     st.Assign v.place left m.Blocking lw.value,
     λ s t u h o z y. let tail : List Token = token_of (codes ";") ∷ o in let right : List Token = token_of (codes "=") ∷ (lw.word ++ tail) in
         let i : (ws ++ token_of (codes "=") ∷ (lw.word ++ token_of (codes ";") ∷ [])) ++ o ≡ ws ++ right = rw (append_assoc, append_assoc) refl in
         let w : Spare s t u (ws ++ right) = subst (λ x. Spare s t u x) i z in
-        let few : length (v ∷ []) ≤ most_tokens = omega arith in
         subst (λ x. ReadsStatement (bounds s t u) d (st.Assign v.place left m.Blocking lw.value) (v ∷ x) o) (sym i)
         (ReadsStatement.statement (begin_lacking s t u (suc d) (v ∷ (ws ++ right)) h)
-        (ReadsInside.assign (record { reads = reads right; within = reach_spare s t u (v ∷ []) (ws ++ right) right few w }) (IsAssignMark.blocking refl)
+        (ReadsInside.assign (reads s t u right w) (IsAssignMark.blocking refl)
         (lw.some s t u tail (spare_tail s t u (token_of (codes "=")) (lw.word ++ tail) (spare_behind s t u ws right w)) (token_free (codes ";"))) refl)),
   )
 
@@ -336,11 +335,15 @@ module _ (whole : Parser Expression) (target : Parser Lvalue) (n : ℕ) (lw : Fo
   name_token = record { place = record { line = 0; column = 0 }; kind = k.Name [] }
 
   by_name : (d : ℕ) (v : Token) (name : List ℕ) → v.kind ≡ k.Name name → GoesOn d v
-  by_name d v name h = assigned d v [] (l.Name (name_of v.place name [])) (λ o. ReadsLvalue.name (ReadsName.name h ReadsSelects.no_select))
+  by_name d v name h = assigned d v [] (l.Name (name_of v.place name [])) (λ s t u o z. record { counted = 1; reads = ReadsLvalue.name (count_within s t u 0 (v ∷ o) (omega arith)) h ReadsIndices.no_index })
 
   by_brace : (d : ℕ) (v : Token) → IsMark (codes "{") v → GoesOn d v
   unfolding name_token
-  by_brace d v h = assigned d v (name_token ∷ token_of (codes "}") ∷ []) (l.Concatenation v.place (l.Name (name_of name_token.place [] []) ∷ [])) (λ o. ReadsLvalue.concatenation h (ReadsLvalue.name (ReadsName.name refl ReadsSelects.no_select)) ReadsMoreLvalues.no_more refl)
+  by_brace d v h = assigned d v (name_token ∷ token_of (codes "}") ∷ []) (l.Concatenation v.place (l.Name (name_of name_token.place [] []) ∷ [])) (λ s t u o z. record {
+    counted = 3;
+    reads = ReadsLvalue.concatenation (count_within s t u 0 (v ∷ name_token ∷ token_of (codes "}") ∷ o) (omega arith)) h
+        (ReadsLvalue.name (count_spare s t u 2 (name_token ∷ token_of (codes "}") ∷ o) z) refl ReadsIndices.no_index) ReadsMoreLvalues.no_more (count_spare s t u 3 (token_of (codes "}") ∷ o) (spare_tail s t u name_token (token_of (codes "}") ∷ o) z)) refl;
+  })
 
   not_any : (a b c d e f : Bool) → a ≡ false → b ≡ false → c ≡ false → d ≡ false → e ≡ false → f ≡ false → (a || b || c || d || e || f) ≡ true → ⊥
   not_any a b c d e f i j k l m n h = cc

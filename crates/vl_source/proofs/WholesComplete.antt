@@ -1,31 +1,37 @@
 -- Expressions and left sides that stand in no other: what the grammar derives within bounds is read.
-use Rattle.std.proofs.Common.{◌≡◌, ℕ, zero, suc, ◌+◌, ◌<◌, length, List, [], ◌∷◌, Ok, Option, Some, None, Bool, true, false, refl, arith}
+use Rattle.std.proofs.Common.{◌≡◌, ℕ, zero, suc, ◌+◌, ◌<◌, length, List, [], ◌∷◌, Err, Option, Some, None, Bool, true, false, cond, refl, arith}
 use Rattle.std.specs.Prelude.{codes}
+use Rattle.std.specs.Str.{bytes_eq}
+use Rattle.std.proofs.Math.Dec.{ltb}
 use Rattle.vl_base.specs.declared.place.Place.{Place}
 use Rattle.vl_tree.specs.declared.token.Token.{Token}
 use Rattle.vl_tree.specs.declared.token.TokenKind.{TokenKind}
 use Rattle.vl_tree.specs.declared.token.TokenKind.TheVariants as k
 use Rattle.vl_grammar.specs.declared.tree.Expression.{Expression}
 use Rattle.vl_grammar.specs.declared.tree.Primary.{Primary}
+use Rattle.vl_grammar.specs.declared.tree.Select.{Select}
+use Rattle.vl_grammar.specs.declared.tree.Bound.{Bound}
 use Rattle.vl_grammar.specs.declared.tree.UnaryMark.{UnaryMark}
 use Rattle.vl_grammar.specs.declared.tree.UnaryOperator.{UnaryOperator}
-use Rattle.vl_grammar.specs.Marks.{IsMark, unary_operator, unary_operators, unary_at, mark_in}
+use Rattle.vl_grammar.specs.Marks.{IsMark, select_mark, unary_operator, unary_operators, unary_at, mark_in}
 use Rattle.vl_grammar.specs.Grammar.{ReadsExpression, ReadsBinary, ReadsUnary, ReadsPrimary, ReadsOperators, ReadsName, ReadsSystemCall}
 use Rattle.vl_grammar.specs.Reading as plain
 use Rattle.vl_grammar.specs.Reading.{next_by, is_next, mark, keyword, keyword_by}
-use Rattle.vl_grammar.specs.Expressions.{expr, selects, ends_argument, ends_kind}
-use Rattle.vl_grammar.proofs.Follows.{next_by_here}
+use Rattle.vl_grammar.specs.Expressions.{expr, ends_argument, ends_kind}
 use Rattle.vl_grammar.proofs.MarkLemmas.{mark_here, table_has}
-use Rattle.vl_grammar.proofs.Complete.{EndsPrimary, Ends, ends_primary, none_here, reads_expression, reads_selects}
+use Rattle.vl_grammar.proofs.Complete.{EndsPrimary, Ends, ends_primary, ends_before, select_ends, closing_apart, none_here, reads_expression}
 use Rattle.vl_source.specs.declared.tree.Assignment.{Assignment}
 use Rattle.vl_source.specs.declared.tree.Lvalue.{Lvalue}
-use Rattle.vl_source.specs.Statements.{ReadsLvalue, ReadsMoreLvalues, ReadsWhole, ReadsTarget, ReadsAssignment}
-use Rattle.vl_source.specs.Parsers.{identifier_token, is_some, is_word}
-use Rattle.vl_source.specs.Parsing.{lvalue, target_level, target_name, targets, more_targets, whole, target, assignment}
+use Rattle.vl_source.specs.declared.fault.Cause.TheVariants.{Tokens}
+use Rattle.vl_source.specs.Bounds.{Bounds, MayCount, most_tokens}
+use Rattle.vl_source.specs.Statements.{ReadsWhole, ReadsIndexBound, ReadsIndices, ReadsLvalue, ReadsMoreLvalues, ReadsTarget, ReadsAssignment}
+use Rattle.vl_source.specs.Parsers.{Outcome, Parser, next_or, many_counted, identifier_token, is_some, is_word}
+use Rattle.vl_source.specs.Parsing.{index_bound, index, indices, lvalue, target_level, target_name, targets, more_targets, whole, target, assignment}
 use Rattle.vl_source.proofs.Words.{name_here, no_mark, by_kind}
 use Rattle.vl_source.proofs.Follows.{bounds}
-use Rattle.vl_source.proofs.Completing.{Reads, reads_bind, reads_next, reads_limited, read_now, mark_next, mark_apart}
-use Rattle.vl_source.proofs.Wholes.{shorter_lvalue, shorter_target}
+use Rattle.vl_source.proofs.Completing.{Reads, reads_bind, reads_next, reads_other, reads_limited, read_now, mark_apart}
+use Rattle.vl_source.proofs.Counting.{reads_counted}
+use Rattle.vl_source.proofs.Wholes.{shorter_whole, no_longer_index_bound, shorter_lvalue, shorter_target}
 
 -- ---- what comes first
 
@@ -76,40 +82,70 @@ ends_mark m v h e = by_kind ends_kind true v (k.Mark m) h e
 
 -- ---- left sides
 
-behind_lvalues : {vs : List Lvalue} {ts rest : List Token} → ReadsMoreLvalues vs ts rest → EndsPrimary rest → EndsPrimary ts
+behind_index_bound : {b : Bounds} {n m : ℕ} {e : Option Bound} {ts rest : List Token} → ReadsIndexBound b n m e ts rest → Ends rest → Ends ts
+behind_index_bound ReadsIndexBound.no_bound h = h
+behind_index_bound (ReadsIndexBound.bound {m} {t} {ts} w s d) h = select_ends t ts m s
+
+behind_lvalues : {b : Bounds} {n m : ℕ} {vs : List Lvalue} {ts rest : List Token} → ReadsMoreLvalues b n m vs ts rest → EndsPrimary rest → EndsPrimary ts
 behind_lvalues ReadsMoreLvalues.no_more w = w
-behind_lvalues (ReadsMoreLvalues.more h d f) w = ends_primary (codes ",") _ _ h refl refl
-
-mutual
-  unfolding lvalue target_level target_name targets more_targets selects plain.many
-
-  pub reads_lvalue : {v : Lvalue} {ts rest : List Token} → ReadsLvalue v ts rest → (n : ℕ) → length ts + 1 < n → EndsPrimary rest → lvalue n ts ≡ Ok (v, rest)
-  reads_lvalue d zero h w = absurd (omega arith)
-  reads_lvalue (ReadsLvalue.name (ReadsName.name {n = m} {ss} {t} {ts} h d)) (suc n) l w =
-      rw (none_here (mark (codes "{")) t ts (no_mark (codes "{") t (k.Name m) h refl), next_by_here identifier_token t ts _ (name_here m t h), reads_selects d n n (omega arith) (omega arith) w) refl
-  reads_lvalue (ReadsLvalue.concatenation {v} {vs} {opening} {closing} {ts} {us} {rest} h d f i) (suc n) l w =
-      let e : EndsPrimary (closing ∷ rest) = ends_primary (codes "}") closing rest i refl refl in
-      rw (
-        mark_next (codes "{") opening ts h refl,
-        reads_lvalue d n (omega arith) (behind_lvalues f e),
-        reads_lvalues f n n (omega (arith, shorter_lvalue d)) (omega (arith, shorter_lvalue d)) e (mark_apart (codes ",") (codes "}") closing rest i refl),
-        mark_next (codes "}") closing rest i refl,
-      ) refl
-
-  pub reads_lvalues : {vs : List Lvalue} {ts rest : List Token} → ReadsMoreLvalues vs ts rest → (n m : ℕ) → length ts < n → length ts < m → EndsPrimary rest → next_by (mark (codes ",")) rest ≡ None → plain.many (mark (codes ",")) (λ _. lvalue n) m ts ≡ Ok (vs, rest)
-  reads_lvalues d n zero h l w c = absurd (omega arith)
-  reads_lvalues ReadsMoreLvalues.no_more n (suc m) h l w c = rw c refl
-  reads_lvalues (ReadsMoreLvalues.more {v} {vs} {comma} {ts} i d f) n (suc m) h l w c =
-      rw (mark_next (codes ",") comma ts i refl, reads_lvalue d n (omega arith) (behind_lvalues f w), reads_lvalues f n m (omega (arith, shorter_lvalue d)) (omega (arith, shorter_lvalue d)) w c) refl
-
--- ---- within the limits
+behind_lvalues (ReadsMoreLvalues.more {comma} {ts} z h d f) w = ends_primary (codes ",") comma ts h refl refl
 
 module _ {s t : Bool} {u : ℕ} where
   pub reads_whole : {e : Expression} {ts rest : List Token} → ReadsWhole (bounds s t u) e ts rest → (n : ℕ) → length ts + 1 < n → Ends rest → Reads s t u e rest (whole n ts)
   reads_whole d n h w = reads_limited (expr n) (reads_expression d.reads n h w) d.within
 
+  -- a mark comes next, and counts
+  reads_mark : {A : Type 0} {a : A} {rest : List Token} (k : ℕ) (m : List ℕ) (p : Place → Parser A) (q : Outcome A) (v : Token) (us : List Token) → IsMark m v → bytes_eq m m ≡ true → MayCount (bounds s t u) (k + 1) (v ∷ us) → Reads s t u a rest (p v.place us)
+      → Reads s t u a rest (next_or (next_by (mark m) (v ∷ us)) (λ y ws. cond (ltb k most_tokens) (p y ws) (Err (Tokens, v ∷ us))) q)
+  reads_mark k m p q v us h e w g = reads_counted k (mark m) p q v us v.place (mark_here m m v h e) w g
+
+  reads_index_bound : {k j : ℕ} {e : Option Bound} {ts rest : List Token} → ReadsIndexBound (bounds s t u) k j e ts rest → (n : ℕ) → length ts < n → Ends rest → next_by select_mark rest ≡ None → Reads s t u (e, j) rest (index_bound n k ts)
+  unfolding index_bound
+  reads_index_bound ReadsIndexBound.no_bound n h w c = rw c read_now
+  reads_index_bound (ReadsIndexBound.bound {n = k} {m} {e} {t = v} {ts} z i d) n h w c = reads_counted k select_mark _ _ v ts m i z (reads_bind _ (reads_whole d n (omega (arith, h)) w) read_now)
+
+  pub reads_indices : {k j : ℕ} {ss : List Select} {ts rest : List Token} → ReadsIndices (bounds s t u) k j ss ts rest → (n m : ℕ) → length ts < n → length ts < m → EndsPrimary rest → Reads s t u (ss, j) rest (many_counted (mark (codes "[")) (index n) m k ts)
+  unfolding index many_counted
+  reads_indices d n zero h l w = absurd (omega (arith, l))
+  reads_indices ReadsIndices.no_index n (suc m) h l w = rw w.select read_now
+  reads_indices (ReadsIndices.index {n = k} {m = i} {o = j} {e} {to} {ss} {opening} {closing} {ts} {us} {vs} {rest} z p d f y q r) n (suc m) h l w =
+      let closes : Ends (closing ∷ vs) = ends_before (codes "]") closing vs q refl refl refl refl in
+      let less = shorter_whole d in
+      let other = no_longer_index_bound f in
+      reads_mark k (codes "[") _ _ opening ts p refl z
+      (reads_bind _ (reads_bind _ (reads_whole d n (omega (arith, h)) (behind_index_bound f closes)) (reads_bind _ (reads_index_bound f n (omega (arith, h, less)) closes (closing_apart closing vs q)) (reads_mark i (codes "]") _ _ closing vs q refl y read_now)))
+      (reads_bind _ (reads_indices {k = i + 1} {j = j} r n m (omega (arith, h, less, other)) (omega (arith, l, less, other)) w) read_now))
+
+  mutual
+    unfolding lvalue target_level target_name targets more_targets indices many_counted
+
+    pub reads_lvalue : {k j : ℕ} {v : Lvalue} {ts rest : List Token} → ReadsLvalue (bounds s t u) k j v ts rest → (n : ℕ) → length ts + 1 < n → EndsPrimary rest → Reads s t u (v, j) rest (lvalue n k ts)
+    reads_lvalue d zero h w = absurd (omega (arith, h))
+    reads_lvalue (ReadsLvalue.name {n = c} {m = j} {i} {ss} {t = v} {ts} z h d) (suc n) l w =
+        reads_other (mark (codes "{")) _ _ (v ∷ ts) (none_here (mark (codes "{")) v ts (no_mark (codes "{") v (k.Name i) h refl))
+        (reads_counted c identifier_token _ _ v ts _ (name_here i v h) z (reads_bind _ (reads_indices d n n (omega (arith, l)) (omega (arith, l)) w) read_now))
+    reads_lvalue (ReadsLvalue.concatenation {n = k} {m = i} {o = j} {v} {vs} {opening} {closing} {ts} {us} {rest} z h d f y q) (suc n) l w =
+        let e : EndsPrimary (closing ∷ rest) = ends_primary (codes "}") closing rest q refl refl in
+        let less = shorter_lvalue d in
+        reads_mark k (codes "{") _ _ opening ts h refl z
+        (reads_bind _ (reads_lvalue d n (omega (arith, l)) (behind_lvalues f e))
+        (reads_bind _ (reads_lvalues f n n (omega (arith, l, less)) (omega (arith, l, less)) e (mark_apart (codes ",") (codes "}") closing rest q refl))
+        (reads_mark j (codes "}") _ _ closing rest q refl y read_now)))
+
+    pub reads_lvalues : {k j : ℕ} {vs : List Lvalue} {ts rest : List Token} → ReadsMoreLvalues (bounds s t u) k j vs ts rest → (n m : ℕ) → length ts < n → length ts < m → EndsPrimary rest → next_by (mark (codes ",")) rest ≡ None
+        → Reads s t u (vs, j) rest (many_counted (mark (codes ",")) (λ i _. lvalue n i) m k ts)
+    reads_lvalues d n zero h l w c = absurd (omega (arith, l))
+    reads_lvalues ReadsMoreLvalues.no_more n (suc m) h l w c = rw c read_now
+    reads_lvalues (ReadsMoreLvalues.more {n = k} {m = i} {o = j} {v} {vs} {comma} {ts} {us} {rest} z q d f) n (suc m) h l w c =
+        let less = shorter_lvalue d in
+        reads_mark k (codes ",") _ _ comma ts q refl z
+        (reads_bind _ (reads_lvalue d n (omega (arith, h)) (behind_lvalues f w)) (reads_bind _ (reads_lvalues f n m (omega (arith, h, less)) (omega (arith, l, less)) w c) read_now))
+
+  -- ---- within the limits
+
   pub reads_target : {v : Lvalue} {ts rest : List Token} → ReadsTarget (bounds s t u) v ts rest → (n : ℕ) → length ts + 1 < n → EndsPrimary rest → Reads s t u v rest (target n ts)
-  reads_target d n h w = reads_limited (lvalue n) (reads_lvalue d.reads n h w) d.within
+  unfolding target
+  reads_target d n h w = reads_bind _ (reads_lvalue d.reads n h w) read_now
 
   pub reads_assignment : {a : Assignment} {ts rest : List Token} → ReadsAssignment (bounds s t u) a ts rest → (n : ℕ) → length ts + 1 < n → Ends rest → Reads s t u a rest (assignment (whole n) (target n) n ts)
   unfolding assignment

@@ -6,14 +6,14 @@ use Rattle.vl_tree.specs.declared.token.Token.{Token}
 abbrev pub most_statements : ℕ
 most_statements = 128
 
--- limit 4: the most tokens of an expression, or of a left side, that stands in no other
+-- limit 4: the most tokens of an expression that stands in no other, and of a left side but for those in its indices
 abbrev pub most_tokens : ℕ
 most_tokens = 1000
 
 pub record Bounds : Type 0 where
   -- the most statements around a token
   pub statements : Option ℕ
-  -- the most tokens of an expression, or of a left side, that stands in no other
+  -- the most tokens of an expression that stands in no other, and of a left side but for those in its indices
   pub tokens : Option ℕ
   -- the last tokens of the list, so many, count for neither
   pub uncounted : ℕ
@@ -33,3 +33,7 @@ MayBegin b d ts = (length ts ≤ b.uncounted) ⊎ AtMost d b.statements
 -- an expression may go from here to the rest: so many tokens of it are counted
 abbrev pub MayReach : Bounds → List Token → List Token → Type 0
 MayReach b ts rest = AtMost (length ts - length rest) b.tokens ⊎ AtMost (length ts - b.uncounted) b.tokens
+
+-- the first token here may be the n-th of a left side, those in its indices aside
+abbrev pub MayCount : Bounds → ℕ → List Token → Type 0
+MayCount b n ts = (length ts ≤ b.uncounted) ⊎ AtMost n b.tokens

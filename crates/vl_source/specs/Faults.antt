@@ -15,7 +15,7 @@ IsSource s ts = ReadsSource unbounded s ts []
 abbrev pub statement_limit : ℕ → Bounds
 statement_limit uncounted = record { statements = Some most_statements; tokens = None; uncounted = uncounted }
 
--- limit 4: at most 1,000 tokens stand in an expression, or a left side, that stands in no other
+-- limit 4: at most 1,000 tokens stand in an expression that stands in no other, and in a left side but for its indices
 abbrev pub expression_limit : ℕ → Bounds
 expression_limit uncounted = record { statements = None; tokens = Some most_tokens; uncounted = uncounted }
 

@@ -47,14 +47,14 @@ graph_of s = map (steps_of (module_number s)) s.modules
 abbrev pub is_top : List (List ℕ) → ℕ → Bool
 is_top graph n = not (list_any (list_any (nat_eq n)) graph)
 
--- the first top among so many modules, from a number on
-abbrev pub top_from : List (List ℕ) → ℕ → ℕ → Option ℕ
-top_from graph n zero = None
-top_from graph n (suc more) = if is_top graph n then Some n else top_from graph (suc n) more
+-- the first number that passes a test, of so many from one on
+abbrev pub first_from : (ℕ → Bool) → ℕ → ℕ → Option ℕ
+first_from passes n zero = None
+first_from passes n (suc more) = if passes n then Some n else first_from passes (suc n) more
 
 -- the number of the first top
 abbrev pub first_top : List (List ℕ) → Option ℕ
-first_top graph = top_from graph 0 (length graph)
+first_top graph = first_from (is_top graph) 0 (length graph)
 
 -- ---- ports
 

@@ -1,6 +1,6 @@
 -- Parsers as functions: what is read and the tokens after it, or the cause of the first fault and the tokens from it on.
 -- Contracts of private functions cite them; public ones cite the grammar alone.
-use Rattle.std.specs.Prelude.{◌≡◌, ℕ, zero, suc, ◌-◌, nat_lt, List, [], ◌∷◌, ◌++◌, length, drop, Result, Ok, Err, Option, Some, None, Bool, true, false, cond, codes}
+use Rattle.std.specs.Prelude.{◌≡◌, ℕ, zero, suc, ◌+◌, ◌-◌, nat_lt, List, [], ◌∷◌, ◌++◌, length, drop, Result, Ok, Err, Option, Some, None, Bool, true, false, cond, codes}
 use Rattle.std.specs.Borrow.{Bor}
 use Rattle.vl_base.specs.declared.place.Place.{Place}
 use Rattle.vl_tree.specs.declared.token.Token.{Token}
@@ -10,6 +10,7 @@ use Rattle.vl_grammar.specs.declared.tree.Identifier.{Identifier}
 use Rattle.vl_grammar.specs.Grammar.{first_place}
 use Rattle.vl_grammar.specs.Reading as plain
 use Rattle.vl_grammar.specs.Reading.{next_by, mark, keyword, is_next}
+use Rattle.vl_source.specs.Bounds.{most_tokens}
 use Rattle.vl_source.specs.declared.fault.Cause.{Cause}
 use Rattle.vl_source.specs.declared.fault.Cause.TheVariants.{Syntax, Tokens}
 use Rattle.vl_source.specs.declared.fault.Fault.{Fault}
@@ -120,6 +121,25 @@ groups opens head grow zero g = fails
 groups opens head grow (suc n) g =
     if_next (mark (codes ",")) (λ _. if_ahead opens (head >>= λ h. groups opens head grow n h >>= λ gs. pure (g ∷ gs)) (grow g >>= λ h. groups opens head grow n h)) (pure (g ∷ []))
 
+-- ---- tokens that count together: k of them stand before
+
+-- the first parser behind a token that f takes, unless that is one too many, and the second where another comes
+abbrev pub if_counted : {X A : Type 0} → ℕ → (Token → Option X) → (X → Parser A) → Parser A → Parser A
+if_counted k f p q = λ ts. next_or (next_by f ts) (λ x us. cond (nat_lt k most_tokens) (p x us) (Err (Tokens, ts))) (q ts)
+
+-- a token that f takes has to come, and counts
+abbrev pub must_counted : {X A : Type 0} → ℕ → (Token → Option X) → (X → Parser A) → Parser A
+must_counted k f p = if_counted k f p fails
+
+-- as many as there are, each behind a token that f takes and that counts; each is given how many stand before, and gives how many stand up to its end
+unfoldable pub many_counted : {X A : Type 0} → (Token → Option X) → (ℕ → X → Parser (A × ℕ)) → ℕ → ℕ → Parser (List A × ℕ)
+many_counted f p zero k = fails
+many_counted f p (suc n) k = if_counted k f (λ x. p (k + 1) x >>= λ a. many_counted f p n a.1 >>= λ others. pure (a.0 ∷ others.0, others.1)) (pure ([], k))
+
+-- with these in front of what is read
+abbrev pub with_counted_front : {A : Type 0} → List A → Outcome (List A × ℕ) → Outcome (List A × ℕ)
+with_counted_front front read = and_then read (λ es. pure (front ++ es.0, es.1))
+
 -- ---- what is read within a limit
 
 -- how many tokens were taken
@@ -132,7 +152,7 @@ abbrev pub unlimited : {A : Type 0} → plain.Outcome A → Outcome A
 unlimited (Ok x) = Ok x
 unlimited (Err us) = Err (Syntax, us)
 
--- an expression, or a left side, of so many tokens at most
+-- an expression of so many tokens at most
 unfoldable pub limited : {A : Type 0} → ℕ → plain.Parser A → Parser A
 limited most p = λ ts. cond (nat_lt most (taken ts (p ts))) (Err (Tokens, drop most ts)) (unlimited (p ts))
 

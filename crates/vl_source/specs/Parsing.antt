@@ -1,6 +1,6 @@
 -- The reading of sources, as functions. The number n of each is more than there are tokens.
 -- Expressions and left sides that stand in no other are read by `whole` and `target`; so many statements may nest.
-use Rattle.std.specs.Prelude.{ℕ, zero, suc, List, [], ◌∷◌, ◌++◌, Ok, Err, Option, Some, None, Bool, true, false, ◌||◌, if◌then◌else◌, codes}
+use Rattle.std.specs.Prelude.{ℕ, zero, suc, ◌+◌, List, [], ◌∷◌, ◌++◌, Ok, Err, Option, Some, None, Bool, true, false, ◌||◌, if◌then◌else◌, codes}
 use Rattle.std.specs.Str.{bytes_eq}
 use Rattle.vl_base.specs.declared.place.Place.{Place}
 use Rattle.vl_tree.specs.declared.token.Token.{Token}
@@ -8,11 +8,13 @@ use Rattle.vl_tree.specs.declared.token.TokenKind.{TokenKind}
 use Rattle.vl_tree.specs.declared.token.TokenKind.TheVariants as k
 use Rattle.vl_grammar.specs.declared.tree.Expression.{Expression}
 use Rattle.vl_grammar.specs.declared.tree.Identifier.{Identifier}
+use Rattle.vl_grammar.specs.declared.tree.Select.{Select}
+use Rattle.vl_grammar.specs.declared.tree.Bound.{Bound}
 use Rattle.vl_grammar.specs.declared.tree.SystemArgument.{SystemArgument}
-use Rattle.vl_grammar.specs.Grammar.{name_of, system_of, argument_of}
-use Rattle.vl_grammar.specs.Reading as plain
+use Rattle.vl_grammar.specs.Marks.{select_mark}
+use Rattle.vl_grammar.specs.Grammar.{name_of, select_of, bound_of, system_of, argument_of}
 use Rattle.vl_grammar.specs.Reading.{mark, keyword, is_next}
-use Rattle.vl_grammar.specs.Expressions.{expr, selects, ends_argument}
+use Rattle.vl_grammar.specs.Expressions.{expr, ends_argument}
 use Rattle.vl_source.specs.declared.tree.Source.{Source}
 use Rattle.vl_source.specs.declared.tree.Module.{Module}
 use Rattle.vl_source.specs.declared.tree.ParameterGroup.{ParameterGroup}
@@ -60,29 +62,48 @@ use Rattle.vl_source.specs.declared.tree.Lvalue.{Lvalue}
 use Rattle.vl_source.specs.declared.tree.Lvalue.TheVariants as l
 use Rattle.vl_source.specs.declared.fault.Cause.TheVariants.{Syntax, Statements}
 use Rattle.vl_source.specs.Bounds.{most_statements, most_tokens}
-use Rattle.vl_source.specs.Parsers.{Outcome, Parser, ◌>>=◌, pure, fails, if_next, must, if_ahead, placed, is_word, is_mark, identifier_token, identifier, word, optional, parenthesized, many, list, before, groups, limited}
+use Rattle.vl_source.specs.Parsers.{Outcome, Parser, ◌>>=◌, pure, fails, if_next, must, if_ahead, placed, is_word, is_mark, identifier_token, identifier, word, optional, parenthesized, many, list, before, groups, if_counted, must_counted, many_counted, limited}
 
--- ---- left sides: their limit is that of what they stand in
+-- an expression that stands in no other, within its limit
+abbrev pub whole : ℕ → Parser Expression
+whole n = limited most_tokens (expr n)
 
-module _ (inner : plain.Parser Lvalue) (n : ℕ) where
-  -- a name with its selects, from behind the name
-  unfoldable pub target_name : Identifier → plain.Parser Lvalue
-  target_name i = plain.◌>>=◌ (selects (expr n) n) (λ ss. plain.pure (l.Name (name_of i.place i.name ss)))
+-- ---- left sides: each parser is given how many tokens that count stand before, and gives how many stand up to the end
+
+module _ (n : ℕ) where
+  unfoldable pub index_bound : ℕ → Parser (Option Bound × ℕ)
+  index_bound k = if_counted k select_mark (λ m. whole n >>= λ e. pure (Some (bound_of m e), k + 1)) (pure (None, k))
+
+  -- behind "["
+  unfoldable pub index : ℕ → Place → Parser (Select × ℕ)
+  index k p = whole n >>= λ e. index_bound k >>= λ b. must_counted b.1 (mark (codes "]")) (λ _. pure (select_of p e b.0, b.1 + 1))
+
+  unfoldable pub indices : ℕ → Parser (List Select × ℕ)
+  indices k = many_counted (mark (codes "[")) index n k
+
+module _ (inner : ℕ → Parser (Lvalue × ℕ)) (n : ℕ) where
+  -- a name with its indices, from behind the name
+  unfoldable pub target_name : ℕ → Identifier → Parser (Lvalue × ℕ)
+  target_name k i = indices n k >>= λ ss. pure (l.Name (name_of i.place i.name ss.0), ss.1)
 
   -- behind commas
-  unfoldable pub more_targets : plain.Parser (List Lvalue)
-  more_targets = plain.many (mark (codes ",")) (λ _. inner) n
+  unfoldable pub more_targets : ℕ → Parser (List Lvalue × ℕ)
+  more_targets k = many_counted (mark (codes ",")) (λ j _. inner j) n k
 
   -- from behind "{"
-  unfoldable pub targets : Place → plain.Parser Lvalue
-  targets p = plain.◌>>=◌ inner (λ v. plain.◌>>=◌ more_targets (λ vs. plain.must (mark (codes "}")) (λ _. plain.pure (l.Concatenation p (v ∷ vs)))))
+  unfoldable pub targets : ℕ → Place → Parser (Lvalue × ℕ)
+  targets k p = inner k >>= λ v. more_targets v.1 >>= λ vs. must_counted vs.1 (mark (codes "}")) (λ _. pure (l.Concatenation p (v.0 ∷ vs.0), vs.1 + 1))
 
-  unfoldable pub target_level : plain.Parser Lvalue
-  target_level = plain.if_next (mark (codes "{")) targets (plain.must identifier_token target_name)
+  unfoldable pub target_level : ℕ → Parser (Lvalue × ℕ)
+  target_level k = if_counted k (mark (codes "{")) (targets (k + 1)) (must_counted k identifier_token (target_name (k + 1)))
 
-unfoldable pub lvalue : ℕ → plain.Parser Lvalue
-lvalue zero = plain.fails
-lvalue (suc n) = target_level (lvalue n) n
+unfoldable pub lvalue : ℕ → ℕ → Parser (Lvalue × ℕ)
+lvalue zero k = fails
+lvalue (suc n) k = target_level (lvalue n) n k
+
+-- a left side that stands in no other
+unfoldable pub target : ℕ → Parser Lvalue
+target n = lvalue n 0 >>= λ v. pure v.0
 
 -- ---- where no further statement may nest
 
@@ -501,13 +522,6 @@ abbrev pub all_of : {A : Type 0} → Outcome A → Outcome A
 all_of (Ok (a, [])) = Ok (a, [])
 all_of (Ok (a, u ∷ us)) = Err (Syntax, u ∷ us)
 all_of (Err e) = Err e
-
--- expressions and left sides that stand in no other, within their limit
-abbrev pub whole : ℕ → Parser Expression
-whole n = limited most_tokens (expr n)
-
-abbrev pub target : ℕ → Parser Lvalue
-target n = limited most_tokens (lvalue n)
 
 -- a statement that stands in no other
 abbrev pub outer : ℕ → Parser Statement

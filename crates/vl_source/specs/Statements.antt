@@ -1,14 +1,16 @@
 -- The grammar of statements, with one rule for each alternative (IEEE 1364-2005, annex A.6), within bounds.
 -- ReadsX x ts rest: at the front of ts stands an X, whose tree is x, and rest follows it.
-use Rattle.std.specs.Prelude.{◌≡◌, ℕ, suc, List, [], ◌∷◌, Option, Some, None, Bool, true, false, codes}
+use Rattle.std.specs.Prelude.{◌≡◌, ℕ, suc, ◌+◌, List, [], ◌∷◌, Option, Some, None, Bool, true, false, codes}
 use Rattle.vl_tree.specs.declared.token.Token.{Token}
 use Rattle.vl_tree.specs.declared.token.TokenKind.TheVariants as k
 use Rattle.vl_grammar.specs.declared.tree.Expression.{Expression}
-use Rattle.vl_grammar.specs.declared.tree.Name.{Name}
+use Rattle.vl_grammar.specs.declared.tree.Select.{Select}
+use Rattle.vl_grammar.specs.declared.tree.Bound.{Bound}
+use Rattle.vl_grammar.specs.declared.tree.SelectMark.{SelectMark}
 use Rattle.vl_grammar.specs.declared.tree.SystemCall.{SystemCall}
 use Rattle.vl_grammar.specs.declared.tree.SystemArgument.{SystemArgument}
-use Rattle.vl_grammar.specs.Marks.{IsMark, IsKeyword}
-use Rattle.vl_grammar.specs.Grammar.{first_place, ReadsExpression, ReadsName, system_of, argument_of}
+use Rattle.vl_grammar.specs.Marks.{IsMark, IsKeyword, select_mark}
+use Rattle.vl_grammar.specs.Grammar.{first_place, ReadsExpression, name_of, select_of, bound_of, system_of, argument_of}
 use Rattle.vl_source.specs.declared.tree.Statement.{Statement}
 use Rattle.vl_source.specs.declared.tree.Statement.TheVariants as s
 use Rattle.vl_source.specs.declared.tree.CaseItem.{CaseItem}
@@ -20,20 +22,47 @@ use Rattle.vl_source.specs.declared.tree.AssignMark.TheVariants as m
 use Rattle.vl_source.specs.declared.tree.Assignment.{Assignment}
 use Rattle.vl_source.specs.declared.tree.Lvalue.{Lvalue}
 use Rattle.vl_source.specs.declared.tree.Lvalue.TheVariants as l
-use Rattle.vl_source.specs.Bounds.{Bounds, MayBegin, MayReach}
+use Rattle.vl_source.specs.Bounds.{Bounds, MayBegin, MayReach, MayCount}
 use Rattle.vl_source.specs.Lists.{Next, ReadsOptional, ReadsList, ReadsParenthesized, ReadsMarkOrNothing}
 
+-- an expression that stands in no other
+pub record ReadsWhole (b : Bounds) (e : Expression) (ts rest : List Token) : Type 0 where
+  pub reads : ReadsExpression e ts rest
+  pub within : MayReach b ts rest
+
+-- ---- left sides (annex A.8.5): each index is an expression of its own, and the other tokens of a left side count together;
+-- the first number is how many of those stand before, the second how many stand up to the end
+
+-- [ (":" | "+:" | "-:") expr ]
+pub data ReadsIndexBound (b : Bounds) : ℕ → ℕ → Option Bound → List Token → List Token → Type 0 where
+  no_bound : {n : ℕ} {ts : List Token} → ReadsIndexBound b n n None ts ts
+  bound : {n : ℕ} {m : SelectMark} {e : Expression} {t : Token} {ts rest : List Token} → MayCount b (n + 1) (t ∷ ts) → select_mark t ≡ Some m → ReadsWhole b e ts rest → ReadsIndexBound b n (n + 1) (Some (bound_of m e)) (t ∷ ts) rest
+
+-- { "[" expr [ (":" | "+:" | "-:") expr ] "]" }
+pub data ReadsIndices (b : Bounds) : ℕ → ℕ → List Select → List Token → List Token → Type 0 where
+  no_index : {n : ℕ} {ts : List Token} → ReadsIndices b n n [] ts ts
+  index : {n m o : ℕ} {e : Expression} {to : Option Bound} {ss : List Select} {opening closing : Token} {ts us vs rest : List Token} → MayCount b (n + 1) (opening ∷ ts) → IsMark (codes "[") opening → ReadsWhole b e ts us → ReadsIndexBound b (n + 1) m to us (closing ∷ vs)
+      → MayCount b (m + 1) (closing ∷ vs) → IsMark (codes "]") closing → ReadsIndices b (m + 1) o ss vs rest → ReadsIndices b n o (select_of opening.place e to ∷ ss) (opening ∷ ts) rest
+
 mutual
-  -- lvalue = name | "{" lvalue { "," lvalue } "}"
-  pub data ReadsLvalue : Lvalue → List Token → List Token → Type 0 where
-    name : {n : Name} {ts rest : List Token} → ReadsName n ts rest → ReadsLvalue (l.Name n) ts rest
-    concatenation : {v : Lvalue} {vs : List Lvalue} {opening closing : Token} {ts us rest : List Token} → IsMark (codes "{") opening → ReadsLvalue v ts us → ReadsMoreLvalues vs us (closing ∷ rest) → IsMark (codes "}") closing
-        → ReadsLvalue (l.Concatenation opening.place (v ∷ vs)) (opening ∷ ts) rest
+  -- lvalue = id indices | "{" lvalue { "," lvalue } "}"
+  pub data ReadsLvalue (b : Bounds) : ℕ → ℕ → Lvalue → List Token → List Token → Type 0 where
+    name : {n m : ℕ} {i : List ℕ} {ss : List Select} {t : Token} {ts rest : List Token} → MayCount b (n + 1) (t ∷ ts) → t.kind ≡ k.Name i → ReadsIndices b (n + 1) m ss ts rest → ReadsLvalue b n m (l.Name (name_of t.place i ss)) (t ∷ ts) rest
+    concatenation : {n m o : ℕ} {v : Lvalue} {vs : List Lvalue} {opening closing : Token} {ts us rest : List Token} → MayCount b (n + 1) (opening ∷ ts) → IsMark (codes "{") opening → ReadsLvalue b (n + 1) m v ts us → ReadsMoreLvalues b m o vs us (closing ∷ rest)
+        → MayCount b (o + 1) (closing ∷ rest) → IsMark (codes "}") closing → ReadsLvalue b n (o + 1) (l.Concatenation opening.place (v ∷ vs)) (opening ∷ ts) rest
 
   -- { "," lvalue }
-  pub data ReadsMoreLvalues : List Lvalue → List Token → List Token → Type 0 where
-    no_more : {ts : List Token} → ReadsMoreLvalues [] ts ts
-    more : {v : Lvalue} {vs : List Lvalue} {comma : Token} {ts us rest : List Token} → IsMark (codes ",") comma → ReadsLvalue v ts us → ReadsMoreLvalues vs us rest → ReadsMoreLvalues (v ∷ vs) (comma ∷ ts) rest
+  pub data ReadsMoreLvalues (b : Bounds) : ℕ → ℕ → List Lvalue → List Token → List Token → Type 0 where
+    no_more : {n : ℕ} {ts : List Token} → ReadsMoreLvalues b n n [] ts ts
+    more : {n m o : ℕ} {v : Lvalue} {vs : List Lvalue} {comma : Token} {ts us rest : List Token} → MayCount b (n + 1) (comma ∷ ts) → IsMark (codes ",") comma → ReadsLvalue b (n + 1) m v ts us → ReadsMoreLvalues b m o vs us rest
+        → ReadsMoreLvalues b n o (v ∷ vs) (comma ∷ ts) rest
+
+-- a left side that stands in no other, with so many tokens that count
+pub record ReadsTarget (b : Bounds) (v : Lvalue) (ts rest : List Token) : Type 0 where
+  pub counted : ℕ
+  pub reads : ReadsLvalue b 0 counted v ts rest
+
+-- ---- statements
 
 -- "case" | "casez"
 pub data IsCaseKeyword : CaseKeyword → Token → Type 0 where
@@ -49,16 +78,6 @@ pub data IsAssignMark : AssignMark → Token → Type 0 where
 pub data ReadsLabel : List Token → List Token → Type 0 where
   no_label : {ts : List Token} → ReadsLabel ts ts
   label : {n : List ℕ} {colon t : Token} {rest : List Token} → IsMark (codes ":") colon → t.kind ≡ k.Name n → ReadsLabel (colon ∷ t ∷ rest) rest
-
--- an expression that stands in no other
-pub record ReadsWhole (b : Bounds) (e : Expression) (ts rest : List Token) : Type 0 where
-  pub reads : ReadsExpression e ts rest
-  pub within : MayReach b ts rest
-
--- a left side
-pub record ReadsTarget (b : Bounds) (v : Lvalue) (ts rest : List Token) : Type 0 where
-  pub reads : ReadsLvalue v ts rest
-  pub within : MayReach b ts rest
 
 -- lset = lvalue "=" expr
 pub data ReadsAssignment (b : Bounds) : Assignment → List Token → List Token → Type 0 where

@@ -5,7 +5,7 @@ use Rattle.std.specs.List.{list_all}
 abbrev pub is_between : ℕ → ℕ → ℕ → Bool
 is_between low high b = nat_le low b && nat_le b high
 
--- space, tab, newline, form feed, and the carriage return (IEEE 1364-2005, 3.2)
+-- space, tab, newline and form feed (IEEE 1364-2005, 3.2), and beyond the standard the carriage return
 unfoldable pub is_white : ℕ → Bool
 is_white b = (b == 32) || ((b == 10) || ((b == 9) || ((b == 13) || (b == 12))))
 
@@ -13,7 +13,7 @@ is_white b = (b == 32) || ((b == 10) || ((b == 9) || ((b == 13) || (b == 12))))
 unfoldable pub is_letter : ℕ → Bool
 is_letter b = is_between 97 122 b || (is_between 65 90 b || (b == 95))
 
--- 0 to 9
+-- 0 to 9 (annex A.8.7)
 unfoldable pub is_figure : ℕ → Bool
 is_figure b = is_between 48 57 b
 
@@ -25,15 +25,15 @@ is_name_byte b = is_letter b || (is_figure b || (b == 36))
 unfoldable pub is_printed : ℕ → Bool
 is_printed b = is_between 33 126 b
 
--- a byte of a plain number: a figure or `_` (3.5)
+-- a byte of a plain number: a figure or `_` (3.5.1, annex A.8.7)
 unfoldable pub is_decimal : ℕ → Bool
 is_decimal b = is_figure b || (b == 95)
 
--- 0 to 7
+-- 0 to 7 (annex A.8.7)
 unfoldable pub is_octal : ℕ → Bool
 is_octal b = is_between 48 55 b
 
--- any byte but the one that ends a line
+-- any byte but the newline, which ends a line (3.2, 3.3)
 unfoldable pub is_in_line : ℕ → Bool
 is_in_line b = not (b == 10)
 

@@ -1,4 +1,4 @@
--- What stands between tokens: white space, comments, attributes and two directives.
+-- What stands between tokens: white space, comments, attributes and two directives (IEEE 1364-2005, 3.2, 3.3, 3.8 and clause 19).
 use Rattle.std.specs.Prelude.{◌≡◌, ℕ, ◌==◌, Bool, false, not, ◌||◌, ◌&&◌, List, [], ◌∷◌, ◌++◌, drop, nat_eq, IsTrue, codes}
 use Rattle.std.specs.List.{starts_with}
 use Rattle.vl_tree.specs.Bytes.{is_white, is_in_line, Are, Ends, begins, past}
@@ -15,11 +15,11 @@ opens_block text = starts_with nat_eq text (codes "/*")
 unfoldable pub opens_attribute : List ℕ → Bool
 opens_attribute text = starts_with nat_eq text (codes "(*") && not (begins 41 (past is_white (drop 2 text)))
 
--- a comment or an attribute begins here
+-- a comment or an attribute begins here (3.3, 3.8)
 unfoldable pub opens : List ℕ → Bool
 opens text = opens_line text || (opens_block text || opens_attribute text)
 
--- the two directives that are passed over, without their `` ` `` (19.8, 19.2)
+-- the two directives that are passed over, without their `` ` `` (19.8, 19.2): what begins with one is passed over to its line's end
 unfoldable pub is_directive : List ℕ → Bool
 is_directive text = starts_with nat_eq text (codes "timescale") || starts_with nat_eq text (codes "default_nettype")
 

@@ -1,4 +1,4 @@
--- Marks: operators and punctuation (IEEE 1364-2005, 3.4).
+-- Marks: operators (IEEE 1364-2005, 3.4 and table 5-1) and the punctuation of the grammar (annex A).
 use Rattle.std.specs.Prelude.{◌≡◌, ◌≤◌, ℕ, Bool, ◌||◌, List, [], ◌∷◌, ◌++◌, length, IsTrue, codes}
 use Rattle.std.specs.List.{list_any}
 use Rattle.std.specs.Str.{bytes_eq}

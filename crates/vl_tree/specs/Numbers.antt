@@ -1,4 +1,4 @@
--- Numbers: how they are spelled, and what they mean (IEEE 1364-2005, 3.5).
+-- Numbers: how they are spelled, and what they mean (IEEE 1364-2005, 3.5.1 and annex A.8.7).
 use Rattle.std.specs.Prelude.{◌≡◌, ℕ, ◌+◌, ◌-◌, ◌*◌, ◌%◌, ◌^◌, ◌==◌, nat_le, nat_lt, Bool, true, false, ◌||◌, ◌&&◌, if◌then◌else◌, List, [], ◌∷◌, ◌++◌, Option, Some, None, Result, Ok, Err, IsTrue, fold}
 use Rattle.std.specs.List.{list_any}
 use Rattle.vl_base.specs.declared.number.Number.{Number}
@@ -14,7 +14,7 @@ is_hex b = is_between 48 57 b || (is_between 97 102 b || is_between 65 70 b)
 unfoldable pub is_x : ℕ → Bool
 is_x b = (b == 120) || (b == 88)
 
--- z, Z or ?, which is another z
+-- z, Z or ?, which is another z (3.5.1)
 unfoldable pub is_z : ℕ → Bool
 is_z b = (b == 122) || ((b == 90) || (b == 63))
 
@@ -47,7 +47,7 @@ shifted radix value b = if b == 95 then value else value * radix + digit_value b
 unfoldable pub value_of : ℕ → List ℕ → ℕ
 value_of radix = fold (shifted radix) 0
 
--- the bits that z digits give, written as a number; a leading z goes on to the left
+-- the bits that z digits give, written as a number; a leading z goes on to the left (3.5.1)
 abbrev pub shifted_z : ℕ → ℕ → ℕ → ℕ
 shifted_z radix bits b = if b == 95 then bits else bits * radix + (if is_z b then radix - 1 else 0)
 
@@ -58,11 +58,11 @@ leading_z (b ∷ bs) = if is_z b then 2 ^ 128 - 1 else 0
 unfoldable pub z_bits : ℕ → List ℕ → ℕ
 z_bits radix digits = fold (shifted_z radix) (leading_z digits) digits
 
--- a number is signed if it is a plain decimal or marked `s`; without a size it has 32 bits
+-- a number is signed if it is a plain decimal or marked `s`; without a size it has 32 bits, the least that the standard allows (3.5.1)
 abbrev pub plain_number : List ℕ → Number
 plain_number digits = record { value = value_of 10 digits; care = 2 ^ 32 - 1; width = 32; sized = false; signed = true }
 
--- what is wider than the width is cut
+-- what is wider than the width is cut on the left (3.5.1)
 abbrev pub number_in : ℕ → Bool → Bool → ℕ → List ℕ → Number
 number_in width sized signed radix digits = record {
   value = value_of radix digits % 2 ^ width;

@@ -1,4 +1,4 @@
--- Strings (IEEE 1364-2005, 3.6).
+-- Strings (IEEE 1364-2005, 3.6, annex A.8.8).
 use Rattle.std.specs.Prelude.{◌≡◌, ℕ, ◌+◌, ◌-◌, ◌*◌, ◌%◌, ◌==◌, Bool, not, ◌||◌, if◌then◌else◌, List, [], ◌∷◌, IsTrue}
 use Rattle.vl_tree.specs.Bytes.{is_octal, Ends}
 
@@ -10,12 +10,12 @@ is_plain b = not ((b == 34) || ((b == 92) || (b == 10)))
 unfoldable pub is_escape : ℕ → Bool
 is_escape b = not (is_octal b || (b == 10))
 
--- `\n` is a newline, `\t` a tab; another byte stands for itself, as `\\` and `\"`
+-- `\n` is a newline, `\t` a tab, `\\` and `\"` stand for what is escaped (3.6.3), and beyond the standard so does any other byte
 unfoldable pub escape_of : ℕ → ℕ
 escape_of b = if b == 110 then 10 else (if b == 116 then 9 else b)
 
 -- One byte of a string stands at the front of the text: the byte that it stands for, and what follows it.
--- An octal escape takes up to three digits, as many as there are.
+-- An octal escape takes up to three digits, as many as there are (3.6.3); of a value above 255 the low eight bits are taken.
 pub data Item : List ℕ → ℕ → List ℕ → Type 0 where
   plain : {b : ℕ} {rest : List ℕ} → IsTrue (is_plain b) → Item (b ∷ rest) b rest
   escape : {c b : ℕ} {rest : List ℕ} → c ≡ 92 → IsTrue (is_escape b) → Item (c ∷ b ∷ rest) (escape_of b) rest

@@ -1,4 +1,4 @@
--- Tokens, and texts that are tokens with gaps between.
+-- Tokens, and texts that are tokens with gaps between (IEEE 1364-2005, 3.1).
 use Rattle.std.specs.Prelude.{◌≡◌, ◌<◌, ◌^◌, ℕ, ◌+◌, ◌==◌, Bool, true, false, if◌then◌else◌, List, [], ◌∷◌, ◌++◌, Ok, IsTrue}
 use Rattle.vl_base.specs.declared.place.Place.{Place}
 use Rattle.vl_base.specs.declared.number.Number.{Number}
@@ -12,7 +12,7 @@ use Rattle.vl_tree.specs.Strings.{IsString}
 use Rattle.vl_tree.specs.Marks.{IsMark}
 use Rattle.vl_tree.specs.Gaps.{opens, IsGap}
 
--- the text ends here, or white space comes
+-- the text ends here, or white space comes, which ends an escaped name (3.7.1)
 abbrev pub EndsAtWhite : List ℕ → Type 0
 EndsAtWhite [] = Unit {0}
 EndsAtWhite (b ∷ bs) = IsTrue (is_white b)

@@ -20,9 +20,9 @@ bind_primary-returns-in_ok-bind_all-in-Concatenation t c =
     ap (x.Joined c.in-Concatenation.at) (row_exs-hidden c.in_ok-bind_all-in-Concatenation.field-0 ∙ ap of_list (c.in_ok-bind_all-in-Concatenation.ensures ∙ ap (map f.ex) c.as_slice.ensures))
     ∙ sym (ap f.primary c.in-Concatenation.is ∙ concatenation-ex c.in-Concatenation.at c.in-Concatenation.es)
 
-pub bind_primary-returns-in_ok-new-in-Replication : goal.bind_primary-returns-in_ok-new-in-Replication
-bind_primary-returns-in_ok-new-in-Replication t c =
-    let n = ap seen c.in_ok-new-in-Replication.ensures.ok ∙ (c.in_ok-count-in-Replication.ensures ∙ ap f.ex c.get-in-Replication.ensures) in
+pub bind_primary-returns-in_ok-parts-in-Replication : goal.bind_primary-returns-in_ok-parts-in-Replication
+bind_primary-returns-in_ok-parts-in-Replication t c =
+    let n = ap seen c.in_ok-count-in-Replication.ensures.ok ∙ (c.in_ok-bind-in-Replication.ensures ∙ ap f.ex c.get-in-Replication.ensures) in
     let es = row_exs-hidden c.in_ok-parts-in-Replication.parts ∙ ap of_list (c.in_ok-parts-in-Replication.ensures ∙ ap (map f.ex) c.as_slice-in-Replication.ensures) in
     (ap (λ z. x.Repeated c.in-Replication.at z (row_exs (hidden-the_row-Ex-1 c.in_ok-parts-in-Replication.parts))) n ∙ ap (x.Repeated c.in-Replication.at (f.ex c.in-Replication.count)) es)
     ∙ sym (ap f.primary c.in-Replication.is ∙ replication-ex c.in-Replication.at c.in-Replication.count c.in-Replication.es)

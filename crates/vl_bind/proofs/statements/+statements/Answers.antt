@@ -33,21 +33,22 @@ bind_statement-returns-in_ok-bind_statements-in-Block t c =
     ap (x.Block c.in-Block.at) (row_statements-hidden c.in_ok-bind_statements-in-Block.field-0 ∙ ap statements_of (c.in_ok-bind_statements-in-Block.ensures ∙ ap (map f.statement) c.as_slice.ensures))
     ∙ sym (ap f.statement c.in-Block.is ∙ block-statement c.in-Block.at c.in-Block.parts)
 
-pub bind_statement-returns-in-None : goal.bind_statement-returns-in-None
-bind_statement-returns-in-None t c =
+pub bind_statement-returns-in_ok-none-in-None : goal.bind_statement-returns-in_ok-none-in-None
+bind_statement-returns-in_ok-none-in-None t c =
     let P : x.Statement → Type 0 = λ z. IfOk c.bind_if.result (λ b. seen_statement b ≡ z) in
     subst P
-    (ap (λ z. x.If c.in-If.at (f.ex c.in-If.test) z (x.Null c.in-If.at)) (c.in_ok-chosen-in-If.ensures ∙ ap f.statement c.get.ensures)
+    (ap (λ z. x.If c.in-If.at (f.ex c.in-If.test) z (seen_statement c.in_ok-none-in-None.none.value)) (ap seen_statement c.in_ok-chosen-in-If.ensures.ok ∙ (c.in_ok-bind_statement-in-If.ensures ∙ ap f.statement c.get.ensures))
+    ∙ (ap (λ z. x.If c.in-If.at (f.ex c.in-If.test) (f.statement c.in-If.chosen) (seen_statement z)) c.in_ok-none-in-None.ensures.ok
     ∙ sym (ap f.statement c.in-If.is ∙ (if-statement c.in-If.at c.in-If.test c.in-If.chosen c.in-If.otherwise
-    ∙ ap (λ z. x.If c.in-If.at (f.ex c.in-If.test) (f.statement c.in-If.chosen) (otherwise z c.in-If.at)) c.in-None.is)))
+    ∙ ap (λ z. x.If c.in-If.at (f.ex c.in-If.test) (f.statement c.in-If.chosen) (otherwise z c.in-If.at)) c.in-None.is))))
     c.bind_if.ensures
 
 pub bind_statement-returns-in_ok-other-in-Some : goal.bind_statement-returns-in_ok-other-in-Some
 bind_statement-returns-in_ok-other-in-Some t c =
     let P : x.Statement → Type 0 = λ z. IfOk c.bind_if-in-Some.result (λ b. seen_statement b ≡ z) in
     subst P
-    (ap (λ z. x.If c.in-If.at (f.ex c.in-If.test) z (seen_statement c.in_ok-other-in-Some.other)) (c.in_ok-chosen-in-If.ensures ∙ ap f.statement c.get.ensures)
-    ∙ (ap (x.If c.in-If.at (f.ex c.in-If.test) (f.statement c.in-If.chosen)) (c.in_ok-other-in-Some.ensures ∙ ap f.statement c.get-in-Some.ensures)
+    (ap (λ z. x.If c.in-If.at (f.ex c.in-If.test) z (seen_statement c.in_ok-other-in-Some.other.value)) (ap seen_statement c.in_ok-chosen-in-If.ensures.ok ∙ (c.in_ok-bind_statement-in-If.ensures ∙ ap f.statement c.get.ensures))
+    ∙ (ap (x.If c.in-If.at (f.ex c.in-If.test) (f.statement c.in-If.chosen)) (ap seen_statement c.in_ok-other-in-Some.ensures.ok ∙ (c.in_ok-bind_statement-in-Some.ensures ∙ ap f.statement c.get-in-Some.ensures))
     ∙ sym (ap f.statement c.in-If.is ∙ (if-statement c.in-If.at c.in-If.test c.in-If.chosen c.in-If.otherwise
     ∙ ap (λ z. x.If c.in-If.at (f.ex c.in-If.test) (f.statement c.in-If.chosen) (otherwise z c.in-If.at)) c.in-Some.is))))
     c.bind_if-in-Some.ensures
@@ -65,12 +66,12 @@ pub bind_statement-returns-in_ok-body-in-For : goal.bind_statement-returns-in_ok
 bind_statement-returns-in_ok-body-in-For t c =
     let P : x.Statement → Type 0 = λ z. IfOk c.bind_for.result (λ b. seen_statement b ≡ z) in
     subst P
-    (ap (x.For c.in-For.at (f.left c.in-For.start.target) (f.ex c.in-For.start.value) (f.ex c.in-For.test) (f.left c.in-For.step.target) (f.ex c.in-For.step.value)) (c.in_ok-body-in-For.ensures ∙ ap f.statement c.get-in-For.ensures)
+    (ap (x.For c.in-For.at (f.left c.in-For.start.target) (f.ex c.in-For.start.value) (f.ex c.in-For.test) (f.left c.in-For.step.target) (f.ex c.in-For.step.value)) (ap seen_statement c.in_ok-body-in-For.ensures.ok ∙ (c.in_ok-bind_statement-in-For.ensures ∙ ap f.statement c.get-in-For.ensures))
     ∙ sym (ap f.statement c.in-For.is ∙ for-statement c.in-For.at c.in-For.start c.in-For.test c.in-For.step c.in-For.body))
     c.bind_for.ensures
 
-pub bind_statement-returns-in_ok-new-in-Repeat : goal.bind_statement-returns-in_ok-new-in-Repeat
-bind_statement-returns-in_ok-new-in-Repeat t c =
-    (ap (λ z. x.Repeat c.in-Repeat.at z (seen_statement c.in_ok-new-in-Repeat.field-0.value)) c.in_ok-count-in-Repeat.ensures
-    ∙ ap (x.Repeat c.in-Repeat.at (f.ex c.in-Repeat.count)) (ap seen_statement c.in_ok-new-in-Repeat.ensures.ok ∙ (c.in_ok-body-in-Repeat.ensures ∙ ap f.statement c.get-in-Repeat.ensures)))
+pub bind_statement-returns-in_ok-count-in-Repeat : goal.bind_statement-returns-in_ok-count-in-Repeat
+bind_statement-returns-in_ok-count-in-Repeat t c =
+    (ap (λ z. x.Repeat c.in-Repeat.at z (seen_statement c.in_ok-body-in-Repeat.body.value)) c.in_ok-count-in-Repeat.ensures
+    ∙ ap (x.Repeat c.in-Repeat.at (f.ex c.in-Repeat.count)) (ap seen_statement c.in_ok-body-in-Repeat.ensures.ok ∙ (c.in_ok-bind_statement-in-Repeat.ensures ∙ ap f.statement c.get-in-Repeat.ensures)))
     ∙ sym (ap f.statement c.in-Repeat.is ∙ repeat-statement c.in-Repeat.at c.in-Repeat.count c.in-Repeat.body)

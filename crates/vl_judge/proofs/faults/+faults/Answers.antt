@@ -21,12 +21,12 @@ faults-returns-in-Named t c =
     let s = seen_scope c.args.scope.now in
     let name = c.in-Named.name in
     let ss = selects_before c.in-Named.selects.items x.NoSelects in
-    own-then s c.args.best c.past-own.result c.name_faults.result (seen c.args.e.now) (x.Named c.in-Named.field-0 name ss) (name_faults s (s.names name) ss)
+    own-then s c.args.best c.past-own.result c.name_faults.result (seen c.args.e.now) (x.Named c.in-Named.at name ss) (name_faults s c.in-Named.at (s.names name) ss)
     c.past-own.ensures
-    (ap seen c.in-Named.is ∙ named-seen c.in-Named.field-0 name c.in-Named.selects)
+    (ap seen c.in-Named.is ∙ named-seen c.in-Named.at name c.in-Named.selects)
     (c.name_faults.ensures
-    ∙ (ap (λ o. earliest c.past-own.result (name_faults s o (selects_before c.as_slice-in-Named-2.result.now x.NoSelects))) (c.meaning-known.ensures ∙ ap s.names c.as_slice-in-Named.ensures)
-    ∙ ap (λ z. earliest c.past-own.result (name_faults s (s.names name) (selects_before z x.NoSelects))) c.as_slice-in-Named-2.ensures.value))
+    ∙ (ap (λ o. earliest c.past-own.result (name_faults s c.in-Named.at o (selects_before c.as_slice-in-Named-2.result.now x.NoSelects))) (c.meaning-known.ensures ∙ ap s.names c.as_slice-in-Named.ensures)
+    ∙ ap (λ z. earliest c.past-own.result (name_faults s c.in-Named.at (s.names name) (selects_before z x.NoSelects))) c.as_slice-in-Named-2.ensures.value))
     refl
 
 pub faults-returns-in-Unary : goal.faults-returns-in-Unary
@@ -127,17 +127,17 @@ selects_faults-loop-one-preserved t c =
     let s = seen_scope c.args.scope.now in
     let now = c.loop-one.all in
     let next = c.one_select-all.result in
-    step-left (λ z. selects_before z x.NoSelects) (walked s (numbers now.range) (numbers now.indexed)) (walked s (numbers next.range) (numbers next.indexed))
+    step-left (λ z. selects_before z x.NoSelects) (walked s c.args.at (numbers now.range) (numbers now.indexed)) (walked s c.args.at (numbers next.range) (numbers next.indexed))
     c.args.selects.now c.loop-one.one-index c.one-item.result now.best next.best
-    (earliest c.args.from.best (walked s (numbers c.args.from.range) (numbers c.args.from.indexed) (selects_before c.args.selects.now x.NoSelects)))
+    (earliest c.args.from.best (walked s c.args.at (numbers c.args.from.range) (numbers c.args.from.indexed) (selects_before c.args.selects.now x.NoSelects)))
     c.loop-one-test.true c.one-item.is (c.one_select-all.ensures (selects_before (drop (c.loop-one.one-index + 1) c.args.selects.now) x.NoSelects)) c.loop-one.invariant
 
 pub selects_faults-returns : goal.selects_faults-returns
 selects_faults-returns t c =
     let s = seen_scope c.args.scope.now in
     let now = c.loop-one.all in
-    finish (λ z. walked s (numbers now.range) (numbers now.indexed) (selects_before z x.NoSelects)) refl c.args.selects.now c.loop-one.one-index now.best
-    (earliest c.args.from.best (walked s (numbers c.args.from.range) (numbers c.args.from.indexed) (selects_before c.args.selects.now x.NoSelects)))
+    finish (λ z. walked s c.args.at (numbers now.range) (numbers now.indexed) (selects_before z x.NoSelects)) refl c.args.selects.now c.loop-one.one-index now.best
+    (earliest c.args.from.best (walked s c.args.at (numbers c.args.from.range) (numbers c.args.from.indexed) (selects_before c.args.selects.now x.NoSelects)))
     c.loop-one-test.false c.loop-one.invariant
 
 pub args_faults-loop-a-preserved : goal.args_faults-loop-a-preserved
@@ -163,17 +163,17 @@ name_faults-returns t c =
     let o = option_map binding_of c.args.known in
     let ss = selects_before c.args.selects.now x.NoSelects in
     c.selects_faults.ensures
-    ∙ (ap (λ r. earliest c.args.best (walked s r (numbers c.index_range.result) ss)) c.range_of.ensures
-    ∙ (ap (λ r. earliest c.args.best (walked s (range_of o) r ss)) c.index_range.ensures
-    ∙ ap (earliest c.args.best) (walked-name s o ss)))
+    ∙ (ap (λ r. earliest c.args.best (walked s c.args.at r (numbers c.index_range.result) ss)) c.range_of.ensures
+    ∙ (ap (λ r. earliest c.args.best (walked s c.args.at (range_of o) r ss)) c.index_range.ensures
+    ∙ ap (earliest c.args.best) (walked-name s c.args.at o ss)))
 
 pub one_select-returns-in-Index : goal.one_select-returns-in-Index
 one_select-returns-in-Index t c = λ others.
     let s = seen_scope c.args.scope.now in
     let from = c.args.from in
-    ap (λ r. earliest c.faults-index.result (walked s (numbers from.indexed) r others)) c.bits_of.ensures
-    ∙ (over from.best c.faults-index.result (faults s (seen c.in-Index.i)) (walked s (numbers from.indexed) (bits_of 1) others) c.faults-index.ensures
-    ∙ sym (ap (λ z. earliest from.best (walked s (numbers from.range) (numbers from.indexed) (select z others))) c.in-Index.is))
+    ap (λ r. earliest c.faults-index.result (walked s c.args.at (numbers from.indexed) r others)) c.bits_of.ensures
+    ∙ (over from.best c.faults-index.result (faults s (seen c.in-Index.i)) (walked s c.args.at (numbers from.indexed) (bits_of 1) others) c.faults-index.ensures
+    ∙ sym (ap (λ z. earliest from.best (walked s c.args.at (numbers from.range) (numbers from.indexed) (select z others))) c.in-Index.is))
 
 pub one_select-returns-in-Range : goal.one_select-returns-in-Range
 one_select-returns-in-Range t c = λ others.
@@ -182,12 +182,12 @@ one_select-returns-in-Range t c = λ others.
     let m = c.in-Range.mark in
     let a = seen c.in-Range.left in
     let b = seen c.in-Range.right in
-    ap (λ r. earliest c.right_bound-all.result (walked s r (numbers c.bits_of-in-Range-2.result) others)) (c.bits_of-in-Range.ensures ∙ ap bits_of c.taken-width.ensures.same)
-    ∙ (ap (λ r. earliest c.right_bound-all.result (walked s (bits_of (taken s m a b)) r others)) c.bits_of-in-Range-2.ensures
+    ap (λ r. earliest c.right_bound-all.result (walked s c.args.at r (numbers c.bits_of-in-Range-2.result) others)) (c.bits_of-in-Range.ensures ∙ ap bits_of c.taken-width.ensures.same)
+    ∙ (ap (λ r. earliest c.right_bound-all.result (walked s c.args.at (bits_of (taken s m a b)) r others)) c.bits_of-in-Range-2.ensures
     ∙ (over-five from.best c.direction-turned.result c.faults-before.result c.left_bound-bound.result c.faults-behind.result c.right_bound-all.result
-    (direction s (numbers from.range) c.in-Range.at m a b) (faults s a) (left_bound s m a) (faults s b) (right_bound s m b) (walked s (bits_of (taken s m a b)) (bits_of 1) others)
+    (direction s c.args.at (numbers from.range) m a b) (faults s a) (left_bound s m a) (faults s b) (right_bound s m b) (walked s c.args.at (bits_of (taken s m a b)) (bits_of 1) others)
     c.direction-turned.ensures c.faults-before.ensures c.left_bound-bound.ensures c.faults-behind.ensures c.right_bound-all.ensures
-    ∙ sym (ap (λ z. earliest from.best (walked s (numbers from.range) (numbers from.indexed) (select z others))) c.in-Range.is)))
+    ∙ sym (ap (λ z. earliest from.best (walked s c.args.at (numbers from.range) (numbers from.indexed) (select z others))) c.in-Range.is)))
 
 pub argument_faults-returns-then-is_kept : goal.argument_faults-returns-then-is_kept
 argument_faults-returns-then-is_kept t c = λ others.

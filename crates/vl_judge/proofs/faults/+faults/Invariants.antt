@@ -15,8 +15,8 @@ invariant-all_faults-loop-e l =
 
 abbrev pub invariant-selects_faults-loop-one : goal.invariant-selects_faults-loop-one
 invariant-selects_faults-loop-one l =
-    earliest l.all.best (walked (seen_scope l.scope) (numbers l.all.range) (numbers l.all.indexed) (selects_before (drop l.one-index l.selects) x.NoSelects))
-    ≡ earliest l.initial.all.best (walked (seen_scope l.scope) (numbers l.initial.all.range) (numbers l.initial.all.indexed) (selects_before l.selects x.NoSelects))
+    earliest l.all.best (walked (seen_scope l.scope) l.at (numbers l.all.range) (numbers l.all.indexed) (selects_before (drop l.one-index l.selects) x.NoSelects))
+    ≡ earliest l.initial.all.best (walked (seen_scope l.scope) l.at (numbers l.initial.all.range) (numbers l.initial.all.indexed) (selects_before l.selects x.NoSelects))
 
 abbrev pub invariant-args_faults-loop-a : goal.invariant-args_faults-loop-a
 invariant-args_faults-loop-a l =

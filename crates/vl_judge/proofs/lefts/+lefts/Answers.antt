@@ -15,8 +15,8 @@ left_faults-returns-in-Name t c =
     let s = seen_scope c.args.scope.now in
     let name = c.in-Name.name in
     c.name_faults.ensures
-    ∙ (ap (λ o. earliest c.args.best (name_faults s o (selects_before c.as_slice-in-Name.result.now x.NoSelects))) (c.meaning-known.ensures ∙ ap s.names c.as_slice.ensures)
-    ∙ (ap (λ ss. earliest c.args.best (name_faults s (s.names name) (selects_before ss x.NoSelects))) c.as_slice-in-Name.ensures.value
+    ∙ (ap (λ o. earliest c.args.best (name_faults s c.in-Name.at o (selects_before c.as_slice-in-Name.result.now x.NoSelects))) (c.meaning-known.ensures ∙ ap s.names c.as_slice.ensures)
+    ∙ (ap (λ ss. earliest c.args.best (name_faults s c.in-Name.at (s.names name) (selects_before ss x.NoSelects))) c.as_slice-in-Name.ensures.value
     ∙ sym (ap (λ z. earliest c.args.best (left_faults s (seen_left z))) c.in-Name.is)))
 
 pub left_faults-returns-in-List : goal.left_faults-returns-in-List

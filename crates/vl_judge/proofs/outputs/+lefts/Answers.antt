@@ -16,9 +16,9 @@ faults_as_left-returns-in-Named t c =
     let s = seen_scope c.args.scope.now in
     let name = c.in-Named.name in
     c.name_faults.ensures
-    ∙ (ap (λ o. earliest c.args.best (name_faults s o (selects_before c.as_slice-in-Named.result.now x.NoSelects))) (c.meaning-known.ensures ∙ ap s.names c.as_slice.ensures)
-    ∙ (ap (λ ss. earliest c.args.best (name_faults s (s.names name) (selects_before ss x.NoSelects))) c.as_slice-in-Named.ensures.value
-    ∙ sym (ap (λ z. earliest c.args.best (left_faults s (left_of z))) (ap seen c.in-Named.is ∙ named-seen c.in-Named.field-0 name c.in-Named.selects))))
+    ∙ (ap (λ o. earliest c.args.best (name_faults s c.in-Named.at o (selects_before c.as_slice-in-Named.result.now x.NoSelects))) (c.meaning-known.ensures ∙ ap s.names c.as_slice.ensures)
+    ∙ (ap (λ ss. earliest c.args.best (name_faults s c.in-Named.at (s.names name) (selects_before ss x.NoSelects))) c.as_slice-in-Named.ensures.value
+    ∙ sym (ap (λ z. earliest c.args.best (left_faults s (left_of z))) (ap seen c.in-Named.is ∙ named-seen c.in-Named.at name c.in-Named.selects))))
 
 pub faults_as_left-returns-in-Joined : goal.faults_as_left-returns-in-Joined
 faults_as_left-returns-in-Joined t c =

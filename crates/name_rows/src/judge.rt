@@ -2,8 +2,8 @@
 
 use std::alloc::{AllocError, Global};
 use vl_base::place::Place;
-use vl_names::names::{NamesFault, names};
 use vl_lex::lex::lex;
+use vl_names::names::{NamesFault, names};
 use vl_parse::parse;
 
 /// The first fault of the names of a source, in words; `fine` where there is none.

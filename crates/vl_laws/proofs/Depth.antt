@@ -251,45 +251,12 @@ module _ (ms : List x.Module) where
 
 -- ---- the top module
 
-found-true : {A : Type 0} (test : A → Bool) (l : List A) (y : A) → find test l ≡ Some y → test y ≡ true
-found-true test [] y e = absurd cc
-found-true test (z ∷ l) y e = by (test z) refl (λ q. found-true test l y q) e
-  where
-    some_is : ◌≡◌ {A = Option _} (Some z) (Some y) → z ≡ y
-    some_is q = cc
-
-    by : (c : Bool) → test z ≡ c → (find test l ≡ Some y → test y ≡ true) → (if c then Some z else find test l) ≡ Some y → test y ≡ true
-    by true t rest q = ap test (sym (some_is q)) ∙ t
-    by false t rest q = rest q
-
--- the first top is the first module of its name
-top-named : (whole l : List x.Module) (m : x.Module) → find (f.is_top whole) l ≡ Some m → module_named l m.name.name ≡ Some m
-top-named whole [] m e = absurd cc
-top-named whole (a ∷ l) m e = by (f.is_top whole a) refl (λ q. top-named whole l m q) e
-  where
-    some_is : ◌≡◌ {A = Option x.Module} (Some a) (Some m) → a ≡ m
-    some_is q = cc
-
-    other : (c : Bool) → bytes_eq m.name.name a.name.name ≡ c → f.is_top whole a ≡ false → f.is_top whole m ≡ true → module_named l m.name.name ≡ Some m → (if c then Some a else module_named l m.name.name) ≡ Some m
-    other true t no-top is-top rest =
-        let same : m.name.name ≡ a.name.name = (bytes_eq-Decides m.name.name a.name.name).0 t in
-        absurd (true≢false (sym is-top ∙ (ap (λ z. not (list_any (λ (n : x.Module). list_any (f.instantiates z) n.items) whole)) same ∙ no-top)))
-    other false t no-top is-top rest = rest
-
-    by : (c : Bool) → f.is_top whole a ≡ c → (find (f.is_top whole) l ≡ Some m → module_named l m.name.name ≡ Some m) → (if c then Some a else find (f.is_top whole) l) ≡ Some m
-        → (if bytes_eq m.name.name a.name.name then Some a else module_named l m.name.name) ≡ Some m
-    by true t rest q =
-        let first : bytes_eq m.name.name a.name.name ≡ true = (bytes_eq-Decides m.name.name a.name.name).1 (ap (λ (z : x.Module). z.name.name) (sym (some_is q))) in
-        ap (λ (c : Bool). if c then Some a else module_named l m.name.name) first ∙ q
-    by false t rest q = other (bytes_eq m.name.name a.name.name) refl t (found-true (f.is_top whole) l m q) (rest q)
-
-pub enough-levels : (ms : List x.Module) → All AreSpelt ms → (m : x.Module) → f.top_of ms ≡ Some m → 0 < length m.name.name → (d : p.Design) → o.flattened_from ms m ≡ Ok d
+pub enough-levels : (ms : List x.Module) → All AreSpelt ms → (m : x.Module) → module_named ms m.name.name ≡ Some m → 0 < length m.name.name → (d : p.Design) → o.flattened_from ms m ≡ Ok d
     → (n : ℕ) → f.deepest ≤ n → parts_at n ms m ≡ f.parts_from ms m
-enough-levels ms spelt m is name d e n more =
+enough-levels ms spelt m named name d e n more =
     let parts = f.parts_from ms m in
     let first = bound-first (o.judged o.nothing_yet parts) (λ t. Ok (f.design_of m parts)) d e in
     let clear = judged-clear o.nothing_yet parts first.0 first.1 in
-    let named = top-named ms ms m is in
     let behind = (size (suc f.deepest) ms m.name.name).signals in
     let both = body-agrees ms f.deepest n (deep ms spelt f.deepest n more) behind (f.top_given m) m (omega (arith, name)) (inr (omega arith)) (found-holds AreSpelt (λ z. bytes_eq m.name.name z.name.name) ms m spelt named) clear in
     let sizes = size-some f.deepest ms m.name.name m named ∙ (both.2 ∙ sym (size-some n ms m.name.name m named)) in

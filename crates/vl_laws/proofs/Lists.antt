@@ -1,10 +1,11 @@
 -- What holds of each element of a list.
-use Rattle.std.proofs.Common.{◌≡◌, ℕ, ◌+◌, Bool, true, false, if◌then◌else◌, List, [], ◌∷◌, ◌++◌, length, Option, Some, sym, ap, ◌∙◌, subst, arith}
+use Rattle.std.proofs.Common.{◌≡◌, ℕ, ◌+◌, Bool, true, false, if◌then◌else◌, List, [], ◌∷◌, ◌++◌, length, Option, Some, None, sym, ap, ◌∙◌, subst, arith}
 use Rattle.std.specs.Prelude.{find, slice_get, All}
 use Rattle.std.proofs.lemmas.List.{append_assoc, length-append, get_or_append_left, get_or-append-add}
 use Rattle.std.proofs.lemmas.Option.{slice_get-get_or, slice_get_within}
 use Rattle.std.proofs.Math.Seq.{get_or-append_seam}
-use Rattle.std.proofs.lemmas.List.Elements.{All-head, All-tail}
+use Rattle.std.proofs.lemmas.List.Elements.{All-head, All-tail, All-get_or}
+use Rattle.std.specs.Option.{option_and_then}
 
 unfoldable pub Each : {A : Type 0} → (A → Type 0) → List A → Type 0
 Each P [] = Unit {0}
@@ -36,6 +37,20 @@ found-holds P test (z ∷ ys) y h e = by (test z) (λ q. found-holds P test ys y
     by : (c : Bool) → (find test ys ≡ Some y → P y) → (if c then Some z else find test ys) ≡ Some y → P y
     by true rest q = subst P (some_is q) (All-head P z ys h)
     by false rest q = rest q
+
+-- what holds of each element holds of one at a place
+pub at-holds : {A : Type 0} (P : A → Type 0) (ys : List A) (i : ℕ) (y : A) → All P ys → slice_get ys i ≡ Some y → P y
+at-holds {A} P ys i y h e =
+    let lt = slice_get_within ys i y e in
+    subst P (some_is (sym (slice_get-get_or ys i y lt) ∙ e)) (All-get_or P ys i y lt h)
+  where
+    some_is : {z : A} → ◌≡◌ {A = Option A} (Some z) (Some y) → z ≡ y
+    some_is q = cc
+
+-- what is at the place that an option tells
+pub told-at : {A : Type 0} (P : A → Type 0) (ys : List A) (o : Option ℕ) (y : A) → All P ys → option_and_then (slice_get ys) o ≡ Some y → P y
+told-at P ys None y h e = absurd cc
+told-at P ys (Some i) y h e = at-holds P ys i y h e
 
 -- ---- elements by their places
 

@@ -75,8 +75,9 @@ pub fn the_number_of_a_function_is_its_place()
 {}
 
 /// A flat design has no more than 128 levels of instances: with more, nothing would stand in it that doesn't. Names have a byte at
-/// least.
+/// least, and the top is the first module of its name.
 pub fn a_flat_design_has_no_more_than_128_levels()
-    ensures { (s : Source) → All AreSpelt (modules s) → (top : items.Module) → flat.top_of (modules s) ≡ Some top → 0 < length top.name.name
+    ensures { (s : Source) → All AreSpelt (modules s) → (top : items.Module) → flat.top_of (modules s) ≡ Some top
+        → module_named (modules s) top.name.name ≡ Some top → 0 < length top.name.name
         → (d : placed.Design) → flattened s ≡ Ok d → (n : ℕ) → flat.deepest ≤ n → parts_at n (modules s) top ≡ flat.parts_from (modules s) top }
 {}

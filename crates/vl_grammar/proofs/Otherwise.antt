@@ -1,9 +1,8 @@
 -- An `else`, which belongs to the nearest `if`: where there is none, what follows is no `else`.
-use Rattle.std.proofs.Common.{◌≡◌, ℕ, ◌⊎◌, inl, inr, Bool, true, false, List, [], ◌∷◌, ◌++◌, Result, Ok, Err, Option, Some, None, refl, sym, ap, ◌∙◌}
+use Rattle.std.proofs.Common.{◌≡◌, ◌⊎◌, inl, inr, List, [], ◌∷◌, ◌++◌, Ok, Option, Some, None, refl, sym, ap, ◌∙◌}
 use Rattle.std.specs.Prelude.{codes}
 use Rattle.vl_base.specs.declared.place.Place.{Place}
 use Rattle.vl_tree.specs.declared.token.Token.{Token}
-use Rattle.vl_grammar.specs.Marks.{IsKeyword}
 use Rattle.vl_grammar.specs.Reading.{Parser, pure, if_next, next_or, next_by, keyword, keyword_by}
 use Rattle.vl_grammar.proofs.Follows.{Follows, Took, After, Either, Nothing, Free, Fits, next, next_by_some, next_by_here, next_by_next, follows_if, follows_pure, ok_parts}
 

@@ -1,6 +1,6 @@
 -- The modules of a source: what they instantiate, which is the top, their ports and the parameters that an instance may
 -- override (IEEE 1364-2005, clauses 4.10, 12.1, 12.2 and 12.3).
-use Rattle.std.specs.Prelude.{ℕ, zero, suc, Bool, not, nat_eq, if◌then◌else◌, List, [], ◌∷◌, ◌++◌, length, map, flat_map, Option, Some, None}
+use Rattle.std.specs.Prelude.{ℕ, zero, suc, Bool, not, nat_eq, if◌then◌else◌, List, [], ◌∷◌, length, map, flat_map, Option, Some, None}
 use Rattle.std.specs.List.{list_any, position}
 use Rattle.std.specs.Option.{option_map_or, option_to_list}
 use Rattle.std.specs.Str.{bytes_eq}

@@ -1,9 +1,8 @@
 -- Ranges of more than 128 bits.
-use Rattle.std.proofs.Common.{◌≡◌, refl, ap, ◌∙◌, ℕ, ◌+◌, ◌≤◌, ◌<◌, Bool, true, false, arith}
-use Rattle.std.specs.Prelude.{ℤ, pos, ◌+ℤ◌, ◌-ℤ◌, int_le, unsigned_abs, if◌then◌else◌}
+use Rattle.std.proofs.Common.{◌≡◌, Bool, true, false, arith}
+use Rattle.std.specs.Prelude.{ℤ, pos, ◌+ℤ◌, ◌-ℤ◌, int_le, if◌then◌else◌}
 use Rattle.std.proofs.lemmas.Grind.{common_steps}
 use Rattle.std.proofs.lemmas.Int.{ints}
-use Rattle.vl_design.specs.Rows.{range_width}
 use Rattle.vl_flat.specs.Ranges.{bits_in, too_wide}
 
 wide-go : (b : Bool) (l r : ℤ) → bits_in (if b then r +ℤ pos 128 else r -ℤ pos 128, r) ≡ 129

@@ -1,8 +1,7 @@
-use Rattle.std.proofs.Common.{refl, ap, ◌∙◌, drop, ◌+◌}
+use Rattle.std.proofs.Common.{ap, ◌∙◌, drop, ◌+◌}
 use Rattle.std.specs.Prelude.{flat_map, option_map}
 use Rattle.vl_flat.specs.Surface as x
 use Rattle.vl_design.specs.Stops.{earliest}
-use Rattle.vl_flat.specs.Scopes.{range_of}
 use Rattle.vl_flat.specs.Expressions.{steps, memory_of}
 use Rattle.vl_flat.specs.ExpressionFaults.{direction}
 use Rattle.vl_bind.specs.Seen.{selects_before}

@@ -1,4 +1,4 @@
-use Rattle.std.proofs.Common.{map, ap, ◌∙◌, sym, take, true}
+use Rattle.std.proofs.Common.{map, ap, ◌∙◌, sym, take}
 use Rattle.std.specs.Prelude.{◌||◌}
 use Rattle.vl_flat.specs.Surface as x
 use Rattle.vl_flat.specs.ExpressionFaults.{holds_long, some_hold_long, selects_hold_long, args_hold_long}

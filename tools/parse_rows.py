@@ -22,6 +22,11 @@ def repeated(row):
     return re.sub(r"⟨(\d+) ([^⟩]*)⟩", lambda m: m[2] * int(m[1]), row)
 
 
+def characters(text):
+    """The text with each ⟦HH⟧ as the character that has that number."""
+    return re.sub(r"⟦(\w*)⟧", lambda m: m[1] and chr(int(m[1], 16)), text)
+
+
 def place(text, index):
     """Line and column, from 1, of the first token from the index on; 0:0 is the end."""
     while index < len(text) and text[index] in " \n":
@@ -42,6 +47,8 @@ def fault(text):
 
 def answer(frame, row, tree):
     """What is asked of a row, its source, and the answer that is wanted."""
+    if frame in ("tokens", "count"):
+        return frame, characters(row), re.sub(r"@(\d+)(?![\d:])", r"@1:\1", characters(tree))
     before, behind, front, back = FRAMES[frame]
     alone = frame == "expression"
     text = before + row + behind
@@ -77,6 +84,8 @@ def rows(table):
             row = repeated(line.replace("\0", "\n"))
             if heading == "fronts":
                 yield from (("source", front, None) for front in fronts(row))
+            elif heading == "marks":
+                yield from (("tokens", mark, f"@1 M {mark}|") for mark in row.split())
             else:
                 yield heading, row, tree
 

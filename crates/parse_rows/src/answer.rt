@@ -3,6 +3,7 @@
 use crate::expressions::show_expression;
 use crate::modules::show_source;
 use crate::printer::Printer;
+use crate::tokens::{show_lex_fault, show_tokens};
 use std::alloc::{AllocError, Global};
 use vl_base::place::Place;
 use vl_lex::lex::lex;
@@ -16,6 +17,10 @@ const END: Place = Place { line: 0, column: 0 };
 /// What is asked of a source.
 #[derive(Clone, Copy, PartialEq, Eq)]
 pub enum Question {
+    /// Its tokens, without its last line's end.
+    Tokens,
+    /// How many tokens it has.
+    Count,
     /// Whether it is read.
     Read,
     /// Its tree.
@@ -67,17 +72,23 @@ fn answer_on_expression(alloc: Global, out: &mut Printer, tokens: &[Token], is_s
 /// The answer to a question on a source.
 pub fn answer(alloc: Global, question: Question, source: &str) -> Result<String, AllocError> {
     let mut out = Printer::new(alloc);
-    match lex(alloc, source.as_bytes()) {
+    let text = match question {
+        Question::Tokens => source.strip_suffix('\n').unwrap_or(source),
+        _ => source,
+    };
+    match lex(alloc, text.as_bytes()) {
         Ok(tokens) => {
             let tokens = tokens.as_slice();
             match question {
+                Question::Tokens => show_tokens(&mut out, tokens),
+                Question::Count => out.number(tokens.len() as u128),
                 Question::Read => answer_on_source(alloc, &mut out, tokens, true),
                 Question::Tree => answer_on_source(alloc, &mut out, tokens, false),
                 Question::Length => answer_on_expression(alloc, &mut out, tokens, true),
                 Question::Expression => answer_on_expression(alloc, &mut out, tokens, false),
             }
         }
-        Err(_) => out.word("no tokens"),
+        Err(fault) => show_lex_fault(&mut out, fault),
     }
     out.finish()
 }

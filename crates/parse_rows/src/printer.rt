@@ -27,9 +27,13 @@ impl Printer {
         }
     }
 
-    /// Adds a byte of a name or a string.
+    /// Adds a byte of a name or a string: one that isn't printed by its number.
     fn byte(&mut self, byte: u8) {
-        if self.text.push(char::from(byte)).is_err() {
+        if byte < 32 || byte > 126 {
+            self.word("<");
+            self.number(u128::from(byte));
+            self.word(">");
+        } else if self.text.push(char::from(byte)).is_err() {
             self.has_failed = true;
         }
     }
@@ -39,6 +43,12 @@ impl Printer {
         for byte in text.as_slice() {
             self.byte(*byte);
         }
+    }
+
+    /// Adds a word, and a name or a string behind it.
+    pub fn kind(&mut self, word: &str, text: &Text) {
+        self.word(word);
+        self.text(text);
     }
 
     /// Adds a number.

@@ -12,5 +12,3 @@ mod numbers;
 mod runs;
 mod step;
 mod strings;
-#[cfg(test)]
-mod tests;

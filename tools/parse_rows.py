@@ -47,7 +47,7 @@ def fault(text):
 
 def answer(frame, row, tree):
     """What is asked of a row, its source, and the answer that is wanted."""
-    if frame in ("tokens", "count"):
+    if frame == "tokens":
         return frame, characters(row), re.sub(r"@(\d+)(?![\d:])", r"@1:\1", characters(tree))
     before, behind, front, back = FRAMES[frame]
     alone = frame == "expression"

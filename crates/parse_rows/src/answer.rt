@@ -19,8 +19,6 @@ const END: Place = Place { line: 0, column: 0 };
 pub enum Question {
     /// Its tokens, without its last line's end.
     Tokens,
-    /// How many tokens it has.
-    Count,
     /// Whether it is read.
     Read,
     /// Its tree.
@@ -81,7 +79,6 @@ pub fn answer(alloc: Global, question: Question, source: &str) -> Result<String,
             let tokens = tokens.as_slice();
             match question {
                 Question::Tokens => show_tokens(&mut out, tokens),
-                Question::Count => out.number(tokens.len() as u128),
                 Question::Read => answer_on_source(alloc, &mut out, tokens, true),
                 Question::Tree => answer_on_source(alloc, &mut out, tokens, false),
                 Question::Length => answer_on_expression(alloc, &mut out, tokens, true),

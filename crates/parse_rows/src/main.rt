@@ -1,5 +1,4 @@
 //! Reads sources, each behind a line `= ` of what is asked, and prints what the lexer and the parsers answer.
-//! A line `* N TEXT` of a source is N lines TEXT.
 #![tactic(auto)]
 
 mod answer;
@@ -17,7 +16,6 @@ use std::io;
 fn question(word: &str) -> Option<Question> {
     match word {
         "tokens" => Some(Question::Tokens),
-        "count" => Some(Question::Count),
         "read" => Some(Question::Read),
         "tree" => Some(Question::Tree),
         "length" => Some(Question::Length),
@@ -35,20 +33,6 @@ fn show(rt: &HostRuntime, asked: Option<Question>, source: &str) -> io::Result<(
     println!(rt; "{text}")
 }
 
-/// How often a line stands, and its text.
-fn repeated(line: &str) -> (u32, &str) {
-    let Some((number, text)) = line
-        .strip_prefix("* ")
-        .and_then(|rest| rest.split_once(' '))
-    else {
-        return (1, line);
-    };
-    match number.parse::<u32>() {
-        Ok(times) => (times, text),
-        Err(_) => (1, line),
-    }
-}
-
 fn main(rt: HostRuntime) -> io::Result<()> {
     let mut asked = None;
     let mut source = String::new(rt.alloc());
@@ -61,11 +45,8 @@ fn main(rt: HostRuntime) -> io::Result<()> {
                 source = String::new(rt.alloc());
             }
             None => {
-                let (times, text) = repeated(line.as_str());
-                for _ in 0..times {
-                    source.push_str(text)?;
-                    source.push('\n')?;
-                }
+                source.push_str(line.as_str())?;
+                source.push('\n')?;
             }
         }
     }

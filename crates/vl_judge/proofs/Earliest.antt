@@ -2,12 +2,12 @@
 use Rattle.std.proofs.Common.{◌≡◌, refl, sym, ap, ◌∙◌, ℕ, ◌+◌, ◌<◌, ◌≤◌, min, arith, List, [], ◌∷◌, ◌++◌, length, get_or, drop}
 use Rattle.std.specs.Prelude.{Option}
 use Rattle.std.proofs.lemmas.List.{at_drop_more, at_drop_all}
+use Rattle.std.proofs.lemmas.List.Sums.{fold-append}
 use Rattle.vl_design.specs.declared.stop.Stop.{Stop}
 use Rattle.vl_design.specs.Stops.{earlier, earliest}
 
 pub earliest-append : (best : Option Stop) (a b : List Stop) → earliest best (a ++ b) ≡ earliest (earliest best a) b
-earliest-append best [] b = refl
-earliest-append best (x ∷ a) b = earliest-append (earlier best x) a b
+earliest-append best a b = fold-append earlier best a b
 
 -- the first of some, and then of others
 pub over : (b m : Option Stop) (p q : List Stop) → m ≡ earliest b p → earliest m q ≡ earliest b (p ++ q)
@@ -19,15 +19,14 @@ chain b m r p q h k = k ∙ over b m p q h
 pub chain-three : (b m n r : Option Stop) (p q o : List Stop) → m ≡ earliest b p → n ≡ earliest m q → r ≡ earliest n o → r ≡ earliest b (p ++ (q ++ o))
 chain-three b m n r p q o h k j = chain b m r p (q ++ o) h (chain m n r q o k j)
 
--- five in a row before others
-pub over-five : (b t u v w r : Option Stop) (c d e f g o : List Stop) → t ≡ earliest b c → u ≡ earliest t d → v ≡ earliest u e → w ≡ earliest v f → r ≡ earliest w g
-    → earliest r o ≡ earliest b (c ++ (d ++ (e ++ (f ++ (g ++ o)))))
-over-five b t u v w r c d e f g o h i j k l =
-    over w r g o l
-    ∙ (over v w f (g ++ o) k
-    ∙ (over u v e (f ++ (g ++ o)) j
-    ∙ (over t u d (e ++ (f ++ (g ++ o))) i
-    ∙ over b t c (d ++ (e ++ (f ++ (g ++ o)))) h)))
+-- four in a row before others
+pub over-four : (b t u v r : Option Stop) (c d e f o : List Stop) → t ≡ earliest b c → u ≡ earliest t d → v ≡ earliest u e → r ≡ earliest v f
+    → earliest r o ≡ earliest b (c ++ (d ++ (e ++ (f ++ o))))
+over-four b t u v r c d e f o h i j k =
+    over v r f o k
+    ∙ (over u v e (f ++ o) j
+    ∙ (over t u d (e ++ (f ++ o)) i
+    ∙ over b t c (d ++ (e ++ (f ++ o))) h))
 
 -- ---- walks over lists, by what is left of them
 

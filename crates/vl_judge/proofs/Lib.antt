@@ -4,3 +4,4 @@ pub mod Pieces
 pub mod Selected
 pub mod Constants
 pub mod Sides
+pub mod Turning

@@ -1,33 +1,17 @@
 -- The faults of selects, of arguments and of expressions, one after another.
 use Rattle.std.proofs.Common.{◌≡◌, refl, sym, ap, ◌∙◌, arith, ℕ, zero, suc, ◌-◌, ◌≤◌, Bool, true, false, List, [], ◌++◌, map}
-use Rattle.std.specs.Prelude.{Option, ℤ, ◌&&◌, if◌then◌else◌}
+use Rattle.std.specs.Prelude.{Option, ◌&&◌, if◌then◌else◌}
 use Rattle.std.proofs.lemmas.Bool.{true≢false, false≢true}
-use Rattle.vl_base.specs.declared.place.Place.{Place}
 use Rattle.vl_design.specs.declared.stop.Stop.{Stop}
-use Rattle.vl_flat.specs.declared.binding.Binding.{Binding}
 use Rattle.vl_design.specs.Stops.{earliest}
 use Rattle.vl_flat.specs.Surface as x
-use Rattle.vl_flat.specs.Scopes.{Scope, range_of}
-use Rattle.vl_flat.specs.Expressions.{bits_of, taken}
-use Rattle.vl_flat.specs.ExpressionFaults.{past, faults, all_faults, direction, left_bound, right_bound, index_range, selects_faults, name_faults, argument_faults, display_faults}
+use Rattle.vl_flat.specs.Scopes.{Scope}
+use Rattle.vl_flat.specs.ExpressionFaults.{past, faults, all_faults, argument_faults, display_faults}
 use Rattle.vl_bind.specs.declared.surface.Ex as e
 use Rattle.vl_bind.specs.Seen.{seen}
 use Rattle.vl_bind.specs.Listed.{of_list}
-use Rattle.vl_judge.specs.Walked.{walked, is_text, taken_by}
+use Rattle.vl_judge.specs.Walked.{is_text, taken_by}
 use Rattle.vl_judge.proofs.Earliest.{chain}
-
-walked-selects : (S : Scope) (at : Place) (r : ℤ × ℤ) (ss : x.Selects) → walked S at r (bits_of 1) ss ≡ selects_faults S at r ss
-walked-selects S at r x.NoSelects = refl
-walked-selects S at r (x.Index q i others) = ap (λ z. faults S i ++ z) (walked-selects S at (bits_of 1) others)
-walked-selects S at r (x.Range q m a b others) =
-    ap (λ z. direction S at r m a b ++ (faults S a ++ (left_bound S m a ++ (faults S b ++ (right_bound S m b ++ z))))) (walked-selects S at (bits_of (taken S m a b)) others)
-
--- a name with its selects
-pub walked-name : (S : Scope) (at : Place) (o : Option Binding) (ss : x.Selects) → walked S at (range_of o) (index_range S o) ss ≡ name_faults S at o ss
-walked-name S at o x.NoSelects = refl
-walked-name S at o (x.Index q i others) = ap (λ z. faults S i ++ z) (walked-selects S at (index_range S o) others)
-walked-name S at o (x.Range q m a b others) =
-    ap (λ z. direction S at (range_of o) m a b ++ (faults S a ++ (left_bound S m a ++ (faults S b ++ (right_bound S m b ++ z))))) (walked-selects S at (bits_of (taken S m a b)) others)
 
 -- what an expression has to pass by itself, and then the faults of its operands
 pub own-then : (S : Scope) (b m r : Option Stop) (e z : x.Ex) (q : List Stop) → m ≡ earliest b (past S e) → e ≡ z → r ≡ earliest m q → faults S z ≡ past S z ++ q → r ≡ earliest b (faults S e)

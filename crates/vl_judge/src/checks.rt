@@ -8,7 +8,6 @@ ghost use Rattle.vl_design.specs.Stops as s;
 ghost use Rattle.vl_flat.specs.Surface as x;
 ghost use Rattle.vl_bind.specs.Seen.{seen};
 ghost use Rattle.vl_constant.specs.Seen.{seen_scope};
-ghost use Rattle.vl_constant.specs.Types.{numbers};
 ghost use Rattle.vl_judge.specs.Walked.{is_text};
 
 use crate::long::holds_long;
@@ -16,9 +15,8 @@ use crate::stops::construct_if;
 use vl_base::place::Place;
 use vl_bind::surface::Ex;
 use vl_constant::form::form;
-use vl_constant::ranges::{Range, falls};
 use vl_constant::scope::Scope;
-use vl_constant::whole::{bound, is_bound, is_count, is_width};
+use vl_constant::whole::{is_bound, is_count, is_width};
 use vl_design::stop::Stop;
 use vl_grammar::tree::SelectMark;
 
@@ -104,38 +102,6 @@ fn must_be_width(best: Option<Stop>, scope: &Scope<'_, '_>, e: &Ex) -> Option<St
 {
     let fails = !holds_long(e) && !is_width(scope, e);
     construct_if(best, fails, node_place(e), 11)
-}
-
-/// Two bounds stand in another order than those of the declaration.
-fn turns_round(range: Range, left: i32, right: i32) -> bool
-    ensures { result ≡ f.turns_round (numbers range) left right }
-{
-    if falls(range) {
-        left < right
-    } else {
-        right < left
-    }
-}
-
-/// Bounds around `:` against the declared direction, in a select whose first token stands at a place.
-pub fn direction(
-    best: Option<Stop>,
-    scope: &Scope<'_, '_>,
-    at: Place,
-    range: Range,
-    mark: SelectMark,
-    left: &Ex,
-    right: &Ex,
-) -> Option<Stop>
-    ensures { result ≡ s.earliest best (f.direction (seen_scope scope.now) at (numbers range) mark (seen left.now) (seen right.now)) }
-{
-    match mark {
-        SelectMark::Range => {
-            let turns = turns_round(range, bound(scope, left), bound(scope, right));
-            construct_if(best, turns, at, 11)
-        }
-        SelectMark::Up | SelectMark::Down => best,
-    }
 }
 
 /// What stands before `:` has to be a bound.

@@ -2,46 +2,20 @@
 
 ghost use Rattle.std.specs.Prelude.{◌≡◌, map, option_map};
 ghost use Rattle.vl_flat.specs.ExpressionFaults as f;
-ghost use Rattle.vl_flat.specs.Scopes.{plainly, none};
 ghost use Rattle.vl_design.specs.Stops as s;
 ghost use Rattle.vl_flat.specs.Surface as x;
 ghost use Rattle.vl_bind.specs.Seen.{seen, select, argument, selects_before, args_before};
 ghost use Rattle.vl_bind.specs.Listed.{of_list};
 ghost use Rattle.vl_constant.specs.Seen.{seen_scope, binding_of};
-ghost use Rattle.vl_constant.specs.Types.{numbers};
-ghost use Rattle.vl_judge.specs.Walked.{walked};
 
-use crate::checks::{direction, is_kept, left_bound, must_be_count, past, right_bound};
+use crate::checks::{is_kept, left_bound, must_be_count, past, right_bound};
+use crate::directions::directions;
 use crate::stops::construct_if;
 use vl_base::place::Place;
 use vl_bind::surface::{Argument, Ex, Select};
-use vl_constant::form::{is_memory, keeps_texts, taken};
-use vl_constant::ranges::Range;
+use vl_constant::form::keeps_texts;
 use vl_constant::scope::{Known, Scope, meaning};
-use vl_constant::selects::{bits_of, range_of};
 use vl_design::stop::Stop;
-
-/// The numbers of the bits of what the first index behind a name chooses: those of a memory's words, or one bit.
-fn index_range(known: Option<Known>) -> Range
-    ensures { numbers result ≡ f.index_range (plainly none) (option_map binding_of known) }
-{
-    if is_memory(known) {
-        range_of(known)
-    } else {
-        bits_of(1)
-    }
-}
-
-/// The first fault so far, and the numbers of the bits of what is selected from.
-#[derive(Clone, Copy)]
-struct Judged {
-    /// The first fault so far.
-    best: Option<Stop>,
-    /// The numbers of the bits, as two bounds find them.
-    range: Range,
-    /// The numbers of the bits of what one index chooses.
-    indexed: Range,
-}
 
 /// The faults of an expression.
 #[cycle(faults)]
@@ -103,51 +77,32 @@ pub fn all_faults(best: Option<Stop>, scope: &Scope<'_, '_>, es: &[Ex]) -> Optio
     all
 }
 
-/// The faults of one select, and what is selected from behind it.
+/// The faults of what stands in one select.
 #[cycle(faults)]
-fn one_select(from: Judged, scope: &Scope<'_, '_>, at: Place, one: &Select) -> Judged
-    ensures { (others : x.Selects) → s.earliest result.best (walked (seen_scope scope.now) at (numbers result.range) (numbers result.indexed) others) ≡ s.earliest from.best (walked (seen_scope scope.now) at (numbers from.range) (numbers from.indexed) (select one.now others)) }
+fn select_faults(best: Option<Stop>, scope: &Scope<'_, '_>, one: &Select) -> Option<Stop>
+    ensures { (others : x.Selects) → s.earliest result (f.selects_faults (seen_scope scope.now) others) ≡ s.earliest best (f.selects_faults (seen_scope scope.now) (select one.now others)) }
 {
     match one {
-        Select::Index(_, i) => {
-            let index = faults(from.best, scope, i);
-            Judged {
-                best: index,
-                range: from.indexed,
-                indexed: bits_of(1),
-            }
-        }
+        Select::Index(_, i) => faults(best, scope, i),
         Select::Range(_, mark, left, right) => {
-            let turned = direction(from.best, scope, at, from.range, *mark, left, right);
-            let before = faults(turned, scope, left);
+            let before = faults(best, scope, left);
             let bound = left_bound(before, scope, *mark, left);
             let behind = faults(bound, scope, right);
-            let all = right_bound(behind, scope, *mark, right);
-            let width = taken(scope, *mark, left, right) as u8;
-            Judged {
-                best: all,
-                range: bits_of(width),
-                indexed: bits_of(1),
-            }
+            right_bound(behind, scope, *mark, right)
         }
     }
 }
 
-/// The faults of selects one by one.
+/// The faults of what stands in selects, one by one.
 #[cycle(faults)]
-fn selects_faults(
-    from: Judged,
-    scope: &Scope<'_, '_>,
-    at: Place,
-    selects: &[Select],
-) -> Option<Stop>
-    ensures { result ≡ s.earliest from.best (walked (seen_scope scope.now) at (numbers from.range) (numbers from.indexed) (selects_before selects.now x.NoSelects)) }
+fn selects_faults(best: Option<Stop>, scope: &Scope<'_, '_>, selects: &[Select]) -> Option<Stop>
+    ensures { result ≡ s.earliest best (f.selects_faults (seen_scope scope.now) (selects_before selects.now x.NoSelects)) }
 {
-    let mut all = from;
+    let mut all = best;
     for one in selects {
-        all = one_select(all, scope, at, one);
+        all = select_faults(all, scope, one);
     }
-    all.best
+    all
 }
 
 /// The faults of the selects behind a name at a place.
@@ -161,12 +116,8 @@ pub fn name_faults(
 ) -> Option<Stop>
     ensures { result ≡ s.earliest best (f.name_faults (seen_scope scope.now) at (option_map binding_of known) (selects_before selects.now x.NoSelects)) }
 {
-    let from = Judged {
-        best,
-        range: range_of(known),
-        indexed: index_range(known),
-    };
-    selects_faults(from, scope, at, selects)
+    let turned = directions(best, scope, at, known, selects);
+    selects_faults(turned, scope, selects)
 }
 
 /// The faults of an argument of a system call.

@@ -2,7 +2,7 @@
 
 ghost use Rattle.std.specs.Prelude.{◌≡◌, ◌+◌, ◌∷◌, [], ℕ, List, is_some};
 ghost use Rattle.vl_base.specs.Display as d;
-ghost use Rattle.vl_design.specs.Formats.{format_pieces, taken, Between, Percent};
+ghost use Rattle.vl_design.specs.Formats.{format_pieces, taken, InText, Percent};
 ghost use Rattle.vl_flat.specs.ExpressionFaults as f;
 ghost use Rattle.vl_judge.specs.Walked.{reading_of, one_if, shows_none, is_display};
 
@@ -18,8 +18,8 @@ pub fn is_display(name: &[u8]) -> bool
 /// Where a format is read.
 #[derive(Clone, Copy)]
 enum Mode {
-    /// Between items.
-    Between,
+    /// In a text, between items.
+    InText,
     /// Behind a `%`.
     Percent,
     /// Behind a `%0`.
@@ -56,12 +56,12 @@ fn shows_none(letter: u8) -> bool
 /// How a format is read on behind a byte between items.
 #[tactic(auto, using(crate::proofs::Pieces::pieces))]
 fn after_text(byte: u8) -> Next
-    ensures { (cs : List ℕ) → taken (format_pieces [] Between (byte ∷ cs) []) ≡ one_if result.takes + taken (format_pieces [] (reading_of result.mode) cs []) }
+    ensures { (cs : List ℕ) → taken (format_pieces [] InText (byte ∷ cs) []) ≡ one_if result.takes + taken (format_pieces [] (reading_of result.mode) cs []) }
 {
     let mode = if byte == b'%' {
         Mode::Percent
     } else {
-        Mode::Between
+        Mode::InText
     };
     Next { mode, takes: false }
 }
@@ -78,12 +78,12 @@ fn after_percent(byte: u8) -> Next
         }
     } else if shows_none(byte) {
         Next {
-            mode: Mode::Between,
+            mode: Mode::InText,
             takes: false,
         }
     } else {
         Next {
-            mode: Mode::Between,
+            mode: Mode::InText,
             takes: is_item(byte, false),
         }
     }
@@ -95,10 +95,10 @@ fn after(mode: Mode, byte: u8) -> Next
     ensures { (cs : List ℕ) → taken (format_pieces [] (reading_of mode) (byte ∷ cs) []) ≡ one_if result.takes + taken (format_pieces [] (reading_of result.mode) cs []) }
 {
     match mode {
-        Mode::Between => after_text(byte),
+        Mode::InText => after_text(byte),
         Mode::Percent => after_percent(byte),
         Mode::PercentZero => Next {
-            mode: Mode::Between,
+            mode: Mode::InText,
             takes: is_item(byte, true),
         },
     }
@@ -108,7 +108,7 @@ fn after(mode: Mode, byte: u8) -> Next
 pub fn items_in(text: &[u8]) -> usize
     ensures { result ≡ f.items_in text.now }
 {
-    let mut mode = Mode::Between;
+    let mut mode = Mode::InText;
     let mut count = 0;
     for byte in text {
         let next = after(mode, *byte);

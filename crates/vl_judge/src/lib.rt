@@ -4,6 +4,7 @@
 #![tactic(auto)]
 
 pub mod checks;
+pub mod directions;
 pub mod displays;
 pub mod faults;
 pub mod formats;

@@ -1,6 +1,7 @@
 //! Which fault comes first.
 
 ghost use Rattle.std.specs.Prelude.{◌≡◌};
+ghost use Rattle.vl_base.specs.Places as places;
 ghost use Rattle.vl_design.specs.Stops as s;
 
 use vl_base::place::Place;
@@ -28,14 +29,14 @@ fn number_of(a: Stop) -> u8
 
 /// A place stands before another.
 fn place_before(p: Place, q: Place) -> bool
-    ensures { result ≡ s.place_before p q }
+    ensures { result ≡ places.place_before p q }
 {
     p.line < q.line || (p.line == q.line && p.column < q.column)
 }
 
 /// Two places are one.
 fn same_place(p: Place, q: Place) -> bool
-    ensures { result ≡ s.same_place p q }
+    ensures { result ≡ places.same_place p q }
 {
     p.line == q.line && p.column == q.column
 }

@@ -2,18 +2,15 @@ use Rattle.std.proofs.Common.{refl, map, drop, ap, ◌∙◌, sym, ◌+◌, ◌+
 use Rattle.std.specs.Prelude.{option_map}
 use Rattle.vl_flat.specs.Surface as x
 use Rattle.vl_design.specs.Stops.{earliest}
-use Rattle.vl_flat.specs.Scopes.{range_of}
 use Rattle.vl_flat.specs.Constants.{is_count}
-use Rattle.vl_flat.specs.Expressions.{keeps_texts, bits_of, taken}
-use Rattle.vl_flat.specs.ExpressionFaults.{constant_must, direction, left_bound, right_bound, faults, all_faults, name_faults, args_faults}
+use Rattle.vl_flat.specs.Expressions.{keeps_texts}
+use Rattle.vl_flat.specs.ExpressionFaults.{constant_must, directions, left_bound, right_bound, faults, all_faults, selects_faults, name_faults, args_faults}
 use Rattle.vl_bind.specs.Seen.{seen, select, selects_before, args_before, argument}
 use Rattle.vl_bind.specs.Listed.{of_list}
 use Rattle.vl_bind.proofs.Walks.{named-seen, joined-seen, called-seen, system-seen, row_exs-hidden}
 use Rattle.vl_constant.specs.Seen.{seen_scope, binding_of}
-use Rattle.vl_constant.specs.Types.{numbers}
-use Rattle.vl_judge.specs.Walked.{walked}
-use Rattle.vl_judge.proofs.Earliest.{over, chain, chain-three, over-five, step, step-left, finish}
-use Rattle.vl_judge.proofs.Selected.{walked-name, own-then, at-node, at-all, text-kept, text-other}
+use Rattle.vl_judge.proofs.Earliest.{over, chain, chain-three, over-four, step, step-left, finish}
+use Rattle.vl_judge.proofs.Selected.{own-then, at-node, at-all, text-kept, text-other}
 use Rattle.vl_judge.proofs.faults.+faults.Goals as goal
 
 pub faults-returns-in-Named : goal.faults-returns-in-Named
@@ -125,19 +122,16 @@ all_faults-returns t c =
 pub selects_faults-loop-one-preserved : goal.selects_faults-loop-one-preserved
 selects_faults-loop-one-preserved t c =
     let s = seen_scope c.args.scope.now in
-    let now = c.loop-one.all in
-    let next = c.one_select-all.result in
-    step-left (λ z. selects_before z x.NoSelects) (walked s c.args.at (numbers now.range) (numbers now.indexed)) (walked s c.args.at (numbers next.range) (numbers next.indexed))
-    c.args.selects.now c.loop-one.one-index c.one-item.result now.best next.best
-    (earliest c.args.from.best (walked s c.args.at (numbers c.args.from.range) (numbers c.args.from.indexed) (selects_before c.args.selects.now x.NoSelects)))
-    c.loop-one-test.true c.one-item.is (c.one_select-all.ensures (selects_before (drop (c.loop-one.one-index + 1) c.args.selects.now) x.NoSelects)) c.loop-one.invariant
+    step-left (λ z. selects_before z x.NoSelects) (selects_faults s) (selects_faults s)
+    c.args.selects.now c.loop-one.one-index c.one-item.result c.loop-one.all c.select_faults-all.result
+    (earliest c.args.best (selects_faults s (selects_before c.args.selects.now x.NoSelects)))
+    c.loop-one-test.true c.one-item.is (c.select_faults-all.ensures (selects_before (drop (c.loop-one.one-index + 1) c.args.selects.now) x.NoSelects)) c.loop-one.invariant
 
 pub selects_faults-returns : goal.selects_faults-returns
 selects_faults-returns t c =
     let s = seen_scope c.args.scope.now in
-    let now = c.loop-one.all in
-    finish (λ z. walked s c.args.at (numbers now.range) (numbers now.indexed) (selects_before z x.NoSelects)) refl c.args.selects.now c.loop-one.one-index now.best
-    (earliest c.args.from.best (walked s c.args.at (numbers c.args.from.range) (numbers c.args.from.indexed) (selects_before c.args.selects.now x.NoSelects)))
+    finish (λ z. selects_faults s (selects_before z x.NoSelects)) refl c.args.selects.now c.loop-one.one-index c.loop-one.all
+    (earliest c.args.best (selects_faults s (selects_before c.args.selects.now x.NoSelects)))
     c.loop-one-test.false c.loop-one.invariant
 
 pub args_faults-loop-a-preserved : goal.args_faults-loop-a-preserved
@@ -160,34 +154,26 @@ args_faults-returns t c =
 pub name_faults-returns : goal.name_faults-returns
 name_faults-returns t c =
     let s = seen_scope c.args.scope.now in
-    let o = option_map binding_of c.args.known in
     let ss = selects_before c.args.selects.now x.NoSelects in
-    c.selects_faults.ensures
-    ∙ (ap (λ r. earliest c.args.best (walked s c.args.at r (numbers c.index_range.result) ss)) c.range_of.ensures
-    ∙ (ap (λ r. earliest c.args.best (walked s c.args.at (range_of o) r ss)) c.index_range.ensures
-    ∙ ap (earliest c.args.best) (walked-name s c.args.at o ss)))
+    chain c.args.best c.directions-turned.result c.selects_faults.result (directions s c.args.at (option_map binding_of c.args.known) ss) (selects_faults s ss)
+    c.directions-turned.ensures c.selects_faults.ensures
 
-pub one_select-returns-in-Index : goal.one_select-returns-in-Index
-one_select-returns-in-Index t c = λ others.
+pub select_faults-returns-in-Index : goal.select_faults-returns-in-Index
+select_faults-returns-in-Index t c = λ others.
     let s = seen_scope c.args.scope.now in
-    let from = c.args.from in
-    ap (λ r. earliest c.faults-index.result (walked s c.args.at (numbers from.indexed) r others)) c.bits_of.ensures
-    ∙ (over from.best c.faults-index.result (faults s (seen c.in-Index.i)) (walked s c.args.at (numbers from.indexed) (bits_of 1) others) c.faults-index.ensures
-    ∙ sym (ap (λ z. earliest from.best (walked s c.args.at (numbers from.range) (numbers from.indexed) (select z others))) c.in-Index.is))
+    over c.args.best c.faults.result (faults s (seen c.in-Index.i)) (selects_faults s others) c.faults.ensures
+    ∙ sym (ap (λ z. earliest c.args.best (selects_faults s (select z others))) c.in-Index.is)
 
-pub one_select-returns-in-Range : goal.one_select-returns-in-Range
-one_select-returns-in-Range t c = λ others.
+pub select_faults-returns-in-Range : goal.select_faults-returns-in-Range
+select_faults-returns-in-Range t c = λ others.
     let s = seen_scope c.args.scope.now in
-    let from = c.args.from in
     let m = c.in-Range.mark in
     let a = seen c.in-Range.left in
     let b = seen c.in-Range.right in
-    ap (λ r. earliest c.right_bound-all.result (walked s c.args.at r (numbers c.bits_of-in-Range-2.result) others)) (c.bits_of-in-Range.ensures ∙ ap bits_of c.taken-width.ensures.same)
-    ∙ (ap (λ r. earliest c.right_bound-all.result (walked s c.args.at (bits_of (taken s m a b)) r others)) c.bits_of-in-Range-2.ensures
-    ∙ (over-five from.best c.direction-turned.result c.faults-before.result c.left_bound-bound.result c.faults-behind.result c.right_bound-all.result
-    (direction s c.args.at (numbers from.range) m a b) (faults s a) (left_bound s m a) (faults s b) (right_bound s m b) (walked s c.args.at (bits_of (taken s m a b)) (bits_of 1) others)
-    c.direction-turned.ensures c.faults-before.ensures c.left_bound-bound.ensures c.faults-behind.ensures c.right_bound-all.ensures
-    ∙ sym (ap (λ z. earliest from.best (walked s c.args.at (numbers from.range) (numbers from.indexed) (select z others))) c.in-Range.is)))
+    over-four c.args.best c.faults-before.result c.left_bound-bound.result c.faults-behind.result c.right_bound.result
+    (faults s a) (left_bound s m a) (faults s b) (right_bound s m b) (selects_faults s others)
+    c.faults-before.ensures c.left_bound-bound.ensures c.faults-behind.ensures c.right_bound.ensures
+    ∙ sym (ap (λ z. earliest c.args.best (selects_faults s (select z others))) c.in-Range.is)
 
 pub argument_faults-returns-then-is_kept : goal.argument_faults-returns-then-is_kept
 argument_faults-returns-then-is_kept t c = λ others.

@@ -1,12 +1,10 @@
 use Rattle.std.proofs.Common.{◌≡◌, map, drop}
 use Rattle.vl_flat.specs.Surface as x
 use Rattle.vl_design.specs.Stops.{earliest}
-use Rattle.vl_flat.specs.ExpressionFaults.{all_faults, args_faults}
+use Rattle.vl_flat.specs.ExpressionFaults.{all_faults, selects_faults, args_faults}
 use Rattle.vl_bind.specs.Seen.{seen, selects_before, args_before}
 use Rattle.vl_bind.specs.Listed.{of_list}
 use Rattle.vl_constant.specs.Seen.{seen_scope}
-use Rattle.vl_constant.specs.Types.{numbers}
-use Rattle.vl_judge.specs.Walked.{walked}
 use Rattle.vl_judge.proofs.faults.+faults.Given as goal
 
 abbrev pub invariant-all_faults-loop-e : goal.invariant-all_faults-loop-e
@@ -15,8 +13,7 @@ invariant-all_faults-loop-e l =
 
 abbrev pub invariant-selects_faults-loop-one : goal.invariant-selects_faults-loop-one
 invariant-selects_faults-loop-one l =
-    earliest l.all.best (walked (seen_scope l.scope) l.at (numbers l.all.range) (numbers l.all.indexed) (selects_before (drop l.one-index l.selects) x.NoSelects))
-    ≡ earliest l.initial.all.best (walked (seen_scope l.scope) l.at (numbers l.initial.all.range) (numbers l.initial.all.indexed) (selects_before l.selects x.NoSelects))
+    earliest l.all (selects_faults (seen_scope l.scope) (selects_before (drop l.one-index l.selects) x.NoSelects)) ≡ earliest l.initial.all (selects_faults (seen_scope l.scope) (selects_before l.selects x.NoSelects))
 
 abbrev pub invariant-args_faults-loop-a : goal.invariant-args_faults-loop-a
 invariant-args_faults-loop-a l =

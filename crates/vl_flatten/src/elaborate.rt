@@ -16,9 +16,8 @@ use crate::making::{Making, nothing_yet};
 use std::alloc::Global;
 use vl_base::items::Items;
 use vl_design::design::Design;
-use vl_names::names::{NamesFault, names};
-use vl_expression::expressions::copied;
 use vl_design::stop::Stop;
+use vl_expression::expressions::copied;
 use vl_instance::environment::environment;
 use vl_instance::given::Above;
 use vl_instance::tops::top_of;
@@ -26,6 +25,7 @@ use vl_items::items::Module;
 use vl_items::modules::prepare;
 use vl_kinds::counts::Counts;
 use vl_kinds::sizes::size_at;
+use vl_names::names::{NamesFault, names};
 use vl_source::tree::Source;
 
 /// What the modules stand for from the one of this number.
@@ -81,7 +81,8 @@ fn flatten_from(alloc: Global, modules: &[Module], number: usize) -> Result<Desi
 fn flatten_modules(alloc: Global, modules: &[Module]) -> Result<Design, Stop>
     ensures { Meets result (o.flattened_modules (map seen_module modules.now)) }
 {
-    match top_of(alloc, modules)? {
+    let top = top_of(alloc, modules)?;
+    match top {
         Some(number) => flatten_from(alloc, modules, number),
         None => Err(Stop::Memory),
     }

@@ -1,6 +1,7 @@
 use Rattle.std.proofs.Common.{ap, sym, ◌∙◌, ◌++◌, ◌∷◌, [], map}
 use Rattle.std.specs.Prelude.{None, flat_map}
-use Rattle.vl_flat.specs.Connections.{override_faults, optional_faults}
+use Rattle.vl_flat.specs.Connections.{override_faults}
+use Rattle.vl_flat.specs.Processes.{optional_faults}
 use Rattle.vl_flat.specs.Flat as f
 use Rattle.vl_flat.specs.Outcome as o
 use Rattle.vl_design.specs.Stops.{earliest, limit_if}

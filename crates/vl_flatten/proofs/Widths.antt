@@ -1,5 +1,5 @@
 -- Each signal of a flat design, and each variable of its functions, has 1 to 128 bits: another is a fault of its declaration.
-use Rattle.std.proofs.Common.{◌≡◌, ℕ, zero, suc, ◌≤◌, Bool, true, false, not, ◌&&◌, if◌then◌else◌, List, [], ◌∷◌, ◌++◌, Option, Some, None, Result, Ok, Err, refl, subst, arith, map}
+use Rattle.std.proofs.Common.{◌≡◌, ◌+◌, ℕ, zero, suc, ◌≤◌, Bool, true, false, not, ◌&&◌, if◌then◌else◌, List, [], ◌∷◌, ◌++◌, Option, Some, None, Result, Ok, Err, refl, subst, arith, map}
 use Rattle.std.specs.Prelude.{ℤ, nat_lt, fold, flat_map, All}
 use Rattle.std.specs.Option.{option_map_or}
 use Rattle.std.specs.Ordering.{int_eq}
@@ -21,7 +21,7 @@ use Rattle.vl_flat.specs.Surface.{Ex}
 use Rattle.vl_flat.specs.Kinds.{is_input}
 use Rattle.vl_design.specs.Placed as p
 use Rattle.vl_flat.specs.Ranges.{type_range, type_faults, written, too_wide, is_wide, is_signed, has_range, range_in, range_faults, bits_in}
-use Rattle.vl_flat.specs.Environments.{Counts, Given, after, environment, module_named, size, plus}
+use Rattle.vl_flat.specs.Environments.{Counts, Given, environment, module_named, size, plus}
 use Rattle.vl_flat.specs.Functions.{local_shape}
 use Rattle.vl_flat.specs.Statements.{statement_faults}
 use Rattle.vl_flat.specs.Functions as fs
@@ -168,8 +168,8 @@ item-signals here next [] e = tt
 item-signals here next (d ∷ ds) e =
     let own = none-left (declared_faults here.env d) (flat_map (declared_faults here.env) ds) e in
     let others = none-right (declared_faults here.env d) (flat_map (declared_faults here.env) ds) e in
-    each-if Fits (is_first here.env next d) (signal_of here.path d.name (here.env d.name.name) ++ signals here (after next) ds) (signals here next ds)
-    (each-append Fits (signal_of here.path d.name (here.env d.name.name)) (signals here (after next) ds) (one-signal here.env here.path d own) (item-signals here (after next) ds others))
+    each-if Fits (is_first here.env next d) (signal_of here.path d.name (here.env d.name.name) ++ signals here (next + 1) ds) (signals here next ds)
+    (each-append Fits (signal_of here.path d.name (here.env d.name.name)) (signals here (next + 1) ds) (one-signal here.env here.path d own) (item-signals here (next + 1) ds others))
     (item-signals here next ds others)
 
 local-signals : (env : Env) (path : List ℕ) (a : x.Function) (ls : List x.Local) → flat_map (λ l. type_faults env l.type l.name.place) ls ≡ []

@@ -32,9 +32,9 @@ use vl_instance::functions::dotted;
 use vl_instance::given::{Above, Surroundings};
 use vl_items::items::{Instances, Item, Module, NamedUnit};
 use vl_judge::stops::limit_if;
-use vl_kinds::counts::{Counts, plus, times};
+use vl_kinds::counts::{Counts, behind_signals, sum};
 use vl_kinds::index::module_at;
-use vl_kinds::sizes::size_at;
+use vl_kinds::sizes::{instances_size, size_at};
 
 /// What is known of an instance: its overrides, the connections of its ports, and what names stand for in it.
 #[derive(Drop)]
@@ -62,34 +62,25 @@ fn begin(
     match override_faults(best, above, instances.overrides.as_slice()) {
         Some(stop) => Err(stop),
         None => {
-            making.totals = with_instance(making.totals);
+            making.totals = with_instance(making.totals)?;
             Ok(())
         }
     }
 }
 
-/// The numbers behind this many signals.
-fn behind_signals(next: Counts, own: usize) -> Counts
-    ensures { counts_of result ≡ e.plus (counts_of next) (record { signals = own; functions = 0 }) }
-{
-    let signals = own.min(4294967295) as u32;
-    plus(
-        next,
-        Counts {
-            signals,
-            functions: 0,
-        },
-    )
-}
-
 /// The numbers behind instances.
-fn behind_instances(library: &Library<'_>, depth: u8, next: Counts, instances: &Instances) -> Counts
+fn behind_instances(
+    library: &Library<'_>,
+    depth: u8,
+    next: Counts,
+    instances: &Instances,
+) -> Result<Counts, AllocError>
     requires depth { depth ≤ 129 }
     requires library { IsLibrary library.now }
-    ensures { counts_of result ≡ e.plus (e.plus (counts_of next) e.no_more) (e.item_counts (e.size depth (modules_of library.now)) (x.Instantiates (seen_instances instances.now))) }
+    ensures { IfOk result (λ c. counts_of c ≡ e.plus (e.plus (counts_of next) e.no_more) (e.item_counts (e.size depth (modules_of library.now)) (x.Instantiates (seen_instances instances.now)))) }
 {
-    let one = size_at(&library.sizes, depth, instances.definition.as_slice());
-    plus(behind_signals(next, 0), times(instances.units.len(), one))
+    let size = instances_size(&library.sizes, depth, instances)?;
+    Ok(sum(next, size)?)
 }
 
 /// The instances that an item is, if it is some.
@@ -307,7 +298,7 @@ fn add_units<'m>(
         add_instance(
             alloc, making, library, depth, here, base, instances, unit, number,
         )?;
-        base = plus(base, size);
+        base = sum(base, size)?;
     }
     Ok(())
 }
@@ -331,7 +322,7 @@ fn add_instances<'m>(
     match module_at(&library.index, name) {
         None => Ok(()),
         Some(number) => {
-            let size = size_at(&library.sizes, depth, name);
+            let size = size_at(&library.sizes, depth, name)?;
             add_units(
                 alloc, making, library, depth, here, next, instances, number, size,
             )
@@ -354,7 +345,8 @@ fn add_own(
     let first = making.signals.as_slice().len();
     add_item(alloc, making, here, above, next.signals, item)?;
     let own = making.signals.as_slice().len() - first;
-    Ok(plus(behind_signals(next, own), functions_in(item)))
+    let behind = behind_signals(next, own)?;
+    Ok(sum(behind, functions_in(item))?)
 }
 
 /// Adds what an item stands for. The numbers behind it.
@@ -377,7 +369,7 @@ fn add_parts<'m>(
     match instances_in(item) {
         Some(instances) => {
             add_instances(alloc, making, library, depth, here, next, instances)?;
-            Ok(behind_instances(library, depth, next, instances))
+            Ok(behind_instances(library, depth, next, instances)?)
         }
         None => add_own(alloc, making, here, above, next, item),
     }

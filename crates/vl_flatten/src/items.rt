@@ -68,7 +68,7 @@ fn add_declared(
         (p.values (seen_here here.entry) (map (seen_declared (seen_type kind.now)) ds.now)) (flat_map (p.declared_faults (look here.entry.names.now)) (map (seen_declared (seen_type kind.now)) ds.now)) ∷ []) result }
 {
     let mut signals = signals_of(alloc, here, next, ds)?;
-    let Counted { best, totals } = signals_limits(None, making.totals, signals.as_slice());
+    let Counted { best, totals } = signals_limits(None, making.totals, signals.as_slice())?;
     match all_declared_faults(best, here.names, kind, ds) {
         Some(stop) => Err(stop),
         None => {

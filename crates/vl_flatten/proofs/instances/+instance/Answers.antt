@@ -82,7 +82,7 @@ add_units-loop-unit-preserved t c = λ m there.
     (done-more c.args.making.now c.loop-unit.making c.add_instance.new.making _
     (inner here base us (seen_unit unit) m) (f.instances inner here (e.plus base size) us m size left)
     now (c.in_ok-add_instance.ensures m there))
-    (sym (ap (λ n. f.instances inner here n us m size left) c.plus-base.ensures))
+    (sym (ap (λ n. f.instances inner here n us m size left) c.in_ok-base.ensures))
 
 pub add_units-returns-in_err-add_instance : goal.add_units-returns-in_err-add_instance
 add_units-returns-in_err-add_instance t c = λ m there.
@@ -241,8 +241,8 @@ add_contents-returns t c = λ m us there named known.
     done-last c.args.making.now c.add_items.new.making c.add_outputs.new.making whole outs c.add_outputs.result filled
     (subst (λ z. Adds c.add_items.new.making c.add_outputs.new.making z c.add_outputs.result) left (c.add_outputs.ensures m (is-joined facts-are known.ports)))
 
-pub add_instances-returns-in-Some : goal.add_instances-returns-in-Some
-add_instances-returns-in-Some t c = λ g.
+pub add_instances-returns-in_ok-size-in-Some : goal.add_instances-returns-in_ok-size-in-Some
+add_instances-returns-in_ok-size-in-Some t c = λ g.
     let ms = modules_of c.args.library.now in
     let inner = f.instance c.args.depth ms in
     let sizes = e.size c.args.depth ms in
@@ -252,7 +252,7 @@ add_instances-returns-in-Some t c = λ g.
     let place = subst (IsPlaceOf ms c.as_slice-name.result.now) c.in-Some.is (c.module_at.ensures.module ms c.requires.library.index) in
     let there = named-there ms c.as_slice-name.result.now c.in-Some.number place in
     let called = ap (λ t. module_named ms t) (sym c.as_slice-name.ensures) ∙ there.named in
-    let size = c.size_at-size.ensures.size ms c.requires.library.sizes (omega (arith, c.requires.depth)) ∙ ap sizes c.as_slice-name.ensures in
+    let size = c.in_ok-size-in-Some.ensures ms c.requires.library.sizes (omega (arith, c.requires.depth)) ∙ ap sizes c.as_slice-name.ensures in
     subst (λ o. Adds c.args.making.now c.add_units.new.making (option_map_or (λ m. f.instances inner here next us m (sizes us.definition) us.units) o []) c.add_units.result) (sym called)
     (subst (λ z. Adds c.args.making.now c.add_units.new.making (f.instances inner here next us there.found z us.units) c.add_units.result) size
     (c.add_units.ensures there.found there.at))
@@ -270,8 +270,8 @@ add_parts-returns-in_err-add_instances-in-Some-clause-adds t c = λ g same.
     subst (λ z. Adds c.args.making.now c.add_instances.new.making (f.item_parts inner sizes ms here g next z) c.from_residual.result) (sym (ap seen_item c.in-Some.ensures.some))
     (handed-on c.from_residual.result stop c.args.making.now _ _ c.from_residual.ensures (λ e h. h) (c.in_err-add_instances-in-Some.ensures g))
 
-pub add_parts-returns-in_ok-add_instances-in-Some-clause-adds : goal.add_parts-returns-in_ok-add_instances-in-Some-clause-adds
-add_parts-returns-in_ok-add_instances-in-Some-clause-adds t c = λ g same.
+pub add_parts-returns-in_ok-behind_instances-in-Some-clause-adds : goal.add_parts-returns-in_ok-behind_instances-in-Some-clause-adds
+add_parts-returns-in_ok-behind_instances-in-Some-clause-adds t c = λ g same.
     let ms = modules_of c.args.library.now in
     let inner = f.instance c.args.depth ms in
     let sizes = e.size c.args.depth ms in

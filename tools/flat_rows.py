@@ -92,12 +92,12 @@ def large():
     yield "limit 5", instances + "\n  «c z(k);\nendmodule"
     yield "limit 5", instances + f"\n  «c {'z' * 254}(k);\nendmodule"
     yield "construct 10", instances + "\n  reg [128:0] «x;\nendmodule"
-    # 2^40 instances and more: depth first, the 4,097th is one of a1
+    # 2^30 instances and more: depth first, the 4,097th is one of a1
     doubled = "\n".join(
         ["module a1(input k); endmodule"]
-        + [f"module a{i}(input k); {MARK if i == 2 else ''}a{i - 1} u(k), v(k); endmodule" for i in range(2, 41)]
+        + [f"module a{i}(input k); {MARK if i == 2 else ''}a{i - 1} u(k), v(k); endmodule" for i in range(2, 31)]
     )
-    yield "limit 5", doubled + "\nmodule m(input k); a40 u(k), v(k); endmodule"
+    yield "limit 5", doubled + "\nmodule m(input k); a30 u(k), v(k); endmodule"
     # instances in one another: the path of the 127th has 255 bytes
     yield "construct 10", nested(127) + "\nmodule n127(input k); reg [128:0] «x; endmodule"
     yield "limit 11", nested(127) + "\nmodule n127(input k); «n128 u(k); endmodule\nmodule n128(input k); endmodule"

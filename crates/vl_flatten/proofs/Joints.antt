@@ -14,9 +14,11 @@ use Rattle.vl_instance.specs.Tables.{joined}
 use Rattle.vl_flatten.specs.declared.ports.Ports.{Ports}
 use Rattle.vl_flatten.specs.Standing.{IsJoined}
 
-pub an-input : (above : Here) (env : Env) (m : Module) (u : NamedUnit) (t : List ℕ) → is_input m t ≡ true → is_clock_binding (env t) ≡ false
-    → input_part above env m u t ≡ connection (input_process above env m u t ∷ []) (input_faults above.env m u t) ∷ []
-an-input above env m u t h k = rw (h, k) refl
+pub an-input : (above : Here) (env : Env) (m : Module) (u : NamedUnit) (t : List ℕ) (e : Ex) → is_input m t ≡ true → is_clock_binding (env t) ≡ false
+    → expression_of (port_connection m u t) ≡ Some e
+    → input_part above env m u t
+    ≡ connection (input_process above env (place_in u (port_connection m u t)) t e ∷ []) (input_faults above.env e) ∷ []
+an-input above env m u t e h k l = rw (h, k, l) refl
 
 pub an-output : (above : Here) (env : Env) (m : Module) (u : NamedUnit) (t : List ℕ) (e : Ex) → is_input m t ≡ false → expression_of (port_connection m u t) ≡ Some e
     → output_part above env m u t

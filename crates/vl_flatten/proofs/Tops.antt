@@ -1,10 +1,10 @@
 -- A source whose names have no fault has a top.
-use Rattle.std.proofs.Common.{◌≡◌, refl, ap, sym, ◌∙◌, ℕ, Bool, true, false, ◌++◌, List, [], ◌∷◌, map, true≢false}
-use Rattle.std.specs.Prelude.{not, ◌||◌, Option, Some, None, is_some, flat_map, find, if◌then◌else◌}
-use Rattle.std.specs.List.{list_any}
-use Rattle.std.specs.Option.{option_map_or}
+use Rattle.std.proofs.Common.{◌≡◌, refl, ap, sym, ◌∙◌, ℕ, zero, suc, ◌+◌, ◌<◌, ◌≤◌, Bool, true, false, ◌++◌, List, [], ◌∷◌, length, map, get_or, inl, inr, arith}
+use Rattle.std.specs.Prelude.{◌⊎◌, Option, Some, None, is_some, slice_get, flat_map, if◌then◌else◌}
+use Rattle.std.specs.Option.{option_map_or, option_and_then, option_to_list}
 use Rattle.std.specs.Str.{bytes_eq}
-use Rattle.std.proofs.lemmas.List.Folds.{list_any-append}
+use Rattle.std.proofs.lemmas.Option.{slice_get_cases}
+use Rattle.std.proofs.lemmas.Grind.{flat_map-append}
 use Rattle.vl_source.specs.declared.tree.Item.TheVariants as i
 use Rattle.vl_source.specs.declared.tree.Item.{Item as ItemTree}
 use Rattle.vl_source.specs.declared.tree.Ports.{Ports}
@@ -12,79 +12,103 @@ use Rattle.vl_source.specs.declared.tree.Ports.TheVariants as ps
 use Rattle.vl_source.specs.declared.tree.Module.{Module as ModuleTree}
 use Rattle.vl_source.specs.declared.tree.ParameterGroup.{ParameterGroup}
 use Rattle.vl_source.specs.declared.tree.Source.{Source}
+use Rattle.vl_source.specs.Hierarchy as h
+use Rattle.vl_source.specs.Hierarchy.{first_from, first_top, is_top}
 use Rattle.vl_scope.specs.declared.fault.Fault.{Fault}
-use Rattle.vl_names.specs.Modules as e
 use Rattle.vl_names.specs.HierarchyFaults.{IsHierarchyFault, no_top}
 use Rattle.vl_flat.specs.Items as x
 use Rattle.vl_flat.specs.Declarations.{module', modules, item, header_parameters, header_ports, ports_in}
-use Rattle.vl_flat.specs.Flat.{instantiates, is_top, top_of}
+use Rattle.vl_flat.specs.Flat.{module_number, item_steps, graph_of, top_of}
+use Rattle.vl_instance.proofs.Turns.{position-map}
+use Rattle.vl_instance.proofs.Unused.{same-length}
 
-never : false ≡ true → ⊥
-never e = true≢false (sym e)
+-- ---- the graph of the prepared modules is that of the source
 
-no-header : (t : List ℕ) (gs : List ParameterGroup) → list_any (instantiates t) (map header_parameters gs) ≡ false
-no-header t [] = refl
-no-header t (g ∷ gs) = no-header t gs
+module _ (number : List ℕ → Option ℕ) where
+  no-header : (gs : List ParameterGroup) → flat_map (item_steps number) (map header_parameters gs) ≡ []
+  no-header [] = refl
+  no-header (g ∷ gs) = no-header gs
 
-no-parameters : (t : List ℕ) (o : Option (List ParameterGroup)) → list_any (instantiates t) (option_map_or (map header_parameters) o []) ≡ false
-no-parameters t None = refl
-no-parameters t (Some gs) = no-header t gs
+  no-parameters : (o : Option (List ParameterGroup)) → flat_map (item_steps number) (option_map_or (map header_parameters) o []) ≡ []
+  no-parameters None = refl
+  no-parameters (Some gs) = no-header gs
 
-no-ports : (t : List ℕ) (o : Option Ports) → list_any (instantiates t) (header_ports o) ≡ false
-no-ports t None = refl
-no-ports t (Some ps.Empty) = refl
-no-ports t (Some (ps.Names names)) = refl
-no-ports t (Some (ps.Declarations ports)) = go ports
+  no-ports : (o : Option Ports) → flat_map (item_steps number) (header_ports o) ≡ []
+  no-ports None = refl
+  no-ports (Some ps.Empty) = refl
+  no-ports (Some (ps.Names names)) = refl
+  no-ports (Some (ps.Declarations ports)) = go ports
+    where
+      go : (as' : List _) → flat_map (item_steps number) (map (λ a. x.Signals (ports_in a)) as') ≡ []
+      go [] = refl
+      go (a ∷ as') = go as'
+
+  same-items : (is : List ItemTree) → flat_map (item_steps number) (map item is) ≡ flat_map (λ u. option_to_list (number u.definition.name)) (flat_map h.item_instances is)
+  same-items [] = refl
+  same-items (i.Port a ∷ is) = same-items is
+  same-items (i.Parameter at word kind as' ∷ is) = same-items is
+  same-items (i.Wire at signed range as' ∷ is) = same-items is
+  same-items (i.Reg at signed range as' ∷ is) = same-items is
+  same-items (i.Integer at as' ∷ is) = same-items is
+  same-items (i.Assign at as' ∷ is) = same-items is
+  same-items (i.Initial at a ∷ is) = same-items is
+  same-items (i.Always at trigger a ∷ is) = same-items is
+  same-items (i.Function a ∷ is) = same-items is
+  same-items (i.Instance a ∷ is) = ap (λ z. option_to_list (number a.definition.name) ++ z) (same-items is)
+
+  same-module : (m : ModuleTree) → flat_map (item_steps number) (module' m).items ≡ h.steps_of number m
+  same-module m =
+      flat_map-append (item_steps number) (option_map_or (map header_parameters) m.parameters []) (header_ports m.ports ++ map item m.items)
+      ∙ (ap (λ z. z ++ flat_map (item_steps number) (header_ports m.ports ++ map item m.items)) (no-parameters m.parameters)
+      ∙ (flat_map-append (item_steps number) (header_ports m.ports) (map item m.items)
+      ∙ (ap (λ z. z ++ flat_map (item_steps number) (map item m.items)) (no-ports m.ports)
+      ∙ same-items m.items)))
+
+  same-modules : (ms : List ModuleTree) → map (λ m. flat_map (item_steps number) m.items) (map module' ms) ≡ map (h.steps_of number) ms
+  same-modules [] = refl
+  same-modules (m ∷ ms) =
+      ap (λ z. z ∷ map (λ m. flat_map (item_steps number) m.items) (map module' ms)) (same-module m)
+      ∙ ap (λ z. h.steps_of number m ∷ z) (same-modules ms)
+
+same-number : (s : Source) (t : List ℕ) → module_number (modules s) t ≡ h.module_number s t
+same-number s t = sym (position-map (λ m. bytes_eq t m.name.name) module' s.modules)
+
+same-graph : (s : Source) → graph_of (modules s) ≡ h.graph_of s
+same-graph s =
+    same-modules (module_number (modules s)) s.modules
+    ∙ ap (λ (f : List ℕ → Option ℕ). map (h.steps_of f) s.modules) (λ i t. same-number s t i)
+
+-- ---- the first top is a module
+
+none-found : (k : ℕ) → ◌≡◌ {A = Option ℕ} None (Some k) → ⊥
+none-found k e = cc
+
+found : (n k : ℕ) → ◌≡◌ {A = Option ℕ} (Some n) (Some k) → n ≡ k
+found n k e = cc
+
+first-within : (p : ℕ → Bool) (n more k : ℕ) → first_from p n more ≡ Some k → k < n + more
+first-within p n zero k e = absurd (none-found k e)
+first-within p n (suc more) k e = go (p n) (first-within p (suc n) more k) e
   where
-    go : (as' : List _) → list_any (instantiates t) (map (λ a. x.Signals (ports_in a)) as') ≡ false
-    go [] = refl
-    go (a ∷ as') = go as'
+    go : (b : Bool) → (first_from p (suc n) more ≡ Some k → k < suc n + more) → (if b then Some n else first_from p (suc n) more) ≡ Some k → k < n + suc more
+    go true later e = let same = found n k e in omega arith
+    go false later e = let h = later e in omega arith
 
-same-items : (t : List ℕ) (is : List ItemTree) → list_any (instantiates t) (map item is) ≡ list_any (λ u. bytes_eq t u.definition.name) (flat_map e.item_instances is)
-same-items t [] = refl
-same-items t (i.Port a ∷ is) = same-items t is
-same-items t (i.Parameter at word kind as' ∷ is) = same-items t is
-same-items t (i.Wire at signed range as' ∷ is) = same-items t is
-same-items t (i.Reg at signed range as' ∷ is) = same-items t is
-same-items t (i.Integer at as' ∷ is) = same-items t is
-same-items t (i.Assign at as' ∷ is) = same-items t is
-same-items t (i.Initial at a ∷ is) = same-items t is
-same-items t (i.Always at trigger a ∷ is) = same-items t is
-same-items t (i.Function a ∷ is) = same-items t is
-same-items t (i.Instance a ∷ is) = ap (λ z. bytes_eq t a.definition.name || z) (same-items t is)
-
-same-module : (t : List ℕ) (m : ModuleTree) → list_any (instantiates t) (module' m).items ≡ list_any (λ u. bytes_eq t u.definition.name) (e.instances m)
-same-module t m =
-    list_any-append (instantiates t) (option_map_or (map header_parameters) m.parameters []) (header_ports m.ports ++ map item m.items)
-    ∙ (ap (λ z. z || list_any (instantiates t) (header_ports m.ports ++ map item m.items)) (no-parameters t m.parameters)
-    ∙ (list_any-append (instantiates t) (header_ports m.ports) (map item m.items)
-    ∙ (ap (λ z. z || list_any (instantiates t) (map item m.items)) (no-ports t m.ports)
-    ∙ same-items t m.items)))
-
-same-modules : (t : List ℕ) (ms : List ModuleTree) → list_any (λ n. list_any (instantiates t) n.items) (map module' ms) ≡ list_any (λ u. bytes_eq t u.definition.name) (flat_map e.instances ms)
-same-modules t [] = refl
-same-modules t (m ∷ ms) =
-    ap (λ z. z || list_any (λ n. list_any (instantiates t) n.items) (map module' ms)) (same-module t m)
-    ∙ (ap (λ z. list_any (λ u. bytes_eq t u.definition.name) (e.instances m) || z) (same-modules t ms)
-    ∙ sym (list_any-append (λ u. bytes_eq t u.definition.name) (e.instances m) (flat_map e.instances ms)))
-
-pub same-top : (s : Source) (m : ModuleTree) → is_top (modules s) (module' m) ≡ e.is_top s m
-same-top s m = ap not (same-modules m.name.name s.modules)
-
-found-next : (a b : Bool) (y : x.Module) (rest : Option x.Module) (later : Bool) → a ≡ b → (later ≡ true → is_some rest ≡ true) → (b || later) ≡ true
-    → is_some (if a then Some y else rest) ≡ true
-found-next true b y rest later h others k = refl
-found-next false true y rest later h others k = absurd (never h)
-found-next false false y rest later h others k = others k
-
-found : (s : Source) (ms : List ModuleTree) → list_any (e.is_top s) ms ≡ true → is_some (find (is_top (modules s)) (map module' ms)) ≡ true
-found s [] h = absurd (never h)
-found s (m ∷ ms) h =
-    found-next (is_top (modules s) (module' m)) (e.is_top s m) (module' m) (find (is_top (modules s)) (map module' ms)) (list_any (e.is_top s) ms) (same-top s m) (found s ms) h
+pub at-number : (ms : List x.Module) (k : ℕ) → k < length ms → (m : x.Module) × (slice_get ms k ≡ Some m)
+at-number ms k below = go (slice_get_cases ms k).1
+  where
+    go : ((x : x.Module) × (k < length ms) × (slice_get ms k ≡ Some x) × (get_or ms k x ≡ x)) ⊎ ((length ms ≤ k) × (slice_get ms k ≡ None)) → (m : x.Module) × (slice_get ms k ≡ Some m)
+    go (inl (x, _, at, _)) = (x, at)
+    go (inr (past, _)) = absurd (omega (arith, past, below))
 
 pub top-there : (s : Source) → ((f : Fault) → IsHierarchyFault s f → ⊥) → (m : ModuleTree) (after : List ModuleTree) → s.modules ≡ m ∷ after → is_some (top_of (modules s)) ≡ true
-top-there s none m after is = go (list_any (e.is_top s) s.modules) refl
+top-there s none m after is = go (first_top (h.graph_of s)) refl
   where
-    go : (b : Bool) → list_any (e.is_top s) s.modules ≡ b → is_some (top_of (modules s)) ≡ true
-    go true h = found s s.modules h
-    go false h = absurd (none _ (no_top m after is h))
+    go : (o : Option ℕ) → first_top (h.graph_of s) ≡ o → is_some (top_of (modules s)) ≡ true
+    go None e = absurd (none _ (no_top m after is e))
+    go (Some k) e =
+        let ms = modules s in
+        let first : first_top (graph_of ms) ≡ Some k = ap first_top (same-graph s) ∙ e in
+        let within = first-within (is_top (graph_of ms)) 0 (length (graph_of ms)) k first in
+        let count = same-length (λ m. flat_map (item_steps (module_number ms)) m.items) ms in
+        ap (λ o. is_some (option_and_then (slice_get ms) o)) first ∙ ap is_some (at-number ms k (omega (arith, within, count))).1

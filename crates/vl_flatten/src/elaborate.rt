@@ -42,10 +42,11 @@ fn made(alloc: Global, library: &Library<'_>, number: usize) -> Result<Making, S
     };
     let roles = roles_at(library, number);
     let names = environment(alloc, &library.sizes, 128, roles, &Above::Top, base, top)?;
+    let all = size_at(&library.sizes, 129, name)?;
     let here = Here {
         names: &names,
         path: name,
-        behind: size_at(&library.sizes, 129, name).signals,
+        behind: all.signals,
     };
     let mut making = nothing_yet(alloc);
     add_items(
@@ -81,7 +82,8 @@ fn flatten_from(alloc: Global, modules: &[Module], number: usize) -> Result<Desi
 fn flatten_modules(alloc: Global, modules: &[Module]) -> Result<Design, Stop>
     ensures { Meets result (o.flattened_modules (map seen_module modules.now)) }
 {
-    match top_of(alloc, modules)? {
+    let top = top_of(alloc, modules)?;
+    match top {
         Some(number) => flatten_from(alloc, modules, number),
         None => Err(Stop::Memory),
     }

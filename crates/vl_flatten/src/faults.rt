@@ -1,6 +1,7 @@
 //! The faults of an item of an instance, but for those of statements: refused constructs 10, 11, 12 and 24.
 
-ghost use Rattle.std.specs.Prelude.{◌≡◌, map, flat_map, option_map, is_some, Option};
+ghost use Rattle.std.specs.Prelude.{◌≡◌, ◌&&◌, map, flat_map, option_map, is_some, Option};
+ghost use Rattle.std.specs.Ordering.{int_eq};
 ghost use Rattle.vl_flat.specs.Items as x;
 ghost use Rattle.vl_design.specs.Placed.{Exp};
 ghost use Rattle.vl_flat.specs.Scopes.{plainly};
@@ -11,13 +12,11 @@ ghost use Rattle.vl_bind.specs.Seen.{seen};
 ghost use Rattle.vl_items.specs.SeenItems.{seen_type, seen_declared, seen_parameter, seen_setting, seen_connection};
 ghost use Rattle.vl_constant.specs.Seen.{look, binding_of};
 ghost use Rattle.vl_constant.specs.Types.{numbers};
-ghost use Rattle.vl_flat.specs.Connections as c;
 ghost use Rattle.vl_instance.specs.Given.{overrides_of};
-ghost use Rattle.vl_flatten.specs.Parts.{alike};
 
 use vl_base::place::Place;
 use vl_bind::surface::Ex;
-use vl_constant::ranges::{Range, bits_in, is_signed, type_range};
+use vl_constant::ranges::{Range, bits_in, has_range, is_signed, type_range};
 use vl_constant::scope::{Known, Names, found_in, module_scope};
 use vl_design::stop::Stop;
 use vl_flat::binding::Shape;
@@ -41,11 +40,25 @@ pub fn optional_faults(best: Option<Stop>, names: &Names<'_>, e: &Option<Ex>) ->
     }
 }
 
-/// A declaration has the sign and the range of a signal.
-fn is_alike(signed: bool, range: Range, shape: Shape) -> bool
-    ensures { result ≡ alike signed (numbers range) shape }
+/// Both hold, or none.
+fn same_flag(a: bool, b: bool) -> bool
+    ensures { result ≡ p.same_flag a b }
 {
-    signed == shape.signed && range.left == shape.left && range.right == shape.right
+    a == b
+}
+
+/// A range is that of a signal.
+fn same_range(range: Range, shape: Shape) -> bool
+    ensures { result ≡ (int_eq (numbers range).0 shape.left && int_eq (numbers range).1 shape.right) }
+{
+    range.left == shape.left && range.right == shape.right
+}
+
+/// A declaration has the sign and the bits of a signal, and says which they are where the signal's does.
+fn is_alike(signed: bool, ranged: bool, range: Range, shape: Shape) -> bool
+    ensures { result ≡ p.is_alike signed ranged (numbers range) shape }
+{
+    same_flag(signed, shape.signed) && (same_flag(ranged, shape.ranged) && same_range(range, shape))
 }
 
 /// The first of those so far and the faults of a declaration beside what its name stands for.
@@ -64,7 +77,12 @@ fn binding_faults(
     };
     let range = type_range(&module_scope(names), kind);
     let best = construct_if(best, is_clock(shape.kind) && bits_in(range) > 1, at, 12);
-    construct_if(best, !is_alike(is_signed(kind), range, shape), at, 12)
+    construct_if(
+        best,
+        !is_alike(is_signed(kind), has_range(kind), range, shape),
+        at,
+        12,
+    )
 }
 
 /// The first of those so far and the faults of a declaration.
@@ -179,7 +197,7 @@ pub fn all_parameter_faults(
 /// The first of those so far and the faults of overrides.
 #[tactic(auto, using(crate::proofs::Steps::firsts))]
 pub fn override_faults(best: Option<Stop>, names: &Names<'_>, list: &[Connection]) -> Option<Stop>
-    ensures { result ≡ earliest best (flat_map (λ q. c.optional_faults (look names.now) q.value) (map seen_connection list.now)) }
+    ensures { result ≡ earliest best (flat_map (λ q. p.optional_faults (look names.now) q.value) (map seen_connection list.now)) }
 {
     let mut best = best;
     for connection in list {

@@ -33,11 +33,11 @@ pub fn function(
 ) -> Result<Func, AllocError>
     ensures { IfOk result (λ b. IsFrame frame.now (seen_function a.now) → func_of b ≡ f.function here.entry.behind (look here.entry.names.now) here.entry.path.now (seen_function a.now)) }
 {
-    let own = locals(alloc, here.names, here.behind, frame)?;
-    let body = statement(alloc, &function_scope(here.names, &own), &a.body)?;
     let name = dotted(alloc, here.path, a.name.name.as_slice())?;
     let inputs = input_numbers(alloc, here.behind, frame)?;
     let signals = local_signals(alloc, here.names, name.as_slice(), frame)?;
+    let own = locals(alloc, here.names, here.behind, frame)?;
+    let body = statement(alloc, &function_scope(here.names, &own), &a.body)?;
     Ok(Func {
         name,
         place: a.name.place,

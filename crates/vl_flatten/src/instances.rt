@@ -8,7 +8,9 @@ ghost use Rattle.vl_items.specs.declared.items.Item.TheVariants as i;
 ghost use Rattle.vl_items.specs.SeenItems.{seen_unit, seen_instances, seen_item, seen_module};
 ghost use Rattle.vl_kinds.specs.Sized.{counts_of};
 ghost use Rattle.vl_instance.specs.Given.{overrides_of};
+ghost use Rattle.vl_flat.specs.Functions.{dotted as dotted_name};
 ghost use Rattle.vl_flatten.specs.Standing.{seen_here};
+ghost use Rattle.vl_flatten.specs.Insides.{IsInside, contents};
 ghost use Rattle.vl_flatten.specs.Growing.{Adds};
 ghost use Rattle.vl_flatten.specs.Libraries.{IsLibrary, modules_of};
 ghost use Rattle.vl_flatten.specs.Parts.{IsNoInstance};
@@ -21,18 +23,29 @@ use crate::library::{Library, definition_at, roles_at};
 use crate::limits::{instance_limit, is_long_path, with_instance};
 use crate::making::Making;
 use crate::ports::{Ports, add_inputs, add_outputs};
-use std::alloc::Global;
+use std::alloc::{AllocError, Global};
 use vl_constant::scope::Names;
 use vl_design::stop::Stop;
-use vl_instance::connections::{overrides, port_connections};
+use vl_instance::connections::{Connected, overrides, port_connections};
 use vl_instance::environment::environment;
 use vl_instance::functions::dotted;
 use vl_instance::given::{Above, Surroundings};
 use vl_items::items::{Instances, Item, Module, NamedUnit};
 use vl_judge::stops::limit_if;
-use vl_kinds::counts::{Counts, plus, times};
+use vl_kinds::counts::{Counts, behind_signals, sum};
 use vl_kinds::index::module_at;
-use vl_kinds::sizes::size_at;
+use vl_kinds::sizes::{instances_size, size_at};
+
+/// What is known of an instance: its overrides, the connections of its ports, and what names stand for in it.
+#[derive(Drop)]
+pub struct Inside<'m> {
+    /// The overrides of its parameters.
+    pub overrides: Connected<'m>,
+    /// The connections of its ports.
+    pub ports: Connected<'m>,
+    /// What names stand for in it.
+    pub names: Names<'m>,
+}
 
 /// An instance begins: its path and its overrides are judged.
 fn begin(
@@ -49,34 +62,25 @@ fn begin(
     match override_faults(best, above, instances.overrides.as_slice()) {
         Some(stop) => Err(stop),
         None => {
-            making.totals = with_instance(making.totals);
+            making.totals = with_instance(making.totals)?;
             Ok(())
         }
     }
 }
 
-/// The numbers behind this many signals.
-fn behind_signals(next: Counts, own: usize) -> Counts
-    ensures { counts_of result ≡ e.plus (counts_of next) (record { signals = own; functions = 0 }) }
-{
-    let signals = own.min(4294967295) as u32;
-    plus(
-        next,
-        Counts {
-            signals,
-            functions: 0,
-        },
-    )
-}
-
 /// The numbers behind instances.
-fn behind_instances(library: &Library<'_>, depth: u8, next: Counts, instances: &Instances) -> Counts
+fn behind_instances(
+    library: &Library<'_>,
+    depth: u8,
+    next: Counts,
+    instances: &Instances,
+) -> Result<Counts, AllocError>
     requires depth { depth ≤ 129 }
     requires library { IsLibrary library.now }
-    ensures { counts_of result ≡ e.plus (e.plus (counts_of next) e.no_more) (e.item_counts (e.size depth (modules_of library.now)) (x.Instantiates (seen_instances instances.now))) }
+    ensures { IfOk result (λ c. counts_of c ≡ e.plus (e.plus (counts_of next) e.no_more) (e.item_counts (e.size depth (modules_of library.now)) (x.Instantiates (seen_instances instances.now)))) }
 {
-    let one = size_at(&library.sizes, depth, instances.definition.as_slice());
-    plus(behind_signals(next, 0), times(instances.units.len(), one))
+    let size = instances_size(&library.sizes, depth, instances)?;
+    Ok(sum(next, size)?)
 }
 
 /// The instances that an item is, if it is some.
@@ -109,6 +113,129 @@ fn functions_in(item: &Item) -> Counts
     }
 }
 
+/// What is known of an instance of the module of this number, whose first signal and function have these numbers.
+fn inside_of<'m>(
+    alloc: Global,
+    library: &Library<'m>,
+    depth: u8,
+    above: Here<'_, '_, 'm>,
+    base: Counts,
+    instances: &'m Instances,
+    unit: &'m NamedUnit,
+    number: usize,
+) -> Result<Inside<'m>, AllocError>
+    requires depth { depth ≤ 129 }
+    requires library { IsLibrary library.now }
+    requires number { number < length library.now.modules.now }
+    ensures { IfOk result (λ a. (m : x.Module) → slice_get (modules_of library.now) number ≡ Some m →
+        IsInside a depth (modules_of library.now) (seen_here above.entry) (counts_of base) (seen_instances instances.entry.now) (seen_unit unit.entry.now) m) }
+{
+    let definition = definition_at(library, number);
+    let roles = roles_at(library, number);
+    let overrides = overrides(alloc, definition, instances)?;
+    let ports = port_connections(alloc, definition, unit)?;
+    let given = Above::Item(Surroundings {
+        names: above.names,
+        overrides: &overrides,
+        ports: &ports,
+    });
+    let names = environment(
+        alloc,
+        &library.sizes,
+        depth,
+        roles,
+        &given,
+        base,
+        definition,
+    )?;
+    Ok(Inside {
+        overrides,
+        ports,
+        names,
+    })
+}
+
+/// Adds what stands in an instance of the module of this number and this path: the connections of its inputs, its items with
+/// what stands less than so deep in them, and the connections of its outputs.
+#[cycle(instance)]
+fn add_contents<'m>(
+    alloc: Global,
+    making: &mut Making,
+    library: &Library<'m>,
+    depth: u8,
+    above: Here<'_, '_, 'm>,
+    base: Counts,
+    unit: &'m NamedUnit,
+    number: usize,
+    path: &[u8],
+    inside: &Inside<'m>,
+) -> Result<(), Stop>
+    requires depth { depth ≤ 128 }
+    requires library { IsLibrary library.now }
+    requires number { number < length library.now.modules.now }
+    ensures { (m : x.Module) (us : x.Instances) → slice_get (modules_of library.now) number ≡ Some m → path.now ≡ dotted_name (seen_here above.entry).path (seen_unit unit.entry.now).name.name →
+        IsInside inside.now depth (modules_of library.now) (seen_here above.entry) (counts_of base) us (seen_unit unit.entry.now) m →
+        Adds making.old making.new (contents depth (modules_of library.now) (seen_here above.entry) (counts_of base) us (seen_unit unit.entry.now) m) result }
+{
+    let definition = definition_at(library, number);
+    let roles = roles_at(library, number);
+    let ports = Ports {
+        above,
+        names: &inside.names,
+        roles,
+        connected: &inside.ports,
+        unit,
+    };
+    let here = Here {
+        names: &inside.names,
+        path,
+        behind: above.behind,
+    };
+    let given = Above::Item(Surroundings {
+        names: above.names,
+        overrides: &inside.overrides,
+        ports: &inside.ports,
+    });
+    add_inputs(alloc, making, ports, definition.ports.as_slice())?;
+    add_items(
+        alloc,
+        making,
+        library,
+        depth,
+        here,
+        &given,
+        base,
+        definition.items.as_slice(),
+    )?;
+    add_outputs(alloc, making, ports, definition.ports.as_slice())
+}
+
+/// Adds what stands in an instance of the module of this number and this path.
+#[cycle(instance)]
+fn add_inside<'m>(
+    alloc: Global,
+    making: &mut Making,
+    library: &Library<'m>,
+    depth: u8,
+    above: Here<'_, '_, 'm>,
+    base: Counts,
+    instances: &'m Instances,
+    unit: &'m NamedUnit,
+    number: usize,
+    path: &[u8],
+) -> Result<(), Stop>
+    requires depth { depth ≤ 128 }
+    requires library { IsLibrary library.now }
+    requires number { number < length library.now.modules.now }
+    ensures { (m : x.Module) → slice_get (modules_of library.now) number ≡ Some m → path.now ≡ dotted_name (seen_here above.entry).path (seen_unit unit.entry.now).name.name →
+        Adds making.old making.new (contents depth (modules_of library.now) (seen_here above.entry) (counts_of base) (seen_instances instances.entry.now) (seen_unit unit.entry.now) m) result }
+{
+    let inside = inside_of(alloc, library, depth, above, base, instances, unit, number)?;
+    add_contents(
+        alloc, making, library, depth, above, base, unit, number, path, &inside,
+    )
+}
+
 /// Adds an instance of the module of this number, with what stands less than so deep in it.
 #[cycle(instance)]
 fn add_instance<'m>(
@@ -131,50 +258,20 @@ fn add_instance<'m>(
     if depth == 0 {
         return Ok(());
     }
-    let definition = definition_at(library, number);
-    let roles = roles_at(library, number);
     let path = dotted(alloc, above.path, unit.name.name.as_slice())?;
     begin(making, above.names, path.as_slice(), instances)?;
-    let overrides = overrides(alloc, definition, instances)?;
-    let connected = port_connections(alloc, definition, unit)?;
-    let given = Above::Item(Surroundings {
-        names: above.names,
-        overrides: &overrides,
-        ports: &connected,
-    });
-    let names = environment(
-        alloc,
-        &library.sizes,
-        depth - 1,
-        roles,
-        &given,
-        base,
-        definition,
-    )?;
-    let ports = Ports {
-        above,
-        names: &names,
-        roles,
-        connected: &connected,
-        unit,
-    };
-    let here = Here {
-        names: &names,
-        path: path.as_slice(),
-        behind: above.behind,
-    };
-    add_inputs(alloc, making, ports, definition.ports.as_slice())?;
-    add_items(
+    add_inside(
         alloc,
         making,
         library,
         depth - 1,
-        here,
-        &given,
+        above,
         base,
-        definition.items.as_slice(),
-    )?;
-    add_outputs(alloc, making, ports, definition.ports.as_slice())
+        instances,
+        unit,
+        number,
+        path.as_slice(),
+    )
 }
 
 /// Adds the instances of an item, of the module of this number, each of which has so many signals and functions.
@@ -201,7 +298,7 @@ fn add_units<'m>(
         add_instance(
             alloc, making, library, depth, here, base, instances, unit, number,
         )?;
-        base = plus(base, size);
+        base = sum(base, size)?;
     }
     Ok(())
 }
@@ -225,7 +322,7 @@ fn add_instances<'m>(
     match module_at(&library.index, name) {
         None => Ok(()),
         Some(number) => {
-            let size = size_at(&library.sizes, depth, name);
+            let size = size_at(&library.sizes, depth, name)?;
             add_units(
                 alloc, making, library, depth, here, next, instances, number, size,
             )
@@ -248,7 +345,8 @@ fn add_own(
     let first = making.signals.as_slice().len();
     add_item(alloc, making, here, above, next.signals, item)?;
     let own = making.signals.as_slice().len() - first;
-    Ok(plus(behind_signals(next, own), functions_in(item)))
+    let behind = behind_signals(next, own)?;
+    Ok(sum(behind, functions_in(item))?)
 }
 
 /// Adds what an item stands for. The numbers behind it.
@@ -271,7 +369,7 @@ fn add_parts<'m>(
     match instances_in(item) {
         Some(instances) => {
             add_instances(alloc, making, library, depth, here, next, instances)?;
-            Ok(behind_instances(library, depth, next, instances))
+            Ok(behind_instances(library, depth, next, instances)?)
         }
         None => add_own(alloc, making, here, above, next, item),
     }

@@ -1,6 +1,6 @@
 //! What an item of an instance adds to its design, but for instances.
 
-ghost use Rattle.std.specs.Prelude.{◌≡◌, ◌∷◌, [], map, flat_map};
+ghost use Rattle.std.specs.Prelude.{◌≡◌, ◌++◌, ◌∷◌, [], map, flat_map, OnOk};
 ghost use Rattle.vl_flat.specs.Items as x;
 ghost use Rattle.vl_flat.specs.Processes as p;
 ghost use Rattle.vl_flat.specs.Functions as spec_functions;
@@ -10,10 +10,12 @@ ghost use Rattle.vl_flat.specs.Environments.{Given};
 ghost use Rattle.vl_flat.specs.Scopes.{plainly};
 ghost use Rattle.vl_flat.specs.Statements as s;
 ghost use Rattle.vl_design.specs.declared.design.ProcKind.TheVariants as ProcKinds;
+ghost use Rattle.vl_design.specs.Seen.{func_of};
 ghost use Rattle.vl_bind.specs.SeenStatements.{seen_statement};
 ghost use Rattle.vl_items.specs.SeenItems.{seen_type, seen_declared, seen_parameter, seen_setting, seen_function, seen_item};
 ghost use Rattle.vl_constant.specs.Seen.{look};
 ghost use Rattle.vl_instance.specs.Given.{overrides_of};
+ghost use Rattle.vl_instance.specs.Variables.{IsFrame};
 ghost use Rattle.vl_flatten.specs.Standing.{seen_here};
 ghost use Rattle.vl_flatten.specs.Growing.{Adds};
 ghost use Rattle.vl_flatten.specs.Parts.{part};
@@ -25,13 +27,14 @@ use crate::limits::{Counted, signals_limits};
 use crate::making::Making;
 use crate::processes::{add_assignments, add_values, always, initial};
 use crate::signals::signals_of;
-use std::alloc::Global;
+use std::alloc::{AllocError, Global};
 use vl_base::place::Place;
 use vl_bind::surface::Statement;
 use vl_constant::scope::module_scope;
+use vl_design::design::Func;
 use vl_design::stop::Stop;
 use vl_instance::given::Above;
-use vl_instance::variables::frame_of;
+use vl_instance::variables::{Frame, frame_of};
 use vl_items::items::{DataType, Declared, Function, Item, Parameter, Setting};
 use vl_judge::statements::statement_faults;
 use vl_source::tree::Trigger;
@@ -65,7 +68,7 @@ fn add_declared(
         (p.values (seen_here here.entry) (map (seen_declared (seen_type kind.now)) ds.now)) (flat_map (p.declared_faults (look here.entry.names.now)) (map (seen_declared (seen_type kind.now)) ds.now)) ∷ []) result }
 {
     let mut signals = signals_of(alloc, here, next, ds)?;
-    let Counted { best, totals } = signals_limits(None, making.totals, signals.as_slice());
+    let Counted { best, totals } = signals_limits(None, making.totals, signals.as_slice())?;
     match all_declared_faults(best, here.names, kind, ds) {
         Some(stop) => Err(stop),
         None => {
@@ -134,6 +137,21 @@ fn add_always(
     }
 }
 
+/// Adds a function to others.
+fn push_function(
+    alloc: Global,
+    all: &mut Vec<Func>,
+    here: Here<'_, '_, '_>,
+    frame: &Frame<'_>,
+    a: &Function,
+) -> Result<(), AllocError>
+    ensures { OnOk result (IsFrame frame.now (seen_function a.now) → map func_of all.new.items
+        ≡ map func_of all.old.items ++ spec_functions.function here.entry.behind (look here.entry.names.now) here.entry.path.now (seen_function a.now) ∷ []) }
+{
+    all.push(function(alloc, here, frame, a)?)?;
+    Ok(())
+}
+
 /// A function.
 fn add_function(
     alloc: Global,
@@ -147,7 +165,7 @@ fn add_function(
     match function_faults(alloc, None, here, &frame, a)? {
         Some(stop) => Err(stop),
         None => {
-            making.funcs.push(function(alloc, here, &frame, a)?)?;
+            push_function(alloc, &mut making.funcs, here, &frame, a)?;
             Ok(())
         }
     }

@@ -1,19 +1,20 @@
 //! Limits 5, 6, 7 and 11 of a design.
 
-ghost use Rattle.std.specs.Prelude.{◌≡◌, ◌∷◌, [], min, fold, nat_lt, ◌||◌, ◌&&◌};
+ghost use Rattle.std.specs.Prelude.{◌≡◌, ◌+◌, ◌∷◌, [], fold, nat_lt, ◌||◌, ◌&&◌, IfOk, if◌then◌else◌};
 ghost use Rattle.vl_base.specs.declared.place.Place.{Place as Where};
 ghost use Rattle.vl_flat.specs.Expressions as e;
 ghost use Rattle.vl_flat.specs.Outcome as o;
 ghost use Rattle.vl_flat.specs.Flat as f;
-ghost use Rattle.vl_flat.specs.Environments.{after, most_numbers};
 ghost use Rattle.vl_design.specs.Stops.{earliest};
 ghost use Rattle.vl_flatten.specs.Growing.{totals_of};
 
 use crate::making::Totals;
+use std::alloc::AllocError;
 use vl_base::place::Place;
 use vl_design::design::{SigKind, Signal};
 use vl_design::stop::Stop;
 use vl_judge::stops::limit_if;
+use vl_kinds::counts::next_number;
 
 /// The most instances.
 const MOST_INSTANCES: u32 = 4096;
@@ -22,10 +23,10 @@ const MOST_INSTANCES: u32 = 4096;
 const MOST_SIGNALS: u32 = 16384;
 
 /// The most words of a memory.
-const MOST_WORDS: u32 = 65536;
+const MOST_WORDS: u64 = 65536;
 
 /// The most words of all memories.
-const MOST_WORDS_IN_ALL: u32 = 262144;
+const MOST_WORDS_IN_ALL: u64 = 262144;
 
 /// A signal of this kind counts.
 fn is_counted(kind: SigKind) -> bool
@@ -44,50 +45,61 @@ fn is_memory(kind: SigKind) -> bool
     matches!(kind, SigKind::Mem)
 }
 
-/// How many words a memory has, kept within 32 bits; none where it is no memory.
-fn memory_words(signal: &Signal) -> u32
-    ensures { result ≡ min most_numbers (o.memory_words signal.now) }
+/// How many words a memory has; none where it is no memory.
+fn memory_words(signal: &Signal) -> u64
+    ensures { result ≡ o.memory_words signal.now }
 {
     if is_memory(signal.kind) {
-        signal.first.abs_diff(signal.last).saturating_add(1)
+        u64::from(signal.first.abs_diff(signal.last)) + 1
     } else {
         0
     }
 }
 
-/// The number behind a number.
-pub fn after(n: u32) -> u32
-    ensures { result ≡ after n }
+/// How many signals there are with one more; want of memory from 2^32 - 1 on.
+fn signals_with(t: Totals, kind: SigKind) -> Result<u32, AllocError>
+    ensures { IfOk result (λ n. n ≡ (if o.is_counted kind then t.signals + 1 else t.signals)) }
 {
-    n.saturating_add(1)
+    if is_counted(kind) {
+        next_number(t.signals)
+    } else {
+        Ok(t.signals)
+    }
+}
+
+/// How many words there are with so many more; want of memory from 2^64 on.
+fn words_with(words: u64, more: u64) -> Result<u64, AllocError>
+    ensures { IfOk result (λ n. n ≡ words + more) }
+{
+    match words.checked_add(more) {
+        Some(all) => Ok(all),
+        None => Err(AllocError),
+    }
 }
 
 /// What is counted with one more signal.
-pub fn with_signal(t: Totals, signal: &Signal) -> Totals
-    ensures { totals_of result ≡ o.with_signal (totals_of t) signal.now }
+pub fn with_signal(t: Totals, signal: &Signal) -> Result<Totals, AllocError>
+    ensures { IfOk result (λ n. totals_of n ≡ o.with_signal (totals_of t) signal.now) }
 {
-    let signals = if is_counted(signal.kind) {
-        after(t.signals)
-    } else {
-        t.signals
-    };
-    let words = t.words.saturating_add(memory_words(signal));
-    Totals {
+    let signals = signals_with(t, signal.kind)?;
+    let words = words_with(t.words, memory_words(signal))?;
+    Ok(Totals {
         instances: t.instances,
         signals,
         words,
-    }
+    })
 }
 
 /// What is counted with one more instance.
-pub fn with_instance(t: Totals) -> Totals
-    ensures { (at : Where) → totals_of result ≡ o.with_instance (totals_of t) at }
+pub fn with_instance(t: Totals) -> Result<Totals, AllocError>
+    ensures { IfOk result (λ n. (at : Where) → totals_of n ≡ o.with_instance (totals_of t) at) }
 {
-    Totals {
-        instances: after(t.instances),
+    let instances = next_number(t.instances)?;
+    Ok(Totals {
+        instances,
         signals: t.signals,
         words: t.words,
-    }
+    })
 }
 
 /// A path is longer than 255 bytes.
@@ -130,22 +142,26 @@ pub struct Counted {
 
 /// The first of those so far and the limits that these signals pass.
 #[tactic(auto, using(crate::proofs::Counting::counting))]
-pub fn signals_limits(best: Option<Stop>, t: Totals, signals: &[Signal]) -> Counted
-    ensures best { result.best ≡ earliest best (o.signals_limits (totals_of t) signals.now) }
-    ensures totals { totals_of result.totals ≡ fold o.with_signal (totals_of t) signals.now }
+pub fn signals_limits(
+    best: Option<Stop>,
+    t: Totals,
+    signals: &[Signal],
+) -> Result<Counted, AllocError>
+    ensures best { IfOk result (λ n. n.best ≡ earliest best (o.signals_limits (totals_of t) signals.now)) }
+    ensures totals { IfOk result (λ n. totals_of n.totals ≡ fold o.with_signal (totals_of t) signals.now) }
 {
     let mut best = best;
     let mut totals = t;
     for signal in signals {
-        totals = with_signal(totals, signal);
+        totals = with_signal(totals, signal)?;
         best = signal_limits(best, totals, signal);
     }
-    Counted { best, totals }
+    Ok(Counted { best, totals })
 }
 
 /// The limit that one more instance passes.
 pub fn instance_limit(best: Option<Stop>, t: Totals, at: Place) -> Option<Stop>
     ensures { result ≡ earliest best (o.instance_limits (totals_of t) (at ∷ [])) }
 {
-    limit_if(best, after(t.instances) > MOST_INSTANCES, at, 5)
+    limit_if(best, t.instances >= MOST_INSTANCES, at, 5)
 }

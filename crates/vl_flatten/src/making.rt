@@ -7,7 +7,7 @@ ghost use Rattle.vl_flatten.specs.Growing.{totals_of};
 use std::alloc::Global;
 use vl_design::design::{Func, Process, Signal};
 
-/// So many so far, kept within 32 bits; clocks and loop variables are no signals here.
+/// So many so far; clocks and loop variables are no signals here.
 #[derive(Clone, Copy, Debug, PartialEq, Eq)]
 pub struct Totals {
     /// Instances.
@@ -15,7 +15,7 @@ pub struct Totals {
     /// Signals.
     pub signals: u32,
     /// Words of memories.
-    pub words: u32,
+    pub words: u64,
 }
 
 /// A design in the making: what its parts so far stand for.

@@ -1,11 +1,10 @@
 //! The connections of an instance's ports in the design (IEEE 1364-2005, clause 12.3.9).
 
-ghost use Rattle.std.specs.Prelude.{◌≡◌, ◌∷◌, [], option_map, flat_map, IfOk};
+ghost use Rattle.std.specs.Prelude.{◌≡◌, ◌∷◌, [], flat_map, IfOk};
 ghost use Rattle.vl_flat.specs.Items as x;
 ghost use Rattle.vl_flat.specs.Connections as c;
 ghost use Rattle.vl_flat.specs.Flat as f;
-ghost use Rattle.vl_design.specs.Seen.{exp_of, process_of};
-ghost use Rattle.vl_design.specs.Stops.{earliest};
+ghost use Rattle.vl_design.specs.Seen.{process_of};
 ghost use Rattle.vl_bind.specs.Seen.{seen};
 ghost use Rattle.vl_items.specs.SeenItems.{seen_unit};
 ghost use Rattle.vl_constant.specs.Seen.{look};
@@ -16,7 +15,6 @@ use crate::here::Here;
 use crate::making::Making;
 use crate::processes::{assigned, whole_target};
 use std::alloc::{AllocError, Global};
-use vl_base::bits::Bits;
 use vl_base::place::Place;
 use vl_bind::surface::Ex;
 use vl_constant::scope::{Names, found_in, module_scope};
@@ -48,49 +46,46 @@ pub struct Ports<'n, 'p, 'b, 'c, 'd, 'm> {
     pub unit: &'m NamedUnit,
 }
 
-/// What is connected to an input, or 0.
-fn source(alloc: Global, names: &Names<'_>, at: Place, e: Option<&Ex>) -> Result<Expr, AllocError>
-    ensures { IfOk result (λ a. exp_of a ≡ c.source (look names.now) at (option_map (λ e. seen e.now) e.entry)) }
-{
-    match e {
-        Some(e) => exp(alloc, &module_scope(names), e),
-        None => Ok(Expr {
-            place: at,
-            node: ExprNode::Num(Bits { value: 0, width: 1 }, false),
-        }),
-    }
-}
-
-/// The first of those so far and the faults of what is connected to an input.
-fn source_faults(best: Option<Stop>, names: &Names<'_>, e: Option<&Ex>) -> Option<Stop>
-    ensures { result ≡ earliest best (c.optional_faults (look names.now) (option_map (λ e. seen e.now) e.entry)) }
-{
-    match e {
-        Some(e) => faults(best, &module_scope(names), e),
-        None => best,
-    }
-}
-
 /// The process of an input's connection.
 fn input_process(
     alloc: Global,
     ports: Ports<'_, '_, '_, '_, '_, '_>,
+    at: Place,
     name: &[u8],
+    e: &Ex,
 ) -> Result<Process, AllocError>
-    ensures { IfOk result (λ a. (m : x.Module) → IsJoined ports.entry m → process_of a ≡ c.input_process (seen_here ports.entry.above) (look ports.entry.names.now) m (seen_unit ports.entry.unit.now) name.now) }
+    ensures { IfOk result (λ a. process_of a ≡ c.input_process (seen_here ports.entry.above) (look ports.entry.names.now) at name.now (seen e.now)) }
 {
-    let at = place_in(ports.unit, connection(ports.connected, name));
-    let e = source(
-        alloc,
-        ports.above.names,
-        at,
-        expression(ports.connected, name),
-    )?;
+    let source = exp(alloc, &module_scope(ports.above.names), e)?;
     let target = whole_target(ports.names, at, name);
-    assigned(alloc, ports.above, at, ProcKind::Assign, target, e)
+    assigned(alloc, ports.above, at, ProcKind::Assign, target, source)
 }
 
-/// The connection of a port, if it is an input; a clock's stands for nothing.
+/// The connection of an input that is connected, and no clock.
+fn add_source(
+    alloc: Global,
+    making: &mut Making,
+    ports: Ports<'_, '_, '_, '_, '_, '_>,
+    name: &[u8],
+    e: &Ex,
+) -> Result<(), Stop>
+    ensures { (m : x.Module) → IsJoined ports.entry m → Adds making.old making.new
+        (f.connection (c.input_process (seen_here ports.entry.above) (look ports.entry.names.now) (c.place_in (seen_unit ports.entry.unit.now) (c.port_connection m (seen_unit ports.entry.unit.now) name.now)) name.now (seen e.now) ∷ [])
+        (c.input_faults (look ports.entry.above.names.now) (seen e.now)) ∷ []) result }
+{
+    let at = place_in(ports.unit, connection(ports.connected, name));
+    match faults(None, &module_scope(ports.above.names), e) {
+        Some(stop) => Err(stop),
+        None => {
+            making
+                .processes
+                .push(input_process(alloc, ports, at, name, e)?)?;
+            Ok(())
+        }
+    }
+}
+
+/// The connection of a port, if it is an input; a clock, and an input that isn't connected, stand for nothing.
 fn add_input(
     alloc: Global,
     making: &mut Making,
@@ -105,12 +100,9 @@ fn add_input(
     if is_clock_known(found_in(ports.names, name)) {
         return Ok(());
     }
-    match source_faults(None, ports.above.names, expression(ports.connected, name)) {
-        Some(stop) => Err(stop),
-        None => {
-            making.processes.push(input_process(alloc, ports, name)?)?;
-            Ok(())
-        }
+    match expression(ports.connected, name) {
+        Some(e) => add_source(alloc, making, ports, name, e),
+        None => Ok(()),
     }
 }
 

@@ -41,13 +41,14 @@ pub fn process(
 ) -> Result<Process, AllocError>
     ensures { IfOk result (λ a. process_of a ≡ p.process (seen_here here.entry) at kind events.items (stm_of body)) }
 {
+    let body = Box::new(alloc, body)?;
     let path = Items::from_vec(Vec::from_slice(alloc, here.path)?);
     Ok(Process {
         place: at,
         path,
         kind,
         events: Items::from_vec(events),
-        body,
+        body: Box::into_inner(body),
     })
 }
 
@@ -262,7 +263,7 @@ pub fn always(
 ) -> Result<Process, AllocError>
     ensures { IfOk result (λ b. process_of b ≡ p.process (seen_here here.entry) at (p.trigger_kind trigger.now) (p.events (look here.entry.names.now) trigger.now) (spec_statement (plainly (look here.entry.names.now)) (seen_statement a.now))) }
 {
-    let body = statement(alloc, &module_scope(here.names), a)?;
     let events = events(alloc, here.names, trigger)?;
+    let body = statement(alloc, &module_scope(here.names), a)?;
     process(alloc, here, at, trigger_kind(trigger), events, body)
 }

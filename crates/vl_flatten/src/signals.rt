@@ -3,13 +3,11 @@
 ghost use Rattle.std.specs.Prelude.{◌≡◌, ◌++◌, map, option_map, IfOk, OnOk};
 ghost use Rattle.vl_flat.specs.Items as x;
 ghost use Rattle.vl_flat.specs.Processes as p;
-ghost use Rattle.vl_flat.specs.Environments as e;
 ghost use Rattle.vl_items.specs.SeenItems.{seen_declared};
 ghost use Rattle.vl_constant.specs.Seen.{binding_of};
 ghost use Rattle.vl_flatten.specs.Standing.{seen_here};
 
 use crate::here::Here;
-use crate::limits::after;
 use std::alloc::{AllocError, Global};
 use vl_constant::scope::{Known, found_in};
 use vl_constant::selects::number_of;
@@ -17,6 +15,7 @@ use vl_design::design::Signal;
 use vl_grammar::tree::Identifier;
 use vl_instance::functions::signal;
 use vl_items::items::Declared;
+use vl_kinds::counts::next_number;
 
 /// Adds the signal that a name stands for, if it stands for one.
 fn add_known(
@@ -49,7 +48,7 @@ pub fn signals_of(
         let known = found_in(here.names, d.name.name.as_slice());
         if number_of(known) == number {
             add_known(alloc, &mut all, here.path, &d.name, known)?;
-            number = after(number);
+            number = next_number(number)?;
         }
     }
     Ok(all)

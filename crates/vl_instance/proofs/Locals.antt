@@ -1,5 +1,5 @@
 -- The variables of a function among a module's names.
-use Rattle.std.proofs.Common.{◌≡◌, ℕ, suc, ◌+◌, ◌<◌, Bool, true, false, List, [], ◌∷◌, ◌++◌, length, map, take, drop, get_or, Option, Some, refl, sym, ap, ◌∙◌, drop-cons, append_assoc, ◌≤◌, arith}
+use Rattle.std.proofs.Common.{◌≡◌, ℕ, suc, ◌+◌, ◌<◌, Bool, true, false, List, [], ◌∷◌, ◌++◌, length, map, take, drop, get_or, Option, Some, refl, sym, ap, ◌∙◌, drop-cons, ◌≤◌, arith}
 use Rattle.std.specs.Prelude.{if◌then◌else◌}
 use Rattle.std.specs.Borrow.{Bor}
 use Rattle.std.proofs.lemmas.List.{map_push, take_all}
@@ -13,7 +13,6 @@ use Rattle.vl_flat.specs.declared.binding.Binding.{Binding}
 use Rattle.vl_flat.specs.declared.binding.Binding.TheVariants as b
 use Rattle.vl_flat.specs.Items as x
 use Rattle.vl_flat.specs.Scopes.{Env, none, bind}
-use Rattle.vl_flat.specs.Environments.{after}
 use Rattle.vl_flat.specs.Functions as f
 use Rattle.vl_constant.specs.declared.scope.Known.{Known}
 use Rattle.vl_constant.specs.Seen.{binding_of, look, first_of}
@@ -38,33 +37,16 @@ inside-none env = refl
 
 -- one more variable
 pub locals-turn : (env now next : Env) (a : x.Function) (n m : ℕ) (all : Env) (vs : List Variable) (i : ℕ) (v : Variable) → i < length vs → v ≡ get_or vs i v
-    → next ≡ with_local env a n now (seen_variable v) → m ≡ after n
+    → next ≡ with_local env a n now (seen_variable v) → m ≡ n + 1
     → f.with_locals env (inside env now).names a n (map seen_variable (drop i vs)) ≡ all
     → f.with_locals env (inside env next).names a m (map seen_variable (drop (i + 1) vs)) ≡ all
 locals-turn env now next a n m all vs i v l e h k before =
     ap (λ j. f.with_locals env (inside env next).names a m (map seen_variable (drop j vs))) (let p : i + 1 ≡ suc i = omega arith in p)
     ∙ ap (λ z. f.with_locals env (inside env z).names a m (map seen_variable (drop (suc i) vs))) h
     ∙ ap (λ z. f.with_locals env (inside env (with_local env a n now (seen_variable v))).names a z (map seen_variable (drop (suc i) vs))) k
-    ∙ ap (λ z. f.with_locals env z a (after n) (map seen_variable (drop (suc i) vs))) (inside-bind env now v.name.now.name (b.Signal n (f.local_shape env a (seen_variable v))))
+    ∙ ap (λ z. f.with_locals env z a (n + 1) (map seen_variable (drop (suc i) vs))) (inside-bind env now v.name.now.name (b.Signal n (f.local_shape env a (seen_variable v))))
     ∙ ap (λ z. f.with_locals env (inside env now).names a n (map seen_variable z)) (sym (drop-cons vs i v l ∙ ap (λ z. z ∷ drop (suc i) vs) (sym e)))
     ∙ before
-
--- one more number, of an input or not
-pub input-turn : (now next : List ℕ) (n m : ℕ) (all : List ℕ) (vs : List Variable) (i : ℕ) (v : Variable) → i < length vs → v ≡ get_or vs i v
-    → next ≡ (if v.is_input then now ++ n ∷ [] else now) → m ≡ after n
-    → now ++ f.input_numbers n (map seen_variable (drop i vs)) ≡ all
-    → next ++ f.input_numbers m (map seen_variable (drop (i + 1) vs)) ≡ all
-input-turn now next n m all vs i v l e h k before =
-    ap (λ j. next ++ f.input_numbers m (map seen_variable (drop j vs))) (let p : i + 1 ≡ suc i = omega arith in p)
-    ∙ ap (λ z. next ++ f.input_numbers z (map seen_variable (drop (suc i) vs))) k
-    ∙ ap (λ z. z ++ f.input_numbers (after n) (map seen_variable (drop (suc i) vs))) h
-    ∙ by v.is_input (f.input_numbers (after n) (map seen_variable (drop (suc i) vs)))
-    ∙ ap (λ z. now ++ f.input_numbers n (map seen_variable z)) (sym (drop-cons vs i v l ∙ ap (λ z. z ∷ drop (suc i) vs) (sym e)))
-    ∙ before
-  where
-    by : (c : Bool) (rest : List ℕ) → (if c then now ++ n ∷ [] else now) ++ rest ≡ now ++ (if c then n ∷ rest else rest)
-    by true rest = append_assoc now (n ∷ []) rest
-    by false rest = refl
 
 -- one more signal of a variable
 pub signals-turn : (g : x.Local → Signal) (before after : List Signal) (vs : List Variable) (i : ℕ) (v : Variable) (s : Signal) → i < length vs → v ≡ get_or vs i v

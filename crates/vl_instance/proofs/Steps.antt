@@ -13,16 +13,14 @@ use Rattle.vl_flat.specs.Environments as e
 use Rattle.vl_items.specs.declared.items.Parameter.{Parameter}
 use Rattle.vl_items.specs.declared.items.Declared.{Declared}
 use Rattle.vl_items.specs.declared.items.DataType.{DataType}
-use Rattle.vl_items.specs.declared.items.Function.{Function}
-use Rattle.vl_items.specs.declared.items.Instances.{Instances}
 use Rattle.vl_items.specs.declared.items.Item.{Item}
 use Rattle.vl_items.specs.declared.items.Item.TheVariants as i
-use Rattle.vl_items.specs.SeenItems.{seen_declared, seen_function, seen_instances, seen_item, seen_parameter, seen_type}
+use Rattle.vl_items.specs.SeenItems.{seen_declared, seen_item, seen_parameter, seen_type}
 use Rattle.vl_constant.specs.declared.scope.Known.{Known}
 use Rattle.vl_kinds.specs.declared.counts.Counts.{Counts}
 use Rattle.vl_instance.specs.declared.given.Above.{Above}
 use Rattle.vl_instance.specs.Given.{given_of, overrides_of}
-use Rattle.vl_instance.specs.Known.{counts_of, functions, kind_in, known, nothing_known, one_signal, with_function, with_parameter, with_parameters, with_signal}
+use Rattle.vl_instance.specs.Known.{counts_of, kind_in, known, nothing_known, one_signal, with_parameter, with_parameters, with_signal}
 use Rattle.vl_instance.proofs.Locals.{look-empty}
 
 pub start-known : {S : Type 0} (m : IndexMap (Bor (List ℕ)) Known S) (base : Counts) → m.entries ≡ [] → known m base ≡ nothing_known base
@@ -62,20 +60,3 @@ module _ (sizes : List ℕ → e.Counts) (m : x.Module) (above : Above) (path : 
       → new ≡ fold (with_signal (kind_in m above)) old (map (seen_declared (seen_type kind)) ds.items)
       → new ≡ stepped old item
   item-signals old new item kind ds is h = h ∙ ap (stepped old) (sym is)
-
-  pub item-function : (old new : e.Known) (item : Item) (f : Function) → item ≡ i.Functions f → new ≡ with_function old (seen_function f) → new ≡ stepped old item
-  item-function old new item f is h = h ∙ ap (stepped old) (sym is)
-
-  pub item-instances : (env : Env) (next after : e.Counts) (counts : Counts) (item : Item) (us : Instances) → item ≡ i.Instantiates us
-      → after ≡ e.plus next (counts_of counts) → counts_of counts ≡ e.item_counts sizes (x.Instantiates (seen_instances us))
-      → record { env = env; next = after } ≡ stepped (record { env = env; next = next }) item
-  item-instances env next after counts item us is h k =
-      ap (λ z. record { env = env; next = z }) (h ∙ ap (e.plus next) k) ∙ ap (stepped (record { env = env; next = next })) (sym is)
-
-  -- an item of no names, whose step is this
-  pub item-other : (env : Env) (next after : e.Counts) (counts : Counts) (item same : Item) → item ≡ same
-      → after ≡ e.plus next (counts_of counts) → counts_of counts ≡ functions 0
-      → stepped (record { env = env; next = next }) same ≡ record { env = env; next = e.plus next (functions 0) }
-      → record { env = env; next = after } ≡ stepped (record { env = env; next = next }) item
-  item-other env next after counts item same is h k s =
-      ap (λ z. record { env = env; next = z }) (h ∙ ap (e.plus next) k) ∙ sym s ∙ ap (stepped (record { env = env; next = next })) (sym is)

@@ -3,7 +3,7 @@
 ghost use Rattle.std.specs.Prelude.{◌≡◌, ◌≤◌, ℕ, List, IfOk};
 ghost use Rattle.vl_flat.specs.Items as x;
 ghost use Rattle.vl_flat.specs.Environments as e;
-ghost use Rattle.vl_items.specs.SeenItems.{seen_function, seen_instances, seen_item, seen_module};
+ghost use Rattle.vl_items.specs.SeenItems.{seen_function, seen_item, seen_module};
 ghost use Rattle.vl_constant.specs.Seen.{look};
 ghost use Rattle.vl_kinds.specs.Facts.{facts, facts_of};
 ghost use Rattle.vl_kinds.specs.Sized.{IsSizes};
@@ -17,10 +17,10 @@ use indexmap::IndexMap;
 use std::alloc::{AllocError, Global};
 use vl_constant::ranges::type_form;
 use vl_constant::scope::{Known, Names, bind, module_scope};
-use vl_items::items::{Function, Instances, Item, Module};
-use vl_kinds::counts::{Counts, plus, times};
+use vl_items::items::{Function, Item, Module};
+use vl_kinds::counts::{Counts, sum};
 use vl_kinds::roles::Roles;
-use vl_kinds::sizes::{Sizes, size_at};
+use vl_kinds::sizes::{Sizes, instances_size};
 
 /// So many functions, and no signals.
 fn functions(count: u32) -> Counts
@@ -46,15 +46,7 @@ fn add_function<'m>(
         function.name.name.as_slice(),
         Known::Function(next.functions, form),
     )?;
-    Ok(plus(next, functions(1)))
-}
-
-/// How many signals and functions instances have, with what is in them.
-fn instances_counts(sizes: &Sizes<'_>, depth: u8, instances: &Instances) -> Counts
-    ensures { (ms : List x.Module) → IsSizes sizes.now ms → depth ≤ 129 → spec.counts_of result ≡ e.item_counts (e.size depth ms) (x.Instantiates (seen_instances instances.now)) }
-{
-    let one = size_at(sizes, depth, instances.definition.as_slice());
-    times(instances.units.len(), one)
+    Ok(sum(next, functions(1))?)
 }
 
 /// Adds an item. The numbers behind it.
@@ -79,10 +71,13 @@ fn add_item<'m>(
             add_signals(names, next, roles, above, kind, declared.as_slice())
         }
         Item::Functions(function) => add_function(names, next, function),
-        Item::Instantiates(instances) => Ok(plus(next, instances_counts(sizes, depth, instances))),
-        Item::Assigns(_) => Ok(plus(next, functions(0))),
-        Item::Initial(_, _) => Ok(plus(next, functions(0))),
-        Item::Always(_, _, _) => Ok(plus(next, functions(0))),
+        Item::Instantiates(instances) => {
+            let size = instances_size(sizes, depth, instances)?;
+            Ok(sum(next, size)?)
+        }
+        Item::Assigns(_) => Ok(next),
+        Item::Initial(_, _) => Ok(next),
+        Item::Always(_, _, _) => Ok(next),
     }
 }
 

@@ -18,6 +18,7 @@ use vl_constant::scope::{Known, Names, bind, module_scope};
 use vl_design::design::{SigKind, Signal};
 use vl_flat::binding::Shape;
 use vl_grammar::tree::Identifier;
+use vl_kinds::counts::next_number;
 use vl_kinds::locals::{BodyRoles, local_kind};
 
 /// A name behind a path and a dot.
@@ -112,7 +113,7 @@ pub fn locals<'m>(
     let mut number = behind;
     for variable in frame.variables.as_slice() {
         add_local(&mut locals, names, number, &frame.roles, variable)?;
-        number = number.saturating_add(1);
+        number = next_number(number)?;
     }
     Ok(locals)
 }
@@ -148,7 +149,7 @@ fn numbers_of(
         if variable.is_input {
             numbers.push(number)?;
         }
-        number = number.saturating_add(1);
+        number = next_number(number)?;
     }
     Ok(numbers)
 }

@@ -16,7 +16,7 @@ use vl_constant::scope::{Known, Names, bind, module_scope};
 use vl_design::design::SigKind;
 use vl_flat::binding::Shape;
 use vl_items::items::{DataType, Declared};
-use vl_kinds::counts::{Counts, plus};
+use vl_kinds::counts::{Counts, sum};
 use vl_kinds::roles::{Roles, kind_of};
 
 /// What a declaration declares.
@@ -73,7 +73,7 @@ fn add_signal<'m>(
     }
     let shape = shape(names, signal_kind(roles, above, name), kind, declared);
     bind(names, name, Known::Signal(next.signals, shape))?;
-    Ok(plus(next, one_signal()))
+    Ok(sum(next, one_signal())?)
 }
 
 /// Adds signals of one type. The numbers behind them.

@@ -1,10 +1,10 @@
 use Rattle.std.proofs.Common.{◌≡◌, map, take}
 use Rattle.std.specs.Prelude.{flat_map}
 use Rattle.vl_design.specs.Stops.{earliest}
-use Rattle.vl_flat.specs.Connections as c
+use Rattle.vl_flat.specs.Processes.{optional_faults}
 use Rattle.vl_items.specs.SeenItems.{seen_connection}
 use Rattle.vl_constant.specs.Seen.{look}
 use Rattle.vl_flatten.proofs.faults.override_faults.Given as goal
 
 abbrev pub invariant-loop-connection : goal.invariant-loop-connection
-invariant-loop-connection l = l.best ≡ earliest l.fn.best (flat_map (λ q. c.optional_faults (look l.names) q.value) (map seen_connection (take l.connection-index l.list)))
+invariant-loop-connection l = l.best ≡ earliest l.fn.best (flat_map (λ q. optional_faults (look l.names) q.value) (map seen_connection (take l.connection-index l.list)))

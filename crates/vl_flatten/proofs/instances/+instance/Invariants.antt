@@ -12,19 +12,25 @@ use Rattle.vl_flatten.proofs.Growth.{Done}
 use Rattle.vl_flatten.proofs.instances.+instance.Given as goal
 
 abbrev pub decreases-add_instance : goal.decreases-add_instance
-decreases-add_instance l = 5 * l.depth
+decreases-add_instance l = 8 * l.depth
 
 abbrev pub decreases-add_units : goal.decreases-add_units
-decreases-add_units l = 5 * l.depth + 1
+decreases-add_units l = 8 * l.depth + 1
 
 abbrev pub decreases-add_instances : goal.decreases-add_instances
-decreases-add_instances l = 5 * l.depth + 2
+decreases-add_instances l = 8 * l.depth + 2
 
 abbrev pub decreases-add_parts : goal.decreases-add_parts
-decreases-add_parts l = 5 * l.depth + 3
+decreases-add_parts l = 8 * l.depth + 3
 
 abbrev pub decreases-add_items : goal.decreases-add_items
-decreases-add_items l = 5 * l.depth + 4
+decreases-add_items l = 8 * l.depth + 4
+
+abbrev pub decreases-add_contents : goal.decreases-add_contents
+decreases-add_contents l = 8 * l.depth + 5
+
+abbrev pub decreases-add_inside : goal.decreases-add_inside
+decreases-add_inside l = 8 * l.depth + 6
 
 abbrev pub invariant-add_items-loop-item : goal.invariant-add_items-loop-item
 invariant-add_items-loop-item l = (g : e.Given) → g.overrides ≡ overrides_of l.above →

@@ -28,6 +28,6 @@ returns-clause-behind c = λ sizes own.
     let found = signals here next.signals (signals_in item) in
     let grown = c.in_ok-add_item.ensures (given (overrides_of c.args.above.now)) refl in
     let many = so-many c.args.making.now.signals.items c.add_item.new.making.signals.items found (length c.as_slice-first.result.now) (length c.as_slice.result.now) (ap length c.as_slice-first.ensures.value) (ap length c.as_slice.ensures.value) grown.signals in
-    c.plus.ensures
-    ∙ (ap (λ z. e.plus z (counts_of c.functions_in.result)) (c.behind_signals.ensures ∙ ap (λ k. e.plus next (record { signals = k; functions = 0 })) many)
+    c.in_ok-sum.ensures
+    ∙ (ap (λ z. e.plus z (counts_of c.functions_in.result)) (c.in_ok-behind.ensures ∙ ap (λ k. e.plus next (record { signals = k; functions = 0 })) many)
     ∙ ap (e.plus (e.plus next (record { signals = length found; functions = 0 }))) (c.functions_in.ensures sizes own))

@@ -1,6 +1,7 @@
 use Rattle.std.proofs.Common.{ap, sym, ◌∙◌, ◌++◌, ◌∷◌, [], map}
 use Rattle.std.specs.Prelude.{None, flat_map}
-use Rattle.vl_flat.specs.Connections.{override_faults, optional_faults}
+use Rattle.vl_flat.specs.Connections.{override_faults}
+use Rattle.vl_flat.specs.Processes.{optional_faults}
 use Rattle.vl_flat.specs.Flat as f
 use Rattle.vl_flat.specs.Outcome as o
 use Rattle.vl_design.specs.Stops.{earliest, limit_if}
@@ -12,8 +13,8 @@ use Rattle.vl_flatten.specs.Growing.{totals_of}
 use Rattle.vl_flatten.proofs.Growth.{one-grows, keeps-nothing}
 use Rattle.vl_flatten.proofs.instances.begin.Goals as goal
 
-pub returns-in-None : goal.returns-in-None
-returns-in-None c = λ g at-path.
+pub returns-in_ok-making-in-None : goal.returns-in_ok-making-in-None
+returns-in_ok-making-in-None c = λ g at-path.
     let old = c.args.making.now in
     let n = totals_of old.totals in
     let env = look c.args.above.now in
@@ -30,7 +31,7 @@ returns-in-None c = λ g at-path.
     ∙ ap (λ z. earliest z rest) second) in
     one-grows old _ (f.beginning env g us)
     (earliest-append None limits (long ++ rest) ∙ (earliest-append (earliest None limits) long rest ∙ (sym third ∙ c.in-None.is)))
-    (c.with_instance-making.ensures at)
+    (c.in_ok-making-in-None.ensures at)
     (keeps-nothing old.signals.items)
     (keeps-nothing (map func_of old.funcs.items))
     (keeps-nothing (map process_of old.processes.items))

@@ -22,11 +22,11 @@ returns c =
     let found = p.signals here c.args.next ds in
     let faults = flat_map (p.declared_faults (look c.args.here.names.now)) ds in
     let seen = c.as_slice.ensures.value ∙ c.in_ok-signals.ensures type in
-    let best = c.signals_limits-best.ensures.best ∙ ap (λ z. earliest None (o.signals_limits n z)) seen in
+    let best = c.in_ok-best.ensures.best ∙ ap (λ z. earliest None (o.signals_limits n z)) seen in
     let judged = earliest-append None (o.signals_limits n found) faults ∙ (sym (ap (λ z. earliest z faults) best) ∙ sym c.all_declared_faults.ensures) in
     one-grows c.args.making.now _ (part found [] (p.values here ds) faults)
     (judged ∙ c.in-None.is)
-    (c.signals_limits-best.ensures.totals ∙ ap (fold o.with_signal n) seen)
+    (c.in_ok-best.ensures.totals ∙ ap (fold o.with_signal n) seen)
     (c.in_ok-append-in-None.ensures.items ∙ ap (λ z. c.args.making.now.signals.items ++ z) (c.in_ok-signals.ensures type))
     (keeps-nothing (map func_of c.args.making.now.funcs.items))
     (c.in_ok-add_values-in-None.ensures type)
@@ -40,6 +40,6 @@ returns-in-Some c =
     let found = p.signals here c.args.next ds in
     let faults = flat_map (p.declared_faults (look c.args.here.names.now)) ds in
     let seen = c.as_slice.ensures.value ∙ c.in_ok-signals.ensures type in
-    let best = c.signals_limits-best.ensures.best ∙ ap (λ z. earliest None (o.signals_limits n z)) seen in
+    let best = c.in_ok-best.ensures.best ∙ ap (λ z. earliest None (o.signals_limits n z)) seen in
     let judged = earliest-append None (o.signals_limits n found) faults ∙ (sym (ap (λ z. earliest z faults) best) ∙ sym c.all_declared_faults.ensures) in
     one-stops c.in-Some.stop c.args.making.now.totals (part found [] (p.values here ds) faults) (judged ∙ c.in-Some.is)

@@ -1,7 +1,6 @@
-use Rattle.std.proofs.Common.{refl, ap, sym, ◌∙◌, ◌++◌, ◌∷◌, [], map}
-use Rattle.std.proofs.lemmas.List.{map-append}
+use Rattle.std.proofs.Common.{refl, sym, ◌∙◌, ◌∷◌, [], map}
 use Rattle.vl_flat.specs.Functions as f
-use Rattle.vl_design.specs.Seen.{func_of, process_of}
+use Rattle.vl_design.specs.Seen.{process_of}
 use Rattle.vl_items.specs.SeenItems.{seen_function}
 use Rattle.vl_constant.specs.Seen.{look}
 use Rattle.vl_flatten.specs.Parts.{part}
@@ -18,7 +17,5 @@ returns c =
     (sym (c.in_ok-stop.ensures c.in_ok-frame.ensures) ∙ c.in-None.is)
     refl
     (keeps-nothing old.signals.items)
-    (ap (map func_of) c.in_ok-push-in-None.ensures.items
-    ∙ (map-append func_of old.funcs.items (c.in_ok-function-in-None.field-0 ∷ [])
-    ∙ ap (λ z. map func_of old.funcs.items ++ z ∷ []) (c.in_ok-function-in-None.ensures c.in_ok-frame.ensures)))
+    (c.in_ok-push_function-in-None.ensures c.in_ok-frame.ensures)
     (keeps-nothing (map process_of old.processes.items))

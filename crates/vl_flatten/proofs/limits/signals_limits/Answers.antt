@@ -12,7 +12,7 @@ loop-signal-preserved c =
     let rs = c.args.signals.now in
     let i = c.loop-signal.signal-index in
     let r = c.signal-item.result in
-    let t = c.with_signal-totals.ensures ∙ ap (λ z. o.with_signal z r) c.loop-signal.invariant.1 in (
+    let t = c.in_ok-totals.ensures ∙ ap (λ z. o.with_signal z r) c.loop-signal.invariant.1 in (
       c.signal_limits-best.ensures
           ∙ (ap (λ z. earliest c.loop-signal.best (o.signal_limits z r)) t
           ∙ (ap (λ z. earliest z (o.signal_limits (o.with_signal (fold o.with_signal n (take i rs)) r) r)) c.loop-signal.invariant.0

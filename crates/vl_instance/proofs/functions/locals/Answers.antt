@@ -1,5 +1,4 @@
 use Rattle.std.proofs.Common.{◌≡◌, ◌<◌, get_or, length, map, ap, ◌∙◌, arith}
-use Rattle.vl_flat.specs.Environments.{after}
 use Rattle.vl_flat.specs.Functions.{with_locals}
 use Rattle.vl_constant.specs.Seen.{look}
 use Rattle.vl_instance.specs.Variables.{seen_variable}
@@ -14,6 +13,5 @@ loop-variable-preserved c =
     let env = look c.args.names.now in
     let below : i < length vs = omega (arith, ap length c.as_slice-variable-items.ensures.value) in
     let is : v ≡ get_or vs i v = c.variable-item.is ∙ ap (λ xs. get_or xs i v) c.as_slice-variable-items.ensures.value in
-    let m : c.saturating_add-number.result ≡ after c.loop-variable.number = omega (arith, c.saturating_add-number.ensures) in
-    λ a f. locals-turn env (look c.loop-variable.locals) (look c.add_local.new.locals) a c.loop-variable.number c.saturating_add-number.result (with_locals env env a c.args.behind (map seen_variable vs)) vs i v
-    below is (c.in_ok-add_local.ensures a f.roles) m (c.loop-variable.invariant a f)
+    λ a f. locals-turn env (look c.loop-variable.locals) (look c.add_local.new.locals) a c.loop-variable.number c.in_ok-number.number (with_locals env env a c.args.behind (map seen_variable vs)) vs i v
+    below is (c.in_ok-add_local.ensures a f.roles) c.in_ok-number.ensures (c.loop-variable.invariant a f)

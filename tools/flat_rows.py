@@ -1,5 +1,5 @@
-"""Makes the input and the wanted output of crates/flat_rows from the table tools/flat_rows.txt, and the tables of
-docs/DESIGNS.md's two examples."""
+"""Makes the input and the wanted output of crates/flat_rows from the tables tools/flat_rows.txt and tools/name_rows.txt, and
+looks that docs/DESIGNS.md has the designs of its two examples."""
 
 import pathlib
 import re
@@ -16,13 +16,13 @@ def expanded(text):
 
 
 def cases(text):
-    """The cases of the table: what is wanted in its first line, the lines of a design, and the source."""
+    """The cases of a table: what is wanted in its first line, the lines of a design, and the source."""
     lines = [line for line in text.split("\n") if not line.startswith("#")]
     for case in "\n".join(lines).split("\n---"):
         case = expanded(case.strip("\n"))
         if case:
             wanted, rest = case.split("\n", 1)
-            design, source = rest.split("\n\n", 1) if wanted.startswith("fine") else ("", rest)
+            design, source = rest.split("\n\n", 1) if wanted.startswith("fine ") else ("", rest)
             if source.startswith("file "):
                 source = (TOP / source.split()[1]).read_text().rstrip("\n")
             yield wanted, design, source
@@ -61,10 +61,12 @@ def fault(wanted, source):
 
 
 def answer(wanted, design, source):
-    """The lines of the wanted answer, and the source."""
-    if not wanted.startswith("fine"):
+    """The lines of the wanted answer, and the source: `named` where no fault of names is wanted, whatever the design."""
+    if not wanted.startswith("fine ") and wanted != "named":
         return fault(wanted, source)
     assert MARK not in source, source
+    if wanted == "named":
+        return [wanted], source
     lines = source.split("\n")
     return [wanted] + [placed(row, lines) for row in design.split("\n")], source
 
@@ -112,7 +114,8 @@ def large():
     yield "construct 24", signals + '\n  initial $display((«"12345678901234567"));\nendmodule'
 
 
-rows = [answer(*case) for case in cases((TOOLS / "flat_rows.txt").read_text())] + [fault(*case) for case in large()]
+tables = [(TOOLS / name).read_text() for name in ("flat_rows.txt", "name_rows.txt")]
+rows = [answer(*case) for table in tables for case in cases(table)] + [fault(*case) for case in large()]
 shown = ["\n".join(f"= {line}" for line in lines) + "\n" + source for lines, source in rows]
 (FOLDER / "stdin").write_text("\n".join(shown) + "\n")
 (FOLDER / "stdout").write_text("ok\n" * len(shown))

@@ -1,5 +1,5 @@
 //! Reads sources, each behind lines `= ` of what is wanted, and prints whether it is what elaboration answers: the flat
-//! design as a table, or the first fault.
+//! design as a table, or the first fault; or, where `named` is wanted, no fault of names.
 #![tactic(auto)]
 
 mod expressions;

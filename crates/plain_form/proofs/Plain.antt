@@ -15,7 +15,7 @@ use Rattle.vl_design.specs.declared.design.ProcKind.TheVariants.{Init, Rise}
 use Rattle.vl_design.specs.declared.design.Signal.{Signal}
 use Rattle.vl_design.specs.declared.design.Event.{Event}
 use Rattle.vl_design.specs.Syntax as d
-use Rattle.vl_design.specs.Rows.{range_width}
+use Rattle.vl_design.specs.Rows.{range_width, has_width}
 use Rattle.vl_design.specs.Sound.{HasValue}
 use Rattle.vl_design.specs.Queue.{is_init}
 use Rattle.vl_design.specs.Placed as p
@@ -99,7 +99,7 @@ word-valued k.Mem h = let z : ⊥ = cc in absurd z
 word-valued kind h = tt
 
 signal-plain : (x : Signal) → r.is_signal x ≡ true → HasValue x.kind
-signal-plain x h = word-valued x.kind (and_parts (r.is_word x.kind) (r.is_width (range_width x.left x.right)) h).0
+signal-plain x h = word-valued x.kind (and_parts (r.is_word x.kind) (has_width (range_width x.left x.right)) h).0
 
 -- what passes a test has what follows from it
 all-passing : {A : Type 0} (test : A → Bool) (P : A → Type 0) → ((x : A) → test x ≡ true → P x) → (xs : List A) → list_all test xs ≡ true → All P xs

@@ -19,7 +19,7 @@ use Rattle.vl_design.specs.declared.design.Event.{Event}
 use Rattle.vl_design.specs.declared.design.Signal.{Signal}
 use Rattle.vl_design.specs.Syntax as d
 use Rattle.vl_design.specs.Calls.{task_of}
-use Rattle.vl_design.specs.Rows.{row_of, range_width}
+use Rattle.vl_design.specs.Rows.{row_of, range_width, has_width}
 use Rattle.vl_design.specs.Width.{Names, names_of}
 use Rattle.vl_design.specs.Sound.{IsWidth, IsOf, HasValue, IsSignal, IsNamed, IsSoundExp, IsSoundTarget, IsSoundPiece, IsSoundTask, IsSoundStm, IsSoundFun, IsSoundProc, IsSound}
 use Rattle.vl_design.specs.Queue.{is_init}
@@ -30,14 +30,14 @@ use Rattle.plain_form.specs.Running as r
 
 -- ---- signals
 
-width-sound : (w : ℕ) → r.is_width w ≡ true → IsWidth w
+width-sound : (w : ℕ) → has_width w ≡ true → IsWidth w
 width-sound w h =
     let (low, high) = and_parts (nat_le 1 w) (nat_le w 128) h in
     record { wide = grind (arith, nat_tests); narrow = grind (arith, nat_tests) }
 
 number-sound : (v w : ℕ) → r.is_number v w ≡ true → IsWidth w × (v < 2 ^ w)
 number-sound v w h =
-    let (width, below) = and_parts (r.is_width w) (nat_lt v (2 ^ w)) h in
+    let (width, below) = and_parts (has_width w) (nat_lt v (2 ^ w)) h in
     (width-sound w width, grind (arith, nat_tests))
 
 signal-at : (signals : List Signal) (n : ℕ) (x : Signal) → list_all r.is_signal signals ≡ true → slice_get signals n ≡ Some x → r.is_signal x ≡ true
@@ -53,7 +53,7 @@ tested-signal test P v signals n ok h = subst (IsOf P) (sym (slice_get-map row_o
   where
     go : (o : Option Signal) → slice_get signals n ≡ o → test (option_map (λ (s : Signal). s.kind) o) ≡ true → IsOf P (option_map row_of o)
     go None e t = absurd (v.0 t)
-    go (Some x) e t = (v.1 x.kind t, width-sound (range_width x.left x.right) (and_parts (r.is_word x.kind) (r.is_width (range_width x.left x.right)) (signal-at signals n x ok e)).1)
+    go (Some x) e t = (v.1 x.kind t, width-sound (range_width x.left x.right) (and_parts (r.is_word x.kind) (has_width (range_width x.left x.right)) (signal-at signals n x ok e)).1)
 
 variable-values : Passes r.is_variable HasValue
 variable-values = (λ e. cc, go)

@@ -13,7 +13,7 @@ use Rattle.vl_design.specs.declared.design.ProcKind.TheVariants.{Init, Rise}
 use Rattle.vl_design.specs.declared.design.Signal.{Signal}
 use Rattle.vl_design.specs.declared.design.Event.{Event}
 use Rattle.vl_design.specs.Syntax.{Exp, Num, Sig, Bin}
-use Rattle.vl_design.specs.Rows.{range_width}
+use Rattle.vl_design.specs.Rows.{range_width, has_width}
 use Rattle.vl_design.specs.Queue.{is_init, is_rise}
 use Rattle.vl_base.specs.Places.{same_place}
 use Rattle.vl_design.specs.Placed as p
@@ -21,17 +21,13 @@ use Rattle.vl_design.specs.Plainly.{exp}
 
 -- ---- signals (clauses 4.2 and 4.3)
 
--- from 1 to 128 bits
-abbrev pub is_width : ℕ → Bool
-is_width w = nat_le 1 w && nat_le w 128
-
 abbrev pub is_word : SigKind → Bool
 is_word Mem = false
 is_word kind = true
 
 -- no memory, and from 1 to 128 bits
 abbrev pub is_signal : Signal → Bool
-is_signal s = is_word s.kind && is_width (range_width s.left s.right)
+is_signal s = is_word s.kind && has_width (range_width s.left s.right)
 
 -- the kind of the signal of a number
 abbrev pub kind_of : List Signal → ℕ → Option SigKind
@@ -55,7 +51,7 @@ is_readable kind other = false
 
 -- a value of 1 to 128 bits
 abbrev pub is_number : ℕ → ℕ → Bool
-is_number v w = is_width w && nat_lt v (2 ^ w)
+is_number v w = has_width w && nat_lt v (2 ^ w)
 
 abbrev pub is_operator : BinOp → Bool
 is_operator Add = true

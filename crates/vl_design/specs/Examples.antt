@@ -6,7 +6,7 @@ use Rattle.vl_base.specs.Display.{LeastDecimal, Decimal, Hexadecimal}
 use Rattle.vl_design.specs.declared.design.SigKind.{SigKind}
 use Rattle.vl_design.specs.declared.design.SigKind.TheVariants.{Net, Var, Loop, Mem, Clock}
 use Rattle.vl_design.specs.declared.design.ProcKind.TheVariants.{Init, Rise, Fall, Assign}
-use Rattle.vl_design.specs.Syntax.{Exp, Num, Label, Sig, Word, Slice, Bin, Call, Time, LastAnswer, NoExps, MoreExps, Whole, WordAt, PickAt, SliceAt, Piece, Literal, Shown, Print, Finish, Fopen, Fread, Feof, Stm, Nop, Then, If, Case, For, Set, Later, Sys, Labelled, Default, NoItems, Row, Proc, Flat}
+use Rattle.vl_design.specs.Syntax.{Exp, Num, Label, Sig, Word, Slice, Bin, Call, Time, LastAnswer, NoExps, MoreExps, Whole, WordAt, PickAt, SliceAt, Piece, Literal, Shown, Print, Finish, Fopen, Fread, Feof, Stm, Nop, Then, If, Case, For, Set, Later, Sys, Labelled, Default, NoItems, Row, Event, Proc, Flat}
 use Rattle.vl_design.specs.Width.{Scope}
 use Rattle.vl_design.specs.Value.{Sample}
 use Rattle.vl_design.specs.Functions.{scope_of}
@@ -32,8 +32,12 @@ number v = Num v 32 true
 abbrev pub turned : ℕ → Stm → Stm
 turned k a = For k (Set (Whole k) (number 0)) (Bin Lt (Sig k) (number 4)) (Set (Whole k) (Bin Add (Sig k) (number 1))) a
 
+-- the event of an edge of the clock, which is the first signal
+abbrev pub of_clock : ℕ → List Event
+of_clock edge = record { signal = 0; edge = edge } ∷ []
+
 abbrev pub rise : Stm → Proc
-rise a = record { kind = Rise; events = []; body = a }
+rise a = record { kind = Rise; events = of_clock 1; body = a }
 
 abbrev pub initial : Stm → Proc
 initial a = record { kind = Init; events = []; body = a }
@@ -42,8 +46,8 @@ abbrev pub flat : List Row → List Proc → Flat
 flat rows procs = record { rows = clock ∷ rows; funs = []; procs = procs }
 
 -- a design alone, over these files, within 100 ticks
-abbrev pub alone : List File → Flat → Origin
-alone files d = record { flat = d; files = files; plan = record { budget = 100; errands = [] }; resume = None }
+abbrev pub tried : List File → Flat → Origin
+tried files d = record { flat = d; files = files; plan = record { budget = 100; errands = [] }; resume = None }
 
 -- reg [7:0] c; always @(posedge clk) begin $display("%0d", c); c <= c + 1; end
 abbrev pub counter : Flat
@@ -82,7 +86,7 @@ greets = flat [] (initial (show (Literal (codes "hi") ∷ [])) ∷ [])
 
 -- always @(posedge clk) $display("p"); always @(negedge clk) $display("n %0d", $time);
 abbrev pub both_edges : Flat
-both_edges = flat [] (rise (show (Literal (codes "p") ∷ [])) ∷ record { kind = Fall; events = []; body = show (Literal (codes "n ") ∷ Shown LeastDecimal Time ∷ []) } ∷ [])
+both_edges = flat [] (rise (show (Literal (codes "p") ∷ [])) ∷ record { kind = Fall; events = of_clock 2; body = show (Literal (codes "n ") ∷ Shown LeastDecimal Time ∷ []) } ∷ [])
 
 abbrev pub integer : List ℕ → Row
 integer name = row name Var 32 true

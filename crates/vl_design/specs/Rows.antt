@@ -1,5 +1,5 @@
 -- Signals: their widths, and the words of a memory (IEEE 1364-2005, clauses 4.3 and 4.9).
-use Rattle.std.specs.Prelude.{ℕ, ◌+◌, ℤ, ◌-ℤ◌, int_le, if◌then◌else◌}
+use Rattle.std.specs.Prelude.{ℕ, ◌+◌, nat_le, ℤ, ◌-ℤ◌, int_le, Bool, ◌&&◌, if◌then◌else◌}
 use Rattle.std.specs.Int.RustNames.{unsigned_abs}
 use Rattle.vl_design.specs.declared.design.SigKind.{SigKind}
 use Rattle.vl_design.specs.declared.design.SigKind.TheVariants.{Mem}
@@ -9,6 +9,10 @@ use Rattle.vl_design.specs.Syntax.{Row}
 -- how many bits, or words, stand from one number to another, both included (clauses 4.3 and 4.9)
 abbrev pub range_width : ℤ → ℤ → ℕ
 range_width left right = unsigned_abs (left -ℤ right) + 1
+
+-- from 1 to 128 bits
+abbrev pub has_width : ℕ → Bool
+has_width w = nat_le 1 w && nat_le w 128
 
 abbrev pub lower_of : ℤ → ℤ → ℤ
 lower_of a b = if int_le a b then a else b

@@ -17,7 +17,7 @@ ghost use Rattle.vl_design.specs.Tasks.{called};
 ghost use Rattle.vl_base.specs.Value.{reading, resized};
 ghost use Rattle.vl_design.specs.Queue.{Queue};
 ghost use Rattle.vl_design.specs.Laws.{DifferIn, StatesDifferIn, Grows, Adds, InRange, SameShape, IsFine, StartsFine, IsTable, StartsOpen, can_act, IsUnrolled, HasQuietNets, IsReached};
-ghost use Rattle.vl_design.specs.Examples.{alone, counter};
+ghost use Rattle.vl_design.specs.Examples.{tried, counter};
 ghost use Rattle.vl_design.specs.Alone.{Origin, Settles, Boundary, Ends};
 ghost use Rattle.vl_design.specs.Observed.{observed, IsSameRun};
 ghost use Rattle.vl_design.specs.Acts.{Point, After, Before, state_at, queue_at, at_boundary, tick_of, branch_of};
@@ -203,11 +203,11 @@ pub fn a_longer_width_keeps_the_number()
 
 /// Act by act: the end of the first wave and its update are two acts, and a counter's third is its first call.
 pub fn the_third_act_of_a_counter_is_a_call()
-    ensures { (task : Task) × (p : Point) × Before (alone [] counter) 3 task p ×
+    ensures { (task : Task) × (p : Point) × Before (tried [] counter) 3 task p ×
         ((state_at p).printed ≡ []) × ((state_at p).ticks ≡ 1) × ((state_at p).count ≡ 2) }
 {}
 
 /// Act by act: after 11 acts a counter has printed the numbers 0 to 2.
 pub fn eleven_acts_of_a_counter_are_three_ticks()
-    ensures { (p : Point) × After (alone [] counter) 11 p × ((state_at p).printed ≡ codes "0\n1\n2\n") }
+    ensures { (p : Point) × After (tried [] counter) 11 p × ((state_at p).printed ≡ codes "0\n1\n2\n") }
 {}

@@ -1,5 +1,5 @@
 -- The plain data of modules (IEEE 1364-2005, clauses 4, 10.4 and 12).
-use Rattle.std.specs.Prelude.{ℕ, Bool, true, false, List, [], ◌∷◌, ◌++◌, map, flat_map, Option, Some, None, option_map}
+use Rattle.std.specs.Prelude.{Bool, true, false, List, [], ◌∷◌, ◌++◌, map, flat_map, Option, Some, None, option_map}
 use Rattle.std.specs.Option.{option_map_or}
 use Rattle.vl_grammar.specs.declared.tree.Identifier.{Identifier}
 use Rattle.vl_source.specs.declared.tree.Source.{Source}
@@ -7,8 +7,8 @@ use Rattle.vl_source.specs.declared.tree.Module.{Module as ModuleTree}
 use Rattle.vl_source.specs.declared.tree.ParameterGroup.{ParameterGroup}
 use Rattle.vl_source.specs.declared.tree.ParameterType.{ParameterType}
 use Rattle.vl_source.specs.declared.tree.ParameterType.TheVariants as t
-use Rattle.vl_source.specs.declared.tree.ParameterKeyword.TheVariants as w
 use Rattle.vl_source.specs.declared.tree.ParameterAssignment.{ParameterAssignment}
+use Rattle.vl_source.specs.Hierarchy as h
 use Rattle.vl_source.specs.declared.tree.Ports.{Ports}
 use Rattle.vl_source.specs.declared.tree.Ports.TheVariants as ps
 use Rattle.vl_source.specs.declared.tree.PortDeclaration.{PortDeclaration}
@@ -138,32 +138,11 @@ abbrev pub header_ports : Option Ports → List Item
 header_ports (Some (ps.Declarations ports)) = map (λ a. Signals (ports_in a)) ports
 header_ports ports = []
 
-abbrev pub port_names : PortDeclaration → List Identifier
-port_names a = map (λ d. d.name) (ports_in a)
-
--- the ports in order (clause 12.3.2)
-abbrev pub listed : Option Ports → List Identifier
-listed None = []
-listed (Some ps.Empty) = []
-listed (Some (ps.Names names)) = names
-listed (Some (ps.Declarations ports)) = flat_map port_names ports
-
-abbrev pub assigned_names : List ParameterAssignment → List (List ℕ)
-assigned_names as' = map (λ a. a.name.name) as'
-
-abbrev pub parameter_names : ItemTree → List (List ℕ)
-parameter_names (i.Parameter at w.Parameter kind as') = assigned_names as'
-parameter_names item = []
-
--- the parameters that an instance may override: those of the header where it has some, else those of the body
-abbrev pub overridable : ModuleTree → List (List ℕ)
-overridable m = option_map_or (flat_map (λ g. assigned_names g.assignments)) m.parameters (flat_map parameter_names m.items)
-
 abbrev pub module' : ModuleTree → Module
 module' m = record {
   name = m.name;
-  ports = listed m.ports;
-  parameters = overridable m;
+  ports = h.ports m;
+  parameters = map (λ n. n.name) (h.overridable m);
   items = option_map_or (map header_parameters) m.parameters [] ++ (header_ports m.ports ++ map item m.items);
 }
 

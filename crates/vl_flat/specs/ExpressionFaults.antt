@@ -1,5 +1,5 @@
 -- The faults of expressions: refused constructs 10, 11 and 24 (own; what they bound is of IEEE 1364-2005, clauses 4.2, 5.2 and 5.4).
-use Rattle.std.specs.Prelude.{ℕ, zero, suc, nat_lt, ℤ, int_lt, Bool, true, false, not, ◌&&◌, ◌||◌, List, [], ◌++◌, flat_map, Option, if◌then◌else◌, codes}
+use Rattle.std.specs.Prelude.{ℕ, zero, suc, ℤ, int_lt, Bool, true, false, not, ◌&&◌, ◌||◌, List, [], ◌++◌, flat_map, Option, if◌then◌else◌, codes}
 use Rattle.std.specs.Str.{bytes_eq}
 use Rattle.vl_base.specs.declared.place.Place.{Place}
 use Rattle.vl_grammar.specs.declared.tree.SelectMark.{SelectMark}
@@ -10,6 +10,7 @@ use Rattle.vl_flat.specs.declared.binding.Binding.{Binding}
 use Rattle.vl_design.specs.declared.stop.Stop.{Stop}
 use Rattle.vl_flat.specs.Surface.{Ex, Exs, Selects, Args, Number, Text, Named, Paren, Unary, Binary, Choice, Joined, Repeated, Called, System, NoExs, MoreExs, NoSelects, Index, Range, NoArgs, NullArg, MoreArgs, node_place}
 use Rattle.vl_design.specs.Placed.{Exp}
+use Rattle.vl_design.specs.Rows.{has_width}
 use Rattle.vl_design.specs.Stops.{construct_if}
 use Rattle.vl_flat.specs.Scopes.{Scope}
 use Rattle.vl_flat.specs.Constants.{is_bound, is_count, is_width}
@@ -57,9 +58,9 @@ abbrev pub items_in : List ℕ → ℕ
 items_in text = formats.taken (format_pieces [] InText text [])
 
 module _ (scope : Scope) where
-  -- the expression is more than 128 bits wide, and holds no string that is too long
+  -- the expression isn't from 1 to 128 bits wide, and holds no string that is too long; no text has one of no bits
   abbrev pub past : Ex → List Stop
-  past e = construct_if (nat_lt 128 (form scope e).width && not (holds_long e)) (node_place e) 10
+  past e = construct_if (not (has_width (form scope e).width) && not (holds_long e)) (node_place e) 10
 
   -- a test that a constant has to pass, unless a string in it is too long
   abbrev pub constant_must : (Exp → Bool) → Ex → ℕ → List Stop
@@ -95,7 +96,7 @@ module _ (scope : Scope) where
     faults (Choice at t a b) = past (Choice at t a b) ++ (faults t ++ (faults a ++ faults b))
     faults (Joined at es) = past (Joined at es) ++ all_faults es
     faults (Repeated at n es) = past (Repeated at n es) ++ (faults n ++ (constant_must is_count n 10 ++ all_faults es))
-    faults (Called at name es) = all_faults es
+    faults (Called at name es) = past (Called at name es) ++ all_faults es
     faults (System at name given) = past (System at name given) ++ args_faults (keeps_texts name) given
 
     pub all_faults : Exs → List Stop

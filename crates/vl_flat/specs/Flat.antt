@@ -1,18 +1,19 @@
 -- The flat design of a source, part by part in its order (IEEE 1364-2005, clause 12): an instance stands for its input
 -- connections in port order, the items of its module, and its output connections in port order.
-use Rattle.std.specs.Prelude.{ℕ, zero, suc, nat_lt, Bool, false, not, ◌&&◌, List, [], ◌∷◌, ◌++◌, length, map, flat_map, position, slice_get, Option, None, if◌then◌else◌}
-use Rattle.std.specs.Option.{option_map_or, option_and_then, option_to_list}
-use Rattle.std.specs.Str.{bytes_eq}
+use Rattle.std.specs.Prelude.{ℕ, zero, suc, nat_lt, Bool, false, not, ◌&&◌, List, [], ◌∷◌, ◌++◌, length, flat_map, slice_get, Option, None, if◌then◌else◌}
+use Rattle.std.specs.Option.{option_map_or, option_and_then}
 use Rattle.vl_base.specs.declared.place.Place.{Place}
-use Rattle.vl_source.specs.Hierarchy.{first_top}
+use Rattle.vl_source.specs.declared.tree.Source.{Source}
+use Rattle.vl_source.specs.Hierarchy.{graph_of, first_top}
 use Rattle.vl_design.specs.declared.design.Signal.{Signal}
 use Rattle.vl_design.specs.declared.stop.Stop.{Stop}
 use Rattle.vl_design.specs.Placed as p
 use Rattle.vl_design.specs.Stops.{limit_if}
 use Rattle.vl_flat.specs.Scopes.{Env}
 use Rattle.vl_flat.specs.Items.{NamedUnit, Instances, Item, Instantiates, Module}
+use Rattle.vl_flat.specs.Declarations.{modules}
 use Rattle.vl_flat.specs.Kinds.{signals_in, is_input}
-use Rattle.vl_flat.specs.Environments.{Counts, no_more, plus, item_counts, module_named, size, Given, environment}
+use Rattle.vl_flat.specs.Environments.{Counts, no_more, plus, item_counts, module_counts, module_named, size, Given, environment}
 use Rattle.vl_flat.specs.Processes.{Here, signals, processes, functions, item_faults}
 use Rattle.vl_flat.specs.Connections.{given, override_faults, port_connection, place_in, expression_of, is_clock_binding, input_process, input_faults, output_process, output_faults}
 
@@ -118,12 +119,16 @@ deepest = 128
 abbrev pub top_given : Module → Given
 top_given m = record { path = m.name.name; base = no_more; overrides = λ t. None; clocks = is_input m; wired = λ t. false }
 
+-- how many signals and functions the design from this module has
+abbrev pub whole : List Module → Module → Counts
+whole ms m = module_counts (size deepest ms) m
+
 -- the parts of the flat design, in order
 abbrev pub parts_from : List Module → Module → List Part
 parts_from ms m =
     let sizes = size deepest ms in
     let g = top_given m in
-    body (instance deepest ms) sizes ms (size (suc deepest) ms m.name.name).signals (environment sizes g m) g m
+    body (instance deepest ms) sizes ms (whole ms m).signals (environment sizes g m) g m
 
 abbrev pub design_of : Module → List Part → p.Design
 design_of m parts = record {
@@ -135,19 +140,6 @@ design_of m parts = record {
 
 -- ---- the top module (clause 12.1.1)
 
--- the number of the module that a name means: the first so called
-abbrev pub module_number : List Module → List ℕ → Option ℕ
-module_number ms t = position (λ m. bytes_eq t m.name.name) ms
-
--- the numbers of the modules that an item instantiates, by what names mean
-abbrev pub item_steps : (List ℕ → Option ℕ) → Item → List ℕ
-item_steps number (Instantiates us) = option_to_list (number us.definition)
-item_steps number item = []
-
--- for each module the numbers of those that it instantiates
-abbrev pub graph_of : List Module → List (List ℕ)
-graph_of ms = map (λ m. flat_map (item_steps (module_number ms)) m.items) ms
-
 -- the first module that none instantiates
-abbrev pub top_of : List Module → Option Module
-top_of ms = option_and_then (slice_get ms) (first_top (graph_of ms))
+abbrev pub top_of : Source → Option Module
+top_of s = option_and_then (slice_get (modules s)) (first_top (graph_of s))

@@ -102,9 +102,6 @@ abbrev pub flattened_by : List Module → Option Module → Result p.Design Stop
 flattened_by ms None = Err Memory
 flattened_by ms (Some m) = flattened_from ms m
 
-abbrev pub flattened_modules : List Module → Result p.Design Stop
-flattened_modules ms = flattened_by ms (top_of ms)
-
 -- the flat design of a source whose names have no fault, or the first fault
 abbrev pub flattened : Source → Result p.Design Stop
-flattened s = flattened_modules (modules s)
+flattened s = flattened_by (modules s) (top_of s)

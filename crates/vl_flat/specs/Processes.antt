@@ -2,6 +2,7 @@
 use Rattle.std.specs.Prelude.{ℕ, ◌+◌, nat_lt, ℤ, Bool, true, false, not, ◌&&◌, ◌==◌, List, [], ◌∷◌, ◌++◌, map, flat_map, Option, Some, None, if◌then◌else◌}
 use Rattle.std.specs.Option.{option_map_or}
 use Rattle.std.specs.Ordering.{int_eq}
+use mathlib.Core.Bool.{beq}
 use Rattle.vl_base.specs.declared.place.Place.{Place}
 use Rattle.vl_grammar.specs.declared.tree.Identifier.{Identifier}
 use Rattle.vl_source.specs.declared.tree.Edge.{Edge}
@@ -60,14 +61,10 @@ abbrev pub is_clock : SigKind → Bool
 is_clock Clock = true
 is_clock kind = false
 
-abbrev pub same_flag : Bool → Bool → Bool
-same_flag true b = b
-same_flag false b = not b
-
 -- this sign, and these bits, or none, are what the first declaration of a signal says
 abbrev pub is_alike : Bool → Bool → ℤ × ℤ → Shape → Bool
 is_alike signed ranged r s =
-    same_flag signed s.signed && (same_flag ranged s.ranged && (int_eq r.0 s.left && int_eq r.1 s.right))
+    beq signed s.signed && (beq ranged s.ranged && (int_eq r.0 s.left && int_eq r.1 s.right))
 
 -- a clock has one bit; both declarations of a port have one sign and range, or none has a range
 abbrev pub binding_faults : Env → Declared → Option Binding → List Stop

@@ -1,10 +1,11 @@
 -- The left sides of an instance in its design, and their faults (IEEE 1364-2005, clauses 6.1 and 9.2).
-use Rattle.std.specs.Prelude.{ℕ, ◌+◌, nat_lt, List, [], ◌++◌, fold, Option}
+use Rattle.std.specs.Prelude.{ℕ, ◌+◌, not, List, [], ◌++◌, fold, Option}
 use Rattle.vl_base.specs.declared.place.Place.{Place}
 use Rattle.vl_flat.specs.declared.binding.Binding.{Binding}
 use Rattle.vl_design.specs.declared.stop.Stop.{Stop}
-use Rattle.vl_flat.specs.Surface.{Selects, Left, Lefts, LeftName, LeftList, NoLefts, MoreLefts, left_place}
+use Rattle.vl_flat.specs.Surface.{Selects, Left, Lefts, LeftName, LeftList, NoLefts, MoreLefts}
 use Rattle.vl_design.specs.Placed as p
+use Rattle.vl_design.specs.Rows.{has_width}
 use Rattle.vl_design.specs.Stops.{construct_if}
 use Rattle.vl_flat.specs.Scopes.{Scope, number_of}
 use Rattle.vl_flat.specs.Expressions.{Step, Chosen, Picked, Sliced, part_low, steps_of, named_form}
@@ -41,15 +42,12 @@ module _ (scope : Scope) where
     lefts_width (MoreLefts l ls) = left_width l + lefts_width ls
 
   abbrev mutual
-    -- the faults of the selects in a left side
-    pub left_faults : Left → List Stop
-    left_faults (LeftName at name ss) = name_faults scope at (scope.names name) ss
-    left_faults (LeftList at ls) = lefts_faults ls
+    -- the faults of a left side: each part has from 1 to 128 bits
+    pub target_faults : Left → List Stop
+    target_faults (LeftName at name ss) =
+        construct_if (not (has_width (named_form scope (scope.names name) ss).width)) at 10 ++ name_faults scope at (scope.names name) ss
+    target_faults (LeftList at ls) = construct_if (not (has_width (lefts_width ls))) at 10 ++ targets_faults ls
 
-    pub lefts_faults : Lefts → List Stop
-    lefts_faults NoLefts = []
-    lefts_faults (MoreLefts l ls) = left_faults l ++ lefts_faults ls
-
-  -- the faults of a left side: at most 128 bits are written
-  abbrev pub target_faults : Left → List Stop
-  target_faults l = construct_if (nat_lt 128 (left_width l)) (left_place l) 10 ++ left_faults l
+    pub targets_faults : Lefts → List Stop
+    targets_faults NoLefts = []
+    targets_faults (MoreLefts l ls) = target_faults l ++ targets_faults ls

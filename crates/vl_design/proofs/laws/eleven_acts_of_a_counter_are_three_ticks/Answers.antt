@@ -3,7 +3,7 @@ use Rattle.std.proofs.Common.{◌≡◌, true, false, [], refl, ◌∙◌, ap, s
 use Rattle.std.specs.Prelude.{codes}
 use Rattle.std.specs.Fmt.{digits}
 use Rattle.std.proofs.lemmas.List.Elements.{All-nil, All-cons}
-use Rattle.vl_design.specs.Examples.{alone, counter}
+use Rattle.vl_design.specs.Examples.{tried, counter}
 use Rattle.vl_design.specs.Queue.{is_comb}
 use Rattle.vl_design.specs.Alone.{Shows}
 use Rattle.vl_design.specs.Acts.{After}
@@ -27,6 +27,6 @@ quiet = record { quiet = All-cons (λ p. is_comb p.kind ≡ true → can_act p.b
 pub returns : goal.returns
 unfolding digits
 returns c =
-    let s : Shows (alone [] counter) 3 (codes "0\n1\n2\n") 11 = shows_by (alone [] counter) 9 3 _ _ refl refl in
-    let r : IsReached (alone [] counter) s.0 = agrees (alone [] counter) unrolled quiet s.1 in
-    (r.point, subst (λ n. After (alone [] counter) n r.point) s.3 r.after, ap (λ z. z.printed) r.same ∙ s.2)
+    let s : Shows (tried [] counter) 3 (codes "0\n1\n2\n") 11 = shows_by (tried [] counter) 9 3 _ _ refl refl in
+    let r : IsReached (tried [] counter) s.0 = agrees (tried [] counter) unrolled quiet s.1 in
+    (r.point, subst (λ n. After (tried [] counter) n r.point) s.3 r.after, ap (λ z. z.printed) r.same ∙ s.2)

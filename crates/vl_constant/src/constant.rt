@@ -62,7 +62,7 @@ fn form_of(bits: Bits, signed: bool) -> Form
 
 /// The width and the sign of a constant read for itself.
 #[tactic(auto, using(crate::proofs::Widths::widths))]
-pub fn constant_form(scope: &Scope<'_, '_>, e: &Ex) -> Form
+pub(crate) fn constant_form(scope: &Scope<'_, '_>, e: &Ex) -> Form
     ensures same { result ≡ spec.folded_form (seen_scope scope.now).names (seen e.now) }
     ensures wide { 1 ≤ result.width }
     ensures narrow { result.width ≤ 128 }
@@ -112,7 +112,7 @@ fn padded(a: Bits, width: u8) -> Bits
 
 /// The value of a constant in a context.
 #[tactic(auto, using(crate::proofs::Widths::widths))]
-pub fn evaluate(scope: &Scope<'_, '_>, e: &Ex, c: Form) -> Bits
+pub(crate) fn evaluate(scope: &Scope<'_, '_>, e: &Ex, c: Form) -> Bits
     requires wide { 1 ≤ c.width }
     requires narrow { c.width ≤ 128 }
     ensures value { result.value ≡ spec.folded (seen_scope scope.now).names (seen e.now) c }

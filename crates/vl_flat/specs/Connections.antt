@@ -3,6 +3,7 @@ use Rattle.std.specs.Prelude.{ℕ, Bool, true, false, not, ◌&&◌, List, [], �
 use Rattle.std.specs.Option.{option_map_or, option_and_then}
 use Rattle.std.specs.Str.{bytes_eq}
 use Rattle.vl_base.specs.declared.place.Place.{Place}
+use Rattle.vl_grammar.specs.declared.tree.Identifier.{Identifier}
 use Rattle.vl_design.specs.declared.design.ProcKind.TheVariants.{Assign}
 use Rattle.vl_design.specs.declared.design.SigKind.{SigKind}
 use Rattle.vl_design.specs.declared.design.SigKind.TheVariants.{Net}
@@ -40,6 +41,9 @@ connection_of qs k t = if by_name qs then find (is_for t) qs else slice_get qs k
 abbrev pub named_connection : List (List ℕ) → List Connection → List ℕ → Option Connection
 named_connection names qs t = option_and_then (λ k. connection_of qs k t) (position (bytes_eq t) names)
 
+abbrev pub spelled : List Identifier → List (List ℕ)
+spelled names = map (λ n. n.name) names
+
 abbrev pub expression_of : Option Connection → Option x.Ex
 expression_of = option_and_then (λ q. q.value)
 
@@ -57,11 +61,11 @@ is_clock_name env e = false
 
 -- the connection of a port
 abbrev pub port_connection : Module → NamedUnit → List ℕ → Option Connection
-port_connection m u t = named_connection (map (λ n. n.name) m.ports) u.connections t
+port_connection m u t = named_connection (spelled m.ports) u.connections t
 
 -- the constant in place of a parameter's default
 abbrev pub override : Env → Module → Instances → List ℕ → Option p.Exp
-override above m a t = option_map (constant (plainly above)) (expression_of (named_connection m.parameters a.overrides t))
+override above m a t = option_map (constant (plainly above)) (expression_of (named_connection (spelled m.parameters) a.overrides t))
 
 -- an instance of the module m, whose first signal and function have these numbers
 abbrev pub given : Here → Counts → Instances → NamedUnit → Module → Given

@@ -142,7 +142,7 @@ abbrev pub module' : ModuleTree → Module
 module' m = record {
   name = m.name;
   ports = h.ports m;
-  parameters = map (λ n. n.name) (h.overridable m);
+  parameters = h.overridable m;
   items = option_map_or (map header_parameters) m.parameters [] ++ (header_ports m.ports ++ map item m.items);
 }
 

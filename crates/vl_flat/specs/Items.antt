@@ -77,9 +77,9 @@ pub data Item : Type 0 where
   Functions : (f : Function) → Item
   Instantiates : (us : Instances) → Item
 
--- a module: its ports in order, and the names of the parameters that an instance may override, in order
+-- a module: its ports in order, and the parameters that an instance may override, in order
 pub record Module : Type 0 where
   pub name : Identifier
   pub ports : List Identifier
-  pub parameters : List (List ℕ)
+  pub parameters : List Identifier
   pub items : List Item

@@ -3,7 +3,7 @@ use Rattle.std.specs.Prelude.{ℕ, ◌+◌, not, List, [], ◌++◌, fold, Optio
 use Rattle.vl_base.specs.declared.place.Place.{Place}
 use Rattle.vl_flat.specs.declared.binding.Binding.{Binding}
 use Rattle.vl_design.specs.declared.stop.Stop.{Stop}
-use Rattle.vl_flat.specs.Surface.{Selects, Left, Lefts, LeftName, LeftList, NoLefts, MoreLefts}
+use Rattle.vl_flat.specs.Surface.{Selects, Left, Lefts, LeftName, LeftList, NoLefts, MoreLefts, left_place}
 use Rattle.vl_design.specs.Placed as p
 use Rattle.vl_design.specs.Rows.{has_width}
 use Rattle.vl_design.specs.Stops.{construct_if}
@@ -41,12 +41,15 @@ module _ (scope : Scope) where
     lefts_width NoLefts = 0
     lefts_width (MoreLefts l ls) = left_width l + lefts_width ls
 
+  -- a left side that isn't from 1 to 128 bits wide; no text has one of no bits
+  abbrev pub width_faults : Left → List Stop
+  width_faults l = construct_if (not (has_width (left_width l))) (left_place l) 10
+
   abbrev mutual
-    -- the faults of a left side: each part has from 1 to 128 bits
+    -- the faults of a left side
     pub target_faults : Left → List Stop
-    target_faults (LeftName at name ss) =
-        construct_if (not (has_width (named_form scope (scope.names name) ss).width)) at 10 ++ name_faults scope at (scope.names name) ss
-    target_faults (LeftList at ls) = construct_if (not (has_width (lefts_width ls))) at 10 ++ targets_faults ls
+    target_faults (LeftName at name ss) = width_faults (LeftName at name ss) ++ name_faults scope at (scope.names name) ss
+    target_faults (LeftList at ls) = width_faults (LeftList at ls) ++ targets_faults ls
 
     pub targets_faults : Lefts → List Stop
     targets_faults NoLefts = []

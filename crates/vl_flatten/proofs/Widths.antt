@@ -1,4 +1,5 @@
 -- Each signal of a flat design, and each variable of its functions, has 1 to 128 bits: another is a fault of its declaration.
+use mathlib.Core.Bool.{beq}
 use Rattle.std.proofs.Common.{◌≡◌, ◌+◌, ℕ, zero, suc, ◌≤◌, Bool, true, false, not, ◌&&◌, if◌then◌else◌, List, [], ◌∷◌, ◌++◌, Option, Some, None, Result, Ok, Err, refl, subst, arith, map}
 use Rattle.std.specs.Prelude.{ℤ, nat_lt, fold, flat_map, All}
 use Rattle.std.specs.Option.{option_map_or}
@@ -25,7 +26,7 @@ use Rattle.vl_flat.specs.Environments.{Counts, Given, environment, module_named,
 use Rattle.vl_flat.specs.Functions.{local_shape}
 use Rattle.vl_flat.specs.Statements.{statement_faults}
 use Rattle.vl_flat.specs.Functions as fs
-use Rattle.vl_flat.specs.Processes.{Here, is_first, is_clock, is_alike, same_flag, signal_of, signals, functions, declared_faults, binding_faults, optional_faults}
+use Rattle.vl_flat.specs.Processes.{Here, is_first, is_clock, is_alike, signal_of, signals, functions, declared_faults, binding_faults, optional_faults}
 use Rattle.vl_flat.specs.Connections.{given, port_connection, place_in, expression_of, is_clock_binding, input_process, input_faults, output_process, output_faults}
 use Rattle.vl_flat.specs.Flat as f
 use Rattle.vl_flat.specs.Flat.{instance}
@@ -114,12 +115,12 @@ type-narrow env t at e = none-if (is_wide env t) at 10 (none-right (range_faults
 same-left : (signed ranged : Bool) (r : ℤ × ℤ) (s : Shape) → is_alike signed ranged r s ≡ true → r.0 ≡ s.left
 same-left signed ranged r s e =
     (Decides-int_eq r.0 s.left).0 (left-true (int_eq r.0 s.left) (int_eq r.1 s.right)
-    (right-true (same_flag ranged s.ranged) _ (right-true (same_flag signed s.signed) _ e)))
+    (right-true (beq ranged s.ranged) _ (right-true (beq signed s.signed) _ e)))
 
 same-right : (signed ranged : Bool) (r : ℤ × ℤ) (s : Shape) → is_alike signed ranged r s ≡ true → r.1 ≡ s.right
 same-right signed ranged r s e =
     (Decides-int_eq r.1 s.right).0 (right-true (int_eq r.0 s.left) (int_eq r.1 s.right)
-    (right-true (same_flag ranged s.ranged) _ (right-true (same_flag signed s.signed) _ e)))
+    (right-true (beq ranged s.ranged) _ (right-true (beq signed s.signed) _ e)))
 
 -- the signal of a declaration that is alike, and isn't too wide
 named-signal : (env : Env) (path : List ℕ) (d : x.Declared) (y : Option Binding) → is_wide env d.type ≡ false → binding_faults env d y ≡ [] → Each Fits (signal_of path d.name y)
@@ -327,4 +328,4 @@ from-top ms None d e = absurd cc
 from-top ms (Some m) d e = of-parts ms m d (o.judged o.nothing_yet (f.parts_from ms m)) refl e
 
 pub widths : (s : Source) (d : p.Design) → o.flattened s ≡ Ok d → Widths d
-widths s d e = from-top (modules s) (f.top_of (modules s)) d e
+widths s d e = from-top (modules s) (f.top_of s) d e

@@ -2,6 +2,7 @@
 
 ghost use Rattle.std.specs.Prelude.{◌≡◌, ◌<◌, length, map, slice_get, Some};
 ghost use Rattle.vl_flat.specs.Items as x;
+ghost use Rattle.vl_flat.specs.Declarations.{modules};
 ghost use Rattle.vl_flat.specs.Flat as f;
 ghost use Rattle.vl_flat.specs.Outcome as o;
 ghost use Rattle.vl_items.specs.SeenItems.{seen_module};
@@ -20,11 +21,11 @@ use vl_design::stop::Stop;
 use vl_expression::expressions::copied;
 use vl_instance::environment::environment;
 use vl_instance::given::Above;
-use vl_instance::tops::top_of;
 use vl_items::items::Module;
 use vl_items::modules::prepare;
 use vl_kinds::counts::Counts;
-use vl_kinds::sizes::size_at;
+use vl_kinds::sizes::module_size;
+use vl_names::hierarchy::top_number;
 use vl_names::names::{NamesFault, names};
 use vl_source::tree::Source;
 
@@ -42,7 +43,7 @@ fn made(alloc: Global, library: &Library<'_>, number: usize) -> Result<Making, S
     };
     let roles = roles_at(library, number);
     let names = environment(alloc, &library.sizes, 128, roles, &Above::Top, base, top)?;
-    let all = size_at(&library.sizes, 129, name)?;
+    let all = module_size(alloc, &library.sizes, 128, top)?;
     let here = Here {
         names: &names,
         path: name,
@@ -78,23 +79,24 @@ fn flatten_from(alloc: Global, modules: &[Module], number: usize) -> Result<Desi
     })
 }
 
-/// The flat design of modules, or its first fault.
-fn flatten_modules(alloc: Global, modules: &[Module]) -> Result<Design, Stop>
-    ensures { Meets result (o.flattened_modules (map seen_module modules.now)) }
+/// The flat design of a source from the module of this number.
+fn flatten_top(alloc: Global, source: &Source, number: usize) -> Result<Design, Stop>
+    requires { number < length source.now.modules }
+    ensures { (m : x.Module) → slice_get (modules source.now) number ≡ Some m → Meets result (o.flattened_from (modules source.now) m) }
 {
-    let top = top_of(alloc, modules)?;
-    match top {
-        Some(number) => flatten_from(alloc, modules, number),
-        None => Err(Stop::Memory),
-    }
+    let modules = prepare(alloc, source)?;
+    flatten_from(alloc, modules.as_slice(), number)
 }
 
 /// The flat design of a source whose names have no fault, or its first fault.
 pub fn flatten(alloc: Global, source: &Source) -> Result<Design, Stop>
     ensures { Meets result (o.flattened source.now) }
 {
-    let modules = prepare(alloc, source)?;
-    flatten_modules(alloc, modules.as_slice())
+    let top = top_number(alloc, source)?;
+    match top {
+        Some(number) => flatten_top(alloc, source, number),
+        None => Err(Stop::Memory),
+    }
 }
 
 /// Why a flattening stops at a fault of names.

@@ -40,13 +40,6 @@ pub fn optional_faults(best: Option<Stop>, names: &Names<'_>, e: &Option<Ex>) ->
     }
 }
 
-/// Both hold, or none.
-fn same_flag(a: bool, b: bool) -> bool
-    ensures { result ≡ p.same_flag a b }
-{
-    a == b
-}
-
 /// A range is that of a signal.
 fn same_range(range: Range, shape: Shape) -> bool
     ensures { result ≡ (int_eq (numbers range).0 shape.left && int_eq (numbers range).1 shape.right) }
@@ -58,7 +51,7 @@ fn same_range(range: Range, shape: Shape) -> bool
 fn is_alike(signed: bool, ranged: bool, range: Range, shape: Shape) -> bool
     ensures { result ≡ p.is_alike signed ranged (numbers range) shape }
 {
-    same_flag(signed, shape.signed) && (same_flag(ranged, shape.ranged) && same_range(range, shape))
+    signed == shape.signed && (ranged == shape.ranged && same_range(range, shape))
 }
 
 /// The first of those so far and the faults of a declaration beside what its name stands for.

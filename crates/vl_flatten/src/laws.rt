@@ -13,7 +13,6 @@ ghost use Rattle.vl_design.specs.Sound.{IsWidth};
 ghost use Rattle.vl_design.specs.declared.stop.Stop.{Stop};
 ghost use Rattle.vl_design.specs.Placed as placed;
 ghost use Rattle.vl_flat.specs.Binding.{binary};
-ghost use Rattle.vl_flat.specs.Declarations.{modules};
 ghost use Rattle.vl_flat.specs.Flat.{top_of};
 ghost use Rattle.vl_flat.specs.Outcome.{flattened};
 ghost use Rattle.vl_flatten.specs.Meeting.{IsElaboration};
@@ -21,7 +20,7 @@ ghost use Rattle.vl_flatten.specs.Terms.{surface};
 
 /// A source with a module whose names have no fault has a top, so that it has a flat design or a fault of that.
 pub fn a_source_without_faults_of_names_has_a_top()
-    ensures { (s : Source) (m : Module) (after : List Module) → s.modules ≡ m ∷ after → ((f : Fault) → IsNameFault s f → ⊥) → is_some (top_of (modules s)) ≡ true }
+    ensures { (s : Source) (m : Module) (after : List Module) → s.modules ≡ m ∷ after → ((f : Fault) → IsNameFault s f → ⊥) → is_some (top_of s) ≡ true }
 {}
 
 /// A source has one elaboration: one flat design or one first fault.

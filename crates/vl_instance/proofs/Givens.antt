@@ -27,10 +27,10 @@ given_by path base m env overrides ports = record {
 }
 
 pub given-same : (here : Here) (base : Counts) (a : x.Instances) (u : x.NamedUnit) (m : x.Module) (s : Surroundings)
-    → look s.names.now ≡ here.env → joined s.overrides.now ≡ c.named_connection m.parameters a.overrides → joined s.ports.now ≡ c.port_connection m u
+    → look s.names.now ≡ here.env → joined s.overrides.now ≡ c.named_connection (c.spelled m.parameters) a.overrides → joined s.ports.now ≡ c.port_connection m u
     → given_of m (above.Item s) (dotted here.path u.name.name) base ≡ c.given here base a u m
 unfolding given_by
 given-same here base a u m s e o p =
     ap (λ env. given_by (dotted here.path u.name.name) base m env (joined s.overrides.now) (joined s.ports.now)) e
     ∙ ap (λ t. given_by (dotted here.path u.name.name) base m here.env t (joined s.ports.now)) o
-    ∙ ap (λ t. given_by (dotted here.path u.name.name) base m here.env (c.named_connection m.parameters a.overrides) t) p
+    ∙ ap (λ t. given_by (dotted here.path u.name.name) base m here.env (c.named_connection (c.spelled m.parameters) a.overrides) t) p

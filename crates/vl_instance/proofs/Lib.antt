@@ -5,4 +5,3 @@ pub mod Joins
 pub mod Locals
 pub mod Steps
 pub mod Turns
-pub mod Unused

@@ -8,7 +8,6 @@ use Rattle.indexmap.specs.IndexMap.{IndexMap, get_by}
 use Rattle.indexmap.specs.IndexSet.{IndexSet, contains}
 use Rattle.vl_flat.specs.Items as x
 use Rattle.vl_flat.specs.Scopes.{Env, Scope}
-use Rattle.vl_flat.specs.Flat.{item_steps}
 use Rattle.vl_items.specs.declared.items.Connection.{Connection}
 use Rattle.vl_items.specs.SeenItems.{seen_connection}
 use Rattle.vl_constant.specs.Seen.{names_of}
@@ -63,17 +62,3 @@ named qs = fold connect_named none qs
 
 abbrev pub among : List (List ℕ) → List x.Connection → Joined
 among names qs = fold (take_over (named qs)) none names
-
--- ---- the numbers of modules that are instantiated
-
--- the set has the number
-abbrev pub has_number : {S : Type 0} → IndexSet ℕ S → ℕ → Bool
-has_number s n = contains nat_eq s n
-
--- these numbers too
-abbrev pub with_steps : (ℕ → Bool) → List ℕ → ℕ → Bool
-with_steps before steps n = before n || list_any (nat_eq n) steps
-
--- the numbers that the items of modules instantiate, by what names mean
-abbrev pub used : (List ℕ → Option ℕ) → List x.Module → ℕ → Bool
-used number ms n = list_any (list_any (nat_eq n)) (map (λ m. flat_map (item_steps number) m.items) ms)

@@ -8,7 +8,6 @@ ghost use Rattle.vl_instance.specs.Tables as spec;
 
 use indexmap::IndexMap;
 use std::alloc::{AllocError, Global};
-use vl_base::items::Text;
 use vl_base::place::Place;
 use vl_bind::surface::Ex;
 use vl_grammar::tree::Identifier;
@@ -148,26 +147,15 @@ pub fn connections_of<'m>(
     }
 }
 
-/// The names of ports.
-fn port_names<'m>(alloc: Global, ports: &'m [Identifier]) -> Result<Vec<&'m [u8]>, AllocError>
-    ensures { IfOk result (λ names. spec.nows names.items ≡ map (λ n. n.name) ports.entry.now) }
+/// How names are spelled.
+fn spelled<'m>(alloc: Global, names: &'m [Identifier]) -> Result<Vec<&'m [u8]>, AllocError>
+    ensures { IfOk result (λ all. spec.nows all.items ≡ c.spelled names.entry.now) }
 {
-    let mut names = Vec::new(alloc);
-    for port in ports {
-        names.push(port.name.as_slice())?;
+    let mut all = Vec::new(alloc);
+    for name in names {
+        all.push(name.name.as_slice())?;
     }
-    Ok(names)
-}
-
-/// The names of parameters.
-fn parameter_names<'m>(alloc: Global, parameters: &'m [Text]) -> Result<Vec<&'m [u8]>, AllocError>
-    ensures { IfOk result (λ names. spec.nows names.items ≡ parameters.entry.now) }
-{
-    let mut names = Vec::new(alloc);
-    for parameter in parameters {
-        names.push(parameter.as_slice())?;
-    }
-    Ok(names)
+    Ok(all)
 }
 
 /// The connections of the ports of a module in an instance of it.
@@ -178,7 +166,7 @@ pub fn port_connections<'m>(
 ) -> Result<Connected<'m>, AllocError>
     ensures { IfOk result (λ table. spec.joined table ≡ c.port_connection (seen_module definition.entry.now) (seen_unit unit.entry.now)) }
 {
-    let names = port_names(alloc, definition.ports.as_slice())?;
+    let names = spelled(alloc, definition.ports.as_slice())?;
     connections_of(alloc, &names, unit.connections.as_slice())
 }
 
@@ -188,9 +176,9 @@ pub fn overrides<'m>(
     definition: &'m Module,
     instances: &'m Instances,
 ) -> Result<Connected<'m>, AllocError>
-    ensures { IfOk result (λ table. spec.joined table ≡ c.named_connection (seen_module definition.entry.now).parameters (seen_instances instances.entry.now).overrides) }
+    ensures { IfOk result (λ table. spec.joined table ≡ c.named_connection (c.spelled (seen_module definition.entry.now).parameters) (seen_instances instances.entry.now).overrides) }
 {
-    let names = parameter_names(alloc, definition.parameters.as_slice())?;
+    let names = spelled(alloc, definition.parameters.as_slice())?;
     connections_of(alloc, &names, instances.overrides.as_slice())
 }
 

@@ -21,6 +21,6 @@ pub fn the_top_is_given_clocks()
 /// An instance in an item is given what its connections and overrides say.
 pub fn an_instance_is_given_its_connections()
     ensures { (here : Here) (base : Counts) (a : x.Instances) (u : x.NamedUnit) (m : x.Module) (s : Surroundings)
-        → look s.names.now ≡ here.env → joined s.overrides.now ≡ c.named_connection m.parameters a.overrides → joined s.ports.now ≡ c.port_connection m u
+        → look s.names.now ≡ here.env → joined s.overrides.now ≡ c.named_connection (c.spelled m.parameters) a.overrides → joined s.ports.now ≡ c.port_connection m u
         → given_of m (above.Item s) (dotted here.path u.name.name) base ≡ c.given here base a u m }
 {}

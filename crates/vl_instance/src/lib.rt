@@ -9,5 +9,4 @@ pub mod laws;
 mod parameters;
 pub mod scope;
 mod signals;
-pub mod tops;
 pub mod variables;

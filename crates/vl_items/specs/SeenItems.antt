@@ -23,7 +23,8 @@ use Rattle.vl_source.specs.declared.tree.PortDeclaration.{PortDeclaration}
 use Rattle.vl_source.specs.declared.tree.Module.{Module as ModuleTree}
 use Rattle.vl_flat.specs.Items as x
 use Rattle.vl_flat.specs.Binding.{ex, left}
-use Rattle.vl_flat.specs.Declarations.{assigned_names, ports_in, header_parameters, header_ports, item}
+use Rattle.vl_source.specs.Hierarchy.{assigned}
+use Rattle.vl_flat.specs.Declarations.{ports_in, header_parameters, header_ports, item}
 use Rattle.vl_bind.specs.Seen.{seen}
 use Rattle.vl_bind.specs.SeenStatements.{seen_left, seen_statement}
 
@@ -107,9 +108,9 @@ seen_item (i.Instantiates a) = x.Instantiates (seen_instances a)
 abbrev pub declared_name : DeclarationAssignment → Identifier
 declared_name a = a.name
 
--- the names of a group's parameters
-abbrev pub group_names : ParameterGroup → List (List ℕ)
-group_names g = assigned_names g.assignments
+-- a group's parameters
+abbrev pub group_parameters : ParameterGroup → List Identifier
+group_parameters g = assigned g.assignments
 
 -- the grammar's declaration of ports, as an item
 abbrev pub port_item : PortDeclaration → x.Item

@@ -1,14 +1,12 @@
 //! The ports of modules, and the parameters that an instance may override.
 
 ghost use Rattle.std.specs.Prelude.{◌≡◌, ◌++◌, map, flat_map, IfOk};
-ghost use Rattle.vl_flat.specs.Declarations as d;
+ghost use Rattle.vl_source.specs.Hierarchy as h;
 ghost use Rattle.vl_items.specs.SeenItems as s;
 
 use crate::functions::copied_names;
 use crate::types::copied_name;
 use std::alloc::{AllocError, Global};
-use vl_base::items::Text;
-use vl_bind::expressions::copied;
 use vl_grammar::tree::Identifier;
 use vl_source::tree::{
     DeclarationAssignment, Item, Module, ParameterAssignment, ParameterGroup, ParameterKeyword,
@@ -44,13 +42,12 @@ fn add_declared(
 }
 
 /// Adds the names of the ports that are declared.
-#[tactic(auto, using(crate::proofs::PortNames::port_names_are))]
 fn add_ports(
     alloc: Global,
     all: Vec<Identifier>,
     a: &PortDeclaration,
 ) -> Result<Vec<Identifier>, AllocError>
-    ensures { IfOk result (λ v. v.items ≡ all.items ++ d.port_names a.now) }
+    ensures { IfOk result (λ v. v.items ≡ all.items ++ h.declared_names a.now) }
 {
     match a {
         PortDeclaration::Net(_, _, _, _, _, names) => add_names(alloc, all, names.as_slice()),
@@ -62,7 +59,7 @@ fn add_ports(
 
 /// The names of the ports that a header declares.
 fn declared_ports(alloc: Global, ports: &[PortDeclaration]) -> Result<Vec<Identifier>, AllocError>
-    ensures { IfOk result (λ v. v.items ≡ flat_map d.port_names ports.now) }
+    ensures { IfOk result (λ v. v.items ≡ flat_map h.declared_names ports.now) }
 {
     let mut all = Vec::new(alloc);
     for a in ports {
@@ -73,7 +70,7 @@ fn declared_ports(alloc: Global, ports: &[PortDeclaration]) -> Result<Vec<Identi
 
 /// The ports in order (IEEE 1364-2005, clause 12.3.2).
 pub(crate) fn listed(alloc: Global, ports: &Option<Ports>) -> Result<Vec<Identifier>, AllocError>
-    ensures { IfOk result (λ v. v.items ≡ d.listed ports.now) }
+    ensures { IfOk result (λ v. v.items ≡ h.header_names ports.now) }
 {
     match ports {
         None | Some(Ports::Empty) => Ok(Vec::new(alloc)),
@@ -82,23 +79,23 @@ pub(crate) fn listed(alloc: Global, ports: &Option<Ports>) -> Result<Vec<Identif
     }
 }
 
-/// Adds the names of parameters.
+/// Adds parameters.
 fn add_assigned(
     alloc: Global,
-    mut all: Vec<Text>,
+    mut all: Vec<Identifier>,
     assignments: &[ParameterAssignment],
-) -> Result<Vec<Text>, AllocError>
-    ensures { IfOk result (λ v. v.items ≡ all.items ++ d.assigned_names assignments.now) }
+) -> Result<Vec<Identifier>, AllocError>
+    ensures { IfOk result (λ v. v.items ≡ all.items ++ h.assigned assignments.now) }
 {
     for a in assignments {
-        all.push(copied(alloc, &a.name.name)?)?;
+        all.push(copied_name(alloc, &a.name)?)?;
     }
     Ok(all)
 }
 
-/// The names of a header's parameters.
-fn header_names(alloc: Global, groups: &[ParameterGroup]) -> Result<Vec<Text>, AllocError>
-    ensures { IfOk result (λ v. v.items ≡ flat_map s.group_names groups.now) }
+/// The parameters of a header.
+fn header_names(alloc: Global, groups: &[ParameterGroup]) -> Result<Vec<Identifier>, AllocError>
+    ensures { IfOk result (λ v. v.items ≡ flat_map s.group_parameters groups.now) }
 {
     let mut all = Vec::new(alloc);
     for a in groups {
@@ -107,9 +104,9 @@ fn header_names(alloc: Global, groups: &[ParameterGroup]) -> Result<Vec<Text>, A
     Ok(all)
 }
 
-/// Adds the names that an item gives to an instance's overrides.
-fn add_item_names(alloc: Global, all: Vec<Text>, a: &Item) -> Result<Vec<Text>, AllocError>
-    ensures { IfOk result (λ v. v.items ≡ all.items ++ d.parameter_names a.now) }
+/// Adds the parameters that an item declares for an instance's overrides.
+fn add_item_names(alloc: Global, all: Vec<Identifier>, a: &Item) -> Result<Vec<Identifier>, AllocError>
+    ensures { IfOk result (λ v. v.items ≡ all.items ++ h.item_parameters a.now) }
 {
     match a {
         Item::Parameter(_, ParameterKeyword::Parameter, _, assignments) => {
@@ -119,9 +116,9 @@ fn add_item_names(alloc: Global, all: Vec<Text>, a: &Item) -> Result<Vec<Text>, 
     }
 }
 
-/// The names of a body's parameters.
-fn body_names(alloc: Global, items: &[Item]) -> Result<Vec<Text>, AllocError>
-    ensures { IfOk result (λ v. v.items ≡ flat_map d.parameter_names items.now) }
+/// The parameters of a body.
+fn body_names(alloc: Global, items: &[Item]) -> Result<Vec<Identifier>, AllocError>
+    ensures { IfOk result (λ v. v.items ≡ flat_map h.item_parameters items.now) }
 {
     let mut all = Vec::new(alloc);
     for a in items {
@@ -131,8 +128,8 @@ fn body_names(alloc: Global, items: &[Item]) -> Result<Vec<Text>, AllocError>
 }
 
 /// The parameters that an instance may override: those of the header where it has some, else those of the body.
-pub(crate) fn overridable(alloc: Global, m: &Module) -> Result<Vec<Text>, AllocError>
-    ensures { IfOk result (λ v. v.items ≡ d.overridable m.now) }
+pub(crate) fn overridable(alloc: Global, m: &Module) -> Result<Vec<Identifier>, AllocError>
+    ensures { IfOk result (λ v. v.items ≡ h.overridable m.now) }
 {
     match &m.parameters {
         None => body_names(alloc, m.items.as_slice()),

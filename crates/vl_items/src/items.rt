@@ -144,8 +144,8 @@ pub struct Module {
     pub name: Identifier,
     /// The ports in order.
     pub ports: Vec<Identifier>,
-    /// The names of the parameters that an instance may override, in order.
-    pub parameters: Vec<Text>,
+    /// The parameters that an instance may override, in order.
+    pub parameters: Vec<Identifier>,
     /// The items.
     pub items: Vec<Item>,
 }

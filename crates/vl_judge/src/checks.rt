@@ -1,6 +1,7 @@
 //! What an expression or a select has to pass by itself, but for its operands.
 
-ghost use Rattle.std.specs.Prelude.{◌≡◌, ◌&&◌, nat_lt};
+ghost use Rattle.std.specs.Prelude.{◌≡◌, ◌&&◌};
+ghost use Rattle.vl_design.specs.Rows.{has_width};
 ghost use Rattle.vl_flat.specs.Constants as c;
 ghost use Rattle.vl_flat.specs.Expressions as flat;
 ghost use Rattle.vl_flat.specs.ExpressionFaults as f;
@@ -65,18 +66,25 @@ pub fn is_kept(keeps: bool, e: &Ex) -> bool
     keeps && is_text(e)
 }
 
-/// The expression is more than 128 bits wide.
-fn is_wide(scope: &Scope<'_, '_>, e: &Ex) -> bool
-    ensures { result ≡ nat_lt 128 (flat.form (seen_scope scope.now) (seen e.now)).width }
+/// So many bits are from 1 to 128.
+pub fn has_width(width: u32) -> bool
+    ensures { result ≡ has_width width }
 {
-    form(scope, e).width > 128
+    width >= 1 && width <= 128
 }
 
-/// An expression of more than 128 bits, unless a string in it is too long.
+/// The expression is from 1 to 128 bits wide.
+fn is_fitting(scope: &Scope<'_, '_>, e: &Ex) -> bool
+    ensures { result ≡ has_width (flat.form (seen_scope scope.now) (seen e.now)).width }
+{
+    has_width(form(scope, e).width)
+}
+
+/// An expression that isn't from 1 to 128 bits wide, unless a string in it is too long.
 pub fn past(best: Option<Stop>, scope: &Scope<'_, '_>, e: &Ex) -> Option<Stop>
     ensures { result ≡ s.earliest best (f.past (seen_scope scope.now) (seen e.now)) }
 {
-    let is_past = is_wide(scope, e) && !holds_long(e);
+    let is_past = !is_fitting(scope, e) && !holds_long(e);
     construct_if(best, is_past, node_place(e), 10)
 }
 

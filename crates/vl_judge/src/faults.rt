@@ -56,7 +56,10 @@ pub fn faults(best: Option<Stop>, scope: &Scope<'_, '_>, e: &Ex) -> Option<Stop>
             let count = must_be_count(inner, scope, n);
             all_faults(count, scope, parts.as_slice())
         }
-        Ex::Called(_, _, given) => all_faults(best, scope, given.as_slice()),
+        Ex::Called(_, _, given) => {
+            let own = past(best, scope, e);
+            all_faults(own, scope, given.as_slice())
+        }
         Ex::System(_, name, given) => {
             let own = past(best, scope, e);
             let keeps = keeps_texts(name.as_slice());

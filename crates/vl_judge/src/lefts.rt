@@ -1,12 +1,14 @@
-//! The faults of left sides: at most 128 bits are written (IEEE 1364-2005, clauses 6.1 and 9.2).
+//! The faults of left sides: from 1 to 128 bits are written (IEEE 1364-2005, clauses 6.1 and 9.2).
 
-ghost use Rattle.std.specs.Prelude.{◌≡◌, nat_lt, min, map};
+ghost use Rattle.std.specs.Prelude.{◌≡◌, min, map};
+ghost use Rattle.vl_design.specs.Rows.{has_width};
 ghost use Rattle.vl_design.specs.Stops as s;
 ghost use Rattle.vl_flat.specs.Surface as x;
 ghost use Rattle.vl_flat.specs.Targets as t;
 ghost use Rattle.vl_bind.specs.SeenStatements.{seen_left, lefts_of};
 ghost use Rattle.vl_constant.specs.Seen.{seen_scope};
 
+use crate::checks::has_width;
 use crate::faults::name_faults;
 use crate::stops::construct_if;
 use vl_base::place::Place;
@@ -50,43 +52,43 @@ fn lefts_width(scope: &Scope<'_, '_>, ls: &[Left]) -> u32
     total
 }
 
-/// A left side of more than 128 bits.
-fn is_past(scope: &Scope<'_, '_>, l: &Left) -> bool
-    ensures { result ≡ nat_lt 128 (t.left_width (seen_scope scope.now) (seen_left l.now)) }
+/// A left side has from 1 to 128 bits.
+fn is_fitting(scope: &Scope<'_, '_>, l: &Left) -> bool
+    ensures { result ≡ has_width (t.left_width (seen_scope scope.now) (seen_left l.now)) }
 {
-    left_width(scope, l) > 128
+    has_width(left_width(scope, l))
 }
 
-/// The faults of the selects in a left side.
-#[cycle(lefts)]
-fn left_faults(best: Option<Stop>, scope: &Scope<'_, '_>, l: &Left) -> Option<Stop>
-    ensures { result ≡ s.earliest best (t.left_faults (seen_scope scope.now) (seen_left l.now)) }
+/// The fault of a left side that hasn't from 1 to 128 bits.
+fn width_fault(best: Option<Stop>, scope: &Scope<'_, '_>, l: &Left) -> Option<Stop>
+    ensures { result ≡ s.earliest best (t.width_faults (seen_scope scope.now) (seen_left l.now)) }
 {
-    match l {
-        Left::Name(at, name, selects) => {
-            let known = meaning(scope, name.as_slice());
-            name_faults(best, scope, *at, known, selects.as_slice())
-        }
-        Left::List(_, parts) => lefts_faults(best, scope, parts.as_slice()),
-    }
-}
-
-/// The faults of the selects in left sides one by one.
-#[cycle(lefts)]
-fn lefts_faults(best: Option<Stop>, scope: &Scope<'_, '_>, ls: &[Left]) -> Option<Stop>
-    ensures { result ≡ s.earliest best (t.lefts_faults (seen_scope scope.now) (lefts_of (map seen_left ls.now))) }
-{
-    let mut all = best;
-    for l in ls {
-        all = left_faults(all, scope, l);
-    }
-    all
+    construct_if(best, !is_fitting(scope, l), left_place(l), 10)
 }
 
 /// The faults of a left side.
+#[cycle(lefts)]
 pub fn target_faults(best: Option<Stop>, scope: &Scope<'_, '_>, l: &Left) -> Option<Stop>
     ensures { result ≡ s.earliest best (t.target_faults (seen_scope scope.now) (seen_left l.now)) }
 {
-    let own = construct_if(best, is_past(scope, l), left_place(l), 10);
-    left_faults(own, scope, l)
+    let own = width_fault(best, scope, l);
+    match l {
+        Left::Name(at, name, selects) => {
+            let known = meaning(scope, name.as_slice());
+            name_faults(own, scope, *at, known, selects.as_slice())
+        }
+        Left::List(_, parts) => targets_faults(own, scope, parts.as_slice()),
+    }
+}
+
+/// The faults of left sides one by one.
+#[cycle(lefts)]
+fn targets_faults(best: Option<Stop>, scope: &Scope<'_, '_>, ls: &[Left]) -> Option<Stop>
+    ensures { result ≡ s.earliest best (t.targets_faults (seen_scope scope.now) (lefts_of (map seen_left ls.now))) }
+{
+    let mut all = best;
+    for l in ls {
+        all = target_faults(all, scope, l);
+    }
+    all
 }

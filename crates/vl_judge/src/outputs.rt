@@ -1,6 +1,7 @@
 //! The faults of what an output is connected to (IEEE 1364-2005, clause 12.3.9.2).
 
-ghost use Rattle.std.specs.Prelude.{◌≡◌, nat_lt, min, map};
+ghost use Rattle.std.specs.Prelude.{◌≡◌, min, map};
+ghost use Rattle.vl_design.specs.Rows.{has_width};
 ghost use Rattle.vl_flat.specs.Connections as k;
 ghost use Rattle.vl_design.specs.Stops as s;
 ghost use Rattle.vl_flat.specs.Targets as t;
@@ -8,7 +9,7 @@ ghost use Rattle.vl_bind.specs.Seen.{seen};
 ghost use Rattle.vl_bind.specs.Listed.{of_list};
 ghost use Rattle.vl_constant.specs.Seen.{look, seen_scope};
 
-use crate::checks::node_place;
+use crate::checks::{has_width, node_place};
 use crate::faults::{faults, name_faults};
 use crate::nets::are_nets;
 use crate::stops::{construct_if, earlier};
@@ -53,25 +54,36 @@ fn widths_as_lefts(scope: &Scope<'_, '_>, es: &[Ex]) -> u32
     total
 }
 
-/// An expression of more than 128 bits as a left side.
-fn is_past(scope: &Scope<'_, '_>, e: &Ex) -> bool
-    ensures { result ≡ nat_lt 128 (t.left_width (seen_scope scope.now) (k.left_of (seen e.now))) }
+/// An expression as a left side has from 1 to 128 bits.
+fn is_fitting(scope: &Scope<'_, '_>, e: &Ex) -> bool
+    ensures { result ≡ has_width (t.left_width (seen_scope scope.now) (k.left_of (seen e.now))) }
 {
-    width_as_left(scope, e) > 128
+    has_width(width_as_left(scope, e))
 }
 
-/// The faults of the selects in an expression as a left side.
+/// The fault of an expression that hasn't from 1 to 128 bits as a left side.
+fn width_fault(best: Option<Stop>, scope: &Scope<'_, '_>, e: &Ex) -> Option<Stop>
+    ensures { result ≡ s.earliest best (t.width_faults (seen_scope scope.now) (k.left_of (seen e.now))) }
+{
+    construct_if(best, !is_fitting(scope, e), node_place(e), 10)
+}
+
+/// The faults of an expression as a left side.
 #[cycle(lefts)]
 fn faults_as_left(best: Option<Stop>, scope: &Scope<'_, '_>, e: &Ex) -> Option<Stop>
-    ensures { result ≡ s.earliest best (t.left_faults (seen_scope scope.now) (k.left_of (seen e.now))) }
+    ensures { result ≡ s.earliest best (t.target_faults (seen_scope scope.now) (k.left_of (seen e.now))) }
 {
     match e {
         Ex::Named(at, name, selects) => {
+            let own = width_fault(best, scope, e);
             let known = meaning(scope, name.as_slice());
-            name_faults(best, scope, *at, known, selects.as_slice())
+            name_faults(own, scope, *at, known, selects.as_slice())
         }
         Ex::Paren(_, a) => faults_as_left(best, scope, a),
-        Ex::Joined(_, parts) => faults_as_lefts(best, scope, parts.as_slice()),
+        Ex::Joined(_, parts) => {
+            let own = width_fault(best, scope, e);
+            faults_as_lefts(own, scope, parts.as_slice())
+        }
         Ex::Number(_, _)
         | Ex::Text(_, _)
         | Ex::Unary(_, _, _)
@@ -79,28 +91,20 @@ fn faults_as_left(best: Option<Stop>, scope: &Scope<'_, '_>, e: &Ex) -> Option<S
         | Ex::Choice(_, _, _, _)
         | Ex::Repeated(_, _, _)
         | Ex::Called(_, _, _)
-        | Ex::System(_, _, _) => best,
+        | Ex::System(_, _, _) => width_fault(best, scope, e),
     }
 }
 
-/// The faults of the selects in expressions as left sides.
+/// The faults of expressions as left sides one by one.
 #[cycle(lefts)]
 fn faults_as_lefts(best: Option<Stop>, scope: &Scope<'_, '_>, es: &[Ex]) -> Option<Stop>
-    ensures { result ≡ s.earliest best (t.lefts_faults (seen_scope scope.now) (k.lefts_of (of_list (map seen es.now)))) }
+    ensures { result ≡ s.earliest best (t.targets_faults (seen_scope scope.now) (k.lefts_of (of_list (map seen es.now)))) }
 {
     let mut all = best;
     for e in es {
         all = faults_as_left(all, scope, e);
     }
     all
-}
-
-/// The faults of an expression as a left side.
-fn target_faults_of(best: Option<Stop>, scope: &Scope<'_, '_>, e: &Ex) -> Option<Stop>
-    ensures { result ≡ s.earliest best (t.target_faults (seen_scope scope.now) (k.left_of (seen e.now))) }
-{
-    let own = construct_if(best, is_past(scope, e), node_place(e), 10);
-    faults_as_left(own, scope, e)
 }
 
 /// The faults of an output's connection at a place: an output is assigned to nets, and what else it is connected to is
@@ -110,7 +114,7 @@ pub fn output_faults(best: Option<Stop>, names: &Names<'_>, at: Place, e: &Ex) -
 {
     let scope = module_scope(names);
     if are_nets(&scope, e) {
-        target_faults_of(best, &scope, e)
+        faults_as_left(best, &scope, e)
     } else {
         let first = earlier(best, Stop::Construct(at, 13));
         faults(first, &scope, e)

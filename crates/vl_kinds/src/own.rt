@@ -58,7 +58,7 @@ fn note_items<'m>(known: &mut NameSet<'m>, items: &'m [Item]) -> Result<(), Allo
 }
 
 /// What is kept of how many signals a module declares.
-fn own_count(alloc: Global, m: &Module) -> Result<u32, AllocError>
+pub(crate) fn own_count(alloc: Global, m: &Module) -> Result<u32, AllocError>
     ensures { IfOk result (λ n. n ≡ own_signals (seen_module m.now)) }
 {
     let mut known = IndexSet::new(alloc);

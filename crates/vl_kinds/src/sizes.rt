@@ -9,7 +9,7 @@ ghost use Rattle.vl_kinds.specs.Places.{place_of, place_named};
 
 use crate::counts::{Counts, exactly, no_more, plus, times};
 use crate::index::{Index, index_of, module_at};
-use crate::own::own_counts;
+use crate::own::{own_count, own_counts};
 use std::alloc::{AllocError, Global};
 use vl_items::items::{Instances, Item, Module};
 
@@ -223,4 +223,19 @@ pub fn instances_size(
 {
     let round = round_at(sizes.rounds.as_slice(), depth);
     Ok(exactly(instances_counts(&sizes.index, round, instances))?)
+}
+
+/// How many signals and functions a module has with what is in it, where instances stand so deep in one another; want of
+/// memory from 2^32 - 1 on.
+pub fn module_size(
+    alloc: Global,
+    sizes: &Sizes<'_>,
+    depth: u8,
+    m: &Module,
+) -> Result<Counts, AllocError>
+    ensures { IfOk result (λ c. (ms : List x.Module) → spec.IsSizes sizes.now ms → depth ≤ 129 → spec.counts_of c ≡ e.module_counts (e.size depth ms) (seen_module m.now)) }
+{
+    let own = own_count(alloc, m)?;
+    let round = round_at(sizes.rounds.as_slice(), depth);
+    Ok(exactly(module_counts(&sizes.index, round, own, m))?)
 }

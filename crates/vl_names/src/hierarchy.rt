@@ -1,7 +1,7 @@
 //! The faults of the modules of a source.
 
-ghost use Rattle.std.specs.Prelude.{◌≡◌, ◌<◌, length, IfOk};
-ghost use Rattle.vl_source.specs.Hierarchy.{graph_of, module_number};
+ghost use Rattle.std.specs.Prelude.{◌≡◌, ◌<◌, length, IfOk, IfSome};
+ghost use Rattle.vl_source.specs.Hierarchy.{graph_of, module_number, first_top};
 ghost use Rattle.vl_scope.specs.Faults.{earliest};
 ghost use Rattle.vl_names.specs.HierarchyFaults as spec;
 ghost use Rattle.vl_names.specs.Seen as seen;
@@ -11,7 +11,7 @@ use crate::instances::{all_instances, note_instances};
 use crate::interface::interfaces;
 use crate::itself::note_cyclic;
 use crate::numbers::{Numbers, graph, numbers_of};
-use crate::tops::note_all_tops;
+use crate::tops::{first_of_tops, note_all_tops};
 use std::alloc::{AllocError, Global};
 use vl_base::items::Items;
 use vl_scope::fault::Fault;
@@ -72,4 +72,14 @@ pub fn first_hierarchy_fault(
     let (numbers, best) = numbers_of(alloc, source, best)?;
     let best = note_given(alloc, source, &numbers, best)?;
     note_hierarchy(alloc, source, &numbers, best)
+}
+
+/// The number of the top module, from 0: of the first that no module instantiates (IEEE 1364-2005, clause 12.1.1).
+pub fn top_number(alloc: Global, source: &Source) -> Result<Option<usize>, AllocError>
+    ensures number { IfOk result (λ k. k ≡ first_top (graph_of source.now)) }
+    ensures within { IfOk result (λ k. IfSome k (λ n. n < length source.now.modules)) }
+{
+    let (numbers, _repeated) = numbers_of(alloc, source, None)?;
+    let graph = graph(alloc, &numbers, source)?;
+    first_of_tops(alloc, &graph)
 }

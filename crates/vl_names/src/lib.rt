@@ -4,7 +4,7 @@
 mod components;
 mod connections;
 mod cycle;
-mod hierarchy;
+pub mod hierarchy;
 mod instances;
 mod interface;
 mod itself;

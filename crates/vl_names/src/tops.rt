@@ -1,6 +1,6 @@
 //! Which modules are tops, and their ports.
 
-ghost use Rattle.std.specs.Prelude.{◌≡◌, ◌<◌, ◌++◌, ℕ, nat_eq, [], ◌||◌, ◌&&◌, not, false, length, slice_index_or, IfOk, OnOk};
+ghost use Rattle.std.specs.Prelude.{◌≡◌, ◌<◌, ◌++◌, ℕ, nat_eq, [], ◌||◌, ◌&&◌, not, false, length, slice_index_or, IfOk, IfSome, OnOk};
 ghost use Rattle.std.specs.List.{list_any};
 ghost use Rattle.vl_source.specs.Hierarchy.{first_from, first_top};
 ghost use Rattle.vl_source.specs.Hierarchy.{is_top as is_top_lem};
@@ -167,7 +167,8 @@ fn is_unmarked(marks: &[bool], node: usize) -> bool
 
 /// The first node that isn't marked.
 fn first_unmarked(marks: &[bool]) -> Option<usize>
-    ensures { result ≡ first_from (walk.is_unmarked marks.now) 0 (length marks.now) }
+    ensures first { result ≡ first_from (walk.is_unmarked marks.now) 0 (length marks.now) }
+    ensures within { IfSome result (λ n. n < length marks.now) }
 {
     for node in 0..marks.len() {
         if is_unmarked(marks, node) {
@@ -292,4 +293,14 @@ pub fn note_all_tops(
 {
     let marks = instantiated(alloc, graph)?;
     note_unmarked(alloc, &marks, modules, best)
+}
+
+/// The first top.
+pub fn first_of_tops(alloc: Global, graph: &[Items<usize>]) -> Result<Option<usize>, AllocError>
+    requires { walk.IsWithin graph.now }
+    ensures number { IfOk result (λ k. k ≡ first_top graph.now) }
+    ensures within { IfOk result (λ k. IfSome k (λ n. n < length graph.now)) }
+{
+    let marks = instantiated(alloc, graph)?;
+    Ok(first_unmarked(&marks))
 }

@@ -18,12 +18,12 @@ returns c = λ m there.
     let g = f.top_given md in
     let sizes = e.size 128 ms in
     let names = c.in_ok-names.ensures ms md.name.name c.requires.library.sizes (omega arith) facts-are in
-    let behind = ap (λ z. z.signals) (c.in_ok-all.ensures ms c.requires.library.sizes (omega arith)) ∙ ap (λ z. (e.size 129 ms z).signals) c.as_slice-name.ensures in
+    let behind = ap (λ z. z.signals) (c.in_ok-all.ensures ms c.requires.library.sizes (omega arith)) in
     let items = f.items_parts (f.instance 128 ms) sizes ms in
     let body = ap (λ n. items (record { env = look c.in_ok-names.names; path = c.as_slice-name.result.now; behind = n }) g e.no_more (map seen_item c.as_slice.result.now)) behind
-    ∙ (ap (λ p. items (record { env = look c.in_ok-names.names; path = p; behind = (e.size 129 ms md.name.name).signals }) g e.no_more (map seen_item c.as_slice.result.now)) c.as_slice-name.ensures
-    ∙ (ap (λ z. items (record { env = z; path = md.name.name; behind = (e.size 129 ms md.name.name).signals }) g e.no_more (map seen_item c.as_slice.result.now)) names
-    ∙ ap (λ z. items (record { env = e.environment sizes g md; path = md.name.name; behind = (e.size 129 ms md.name.name).signals }) g e.no_more (map seen_item z)) c.as_slice.ensures.value)) in
+    ∙ (ap (λ p. items (record { env = look c.in_ok-names.names; path = p; behind = (f.whole ms md).signals }) g e.no_more (map seen_item c.as_slice.result.now)) c.as_slice-name.ensures
+    ∙ (ap (λ z. items (record { env = z; path = md.name.name; behind = (f.whole ms md).signals }) g e.no_more (map seen_item c.as_slice.result.now)) names
+    ∙ ap (λ z. items (record { env = e.environment sizes g md; path = md.name.name; behind = (f.whole ms md).signals }) g e.no_more (map seen_item z)) c.as_slice.ensures.value)) in
     subst (λ z. IsMade (f.parts_from ms z) c.add_items.new.making) is
     (made-all c.nothing_yet-making.result c.add_items.new.making (f.parts_from ms md)
     c.nothing_yet-making.ensures.totals c.nothing_yet-making.ensures.signals c.nothing_yet-making.ensures.funcs c.nothing_yet-making.ensures.processes
@@ -39,12 +39,12 @@ returns-in_err-add_items c = λ m there.
     let sizes = e.size 128 ms in
     let stop = c.in_err-add_items.field-0.0 in
     let names = c.in_ok-names.ensures ms md.name.name c.requires.library.sizes (omega arith) facts-are in
-    let behind = ap (λ z. z.signals) (c.in_ok-all.ensures ms c.requires.library.sizes (omega arith)) ∙ ap (λ z. (e.size 129 ms z).signals) c.as_slice-name.ensures in
+    let behind = ap (λ z. z.signals) (c.in_ok-all.ensures ms c.requires.library.sizes (omega arith)) in
     let items = f.items_parts (f.instance 128 ms) sizes ms in
     let body = ap (λ n. items (record { env = look c.in_ok-names.names; path = c.as_slice-name.result.now; behind = n }) g e.no_more (map seen_item c.as_slice.result.now)) behind
-    ∙ (ap (λ p. items (record { env = look c.in_ok-names.names; path = p; behind = (e.size 129 ms md.name.name).signals }) g e.no_more (map seen_item c.as_slice.result.now)) c.as_slice-name.ensures
-    ∙ (ap (λ z. items (record { env = z; path = md.name.name; behind = (e.size 129 ms md.name.name).signals }) g e.no_more (map seen_item c.as_slice.result.now)) names
-    ∙ ap (λ z. items (record { env = e.environment sizes g md; path = md.name.name; behind = (e.size 129 ms md.name.name).signals }) g e.no_more (map seen_item z)) c.as_slice.ensures.value)) in
+    ∙ (ap (λ p. items (record { env = look c.in_ok-names.names; path = p; behind = (f.whole ms md).signals }) g e.no_more (map seen_item c.as_slice.result.now)) c.as_slice-name.ensures
+    ∙ (ap (λ z. items (record { env = z; path = md.name.name; behind = (f.whole ms md).signals }) g e.no_more (map seen_item c.as_slice.result.now)) names
+    ∙ ap (λ z. items (record { env = e.environment sizes g md; path = md.name.name; behind = (f.whole ms md).signals }) g e.no_more (map seen_item z)) c.as_slice.ensures.value)) in
     subst (λ z. Makes (f.parts_from ms z) c.from_residual-in_err-add_items.result) is
     (made-handed c.from_residual-in_err-add_items.result stop (f.parts_from ms md) c.from_residual-in_err-add_items.ensures (λ e h. h)
     (made-stops stop c.nothing_yet-making.result.totals (f.parts_from ms md) c.nothing_yet-making.ensures.totals

@@ -90,8 +90,12 @@ faults-returns-in-Repeated t c =
 pub faults-returns-in-Called : goal.faults-returns-in-Called
 faults-returns-in-Called t c =
     let s = seen_scope c.args.scope.now in
-    at-all s c.args.best c.all_faults-in-Called.result c.as_slice-in-Called.result.now c.in-Called.given.items c.all_faults-in-Called.ensures c.as_slice-in-Called.ensures.value
-    ∙ sym (ap (λ z. earliest c.args.best (faults s z)) (ap seen c.in-Called.is ∙ called-seen c.in-Called.field-0 c.in-Called.field-1 c.in-Called.given))
+    let es = of_list (map seen c.in-Called.given.items) in
+    own-then s c.args.best c.past-own-in-Called.result c.all_faults-in-Called.result (seen c.args.e.now) (x.Called c.in-Called.field-0 c.in-Called.field-1 es) (all_faults s es)
+    c.past-own-in-Called.ensures
+    (ap seen c.in-Called.is ∙ called-seen c.in-Called.field-0 c.in-Called.field-1 c.in-Called.given)
+    (at-all s c.past-own-in-Called.result c.all_faults-in-Called.result c.as_slice-in-Called.result.now c.in-Called.given.items c.all_faults-in-Called.ensures c.as_slice-in-Called.ensures.value)
+    refl
 
 pub faults-returns-in-System : goal.faults-returns-in-System
 faults-returns-in-System t c =

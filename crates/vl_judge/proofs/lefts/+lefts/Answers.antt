@@ -2,38 +2,47 @@ use Rattle.std.proofs.Common.{map, refl, ap, ◌∙◌, sym}
 use Rattle.vl_flat.specs.Surface as x
 use Rattle.vl_design.specs.Stops.{earliest}
 use Rattle.vl_flat.specs.ExpressionFaults.{name_faults}
-use Rattle.vl_flat.specs.Targets.{left_faults, lefts_faults}
+use Rattle.vl_flat.specs.Targets.{width_faults, target_faults, targets_faults}
 use Rattle.vl_bind.specs.Seen.{selects_before}
 use Rattle.vl_bind.specs.SeenStatements.{seen_left, lefts_of}
 use Rattle.vl_constant.specs.Seen.{seen_scope}
-use Rattle.vl_judge.proofs.Earliest.{step, finish}
+use Rattle.vl_judge.proofs.Earliest.{chain, step, finish}
 use Rattle.vl_judge.proofs.Sides.{list-seen}
 use Rattle.vl_judge.proofs.lefts.+lefts.Goals as goal
 
-pub left_faults-returns-in-Name : goal.left_faults-returns-in-Name
-left_faults-returns-in-Name t c =
+pub target_faults-returns-in-Name : goal.target_faults-returns-in-Name
+target_faults-returns-in-Name t c =
     let s = seen_scope c.args.scope.now in
     let name = c.in-Name.name in
-    c.name_faults.ensures
-    ∙ (ap (λ o. earliest c.args.best (name_faults s c.in-Name.at o (selects_before c.as_slice-in-Name.result.now x.NoSelects))) (c.meaning-known.ensures ∙ ap s.names c.as_slice.ensures)
-    ∙ (ap (λ ss. earliest c.args.best (name_faults s c.in-Name.at (s.names name) (selects_before ss x.NoSelects))) c.as_slice-in-Name.ensures.value
-    ∙ sym (ap (λ z. earliest c.args.best (left_faults s (seen_left z))) c.in-Name.is)))
+    let l = x.LeftName c.in-Name.at name (selects_before c.in-Name.selects.items x.NoSelects) in
+    let own = c.width_fault-own.result in
+    chain c.args.best own c.name_faults.result (width_faults s l) (name_faults s c.in-Name.at (s.names name) (selects_before c.in-Name.selects.items x.NoSelects))
+    (c.width_fault-own.ensures ∙ ap (λ z. earliest c.args.best (width_faults s (seen_left z))) c.in-Name.is)
+    (c.name_faults.ensures
+    ∙ (ap (λ o. earliest own (name_faults s c.in-Name.at o (selects_before c.as_slice-in-Name.result.now x.NoSelects))) (c.meaning-known.ensures ∙ ap s.names c.as_slice.ensures)
+    ∙ ap (λ ss. earliest own (name_faults s c.in-Name.at (s.names name) (selects_before ss x.NoSelects))) c.as_slice-in-Name.ensures.value))
+    ∙ sym (ap (λ z. earliest c.args.best (target_faults s (seen_left z))) c.in-Name.is)
 
-pub left_faults-returns-in-List : goal.left_faults-returns-in-List
-left_faults-returns-in-List t c =
+pub target_faults-returns-in-List : goal.target_faults-returns-in-List
+target_faults-returns-in-List t c =
     let s = seen_scope c.args.scope.now in
-    c.lefts_faults.ensures
-    ∙ (ap (λ ls. earliest c.args.best (lefts_faults s (lefts_of (map seen_left ls)))) c.as_slice-in-List.ensures.value
-    ∙ sym (ap (λ z. earliest c.args.best (left_faults s z)) (ap seen_left c.in-List.is ∙ list-seen c.in-List.field-0 c.in-List.parts)))
+    let ls = lefts_of (map seen_left c.in-List.parts.items) in
+    let l = x.LeftList c.in-List.field-0 ls in
+    let own = c.width_fault-own.result in
+    let is = ap seen_left c.in-List.is ∙ list-seen c.in-List.field-0 c.in-List.parts in
+    chain c.args.best own c.targets_faults.result (width_faults s l) (targets_faults s ls)
+    (c.width_fault-own.ensures ∙ ap (λ z. earliest c.args.best (width_faults s z)) is)
+    (c.targets_faults.ensures ∙ ap (λ z. earliest own (targets_faults s (lefts_of (map seen_left z)))) c.as_slice-in-List.ensures.value)
+    ∙ sym (ap (λ z. earliest c.args.best (target_faults s z)) is)
 
-pub lefts_faults-loop-l-preserved : goal.lefts_faults-loop-l-preserved
-lefts_faults-loop-l-preserved t c =
+pub targets_faults-loop-l-preserved : goal.targets_faults-loop-l-preserved
+targets_faults-loop-l-preserved t c =
     let s = seen_scope c.args.scope.now in
-    step (λ ls. lefts_faults s (lefts_of (map seen_left ls))) (λ l. left_faults s (seen_left l)) (λ y ys. refl) c.args.ls.now c.loop-l.l-index c.l-item.result c.loop-l.all c.left_faults-all.result
-    (earliest c.args.best (lefts_faults s (lefts_of (map seen_left c.args.ls.now)))) c.loop-l-test.true c.l-item.is c.left_faults-all.ensures c.loop-l.invariant
+    step (λ ls. targets_faults s (lefts_of (map seen_left ls))) (λ l. target_faults s (seen_left l)) (λ y ys. refl) c.args.ls.now c.loop-l.l-index c.l-item.result c.loop-l.all c.target_faults-all.result
+    (earliest c.args.best (targets_faults s (lefts_of (map seen_left c.args.ls.now)))) c.loop-l-test.true c.l-item.is c.target_faults-all.ensures c.loop-l.invariant
 
-pub lefts_faults-returns : goal.lefts_faults-returns
-lefts_faults-returns t c =
+pub targets_faults-returns : goal.targets_faults-returns
+targets_faults-returns t c =
     let s = seen_scope c.args.scope.now in
-    finish (λ ls. lefts_faults s (lefts_of (map seen_left ls))) refl c.args.ls.now c.loop-l.l-index c.loop-l.all
-    (earliest c.args.best (lefts_faults s (lefts_of (map seen_left c.args.ls.now)))) c.loop-l-test.false c.loop-l.invariant
+    finish (λ ls. targets_faults s (lefts_of (map seen_left ls))) refl c.args.ls.now c.loop-l.l-index c.loop-l.all
+    (earliest c.args.best (targets_faults s (lefts_of (map seen_left c.args.ls.now)))) c.loop-l-test.false c.loop-l.invariant

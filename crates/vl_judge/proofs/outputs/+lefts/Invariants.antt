@@ -1,6 +1,6 @@
 use Rattle.std.proofs.Common.{◌≡◌, map, drop}
 use Rattle.vl_design.specs.Stops.{earliest}
-use Rattle.vl_flat.specs.Targets.{lefts_faults}
+use Rattle.vl_flat.specs.Targets.{targets_faults}
 use Rattle.vl_flat.specs.Connections.{lefts_of}
 use Rattle.vl_bind.specs.Seen.{seen}
 use Rattle.vl_bind.specs.Listed.{of_list}
@@ -9,4 +9,4 @@ use Rattle.vl_judge.proofs.outputs.+lefts.Given as goal
 
 abbrev pub invariant-faults_as_lefts-loop-e : goal.invariant-faults_as_lefts-loop-e
 invariant-faults_as_lefts-loop-e l =
-    earliest l.all (lefts_faults (seen_scope l.scope) (lefts_of (of_list (map seen (drop l.e-index l.es))))) ≡ earliest l.initial.all (lefts_faults (seen_scope l.scope) (lefts_of (of_list (map seen l.es))))
+    earliest l.all (targets_faults (seen_scope l.scope) (lefts_of (of_list (map seen (drop l.e-index l.es))))) ≡ earliest l.initial.all (targets_faults (seen_scope l.scope) (lefts_of (of_list (map seen l.es))))

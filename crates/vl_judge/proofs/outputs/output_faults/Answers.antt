@@ -16,7 +16,7 @@ returns-then-are_nets c =
     let e = seen c.args.e.now in
     let at = c.args.at in
     let h : are_nets n e ≡ true = sym (c.are_nets.ensures ∙ ap (λ s. are_nets s.names e) c.module_scope-scope.ensures) ∙ c.if-are_nets.true in
-    c.target_faults_of.ensures
+    c.faults_as_left.ensures
     ∙ (ap (λ s. earliest c.args.best (target_faults s (left_of e))) c.module_scope-scope.ensures
     ∙ sym (ap (λ b. earliest c.args.best (if b then target_faults (plainly n) (left_of e) else Construct at 13 ∷ faults (plainly n) e)) h))
 

@@ -13,4 +13,4 @@ returns c =
     c.note_no_top.ensures
     ∙ ap (λ b. earliest b (no_top_faults first ms)) c.in_ok-best.ensures
     ∙ sym (earliest-append c.args.best (each_after (top_fault top first) [] ms) (no_top_faults first ms))
-    ∙ ap (λ o. earliest c.args.best (top_faults top o ms)) c.first_unmarked-first.ensures
+    ∙ ap (λ o. earliest c.args.best (top_faults top o ms)) c.first_unmarked-first.ensures.first

@@ -57,16 +57,7 @@ bound-used k (x.Binary at q l r) o b u v = by (nat_lt (row_of o) (row_of q)) (bo
     by : (t : Bool) → IsUsed k (x.bound_with r o b) → IsUsed k (if t then x.Binary at q l (x.bound_with r o b) else x.Binary at o (x.Binary at q l r) b)
     by true w = (u.0, w)
     by false w = (u, v)
-bound-used k (x.Number at a) o b u v = (u, v)
-bound-used k (x.Text at a) o b u v = (u, v)
-bound-used k (x.Named at t ss) o b u v = (u, v)
-bound-used k (x.Paren at a) o b u v = (u, v)
-bound-used k (x.Unary at q a) o b u v = (u, v)
-bound-used k (x.Choice at t l r) o b u v = (u, v)
-bound-used k (x.Joined at es) o b u v = (u, v)
-bound-used k (x.Repeated at a es) o b u v = (u, v)
-bound-used k (x.Called at t es) o b u v = (u, v)
-bound-used k (x.System at t given) o b u v = (u, v)
+bound-used k a o b u v = (u, v)
 
 pub marked-used : (k : Classes) (ms : List UnaryMark) (a : x.Ex) → IsUsed k a → IsUsed k (f.marked ms a)
 marked-used k [] a u = u

@@ -69,8 +69,7 @@ read-so c.Net vector ss h = of-bits vector ss h
 read-so c.Variable vector ss h = of-bits vector ss h
 read-so (c.Parameter i) vector ss h = of-bits vector ss h
 read-so c.Memory vector ss h = of-a-word vector ss h
-read-so (c.Function i) vector ss h = absurd (true≢false (sym h))
-read-so c.Instance vector ss h = absurd (true≢false (sym h))
+read-so class vector ss h = absurd (true≢false (sym h))
 
 written-so : (side : Side) (class : Class) (vector : Bool) (ss : List Select) → u.is_assignable side class vector ss ≡ true → IsWritten (Some class) (selects_before ss x.NoSelects)
 written-so Continuous c.Port vector ss h = of-bits vector ss h
@@ -84,28 +83,15 @@ watched-so : (class : Class) → u.is_watchable class ≡ true → IsWatched (So
 watched-so c.Port h = tt
 watched-so c.Net h = tt
 watched-so c.Variable h = tt
-watched-so c.Memory h = absurd (true≢false (sym h))
-watched-so (c.Parameter i) h = absurd (true≢false (sym h))
-watched-so (c.Function i) h = absurd (true≢false (sym h))
-watched-so c.Instance h = absurd (true≢false (sym h))
+watched-so class h = absurd (true≢false (sym h))
 
 called-so : (count : ℕ) (class : Class) → u.is_callable count class ≡ true → class ≡ c.Function count
 called-so count (c.Function i) h = ap (λ z. c.Function z) (eqb-true i count h)
-called-so count c.Port h = absurd (true≢false (sym h))
-called-so count c.Net h = absurd (true≢false (sym h))
-called-so count c.Variable h = absurd (true≢false (sym h))
-called-so count c.Memory h = absurd (true≢false (sym h))
-called-so count (c.Parameter i) h = absurd (true≢false (sym h))
-called-so count c.Instance h = absurd (true≢false (sym h))
+called-so count class h = absurd (true≢false (sym h))
 
 parameter-read : (class : Class) → is_parameter class ≡ true → IsRead (Some class) x.NoSelects
 parameter-read (c.Parameter i) h = tt
-parameter-read (c.Function i) h = absurd (true≢false (sym h))
-parameter-read c.Port h = tt
-parameter-read c.Net h = tt
-parameter-read c.Variable h = tt
-parameter-read c.Memory h = absurd (true≢false (sym h))
-parameter-read c.Instance h = absurd (true≢false (sym h))
+parameter-read class h = absurd (true≢false (sym h))
 
 -- ---- parts without faults
 
@@ -167,10 +153,7 @@ module _ (m : Meanings) (k : Classes) (means : Means m k) where
       let q = meant setting.parameters (λ kind. u.is_callable count kind.class) (m.called name.name) fine.known fine.used in
       sym (sym (ap class_of q.1) ∙ means.called name.name) ∙ ap (λ z. Some z) (called-so count q.0.class q.2)
   part-fits setting (n.system usage a) q fine = system-loads m.read k (λ t kind e. is-class t kind e) setting.timed usage a (untrue _ fine.allowed)
-  part-fits setting (n.number at a) q fine = tt
-  part-fits setting (n.target side a) q fine = tt
-  part-fits setting (n.group at) q fine = tt
-  part-fits setting (n.event name) q fine = tt
+  part-fits setting a q fine = tt
 
 -- ---- constants
 
@@ -194,7 +177,4 @@ module _ (m : Meanings) (k : Classes) (means : MeansParameters m k) where
       subst (Reads k) (sym (named-opens a)) (constant-value setting.parameters (m.read t) o.selects t refl fine.known (varies-not setting.constant _ q fine.fixed))
   constant-fits setting (n.call name count) q fine = absurd (true≢false (varies-not setting.constant true q fine.fixed))
   constant-fits setting (n.system usage a) q fine = absurd (true≢false (varies-not setting.constant true q fine.fixed))
-  constant-fits setting (n.number at a) q fine = tt
-  constant-fits setting (n.target side a) q fine = tt
-  constant-fits setting (n.group at) q fine = tt
-  constant-fits setting (n.event name) q fine = tt
+  constant-fits setting a q fine = tt

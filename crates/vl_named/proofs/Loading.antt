@@ -37,7 +37,7 @@ Loads k e = ⊥
 
 -- ---- whole expressions
 
-some-same : {A : Type 0} (y z : A) → ◌≡◌ {A = Option A} (Some y) (Some z) → y ≡ z
+pub some-same : {A : Type 0} (y z : A) → ◌≡◌ {A = Option A} (Some y) (Some z) → y ≡ z
 some-same y z h = cc
 
 -- an expression that is an operand
@@ -73,15 +73,8 @@ record IsText (o : Option Expression) (others : x.Args) : Type 0 where
   is : held o others ≡ x.MoreArgs (x.Text at text) others
 
 text-in : (o : Option Primary) → is_some (l.text_in o) ≡ true → (at : Place) × (text : List ℕ) × (o ≡ Some (p.Str at text))
-text-in None h = absurd (true≢false (sym h))
 text-in (Some (p.Str at text)) h = (at, text, refl)
-text-in (Some (p.Number at a)) h = absurd (true≢false (sym h))
-text-in (Some (p.Name a)) h = absurd (true≢false (sym h))
-text-in (Some (p.Parenthesized' at q inner)) h = absurd (true≢false (sym h))
-text-in (Some (p.Concatenation' at q parts)) h = absurd (true≢false (sym h))
-text-in (Some (p.Replication' at q count r parts)) h = absurd (true≢false (sym h))
-text-in (Some (p.Call' name q parts)) h = absurd (true≢false (sym h))
-text-in (Some (p.System a)) h = absurd (true≢false (sym h))
+text-in o h = absurd (true≢false (sym h))
 
 text-held : (o : Option Expression) (others : x.Args) → is_some (l.text_in (l.sole_in o)) ≡ true → IsText o others
 text-held None others h = absurd (true≢false (sym h))
@@ -96,28 +89,16 @@ record IsBare (o : Option Primary) : Type 0 where
   selects : (out-Name name).selects ≡ []
 
 bare-name : (o : Option Primary) (i : Identifier) → s.bare_of o ≡ Some i → (r : IsBare o) × ((out-Name r.name).identifier ≡ i)
-bare-name None i h = absurd cc
 bare-name (Some (p.Name a)) i h = by (out-Name a).selects refl h
   where
     by : (ss : List Select) → (out-Name a).selects ≡ ss → s.bare_in (out-Name a).identifier ss ≡ Some i → (r : IsBare (Some (p.Name a))) × ((out-Name r.name).identifier ≡ i)
     by [] e g = (record { name = a; is = refl; selects = e }, some-same _ i g)
     by (z ∷ zs) e g = absurd cc
-bare-name (Some (p.Str at text)) i h = absurd cc
-bare-name (Some (p.Number at a)) i h = absurd cc
-bare-name (Some (p.Parenthesized' at q inner)) i h = absurd cc
-bare-name (Some (p.Concatenation' at q parts)) i h = absurd cc
-bare-name (Some (p.Replication' at q count r parts)) i h = absurd cc
-bare-name (Some (p.Call' name q parts)) i h = absurd cc
-bare-name (Some (p.System a)) i h = absurd cc
+bare-name o i h = absurd cc
 
 memory-class : (class : Class) → l.is_memory_class class ≡ true → class ≡ c.Memory
 memory-class c.Memory h = refl
-memory-class c.Port h = absurd (true≢false (sym h))
-memory-class c.Net h = absurd (true≢false (sym h))
-memory-class c.Variable h = absurd (true≢false (sym h))
-memory-class (c.Parameter i) h = absurd (true≢false (sym h))
-memory-class (c.Function i) h = absurd (true≢false (sym h))
-memory-class c.Instance h = absurd (true≢false (sym h))
+memory-class class h = absurd (true≢false (sym h))
 
 module _ (means : List ℕ → Option Kind) (k : Classes) (known : (t : List ℕ) (kind : Kind) → means t ≡ Some kind → Some kind.class ≡ k.read t) where
   -- an argument that is a memory's name

@@ -21,6 +21,7 @@ use Rattle.vl_uses.specs.UseFaults.{meanings}
 use Rattle.vl_flat.specs.Items.{Local, DataType}
 use Rattle.vl_flat.specs.Declarations.{function, local, inputs_in, locals_in}
 use Rattle.vl_used.specs.Used.{classes, class_in, declares, within}
+use Rattle.vl_named.proofs.Loading.{some-same}
 use Rattle.vl_named.proofs.Fitting.{class_of, Means, MeansParameters}
 
 -- outside functions
@@ -144,9 +145,6 @@ function-means outer a = record {
 pub function-parameters : (outer : List Declared) (a : FunctionTree) → MeansParameters (meanings outer (function_declarations a)) (classes outer)
 function-parameters outer a = record { read = λ t class e h. by (kind_in (function_declarations a) t) t class (fold-variable t None (function_declarations a) (all-variables a) tt) e h }
   where
-    some-same : (y z : Class) → ◌≡◌ {A = Option Class} (Some y) (Some z) → y ≡ z
-    some-same y z q = cc
-
     by : (o : Option Kind) (t : List ℕ) (class : Class) → IsVariable o → class_of (option_or o (kind_in outer t)) ≡ Some class → is_parameter class ≡ true → class_in outer t ≡ Some class
     by None t class v e h = e
     by (Some kind) t class v e h = absurd (true≢false (sym h ∙ ap is_parameter (sym (some-same kind.class class e) ∙ v)))

@@ -39,23 +39,12 @@ module _ (ds : List Declared) where
   nodes-fine : (w : Option FunctionTree) (as' : List n.Node) → AreFine (map (n.site w) as') → Every (IsFine (u.meanings ds (u.inner_declarations w))) as'
   nodes-fine w as' h = λ a i. h (n.site w a) (In-map (n.site w) a as' i)
 
-  abbrev IsFineItem : ℕ → ItemTree → Type 0
-  IsFineItem count a = AreFine (n.item_sites count a)
-
   plain-used : (count : ℕ) (a : ItemTree) → ((f : FunctionTree) → a ≡ i.Function f → IsUsedFunction (classes ds) (d.function f)) → AreFine (map (n.site None) (n.item_nodes (behind count) a)) → IsUsedItem (classes ds) (d.item a)
   plain-used count a f h = item-used (u.meanings ds []) (classes ds) (module-means ds) (behind count) a f (nodes-fine None (n.item_nodes (behind count) a) h)
 
-  item-fine : (count : ℕ) (a : ItemTree) → IsFineItem count a → IsUsedItem (classes ds) (d.item a)
+  item-fine : (count : ℕ) (a : ItemTree) → AreFine (n.item_sites count a) → IsUsedItem (classes ds) (d.item a)
   item-fine count (i.Function a) h = function-used ds count a (nodes-fine (Some a) (n.function_nodes (behind count) a) h)
-  item-fine count (i.Port a) h = plain-used count (i.Port a) (λ f e. absurd cc) h
-  item-fine count (i.Parameter at word type as') h = plain-used count (i.Parameter at word type as') (λ f e. absurd cc) h
-  item-fine count (i.Wire at signed range as') h = plain-used count (i.Wire at signed range as') (λ f e. absurd cc) h
-  item-fine count (i.Reg at signed range as') h = plain-used count (i.Reg at signed range as') (λ f e. absurd cc) h
-  item-fine count (i.Integer at as') h = plain-used count (i.Integer at as') (λ f e. absurd cc) h
-  item-fine count (i.Assign at as') h = plain-used count (i.Assign at as') (λ f e. absurd cc) h
-  item-fine count (i.Initial at a) h = plain-used count (i.Initial at a) (λ f e. absurd cc) h
-  item-fine count (i.Always at trigger a) h = plain-used count (i.Always at trigger a) (λ f e. absurd cc) h
-  item-fine count (i.Instance a) h = plain-used count (i.Instance a) (λ f e. absurd cc) h
+  item-fine count a h = plain-used count a (λ f e. absurd cc) h
 
   items-fine : (count : ℕ) (as' : List ItemTree) → AreFine (n.items_sites count as') → All (IsUsedItem (classes ds)) (map d.item as')
   unfolding n.items_sites

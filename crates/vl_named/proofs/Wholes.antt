@@ -19,7 +19,7 @@ use Rattle.vl_uses.specs.Nodes as n
 use Rattle.vl_flat.specs.Binding as f
 use Rattle.vl_flat.specs.Surface as x
 use Rattle.vl_used.specs.Used.{Classes, IsUsed}
-use Rattle.vl_named.proofs.Loading.{operand-is, sole-is}
+use Rattle.vl_named.proofs.Loading.{some-same, operand-is, sole-is}
 use Rattle.vl_named.proofs.Expressions.{Every, Suits, ex-used, system-used}
 
 module _ (k : Classes) where
@@ -46,15 +46,8 @@ module _ (k : Classes) where
         alone-used v (s.stripped_primary v primary) marks links (f.first_primary primary) back (λ b w. primary-used v primary b w) u
 
     primary-used : {m : _} (v : Expression) (row : b.Row_of-Primary m) → (IsUsed k (f.first_primary row) → IsUsed k (f.ex v)) → IsUsed k (f.ex (s.stripped_primary v row)) → IsUsed k (f.ex v)
-    primary-used v b.end_of-Primary back u = u
     primary-used v (b.more_of-Primary (p.Parenthesized' at h inner) rest) back u = inner-used v inner back u
-    primary-used v (b.more_of-Primary (p.Number at a) rest) back u = u
-    primary-used v (b.more_of-Primary (p.Str at text) rest) back u = u
-    primary-used v (b.more_of-Primary (p.Name a) rest) back u = u
-    primary-used v (b.more_of-Primary (p.Concatenation' at h parts) rest) back u = u
-    primary-used v (b.more_of-Primary (p.Replication' at h count t parts) rest) back u = u
-    primary-used v (b.more_of-Primary (p.Call' name h parts) rest) back u = u
-    primary-used v (b.more_of-Primary (p.System a) rest) back u = u
+    primary-used v row back u = u
 
     inner-used : {m : _} (v : Expression) (row : p.Row_of-Expression m) → (IsUsed k (f.first row) → IsUsed k (f.ex v)) → IsUsed k (f.ex (s.stripped_inner v row)) → IsUsed k (f.ex v)
     inner-used v p.end_of-Expression back u = u
@@ -63,26 +56,16 @@ module _ (k : Classes) where
   -- ---- calls that are the whole
 
   call-is : (q : Option Primary) (a : SystemCall) → n.call_in q ≡ Some a → q ≡ Some (p.System a)
-  call-is None a h = absurd cc
   call-is (Some (p.System y)) a h = same y h
     where
       same : (y : SystemCall) → ◌≡◌ {A = Option SystemCall} (Some y) (Some a) → ◌≡◌ {A = Option Primary} (Some (p.System y)) (Some (p.System a))
       same y g = cc
-  call-is (Some (p.Number at y)) a h = absurd cc
-  call-is (Some (p.Str at text)) a h = absurd cc
-  call-is (Some (p.Name y)) a h = absurd cc
-  call-is (Some (p.Parenthesized' at q inner)) a h = absurd cc
-  call-is (Some (p.Concatenation' at q parts)) a h = absurd cc
-  call-is (Some (p.Replication' at q count r parts)) a h = absurd cc
-  call-is (Some (p.Call' name q parts)) a h = absurd cc
+  call-is q a h = absurd cc
 
   apart-used : (v : Expression) (y : Primary) → s.apart v ≡ Some y → IsUsed k (f.primary y) → IsUsed k (f.ex v)
   apart-used v y h u = stripped-used v (subst (IsUsed k) (sym (sole-is (s.stripped v) y h)) u)
 
   -- ---- behind one `!`
-
-  some-same : {A : Type 0} (y z : A) → ◌≡◌ {A = Option A} (Some y) (Some z) → y ≡ z
-  some-same y z h = cc
 
   row-apart-used : {m : _} (row : p.Row_of-Expression m) (y : Primary) → s.row_apart row ≡ Some y → IsUsed k (f.primary y) → IsUsed k (f.first row)
   row-apart-used p.end_of-Expression y h u = tt
@@ -90,13 +73,7 @@ module _ (k : Classes) where
 
   primary-apart-used : (a y : Primary) → s.primary_apart a ≡ Some y → IsUsed k (f.primary y) → IsUsed k (f.primary a)
   primary-apart-used (p.Parenthesized' at q inner) y h u = row-apart-used inner y h u
-  primary-apart-used (p.Number at z) y h u = subst (λ w. IsUsed k (f.primary w)) (sym (some-same _ y h)) u
-  primary-apart-used (p.Str at text) y h u = subst (λ w. IsUsed k (f.primary w)) (sym (some-same _ y h)) u
-  primary-apart-used (p.Name z) y h u = subst (λ w. IsUsed k (f.primary w)) (sym (some-same _ y h)) u
-  primary-apart-used (p.Concatenation' at q parts) y h u = subst (λ w. IsUsed k (f.primary w)) (sym (some-same _ y h)) u
-  primary-apart-used (p.Replication' at q count r parts) y h u = subst (λ w. IsUsed k (f.primary w)) (sym (some-same _ y h)) u
-  primary-apart-used (p.Call' name q parts) y h u = subst (λ w. IsUsed k (f.primary w)) (sym (some-same _ y h)) u
-  primary-apart-used (p.System z) y h u = subst (λ w. IsUsed k (f.primary w)) (sym (some-same _ y h)) u
+  primary-apart-used a y h u = subst (λ w. IsUsed k (f.primary w)) (sym (some-same a y h)) u
 
   mark-used : (op : UnaryOperator) (a y : Primary) → s.behind_mark op a ≡ Some y → IsUsed k (f.primary y) → IsUsed k (f.primary a)
   mark-used o.LogicalNot a y h u = primary-apart-used a y h u
@@ -121,14 +98,7 @@ module _ (k : Classes) where
     where
       by : (q : Option Primary) → s.apart v ≡ q → n.is_number q ≡ true → IsUsed k (f.ex v)
       by (Some (p.Number at a)) g i = apart-used v (p.Number at a) g tt
-      by None g i = absurd cc
-      by (Some (p.System y)) g i = absurd cc
-      by (Some (p.Str at text)) g i = absurd cc
-      by (Some (p.Name y)) g i = absurd cc
-      by (Some (p.Parenthesized' at q inner)) g i = absurd cc
-      by (Some (p.Concatenation' at q parts)) g i = absurd cc
-      by (Some (p.Replication' at q count r parts)) g i = absurd cc
-      by (Some (p.Call' name q parts)) g i = absurd cc
+      by q g i = absurd cc
 
 module _ (k : Classes) (P : n.Node → Type 0) (Q : Setting → Type 0) (suits : Suits k P Q) where
   -- a call that is the whole, or what else stands there

@@ -264,7 +264,7 @@ behind-functions sizes ms place (item ∷ items) next =
 
 module _ (ms : List x.Module) (top : x.Module) (whole : List p.Func) where
   abbrev behind-all : ℕ
-  behind-all = (size (suc f.deepest) ms top.name.name).signals
+  behind-all = (f.whole ms top).signals
 
   abbrev body-of : ℕ → Given → x.Module → List f.Part
   body-of n g m = f.body (f.instance n ms) (size n ms) ms behind-all (environment (size n ms) g m) g m
@@ -321,7 +321,7 @@ module _ (ms : List x.Module) (top : x.Module) (whole : List p.Func) where
 pub function-places : (ms : List x.Module) (top : x.Module)
     → (d : p.Design) → o.flattened_from ms top ≡ Ok d → (n : ℕ) (g : Given) (m : x.Module) → IsInstance ms top n g m
     → (t : List ℕ) (k : ℕ) (c : Form) → environment (size n ms) g m t ≡ Some (b.Function k c)
-    → (a : x.Function) × (a.name.name ≡ t) × (slice_get d.funcs k ≡ Some (function (size (suc f.deepest) ms top.name.name).signals (environment (size n ms) g m) g.path a))
+    → (a : x.Function) × (a.name.name ≡ t) × (slice_get d.funcs k ≡ Some (function (f.whole ms top).signals (environment (size n ms) g m) g.path a))
 function-places ms top d is n g m h =
     let parts = f.parts_from ms top in
     let design = design-is (o.judged o.nothing_yet parts) (f.design_of top parts) d is in

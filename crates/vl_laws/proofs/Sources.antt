@@ -4,6 +4,7 @@ use Rattle.std.specs.Prelude.{slice_get, All}
 use Rattle.vl_grammar.specs.declared.tree.Identifier.{Identifier}
 use Rattle.vl_source.specs.declared.tree.Source.{Source}
 use Rattle.vl_scope.specs.declared.fault.Fault.{Fault}
+use Rattle.vl_scope.specs.Faults.{In}
 use Rattle.vl_scope.specs.DeclarationFaults.{IsDeclarationFault}
 use Rattle.vl_design.specs.declared.design.Form.{Form}
 use Rattle.vl_flat.specs.declared.binding.Binding.TheVariants.{Signal, Function}
@@ -36,7 +37,7 @@ source-places s none top is d e n g m h t k r at =
 pub source-functions : (s : Source) → (top : x.Module) → f.top_of s ≡ Some top
     → (d : p.Design) → flattened s ≡ Ok d
     → (n : ℕ) (g : Given) (m : x.Module) → IsInstance (modules s) top n g m → (t : List ℕ) (k : ℕ) (c : Form) → environment (size n (modules s)) g m t ≡ Some (Function k c)
-    → (a : x.Function) × (a.name.name ≡ t)
+    → (a : x.Function) × In (x.Functions a) m.items × (a.name.name ≡ t)
     × (slice_get d.funcs k ≡ Some (function (f.whole (modules s) top).signals (environment (size n (modules s)) g m) g.path a))
 source-functions s top is d e n g m h t k c at = function-places (modules s) top d (ap (flattened_by (modules s)) (sym is) ∙ e) n g m h t k c at
 

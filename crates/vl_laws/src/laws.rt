@@ -4,6 +4,7 @@ ghost use Rattle.std.specs.Prelude.{◌≡◌, ℕ, suc, ◌+◌, ◌<◌, ◌�
 ghost use Rattle.vl_grammar.specs.declared.tree.Identifier.{Identifier};
 ghost use Rattle.vl_source.specs.declared.tree.Source.{Source};
 ghost use Rattle.vl_scope.specs.declared.fault.Fault.{Fault};
+ghost use Rattle.vl_scope.specs.Faults.{In};
 ghost use Rattle.vl_scope.specs.DeclarationFaults.{IsDeclarationFault};
 ghost use Rattle.vl_design.specs.declared.design.Form.{Form};
 ghost use Rattle.vl_design.specs.Width as width;
@@ -63,13 +64,13 @@ pub fn the_number_of_a_name_is_the_place_of_its_signal()
         → (name : Identifier) × (name.name ≡ t) × (slice_get d.signals k ≡ Some (signal g.path name r)) }
 {}
 
-/// In the flat design the number of a function's name is the place of its function, in the names and behind the path of the
-/// instance that declares it. Its locals come behind all the design's signals.
+/// In the flat design the number of a function's name is the place of its function, which the module has, in the names and behind
+/// the path of the instance that declares it. Its locals come behind all the design's signals.
 pub fn the_number_of_a_function_is_its_place()
     ensures { (s : Source) → (top : items.Module) → flat.top_of s ≡ Some top
         → (d : placed.Design) → flattened s ≡ Ok d → (n : ℕ) (g : Given) (m : items.Module) → IsInstance (modules s) top n g m
         → (t : List ℕ) (k : ℕ) (c : Form) → environment (size n (modules s)) g m t ≡ Some (Function k c)
-        → (a : items.Function) × (a.name.name ≡ t)
+        → (a : items.Function) × In (items.Functions a) m.items × (a.name.name ≡ t)
         × (slice_get d.funcs k
         ≡ Some (function (flat.whole (modules s) top).signals (environment (size n (modules s)) g m) g.path a)) }
 {}

@@ -1,3 +1,4 @@
+pub mod Bound
 pub mod Names
 pub mod Pairs
 pub mod Values

@@ -1,3 +1,4 @@
+use Rattle.vl_agree.proofs.Bound.{Bound}
 use Rattle.vl_agree.proofs.Names.{Name}
 use Rattle.vl_agree.proofs.Values.{parameter-below}
 use Rattle.vl_agree.proofs.laws.a_parameter_is_within_its_width.Goals as goal

@@ -1,3 +1,4 @@
+pub mod Alone
 pub mod Bound
 pub mod Names
 pub mod Pairs

@@ -1,3 +1,4 @@
+use Rattle.vl_agree.proofs.Alone.{Unlike}
 use Rattle.vl_agree.proofs.Bound.{Bound}
 use Rattle.vl_agree.proofs.Names.{Name}
 use Rattle.vl_agree.proofs.Values.{parameter-below}

@@ -1,4 +1,6 @@
+pub mod Agree
 pub mod Alone
+pub mod Bodies
 pub mod Bound
 pub mod Names
 pub mod Pairs

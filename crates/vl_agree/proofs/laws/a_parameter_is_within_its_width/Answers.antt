@@ -1,3 +1,5 @@
+use Rattle.vl_agree.proofs.Bodies.{body-agrees}
+use Rattle.vl_agree.proofs.Agree.{agrees}
 use Rattle.vl_agree.proofs.Alone.{Unlike}
 use Rattle.vl_agree.proofs.Bound.{Bound}
 use Rattle.vl_agree.proofs.Names.{Name}

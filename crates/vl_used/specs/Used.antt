@@ -1,10 +1,11 @@
 -- Names that are used as what they are (IEEE 1364-2005, clauses 5.2, 9.2, 9.7.2, 10.4.3 and 17).
-use Rattle.std.specs.Prelude.{◌≡◌, ℕ, ◌+◌, Bool, true, false, List, drop, ⊤, All, Option, Some, None, option_map, if◌then◌else◌}
+use Rattle.std.specs.Prelude.{◌≡◌, ℕ, ◌+◌, Bool, true, false, ◌||◌, List, drop, ⊤, All, Option, Some, None, option_map, if◌then◌else◌, codes}
 use Rattle.std.specs.List.{list_any}
 use Rattle.std.specs.Option.{option_map_or}
 use Rattle.std.specs.Str.{bytes_eq}
 use Rattle.vl_source.specs.declared.tree.Trigger.{Trigger}
 use Rattle.vl_source.specs.declared.tree.Trigger.TheVariants.{Events}
+use Rattle.vl_grammar.specs.declared.tree.UnaryOperator.TheVariants.{LogicalNot}
 use Rattle.vl_scope.specs.declared.kind.Class.{Class}
 use Rattle.vl_scope.specs.declared.kind.Class.TheVariants as c
 use Rattle.vl_scope.specs.Declarations.{Declared, kind_in}
@@ -88,6 +89,14 @@ abbrev pub IsLoad : Classes → x.Args → Type 0
 IsLoad k (x.MoreArgs (x.Text at text) (x.MoreArgs e x.NoArgs)) = IsMemoryName k e
 IsLoad k given = ⊥
 
+-- the functions whose calls are operands (clauses 17.7 and 17.8)
+abbrev pub is_operand : List ℕ → Bool
+is_operand name = bytes_eq name (codes "$signed") || (bytes_eq name (codes "$unsigned") || bytes_eq name (codes "$time"))
+
+-- the functions on files, whose calls are whole right sides or conditions (clause 17.2; where they stand is own)
+abbrev pub is_on_files : List ℕ → Bool
+is_on_files name = bytes_eq name (codes "$fopen") || (bytes_eq name (codes "$fread") || (bytes_eq name (codes "$fgetc") || bytes_eq name (codes "$feof")))
+
 -- the one of two, by a test
 abbrev pub ByTest : Bool → Type 0 → Type 0 → Type 0
 ByTest true A B = A
@@ -107,7 +116,7 @@ module _ (k : Classes) where
     IsUsed (x.Joined at es) = AreUsed es
     IsUsed (x.Repeated at n es) = IsUsed n × AreUsed es
     IsUsed (x.Called at t es) = (k.called t ≡ Some (c.Function (how_many es))) × AreUsed es
-    IsUsed (x.System at name given) = ByTest (is_load name) (IsLoad k given) (AreUsedArgs given)
+    IsUsed (x.System at name given) = (is_operand name ≡ true) × AreUsedArgs given
 
     pub AreUsed : x.Exs → Type 0
     AreUsed x.NoExs = ⊤
@@ -122,6 +131,18 @@ module _ (k : Classes) where
     AreUsedArgs x.NoArgs = ⊤
     AreUsedArgs (x.NullArg others) = AreUsedArgs others
     AreUsedArgs (x.MoreArgs e others) = IsUsed e × AreUsedArgs others
+
+  -- a right side: also a call of a function on files
+  abbrev pub IsUsedSide : x.Ex → Type 0
+  IsUsedSide (x.System at name given) = ((is_operand name || is_on_files name) ≡ true) × AreUsedArgs given
+  IsUsedSide (x.Paren at a) = IsUsedSide a
+  IsUsedSide e = IsUsed e
+
+  -- a condition: also behind one `!`
+  abbrev pub IsUsedTest : x.Ex → Type 0
+  IsUsedTest (x.Unary at LogicalNot a) = IsUsedSide a
+  IsUsedTest (x.Paren at a) = IsUsedTest a
+  IsUsedTest e = IsUsedSide e
 
   -- a system task
   abbrev pub IsUsedTask : List ℕ → x.Args → Type 0
@@ -141,11 +162,11 @@ module _ (k : Classes) where
     pub IsUsedStatement : x.Statement → Type 0
     IsUsedStatement (x.Null at) = ⊤
     IsUsedStatement (x.Block at as') = AreUsedStatements as'
-    IsUsedStatement (x.If at t a b) = IsUsed t × IsUsedStatement a × IsUsedStatement b
+    IsUsedStatement (x.If at t a b) = IsUsedTest t × IsUsedStatement a × IsUsedStatement b
     IsUsedStatement (x.Case at wild e items) = IsUsed e × AreUsedItems items
-    IsUsedStatement (x.For at l e t l' e' a) = IsUsedLeft l × IsUsed e × IsUsed t × IsUsedLeft l' × IsUsed e' × IsUsedStatement a
+    IsUsedStatement (x.For at l e t l' e' a) = IsUsedLeft l × IsUsedSide e × IsUsed t × IsUsedLeft l' × IsUsedSide e' × IsUsedStatement a
     IsUsedStatement (x.Repeat at n a) = IsUsed n × IsUsedStatement a
-    IsUsedStatement (x.Assign at blocking l e) = IsUsedLeft l × IsUsed e
+    IsUsedStatement (x.Assign at blocking l e) = IsUsedLeft l × IsUsedSide e
     IsUsedStatement (x.Task at name given) = IsUsedTask name given
 
     pub AreUsedStatements : x.Statements → Type 0
@@ -163,6 +184,11 @@ module _ (k : Classes) where
   IsUsedValue None = ⊤
   IsUsedValue (Some e) = IsUsed e
 
+  -- a signal's own value is a right side
+  abbrev pub IsUsedOwnValue : Option x.Ex → Type 0
+  IsUsedOwnValue None = ⊤
+  IsUsedOwnValue (Some e) = IsUsedSide e
+
   abbrev pub IsUsedRange : Option i.Bounds → Type 0
   IsUsedRange None = ⊤
   IsUsedRange (Some r) = IsUsed r.left × IsUsed r.right
@@ -174,7 +200,7 @@ module _ (k : Classes) where
   pub record IsUsedDeclared (d : i.Declared) : Type 0 where
     pub type : IsUsedType d.type
     pub words : IsUsedRange d.words
-    pub value : IsUsedValue d.value
+    pub value : IsUsedOwnValue d.value
 
   abbrev pub IsUsedTrigger : Trigger → Type 0
   IsUsedTrigger (Events es) = All (λ e. IsWatched (k.read e.name.name)) es

@@ -37,11 +37,11 @@ all-in P [] h = All-nil P
 all-in P (y ∷ ys) h = All-cons P y ys (h y (inl refl)) (all-in P ys (λ z k. h z (inr k)))
 
 -- one before another
-record Ordered {A : Type 0} (l : List A) (a e : A) : Type 0 where
-  before : List A
-  after : List A
-  is : l ≡ before ++ e ∷ after
-  earlier : In a before
+pub record Ordered {A : Type 0} (l : List A) (a e : A) : Type 0 where
+  pub before : List A
+  pub after : List A
+  pub is : l ≡ before ++ e ∷ after
+  pub earlier : In a before
 
 ordered-more : {A : Type 0} (z : A) (l : List A) (a e : A) → Ordered l a e → Ordered (z ∷ l) a e
 ordered-more z l a e o = record { before = z ∷ o.before; after = o.after; is = ap (λ y. z ∷ y) o.is; earlier = inr o.earlier }
@@ -49,7 +49,7 @@ ordered-more z l a e o = record { before = z ∷ o.before; after = o.after; is =
 ordered-first : {A : Type 0} (z : A) (l : List A) (a e : A) → z ≡ a → In e l → Ordered (z ∷ l) a e
 ordered-first z l a e h k = let p = In-split e l k in record { before = z ∷ p.0; after = p.1; is = ap (λ y. z ∷ y) p.2; earlier = inl h }
 
-in-order : {A : Type 0} (l : List A) (a e : A) → In a l → In e l → (a ≡ e) ⊎ (Ordered l a e ⊎ Ordered l e a)
+pub in-order : {A : Type 0} (l : List A) (a e : A) → In a l → In e l → (a ≡ e) ⊎ (Ordered l a e ⊎ Ordered l e a)
 in-order [] a e h k = absurd h
 in-order (z ∷ l) a e (inl h) (inl k) = inl (sym h ∙ k)
 in-order (z ∷ l) a e (inl h) (inr k) = inr (inl (ordered-first z l a e h k))

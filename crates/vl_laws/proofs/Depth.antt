@@ -249,13 +249,12 @@ module _ (ms : List x.Module) where
 
 -- ---- the top module
 
-pub enough-levels : (ms : List x.Module) → All AreSpelt ms → (m : x.Module) → module_named ms m.name.name ≡ Some m → 0 < length m.name.name → (d : p.Design) → o.flattened_from ms m ≡ Ok d
+pub enough-levels : (ms : List x.Module) → All AreSpelt ms → (m : x.Module) → AreSpelt m → 0 < length m.name.name → (d : p.Design) → o.flattened_from ms m ≡ Ok d
     → (n : ℕ) → f.deepest ≤ n → parts_at n ms m ≡ f.parts_from ms m
-enough-levels ms spelt m named name d e n more =
+enough-levels ms spelt m own name d e n more =
     let parts = f.parts_from ms m in
     let first = bound-first (o.judged o.nothing_yet parts) (λ t. Ok (f.design_of m parts)) d e in
     let clear = judged-clear o.nothing_yet parts first.0 first.1 in
-    let behind = (size (suc f.deepest) ms m.name.name).signals in
-    let both = body-agrees ms f.deepest n (deep ms spelt f.deepest n more) behind (f.top_given m) m (omega (arith, name)) (inr (omega arith)) (found-holds AreSpelt (λ z. bytes_eq m.name.name z.name.name) ms m spelt named) clear in
-    let sizes = size-some f.deepest ms m.name.name m named ∙ (both.2 ∙ sym (size-some n ms m.name.name m named)) in
-    sym (both.0 ∙ (ap (λ z. inside-of ms n behind (f.top_given m) m z) both.1 ∙ ap (λ (z : Counts). inside-of ms n z.signals (f.top_given m) m (environment (size n ms) (f.top_given m) m)) sizes))
+    let behind = (f.whole ms m).signals in
+    let both = body-agrees ms f.deepest n (deep ms spelt f.deepest n more) behind (f.top_given m) m (omega (arith, name)) (inr (omega arith)) own clear in
+    sym (both.0 ∙ (ap (λ z. inside-of ms n behind (f.top_given m) m z) both.1 ∙ ap (λ (z : Counts). inside-of ms n z.signals (f.top_given m) m (environment (size n ms) (f.top_given m) m)) both.2))

@@ -1,5 +1,5 @@
 -- An instance has as many functions as its size says, and the number of a function's name is the place of its function.
-use Rattle.std.proofs.Common.{◌≡◌, ℕ, zero, suc, ◌+◌, ◌*◌, Bool, true, false, if◌then◌else◌, List, [], ◌∷◌, ◌++◌, length, Option, Some, None, Ok, refl, sym, ap, ◌∙◌, subst, arith}
+use Rattle.std.proofs.Common.{◌≡◌, ℕ, zero, suc, ◌+◌, ◌*◌, Bool, true, false, if◌then◌else◌, inl, inr, List, [], ◌∷◌, ◌++◌, length, Option, Some, None, Ok, refl, sym, ap, ◌∙◌, subst, arith}
 use Rattle.std.specs.Prelude.{slice_get, fold, flat_map, is_some}
 use Rattle.std.specs.Option.{option_map_or}
 use Rattle.std.specs.Str.{bytes_eq}
@@ -7,6 +7,7 @@ use Rattle.std.proofs.lemmas.Slice.Eq.{bytes_eq-Decides}
 use Rattle.std.proofs.lemmas.Grind.{flat_map-append}
 use Rattle.std.proofs.lemmas.List.{append_assoc, append-nil, length-append}
 use Rattle.std.proofs.Math.Nat.{suc-mul}
+use Rattle.vl_scope.specs.Faults.{In}
 use Rattle.vl_flat.specs.declared.binding.Binding.{Binding}
 use Rattle.vl_flat.specs.declared.binding.Binding.TheVariants as b
 use Rattle.vl_design.specs.declared.design.Form.{Form}
@@ -112,11 +113,12 @@ module _ (sizes : List ℕ → Counts) (g : Given) (m : x.Module) (whole : Env) 
     i : ℕ
     is : n ≡ o + i
     source : x.Function
+    listed : In (x.Functions source) m.items
     spelt : source.name.name ≡ t
     there : slice_get xs i ≡ Some (function behind whole g.path source)
 
   where-more : (o : ℕ) (xs ys : List p.Func) (t : List ℕ) (n : ℕ) → Where o xs t n → Where o (xs ++ ys) t n
-  where-more o xs ys t n h = record { i = h.i; is = h.is; source = h.source; spelt = h.spelt; there = left-part xs ys h.i _ h.there }
+  where-more o xs ys t n h = record { i = h.i; is = h.is; source = h.source; listed = h.listed; spelt = h.spelt; there = left-part xs ys h.i _ h.there }
 
   record At (o : ℕ) (k : Known) (xs : List p.Func) : Type 0 where
     len : k.next.functions ≡ o + length xs
@@ -158,9 +160,9 @@ module _ (sizes : List ℕ → Counts) (g : Given) (m : x.Module) (whole : Env) 
   signals-at o xs [] k h = h
   signals-at o xs (d ∷ ds) k h = signals-at o xs ds (with_signal g m k d) (signal-at o xs k d h)
 
-  function-at : (o : ℕ) (xs : List p.Func) (a : x.Function) (k : Known) → At o k xs
+  function-at : (o : ℕ) (xs : List p.Func) (a : x.Function) (k : Known) → In (x.Functions a) m.items → At o k xs
       → At o (with_item sizes g m k (x.Functions a)) (xs ++ function behind whole g.path a ∷ [])
-  function-at o xs a k h = record {
+  function-at o xs a k listed h = record {
     len = omega (arith, h.len, length-append xs (function behind whole g.path a ∷ []));
     at = λ t n c e. at t n c (bytes_eq a.name.name t) refl e;
   }
@@ -176,6 +178,7 @@ module _ (sizes : List ℕ → Counts) (g : Given) (m : x.Module) (whole : Env) 
         i = length xs;
         is = sym (number-is k.next.functions n (type_form k.env a.type) c e) ∙ h.len;
         source = a;
+        listed = listed;
         spelt = (bytes_eq-Decides a.name.name t).0 q;
         there = seam-part xs r;
       }
@@ -188,19 +191,19 @@ module _ (sizes : List ℕ → Counts) (g : Given) (m : x.Module) (whole : Env) 
       (added : (base : Counts) (us : x.Instances) (u : x.NamedUnit) (of : x.Module) → module_named ms us.definition ≡ Some of
       → length (funs (inner spot base us u of)) ≡ (sizes us.definition).functions)
       (absent : (t : List ℕ) → module_named ms t ≡ None → (sizes t).functions ≡ 0) where
-    item-at : (item : x.Item) (o : ℕ) (xs : List p.Func) (k : Known) (next : Counts) → At o k xs
+    item-at : (item : x.Item) (o : ℕ) (xs : List p.Func) (k : Known) (next : Counts) → In item m.items → At o k xs
         → At o (with_item sizes g m k item) (xs ++ funs (f.item_parts inner sizes ms spot g next item))
     unfolding inst spot
-    item-at (x.Parameters type as') o xs k next h = subst (λ z. At o (fold (with_parameter g type) k as') z) (sym (append-nil xs)) (params-at o xs type as' k h)
-    item-at (x.Signals ds) o xs k next h = subst (λ z. At o (fold (with_signal g m) k ds) z) (sym (append-nil xs)) (signals-at o xs ds k h)
-    item-at (x.Functions a) o xs k next h = function-at o xs a k h
-    item-at (x.Assigns as') o xs k next h =
+    item-at (x.Parameters type as') o xs k next listed h = subst (λ z. At o (fold (with_parameter g type) k as') z) (sym (append-nil xs)) (params-at o xs type as' k h)
+    item-at (x.Signals ds) o xs k next listed h = subst (λ z. At o (fold (with_signal g m) k ds) z) (sym (append-nil xs)) (signals-at o xs ds k h)
+    item-at (x.Functions a) o xs k next listed h = function-at o xs a k listed h
+    item-at (x.Assigns as') o xs k next listed h =
         subst (λ z. At o (with_item sizes g m k (x.Assigns as')) z) (sym (append-nil xs)) (same-next o xs k (with_item sizes g m k (x.Assigns as')) h (omega arith) (λ t n c e. e))
-    item-at (x.Initial at a) o xs k next h =
+    item-at (x.Initial at a) o xs k next listed h =
         subst (λ z. At o (with_item sizes g m k (x.Initial at a)) z) (sym (append-nil xs)) (same-next o xs k (with_item sizes g m k (x.Initial at a)) h (omega arith) (λ t n c e. e))
-    item-at (x.Always at trigger a) o xs k next h =
+    item-at (x.Always at trigger a) o xs k next listed h =
         subst (λ z. At o (with_item sizes g m k (x.Always at trigger a)) z) (sym (append-nil xs)) (same-next o xs k (with_item sizes g m k (x.Always at trigger a)) h (omega arith) (λ t n c e. e))
-    item-at (x.Instantiates us) o xs k next h =
+    item-at (x.Instantiates us) o xs k next listed h =
         let own = funs (f.item_parts inner sizes ms spot g next (x.Instantiates us)) in
         let count = instances-add sizes ms inner spot g m added absent us next in
         record {
@@ -208,16 +211,16 @@ module _ (sizes : List ℕ → Counts) (g : Given) (m : x.Module) (whole : Env) 
           at = λ t n c e. where-more o xs own t n (h.at t n c e);
         }
 
-    items-at : (items : List x.Item) (o : ℕ) (xs : List p.Func) (k : Known) (next : Counts) → At o k xs
+    items-at : (items : List x.Item) (o : ℕ) (xs : List p.Func) (k : Known) (next : Counts) → ((item : x.Item) → In item items → In item m.items) → At o k xs
         → At o (fold (with_item sizes g m) k items) (xs ++ funs (f.items_parts inner sizes ms spot g next items))
     unfolding insts
-    items-at [] o xs k next h = subst (λ z. At o k z) (sym (append-nil xs)) h
-    items-at (item ∷ items) o xs k next h =
+    items-at [] o xs k next listed h = subst (λ z. At o k z) (sym (append-nil xs)) h
+    items-at (item ∷ items) o xs k next listed h =
         let j = with_item sizes g m k item in
         let first = f.item_parts inner sizes ms spot g next item in
         let more = f.items_parts inner sizes ms spot g (f.behind_item sizes spot next item) items in
-        let now = item-at item o xs k next h in
-        let rest = items-at items o (xs ++ funs first) j (f.behind_item sizes spot next item) now in
+        let now = item-at item o xs k next (listed item (inl refl)) h in
+        let rest = items-at items o (xs ++ funs first) j (f.behind_item sizes spot next item) (λ i q. listed i (inr q)) now in
         let split : funs (first ++ more) ≡ funs first ++ funs more = flat_map-append (λ (a : f.Part). a.funcs) first more in
         subst (λ z. At o (fold (with_item sizes g m) j items) (xs ++ z)) (sym split)
         (subst (λ z. At o (fold (with_item sizes g m) j items) z) (append_assoc xs (funs first) (funs more)) rest)
@@ -264,7 +267,7 @@ behind-functions sizes ms place (item ∷ items) next =
 
 module _ (ms : List x.Module) (top : x.Module) (whole : List p.Func) where
   abbrev behind-all : ℕ
-  behind-all = (size (suc f.deepest) ms top.name.name).signals
+  behind-all = (f.whole ms top).signals
 
   abbrev body-of : ℕ → Given → x.Module → List f.Part
   body-of n g m = f.body (f.instance n ms) (size n ms) ms behind-all (environment (size n ms) g m) g m
@@ -305,23 +308,23 @@ module _ (ms : List x.Module) (top : x.Module) (whole : List p.Func) where
       unit-together n' g' m' of' before after us first others u (all-together start (suc n') g' m' h) is split named
 
   place-of : (n : ℕ) (g : Given) (m : x.Module) → Together n g m → (t : List ℕ) (k : ℕ) (c : Form) → environment (size n ms) g m t ≡ Some (b.Function k c)
-      → (a : x.Function) × (a.name.name ≡ t) × (slice_get whole k ≡ Some (function behind-all (environment (size n ms) g m) g.path a))
+      → (a : x.Function) × In (x.Functions a) m.items × (a.name.name ≡ t) × (slice_get whole k ≡ Some (function behind-all (environment (size n ms) g m) g.path a))
   unfolding spot
   place-of n g m h t k c e =
       let sizes = size n ms in
       let env = environment sizes g m in
       let start : Known = record { env = none; next = g.base } in
       let place = spot sizes g m env behind-all in
-      let end = items-at sizes g m env behind-all ms (f.instance n ms) (instance-adds n ms place) (size-absent n ms) m.items g.base.functions [] start g.base
+      let end = items-at sizes g m env behind-all ms (f.instance n ms) (instance-adds n ms place) (size-absent n ms) m.items g.base.functions [] start g.base (λ i q. q)
       (record { len = omega arith; at = λ t k c e. absurd cc }) in
       let at = end.at t k c e in
-      (at.source, at.spelt, ap (slice_get whole) at.is ∙ h at.i (function behind-all env g.path at.source) at.there)
+      (at.source, at.listed, at.spelt, ap (slice_get whole) at.is ∙ h at.i (function behind-all env g.path at.source) at.there)
 
 -- in the flat design each instance's functions stand where their numbers say
 pub function-places : (ms : List x.Module) (top : x.Module)
     → (d : p.Design) → o.flattened_from ms top ≡ Ok d → (n : ℕ) (g : Given) (m : x.Module) → IsInstance ms top n g m
     → (t : List ℕ) (k : ℕ) (c : Form) → environment (size n ms) g m t ≡ Some (b.Function k c)
-    → (a : x.Function) × (a.name.name ≡ t) × (slice_get d.funcs k ≡ Some (function (size (suc f.deepest) ms top.name.name).signals (environment (size n ms) g m) g.path a))
+    → (a : x.Function) × In (x.Functions a) m.items × (a.name.name ≡ t) × (slice_get d.funcs k ≡ Some (function (f.whole ms top).signals (environment (size n ms) g m) g.path a))
 function-places ms top d is n g m h =
     let parts = f.parts_from ms top in
     let design = design-is (o.judged o.nothing_yet parts) (f.design_of top parts) d is in

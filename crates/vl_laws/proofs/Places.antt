@@ -26,7 +26,7 @@ use Rattle.vl_laws.proofs.Numbers.{all-items, body-adds, design-is, here, Inside
 
 module _ (ms : List x.Module) (top : x.Module) (whole : List Signal) (apart : All AreApart ms) where
   behind-all : ℕ
-  behind-all = (size (suc f.deepest) ms top.name.name).signals
+  behind-all = (f.whole ms top).signals
 
   body-of : ℕ → Given → x.Module → List f.Part
   body-of n g m = f.body (f.instance n ms) (size n ms) ms behind-all (environment (size n ms) g m) g m

@@ -4,11 +4,11 @@ use Rattle.vl_flat.specs.Items as x
 use Rattle.vl_flat.specs.Environments.{Given, plus, module_named, size, environment}
 use Rattle.vl_flat.specs.Processes.{Here}
 use Rattle.vl_flat.specs.Connections.{given}
-use Rattle.vl_flat.specs.Flat.{deepest, top_given, behind_item}
+use Rattle.vl_flat.specs.Flat.{deepest, top_given, whole, behind_item}
 
 -- where the items of an instance stand, in which others stand so deep
 abbrev pub here_of : ℕ → List x.Module → x.Module → Given → x.Module → Here
-here_of n ms top g m = record { env = environment (size n ms) g m; path = g.path; behind = (size (suc deepest) ms top.name.name).signals }
+here_of n ms top g m = record { env = environment (size n ms) g m; path = g.path; behind = (whole ms top).signals }
 
 -- the top module is an instance, and so is each unit of an item of one: behind the signals of the items before, and of the units
 -- before it in the item

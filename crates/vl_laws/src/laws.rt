@@ -4,6 +4,7 @@ ghost use Rattle.std.specs.Prelude.{◌≡◌, ℕ, suc, ◌+◌, ◌<◌, ◌�
 ghost use Rattle.vl_grammar.specs.declared.tree.Identifier.{Identifier};
 ghost use Rattle.vl_source.specs.declared.tree.Source.{Source};
 ghost use Rattle.vl_scope.specs.declared.fault.Fault.{Fault};
+ghost use Rattle.vl_scope.specs.Faults.{In};
 ghost use Rattle.vl_scope.specs.DeclarationFaults.{IsDeclarationFault};
 ghost use Rattle.vl_design.specs.declared.design.Form.{Form};
 ghost use Rattle.vl_design.specs.Width as width;
@@ -57,27 +58,27 @@ pub fn an_instance_has_as_many_signals_as_its_size_says()
 /// path.
 pub fn the_number_of_a_name_is_the_place_of_its_signal()
     ensures { (s : Source) → ((f : Fault) → IsDeclarationFault s f → ⊥)
-        → (top : items.Module) → flat.top_of (modules s) ≡ Some top
+        → (top : items.Module) → flat.top_of s ≡ Some top
         → (d : placed.Design) → flattened s ≡ Ok d → (n : ℕ) (g : Given) (m : items.Module) → IsInstance (modules s) top n g m
         → (t : List ℕ) (k : ℕ) (r : Shape) → environment (size n (modules s)) g m t ≡ Some (Signal k r)
         → (name : Identifier) × (name.name ≡ t) × (slice_get d.signals k ≡ Some (signal g.path name r)) }
 {}
 
-/// In the flat design the number of a function's name is the place of its function, in the names and behind the path of the
-/// instance that declares it. Its locals come behind all the design's signals.
+/// In the flat design the number of a function's name is the place of its function, which the module has, in the names and behind
+/// the path of the instance that declares it. Its locals come behind all the design's signals.
 pub fn the_number_of_a_function_is_its_place()
-    ensures { (s : Source) → (top : items.Module) → flat.top_of (modules s) ≡ Some top
+    ensures { (s : Source) → (top : items.Module) → flat.top_of s ≡ Some top
         → (d : placed.Design) → flattened s ≡ Ok d → (n : ℕ) (g : Given) (m : items.Module) → IsInstance (modules s) top n g m
         → (t : List ℕ) (k : ℕ) (c : Form) → environment (size n (modules s)) g m t ≡ Some (Function k c)
-        → (a : items.Function) × (a.name.name ≡ t)
+        → (a : items.Function) × In (items.Functions a) m.items × (a.name.name ≡ t)
         × (slice_get d.funcs k
-        ≡ Some (function (size (suc flat.deepest) (modules s) top.name.name).signals (environment (size n (modules s)) g m) g.path a)) }
+        ≡ Some (function (flat.whole (modules s) top).signals (environment (size n (modules s)) g m) g.path a)) }
 {}
 
 /// A flat design has no more than 128 levels of instances: with more, nothing would stand in it that doesn't. Names have a byte at
-/// least, and the top is the first module of its name.
+/// least.
 pub fn a_flat_design_has_no_more_than_128_levels()
-    ensures { (s : Source) → All AreSpelt (modules s) → (top : items.Module) → flat.top_of (modules s) ≡ Some top
-        → module_named (modules s) top.name.name ≡ Some top → 0 < length top.name.name
+    ensures { (s : Source) → All AreSpelt (modules s) → (top : items.Module) → flat.top_of s ≡ Some top
+        → 0 < length top.name.name
         → (d : placed.Design) → flattened s ≡ Ok d → (n : ℕ) → flat.deepest ≤ n → parts_at n (modules s) top ≡ flat.parts_from (modules s) top }
 {}

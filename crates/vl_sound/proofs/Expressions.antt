@@ -40,7 +40,7 @@ use Rattle.vl_sound.proofs.Parts.{none-left, none-right, clear, not-false, past-
 
 -- ---- functions whose calls are operands
 
-operand-by : (P : List ℕ → Type 0) → P (codes "$signed") → P (codes "$unsigned") → P (codes "$time") → (name : List ℕ) → u.is_operand name ≡ true → P name
+pub operand-by : (P : List ℕ → Type 0) → P (codes "$signed") → P (codes "$unsigned") → P (codes "$time") → (name : List ℕ) → u.is_operand name ≡ true → P name
 operand-by P s n t name h = by (bytes_eq name (codes "$signed")) (bytes_eq name (codes "$unsigned")) refl refl h
   where
     by : (a b : Bool) → bytes_eq name (codes "$signed") ≡ a → bytes_eq name (codes "$unsigned") ≡ b → (a || (b || bytes_eq name (codes "$time"))) ≡ true → P name
@@ -322,7 +322,7 @@ module _ (k : u.Classes) (scope : Scope) (agrees : Agrees k scope) where
     called-is t n (Some (b.Constant a)) class is h v = absurd h
     called-is t n None class is h v = absurd h
 
-    abbrev made : Place → List ℕ → p.Exp → p.Args → Bool → Bool → Bool → p.Exp
+    abbrev pub made : Place → List ℕ → p.Exp → p.Args → Bool → Bool → Bool → p.Exp
     made at name first args a b c = if a then p.Cast at true first else if b then p.Cast at false first else if c then p.Time at else p.Sys at name args
 
     system-sound : (at : Place) (name : List ℕ) (first : p.Exp) (args : p.Args) → (Fit first → Sound first) → Fit (e.called_system at name first args) → Sound (e.called_system at name first args)

@@ -1,3 +1,5 @@
 mod Parts
 mod Expressions
 mod Targets
+mod Tasks
+mod Statements

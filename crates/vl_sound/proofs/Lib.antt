@@ -3,3 +3,4 @@ mod Expressions
 mod Targets
 mod Tasks
 mod Statements
+mod Functions

@@ -15,7 +15,7 @@ use Rattle.vl_design.specs.Calls.{task_of}
 use Rattle.vl_design.specs.Rows.{has_width}
 use Rattle.vl_design.specs.Nodes.{has, some_have, target_has, arguments_have, stm_has, items_have}
 use Rattle.vl_design.specs.Width as w
-use Rattle.vl_design.specs.Sound.{IsWidth, IsSoundExp, AreSound, IsSoundTask, IsSoundStm, AreSoundItems}
+use Rattle.vl_design.specs.Sound.{IsWidth, IsSoundExp, AreSound, IsSoundTarget, IsSoundTask, IsSoundStm, AreSoundItems}
 use Rattle.vl_design.specs.Placed as p
 use Rattle.vl_design.specs.Plainly as plain
 use Rattle.vl_flat.specs.declared.binding.Binding.{Binding}
@@ -42,15 +42,16 @@ loads-none name h = by (is_load name) refl
     by false q = refl
     by true q = let z : ⊥ = cc (subst (λ n. (u.is_operand n || u.is_on_files n) ≡ true) ((bytes_eq-Decides name (codes "$readmemh")).0 q) h) in absurd z
 
+-- the statement is sound where its numbers fit
+abbrev pub GoodIn : w.Names → d.Stm → Type 0
+GoodIn design a = is_unfit_in a ≡ false → IsSoundStm design a
+
 module _ (k : u.Classes) (scope : Scope) (agrees : Agrees k scope) (design : w.Names) (stands : StandsFor k scope design) where
   abbrev Sound : p.Exp → Type 0
   Sound a = IsSoundExp design (plain.exp a)
 
   abbrev Fit : p.Exp → Type 0
   Fit a = has is_unfit (plain.exp a) ≡ false
-
-  abbrev GoodStm : d.Stm → Type 0
-  GoodStm a = is_unfit_in a ≡ false → IsSoundStm design a
 
   -- ---- calls that come first
 
@@ -63,10 +64,10 @@ module _ (k : u.Classes) (scope : Scope) (agrees : Agrees k scope) (design : w.N
   Behind (p.Un at LogNot a) = Called a
   Behind a = ⊤
 
-  then-good : (task : d.Task) (a : d.Stm) → GoodTask k scope agrees design stands task → GoodStm a → GoodStm (d.Then (d.Sys task) a)
+  then-good : (task : d.Task) (a : d.Stm) → GoodTask k scope agrees design stands task → GoodIn design a → GoodIn design (d.Then (d.Sys task) a)
   then-good task a g i h = let (s, t) = or_parts (arguments_have is_unfit task) (is_unfit_in a) h in (g s, i t)
 
-  called-good : (path : List ℕ) (a : p.Exp) (b : d.Stm) → Called a → Behind a → GoodStm b → GoodStm (plain.called_first path a b)
+  called-good : (path : List ℕ) (a : p.Exp) (b : d.Stm) → Called a → Behind a → GoodIn design b → GoodIn design (plain.called_first path a b)
   called-good path (p.Sys at name given) b c i g = then-good (task_of path name (plain.args given)) b (c path) g
   called-good path (p.Un at LogNot (p.Sys q name given)) b c i g = then-good (task_of path name (plain.args given)) b (i path) g
   called-good path a b c i g = g
@@ -159,16 +160,19 @@ module _ (k : u.Classes) (scope : Scope) (agrees : Agrees k scope) (design : w.N
   abbrev set-faults : x.Left → x.Ex → List Stop
   set-faults l a = s.set_faults scope l a
 
-  pub set-good : (path : List ℕ) (at : Place) (l : x.Left) (a : x.Ex) → u.IsUsedLeft k l → u.IsUsedSide k a → set-faults l a ≡ [] → GoodStm (plain.stm path (p.Set at (t.target scope l) (e.exp scope a)))
-  set-good path at l a v w h =
-      let left = none-left (t.target_faults scope l) (ef.faults scope a) h in
-      let right = none-right (t.target_faults scope l) (ef.faults scope a) h in
-      let calls = side-calls a w right in
-      called-good path (e.exp scope a) (d.Set (plain.target (t.target scope l)) (plain.exp (e.exp scope a))) calls.0 calls.1
-      (λ f. let (g, i) = or_parts (target_has is_unfit (plain.target (t.target scope l))) (has is_unfit (plain.exp (e.exp scope a))) f in
-      (left-sound k scope agrees design stands l v left g, side-sound a w right i))
+  -- of a target that is sound where its numbers fit
+  pub assign-good : (path : List ℕ) (at : Place) (to : p.Target) (a : x.Ex) → (target_has is_unfit (plain.target to) ≡ false → IsSoundTarget design (plain.target to))
+      → u.IsUsedSide k a → ef.faults scope a ≡ [] → GoodIn design (plain.stm path (p.Set at to (e.exp scope a)))
+  assign-good path at to a left w h =
+      let calls = side-calls a w h in
+      called-good path (e.exp scope a) (d.Set (plain.target to) (plain.exp (e.exp scope a))) calls.0 calls.1
+      (λ f. let (g, i) = or_parts (target_has is_unfit (plain.target to)) (has is_unfit (plain.exp (e.exp scope a))) f in (left g, side-sound a w h i))
 
-  later-good : (path : List ℕ) (at : Place) (l : x.Left) (a : x.Ex) → u.IsUsedLeft k l → u.IsUsedSide k a → set-faults l a ≡ [] → GoodStm (plain.stm path (p.Later at (t.target scope l) (e.exp scope a)))
+  pub set-good : (path : List ℕ) (at : Place) (l : x.Left) (a : x.Ex) → u.IsUsedLeft k l → u.IsUsedSide k a → set-faults l a ≡ [] → GoodIn design (plain.stm path (p.Set at (t.target scope l) (e.exp scope a)))
+  set-good path at l a v w h =
+      assign-good path at (t.target scope l) a (λ f. left-sound k scope agrees design stands l v (none-left (t.target_faults scope l) (ef.faults scope a) h) f) w (none-right (t.target_faults scope l) (ef.faults scope a) h)
+
+  later-good : (path : List ℕ) (at : Place) (l : x.Left) (a : x.Ex) → u.IsUsedLeft k l → u.IsUsedSide k a → set-faults l a ≡ [] → GoodIn design (plain.stm path (p.Later at (t.target scope l) (e.exp scope a)))
   later-good path at l a v w h =
       let left = none-left (t.target_faults scope l) (ef.faults scope a) h in
       let right = none-right (t.target_faults scope l) (ef.faults scope a) h in
@@ -197,7 +201,7 @@ module _ (k : u.Classes) (scope : Scope) (agrees : Agrees k scope) (design : w.N
       let (g, i) = or_parts (has is_unfit (plain.exp (e.label scope wild a))) (some_have is_unfit (plain.exps (e.labels scope wild es))) f in
       (label-sound wild a v.0 (none-left (ef.faults scope a) (ef.all_faults scope es) h) g, labels-sound wild es v.1 (none-right (ef.faults scope a) (ef.all_faults scope es) h) i)
 
-  item-good : (wild : Bool) (es : x.Exs) (a : d.Stm) (others : d.Items) → u.AreUsed k es → ef.all_faults scope es ≡ [] → GoodStm a
+  item-good : (wild : Bool) (es : x.Exs) (a : d.Stm) (others : d.Items) → u.AreUsed k es → ef.all_faults scope es ≡ [] → GoodIn design a
       → (items_have is_unfit (λ task. false) others ≡ false → AreSoundItems design others)
       → items_have is_unfit (λ task. false) (plain.item (e.labels scope wild es) a others) ≡ false → AreSoundItems design (plain.item (e.labels scope wild es) a others)
   item-good wild x.NoExs a others v h g i f = let (q, r) = or_parts (is_unfit_in a) (items_have is_unfit (λ task. false) others) f in (g q, i r)
@@ -208,8 +212,8 @@ module _ (k : u.Classes) (scope : Scope) (agrees : Agrees k scope) (design : w.N
 
   -- ---- statements
 
-  if-good : (path : List ℕ) (a : x.Ex) (b c : d.Stm) → u.IsUsedTest k a → ef.faults scope a ≡ [] → GoodStm b → GoodStm c
-      → GoodStm (plain.called_first path (e.exp scope a) (d.If (plain.exp (e.exp scope a)) b c))
+  if-good : (path : List ℕ) (a : x.Ex) (b c : d.Stm) → u.IsUsedTest k a → ef.faults scope a ≡ [] → GoodIn design b → GoodIn design c
+      → GoodIn design (plain.called_first path (e.exp scope a) (d.If (plain.exp (e.exp scope a)) b c))
   if-good path a b c v h g i =
       let calls = test-calls a v h in
       called-good path (e.exp scope a) (d.If (plain.exp (e.exp scope a)) b c) calls.0 calls.1
@@ -218,7 +222,7 @@ module _ (k : u.Classes) (scope : Scope) (agrees : Agrees k scope) (design : w.N
       (test-sound a v h n, g q, i r))
 
   mutual
-    pub statement-good : (path : List ℕ) (a : x.Statement) → u.IsUsedStatement k a → s.statement_faults scope a ≡ [] → GoodStm (plain.stm path (s.statement scope a))
+    pub statement-good : (path : List ℕ) (a : x.Statement) → u.IsUsedStatement k a → s.statement_faults scope a ≡ [] → GoodIn design (plain.stm path (s.statement scope a))
     statement-good path (x.Null at) v h f = tt
     statement-good path (x.Block at as') v h f = statements-good path as' v h f
     statement-good path (x.If at t a b) v h f =
@@ -247,7 +251,7 @@ module _ (k : u.Classes) (scope : Scope) (agrees : Agrees k scope) (design : w.N
     statement-good path (x.Assign at false l a) v h f = later-good path at l a v.0 v.1 h f
     statement-good path (x.Task at name given) v h f = used-task-good k scope agrees design stands path name given v h f
 
-    statements-good : (path : List ℕ) (as' : x.Statements) → u.AreUsedStatements k as' → s.statements_faults scope as' ≡ [] → GoodStm (plain.stms path (s.statements scope as'))
+    statements-good : (path : List ℕ) (as' : x.Statements) → u.AreUsedStatements k as' → s.statements_faults scope as' ≡ [] → GoodIn design (plain.stms path (s.statements scope as'))
     statements-good path x.NoStatements v h f = tt
     statements-good path (x.MoreStatements a as') v h f =
         let (g, i) = or_parts (is_unfit_in (plain.stm path (s.statement scope a))) (is_unfit_in (plain.stms path (s.statements scope as'))) f in

@@ -4,3 +4,5 @@ mod Targets
 mod Tasks
 mod Statements
 mod Functions
+mod Items
+mod Instances

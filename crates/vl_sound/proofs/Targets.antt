@@ -127,6 +127,33 @@ module _ (k : u.Classes) (scope : Scope) (agrees : Agrees k scope) (design : w.N
       by None e v = absurd v
       by (Some class) e v = of (scope.names n) refl class (agrees.read n class e) v
 
+  watched : (o : Option Class) → u.IsWatched o → u.IsWritten o x.NoSelects
+  watched (Some c.Port) v = tt
+  watched (Some c.Net) v = tt
+  watched (Some c.Variable) v = tt
+  watched o v = absurd v
+
+  -- a watched name is one of a signal
+  pub event-named : (n : List ℕ) → u.IsWatched (k.read n) → IsNamed design (number_of (scope.names n))
+  event-named n v = named-is n x.NoSelects (watched (k.read n) v)
+
+  -- with a value
+  pub signal-named : (n : List ℕ) → u.IsWatched (k.read n) → IsSignal design (number_of (scope.names n))
+  signal-named n v = by (k.read n) refl v
+    where
+      of : (b : Option Binding) → scope.names n ≡ b → (class : Class) → StandsAs class b → u.IsWatched (Some class) → IsSignal design (number_of b)
+      of (Some (b.Signal j s)) e c.Port h v = signal-is k scope agrees design stands HasValue n j s e h
+      of (Some (b.Signal j s)) e c.Net h v = signal-is k scope agrees design stands HasValue n j s e h
+      of (Some (b.Signal j s)) e c.Variable h v = signal-is k scope agrees design stands HasValue n j s e h
+      of b e c.Port h v = absurd h
+      of b e c.Net h v = absurd h
+      of b e c.Variable h v = absurd h
+      of b e class h v = absurd v
+
+      by : (o : Option Class) → k.read n ≡ o → u.IsWatched o → IsSignal design (number_of (scope.names n))
+      by None e v = absurd v
+      by (Some class) e v = of (scope.names n) refl class (agrees.read n class e) v
+
   abbrev named : Place → Option Binding → x.Selects → Option ℕ → p.Target
   named at b ss memory = fold (t.stepped at) (p.Whole at (number_of b)) (e.steps scope memory (range_of b) ss)
 

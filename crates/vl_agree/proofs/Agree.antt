@@ -130,7 +130,7 @@ memory-second da false true na nb ia ib sa sb mb false ma h k l = absurd (true�
 memory-second da true tb na nb ia ib sa sb mb ta false h k l = absurd (true≢false (sym k))
 
 -- a memory stands beside no other declaration
-memory-apart : (a z : x.Declared) → is_some a.words ≡ true → (e f : s.Declared) → SaidSignal a e → SaidSignal z f → Unlike e f × Unlike f e
+pub memory-apart : (a z : x.Declared) → is_some a.words ≡ true → (e f : s.Declared) → SaidSignal a e → SaidSignal z f → Unlike e f × Unlike f e
 memory-apart a z w e f h k = (
   memory-first (is_some e.direction) (is_some f.direction) f.typed (is_no_port e.kind.class) (is_no_port f.kind.class) (gives_in e.direction) (gives_in f.direction)
       (is_stored e.kind.class) (is_stored f.kind.class) (is_memory f.kind.class) e.typed (is_memory e.kind.class) (said-typed a e h w) (h.memory ∙ w) k.says,

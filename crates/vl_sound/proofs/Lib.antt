@@ -6,3 +6,4 @@ mod Statements
 mod Functions
 mod Items
 mod Instances
+mod Declared

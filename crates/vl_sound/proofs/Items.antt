@@ -142,17 +142,17 @@ module _ (k : u.Classes) (here : Here) (agrees : Agrees k (plainly here.env)) (d
 
   -- ---- continuous assignments
 
-  assignment-good : (a : i.Setting) → u.IsUsedLeft k a.target × u.IsUsed k a.value → q.assignment_faults here.env a ≡ [] → GoodProc design (q.assignment here a)
+  assignment-good : (a : i.Setting) → u.IsUsedLeft k a.target × u.IsUsedSide k a.value → q.assignment_faults here.env a ≡ [] → GoodProc design (q.assignment here a)
   assignment-good a v h =
       let at = x.left_place a.target in
       silent-good at Assign (p.Set at (t.target (plainly here.env) a.target) (e.exp (plainly here.env) a.value))
-      (set-good k (plainly here.env) agrees design stands here.path at a.target a.value v.0 (used-side k a.value v.1) h)
+      (set-good k (plainly here.env) agrees design stands here.path at a.target a.value v.0 v.1 h)
 
-  assignments-good : (as' : List i.Setting) → All (λ (a : i.Setting). u.IsUsedLeft k a.target × u.IsUsed k a.value) as' → flat_map (q.assignment_faults here.env) as' ≡ []
+  assignments-good : (as' : List i.Setting) → All (λ (a : i.Setting). u.IsUsedLeft k a.target × u.IsUsedSide k a.value) as' → flat_map (q.assignment_faults here.env) as' ≡ []
       → All (GoodProc design) (map (q.assignment here) as')
   assignments-good as' v h =
       All-map (GoodProc design) (q.assignment here) as'
-      (all-clear (λ (a : i.Setting). u.IsUsedLeft k a.target × u.IsUsed k a.value) (λ a. GoodProc design (q.assignment here a)) (q.assignment_faults here.env) assignment-good as' v h)
+      (all-clear (λ (a : i.Setting). u.IsUsedLeft k a.target × u.IsUsedSide k a.value) (λ a. GoodProc design (q.assignment here a)) (q.assignment_faults here.env) assignment-good as' v h)
 
   -- ---- triggers
 

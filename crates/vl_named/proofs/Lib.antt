@@ -1,0 +1,12 @@
+pub mod Opens
+pub mod Sides
+pub mod Loading
+pub mod Fitting
+pub mod Expressions
+pub mod Wholes
+pub mod Statements
+pub mod Meanings
+pub mod Types
+pub mod Functions
+pub mod Items
+pub mod Modules

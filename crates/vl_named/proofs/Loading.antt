@@ -171,7 +171,7 @@ module _ (means : List ℕ → Option Kind) (k : Classes) (known : (t : List ℕ
   system-loads timed usage a h = let o = out-SystemCall a in subst (Loads k usage) (sym (system-opens a)) (by usage o.name o.arguments h)
     where
       by : (usage : Usage) (name : List ℕ) (as' : Option (List SystemArgument)) → l.is_allowed means timed usage name as' ≡ true → Loads k usage (x.System (out-SystemCall a).place name (given as'))
-      by Task name as' h = by-test (is_load name) (λ e. memory-loads as' (subst (λ z. l.is_task means z as' ≡ true) (bytes_eq-to name (codes "$readmemh") e) h))
+      by Task name as' h = by-test (is_load name) (λ e. memory-loads as' (subst (λ z. l.is_task means z as' ≡ true) (sym (bytes_eq-to name (codes "$readmemh") e)) h))
       by Operand name as' h = operand-allowed timed name as' h
       by Whole name as' h =
           let either = or_cases (l.is_operand timed name as') (timed && l.is_file_function means name as') h in

@@ -31,7 +31,7 @@ loads-none name h = by (is_load name) refl
   where
     by : (c : Bool) → is_load name ≡ c → c ≡ false
     by false q = refl
-    by true q = let z : ⊥ = cc (subst (λ n. (is_operand n || is_on_files n) ≡ true) (bytes_eq-to name (codes "$readmemh") q) h) in absurd z
+    by true q = let z : ⊥ = cc (subst (λ n. (is_operand n || is_on_files n) ≡ true) (sym (bytes_eq-to name (codes "$readmemh") q)) h) in absurd z
 
 pub used-as : (k : Classes) (usage : Usage) (at : Place) (name : List ℕ) (given : x.Args) → Loads k usage (x.System at name given) → (is_load name ≡ false → AreUsedArgs k given) → UsedAs k usage (x.System at name given)
 used-as k Whole at name given h g = (h, g (loads-none name h))

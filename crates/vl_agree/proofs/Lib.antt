@@ -4,5 +4,6 @@ pub mod Bodies
 pub mod Bound
 pub mod Fixed
 pub mod Names
+pub mod Order
 pub mod Pairs
 pub mod Values

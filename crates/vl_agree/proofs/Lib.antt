@@ -6,4 +6,6 @@ pub mod Fixed
 pub mod Names
 pub mod Order
 pub mod Pairs
+pub mod Stands
 pub mod Values
+pub mod Widths

@@ -1,3 +1,4 @@
+use Rattle.vl_agree.proofs.Stands.{Shown}
 use Rattle.vl_agree.proofs.Order.{function-form}
 use Rattle.vl_agree.proofs.Fixed.{type-alike}
 use Rattle.vl_agree.proofs.Bodies.{body-agrees}

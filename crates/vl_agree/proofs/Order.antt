@@ -264,6 +264,13 @@ header-functions m f h = ⊎_elim (parameters m.parameters) (ports m.ports) (In-
     ports (Some (ps.Names names)) q = q
     ports (Some (ps.Declarations as')) q = let r = In-map_cases (λ (a : PortDeclaration). x.Signals (d.ports_in a)) (x.Functions f) as' q in no-port r.0 r.2
 
+-- a function of a module's items is one of its tree's
+pub function-tree : (m : ModuleTree) (f : x.Function) → In (x.Functions f) (d.module' m).items → (a : FunctionTree) × (f ≡ d.function a)
+function-tree m f h =
+    let r = In-split (x.Functions f) (d.module' m).items h in
+    let place = place-behind (header_items m) m.items r.0 r.1 f (header-functions m) (sym (items-are m) ∙ r.2) in
+    (place.function, place.function-is)
+
 -- ---- what stands before
 
 ordered-across : {A : Type 0} (xs ys : List A) (y z : A) → In y xs → In z ys → Ordered (xs ++ ys) y z

@@ -7,3 +7,4 @@ mod Functions
 mod Items
 mod Instances
 mod Declared
+mod Whole

@@ -33,6 +33,7 @@ use Rattle.vl_flat.specs.Kinds.{signals_in, signals_of, declared_as, gives_input
 use Rattle.vl_flat.specs.Environments.{Counts, Given, Known, with_item, environment}
 use Rattle.vl_used.specs.Used.{Classes, class_in, classes}
 use Rattle.vl_used.specs.Agreeing.{StandsAs, Agrees}
+use Rattle.vl_agree.specs.Clocks.{ClocksAreInputs}
 use Rattle.vl_agree.proofs.Pairs.{pairs-back}
 use Rattle.vl_agree.proofs.Names.{Name, P, S, F, I, spelt, names_in, names_of, Said, SaidParameter, SaidSignal, SaidFunction, SaidInstance, all-said}
 use Rattle.vl_agree.proofs.Bound.{Binds, Bound, IsBound, items-bind, items-known}
@@ -91,6 +92,28 @@ all-in m e h = let r = In-flat_map_cases signals_in e m.items h in In-flat_map n
 all-out : (m : x.Module) (e : x.Declared) → In (S e) (names_of m.items) → In e (signals_of m)
 all-out m e h = let r = In-flat_map_cases names_in (S e) m.items h in In-flat_map signals_in r.0 e m.items r.1 (signal-out r.0 e r.2)
 
+-- ---- classes
+
+pub spelt-as : (nm : Name) (a : s.Declared) → Said nm a → (spelt nm).name ≡ a.name.name
+spelt-as (P n) a k = sym (ap (λ (z : Identifier). z.name) k.name)
+spelt-as (S n) a k = sym (ap (λ (z : Identifier). z.name) k.name)
+spelt-as (F n) a k = sym (ap (λ (z : Identifier). z.name) k.name)
+spelt-as (I n) a k = sym (ap (λ (z : Identifier). z.name) k.name)
+
+-- a class that a name has is that of one of its declarations
+pub says-in : (ds : List s.Declared) (t : List ℕ) (class : Class) → class_in ds t ≡ Some class → SaysClass ds t class
+says-in ds t class h = by (s.kind_in ds t) refl h
+  where
+    some-is : (y z : Class) → ◌≡◌ {A = Option Class} (Some y) (Some z) → y ≡ z
+    some-is y z q = cc
+
+    nothing : ◌≡◌ {A = Option Class} None (Some class) → ⊥
+    nothing q = cc
+
+    by : (o : Option Kind) → s.kind_in ds t ≡ o → option_map (λ (kind : Kind). kind.class) o ≡ Some class → SaysClass ds t class
+    by None e q = absurd (nothing q)
+    by (Some kind) e q = subst (SaysClass ds t) (some-is kind.class class q) (class-of ds t kind e)
+
 -- ---- memories
 
 said-typed : (a : x.Declared) (e : s.Declared) → SaidSignal a e → is_some a.words ≡ true → e.typed ≡ true
@@ -130,7 +153,7 @@ memory-second da false true na nb ia ib sa sb mb false ma h k l = absurd (true�
 memory-second da true tb na nb ia ib sa sb mb ta false h k l = absurd (true≢false (sym k))
 
 -- a memory stands beside no other declaration
-memory-apart : (a z : x.Declared) → is_some a.words ≡ true → (e f : s.Declared) → SaidSignal a e → SaidSignal z f → Unlike e f × Unlike f e
+pub memory-apart : (a z : x.Declared) → is_some a.words ≡ true → (e f : s.Declared) → SaidSignal a e → SaidSignal z f → Unlike e f × Unlike f e
 memory-apart a z w e f h k = (
   memory-first (is_some e.direction) (is_some f.direction) f.typed (is_no_port e.kind.class) (is_no_port f.kind.class) (gives_in e.direction) (gives_in f.direction)
       (is_stored e.kind.class) (is_stored f.kind.class) (is_memory f.kind.class) e.typed (is_memory e.kind.class) (said-typed a e h w) (h.memory ∙ w) k.says,
@@ -166,10 +189,6 @@ memory-kind m clock wired t q h = by clock (declared_as (λ d. is_some d.words) 
     by false false q h = absurd (true≢false (sym h))
 
 -- ---- an instance
-
--- only inputs are clocks
-abbrev pub ClocksAreInputs : x.Module → Given → Type 0
-ClocksAreInputs m g = (t : List ℕ) → g.clocks t ≡ true → is_input m t ≡ true
 
 module _ (src : Source) (fine : (f : Fault) → IsDeclarationFault src f → ⊥) (tree : ModuleTree) (within : In tree src.modules) (sizes : List ℕ → Counts) (g : Given) where
   abbrev m : x.Module
@@ -219,13 +238,13 @@ module _ (src : Source) (fine : (f : Fault) → IsDeclarationFault src f → ⊥
   parameter-name : (type : x.DataType) (as' : List x.Parameter) (a : x.Parameter) → In (x.Parameters type as') m.items → In a as' → In (P a.name) names
   parameter-name type as' a h k = name-of (x.Parameters type as') (P a.name) h (In-map (λ (e : x.Parameter). P e.name) a as' k)
 
-  function-name : (f : x.Function) → In (x.Functions f) m.items → In (F f) names
+  pub function-name : (f : x.Function) → In (x.Functions f) m.items → In (F f) names
   function-name f h = name-of (x.Functions f) (F f) h (inl refl)
 
   signal-name : (ds : List x.Declared) (e : x.Declared) → In (x.Signals ds) m.items → In e ds → In (S e) names
   signal-name ds e h k = name-of (x.Signals ds) (S e) h (In-map (λ (z : x.Declared). S z) e ds k)
 
-  one : (y z : Name) → In y names → In z names → (spelt y).name ≡ (spelt z).name → ((a e : s.Declared) → Said y a → Said z e → Unlike a e × Unlike e a) → y ≡ z
+  pub one : (y z : Name) → In y names → In z names → (spelt y).name ≡ (spelt z).name → ((a e : s.Declared) → Said y a → Said z e → Unlike a e × Unlike e a) → y ≡ z
   one y z = alone src fine tree within y z
 
   -- ---- signals
@@ -362,7 +381,7 @@ module _ (src : Source) (fine : (f : Fault) → IsDeclarationFault src f → ⊥
     parameter-stands n h a k c.Memory q = absurd (true≢false (sym k.class ∙ ap s.is_parameter q))
     parameter-stands n h a k (c.Function j) q = absurd (true≢false (sym k.class ∙ ap s.is_parameter q))
 
-    function-stands : (f : x.Function) → In (F f) names → (j : ℕ) → StandsAs (c.Function j) (env f.name.name)
+    pub function-stands : (f : x.Function) → In (F f) names → (j : ℕ) → StandsAs (c.Function j) (env f.name.name)
     function-stands f h i =
         let r = found f.name.name (items-known sizes g m m.items start (F f) h tt) in
         subst (StandsAs (c.Function i)) (sym r.is) (by r.known r.item r.binding r.in-module r.binds)
@@ -386,29 +405,13 @@ module _ (src : Source) (fine : (f : Fault) → IsDeclarationFault src f → ⊥
     name-stands (F f) h a k = subst (λ q. StandsAs q (env f.name.name)) (sym (k.class 0)) (function-stands f h (length (input_numbers 0 f.locals)))
     name-stands (I n) h a k = subst (λ q. StandsAs q (env n.name)) (sym k.class) tt
 
-    spelt-as : (nm : Name) (a : s.Declared) → Said nm a → (spelt nm).name ≡ a.name.name
-    spelt-as (P n) a k = sym (ap (λ (z : Identifier). z.name) k.name)
-    spelt-as (S n) a k = sym (ap (λ (z : Identifier). z.name) k.name)
-    spelt-as (F n) a k = sym (ap (λ (z : Identifier). z.name) k.name)
-    spelt-as (I n) a k = sym (ap (λ (z : Identifier). z.name) k.name)
-
     -- what a name is, it stands for
     class-stands : (t : List ℕ) (class : Class) → class_in (s.declarations tree) t ≡ Some class → StandsAs class (env t)
-    class-stands t class h = by (s.kind_in (s.declarations tree) t) refl h
-      where
-        some-is : (y z : Class) → ◌≡◌ {A = Option Class} (Some y) (Some z) → y ≡ z
-        some-is y z q = cc
-
-        nothing : ◌≡◌ {A = Option Class} None (Some class) → ⊥
-        nothing q = cc
-
-        by : (o : Option Kind) → s.kind_in (s.declarations tree) t ≡ o → option_map (λ (kind : Kind). kind.class) o ≡ Some class → StandsAs class (env t)
-        by None e q = absurd (nothing q)
-        by (Some kind) e q =
-            let r = class-of (s.declarations tree) t kind e in
-            let nm = pairs-back Said names (s.declarations tree) r.said (all-said tree) r.within in
-            subst (λ z. StandsAs class (env z)) (spelt-as nm.0 r.said nm.2 ∙ r.spelt)
-            (subst (λ z. StandsAs z (env (spelt nm.0).name)) (r.class-is ∙ some-is kind.class class q) (name-stands nm.0 nm.1 r.said nm.2))
+    class-stands t class h =
+        let r = says-in (s.declarations tree) t class h in
+        let nm = pairs-back Said names (s.declarations tree) r.said (all-said tree) r.within in
+        subst (λ z. StandsAs class (env z)) (spelt-as nm.0 r.said nm.2 ∙ r.spelt)
+        (subst (λ z. StandsAs z (env (spelt nm.0).name)) r.class-is (name-stands nm.0 nm.1 r.said nm.2))
 
     pub agrees : Agrees (classes (s.declarations tree)) (plainly env)
     agrees = record {

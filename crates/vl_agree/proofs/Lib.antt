@@ -3,6 +3,10 @@ pub mod Alone
 pub mod Bodies
 pub mod Bound
 pub mod Fixed
+pub mod Instances
 pub mod Names
+pub mod Order
 pub mod Pairs
+pub mod Stands
 pub mod Values
+pub mod Widths

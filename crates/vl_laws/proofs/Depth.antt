@@ -25,7 +25,7 @@ use Rattle.vl_laws.specs.Levels.{parts_at, IsSpelt, AreSpelt}
 
 -- ---- parts without a fault
 
-abbrev NoFault : f.Part → Type 0
+abbrev pub NoFault : f.Part → Type 0
 NoFault a = a.faults ≡ []
 
 if-some : (c : Bool) (y e : Stop) → (z : Stop) × ((if c then Some y else Some e) ≡ Some z)
@@ -56,7 +56,7 @@ bound-first : {A B : Type 0} (r : Result A Stop) (g : A → Result B Stop) (y : 
 bound-first (Ok z) g y h = (z, refl, h)
 bound-first (Err e) g y h = absurd cc
 
-judged-clear : (n : o.Totals) (parts : List f.Part) (t : o.Totals) → o.judged n parts ≡ Ok t → Each NoFault parts
+pub judged-clear : (n : o.Totals) (parts : List f.Part) (t : o.Totals) → o.judged n parts ≡ Ok t → Each NoFault parts
 unfolding Each
 judged-clear n [] t h = tt
 judged-clear n (a ∷ parts) t h =

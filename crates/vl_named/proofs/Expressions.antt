@@ -1,7 +1,6 @@
 -- Expressions whose parts fit: each name is used as what it is.
-use Rattle.std.proofs.Common.{◌≡◌, ℕ, Bool, true, false, if◌then◌else◌, List, [], ◌∷◌, ◌++◌, Some, refl, ap, ◌∙◌, subst, inl, inr, arith}
-use Rattle.std.specs.Prelude.{⊤, ◌&&◌, ◌||◌, nat_lt}
-use Rattle.std.proofs.lemmas.Bool.{or_left}
+use Rattle.std.proofs.Common.{◌≡◌, Bool, true, false, if◌then◌else◌, List, [], ◌∷◌, ◌++◌, Some, refl, ap, ◌∙◌, subst, inl, inr, arith}
+use Rattle.std.specs.Prelude.{⊤, nat_lt}
 use Rattle.vl_base.specs.declared.place.Place.{Place}
 use Rattle.vl_grammar.specs.declared.tree.Expression as e
 use Rattle.vl_grammar.specs.declared.tree.Choice as ch
@@ -21,13 +20,14 @@ use Rattle.vl_scope.specs.declared.kind.Class.TheVariants as c
 use Rattle.vl_scope.specs.Faults.{In}
 use Rattle.vl_scope.proofs.Members.{In-append_left, In-append_right}
 use Rattle.vl_uses.specs.declared.setting.Setting.{Setting}
-use Rattle.vl_uses.specs.declared.setting.Usage.TheVariants.{Task, Whole, Operand}
+use Rattle.vl_uses.specs.declared.setting.Usage.{Usage}
+use Rattle.vl_uses.specs.declared.setting.Usage.TheVariants.{Operand}
 use Rattle.vl_uses.specs.Settings.{constantly, before_mark}
 use Rattle.vl_uses.specs.Nodes as n
 use Rattle.vl_flat.specs.Surface as x
 use Rattle.vl_flat.specs.Binding as f
-use Rattle.vl_used.specs.Used.{Classes, IsUsed, AreUsed, AreUsedSelects, AreUsedArgs, IsUsedSide, IsUsedStatement, IsLoad, ByTest, how_many, is_operand, is_on_files}
-use Rattle.vl_named.proofs.Loading.{untimed-name, timed-name, loads-not}
+use Rattle.vl_used.specs.Used.{Classes, IsUsed, AreUsed, AreUsedSelects, AreUsedArgs, how_many}
+use Rattle.vl_named.proofs.Sides.{UsedAs, used-as}
 use Rattle.vl_named.proofs.Fitting.{Fits}
 
 -- each node is so
@@ -48,7 +48,7 @@ rest-so P b as' h = λ a i. h a (inr i)
 
 -- parts at some settings fit
 pub record Suits (k : Classes) (P : n.Node → Type 0) (Q : Setting → Type 0) : Type 0 where
-  pub part : (s : Setting) (a : n.Part) → Q s → P (n.node s a) → Fits k s.timed a
+  pub part : (s : Setting) (a : n.Part) → Q s → P (n.node s a) → Fits k a
   pub constant : (s : Setting) → Q s → Q (constantly s)
 
 -- an operand more
@@ -68,11 +68,6 @@ row-count : {m : _} (row : p.Row_of-Expression m) → n.row_length row ≡ how_m
 row-count p.end_of-Expression = refl
 row-count (p.more_of-Expression a rest) = let q = row-count rest in omega arith
 
--- a call that loads a memory has one, and the arguments of another are used so
-by-load : (A B : Type 0) (F : Bool → Type 0) (t : Bool) → ByTest t A ⊤ → F t → (F false → B) → ByTest t A B
-by-load A B F true l h r = l
-by-load A B F false l h r = r h
-
 module _ (k : Classes) (P : n.Node → Type 0) (Q : Setting → Type 0) (suits : Suits k P Q) where
   abbrev All : List n.Node → Type 0
   All as' = Every P as'
@@ -81,10 +76,6 @@ module _ (k : Classes) (P : n.Node → Type 0) (Q : Setting → Type 0) (suits :
   before-so mk.Range s q = suits.constant s q
   before-so mk.Up s q = q
   before-so mk.Down s q = q
-
-  -- a function's arguments are read
-  arguments-read : (s : Setting) (name : List ℕ) (given : y.Held-SystemCall-arguments) → (is_operand name || is_on_files name) ≡ true → All (n.arguments_nodes s (n.is_load name) given) → All (n.arguments_nodes s false given)
-  arguments-read s name given h w = subst (λ t. All (n.arguments_nodes s t given)) (loads-not name h) w
 
   mutual
     unfolding n.expression_nodes n.choice_nodes n.choice_row n.binary_row n.link_row n.primary_row n.primary_nodes n.expression_row n.name_nodes n.select_row n.select_nodes n.system_nodes n.arguments_nodes n.argument_row n.argument_nodes
@@ -132,7 +123,7 @@ module _ (k : Classes) (P : n.Node → Type 0) (Q : Setting → Type 0) (suits :
     primary-used s q (p.Call' name h row) w =
         let a = n.call name (n.row_length row) in
         (suits.part s a q (first-so P (n.node s a) (n.expression_row s row) w) ∙ ap (λ i. Some (c.Function i)) (row-count row), exs-used s q row (rest-so P (n.node s a) (n.expression_row s row) w))
-    primary-used s q (p.System a) w = operand-call-used s q a w
+    primary-used s q (p.System a) w = system-used s q Operand a w
 
     inner-used : {m : _} (s : Setting) → Q s → (row : p.Row_of-Expression m) → All (n.expression_row s row) → IsUsed k (f.first row)
     inner-used s q p.end_of-Expression w = tt
@@ -143,7 +134,7 @@ module _ (k : Classes) (P : n.Node → Type 0) (Q : Setting → Type 0) (suits :
     exs-used s q (p.more_of-Expression a rest) w =
         (ex-used s q a (lefts-so P (n.expression_nodes s a) (n.expression_row s rest) w), exs-used s q rest (rights-so P (n.expression_nodes s a) (n.expression_row s rest) w))
 
-    name-used : (s : Setting) → Q s → (a : nm.Name) → Fits k s.timed (n.value a) → All (n.name_nodes s a) → IsUsed k (f.named a)
+    name-used : (s : Setting) → Q s → (a : nm.Name) → Fits k (n.value a) → All (n.name_nodes s a) → IsUsed k (f.named a)
     name-used s q (nm.Name' at name h row) r w = (r, selects-used s q row w)
 
     pub selects-used : {m : _} (s : Setting) → Q s → (row : nm.Row_of-Select m) → All (n.select_row s row) → AreUsedSelects k (f.selects row)
@@ -158,13 +149,12 @@ module _ (k : Classes) (P : n.Node → Type 0) (Q : Setting → Type 0) (suits :
         let bs = n.expression_nodes (constantly s) r in
         (ex-used (before_mark mark s) (before-so mark s q) i (lefts-so P as' bs w), ex-used (constantly s) (suits.constant s q) r (rights-so P as' bs w), u)
 
-    -- a call that is an operand
-    operand-call-used : (s : Setting) → Q s → (a : y.SystemCall) → All (n.system_nodes s Operand a) → IsUsed k (f.system a)
-    operand-call-used s q (y.SystemCall' at name given) w =
-        let a = n.system Operand (y.SystemCall' at name given) in
+    pub system-used : (s : Setting) → Q s → (usage : Usage) (a : y.SystemCall) → All (n.system_nodes s usage a) → UsedAs k usage (f.system a)
+    system-used s q usage (y.SystemCall' at name given) w =
+        let a = n.system usage (y.SystemCall' at name given) in
         let as' = n.arguments_nodes s (n.is_load name) given in
-        let called : is_operand name ≡ true = suits.part s a q (first-so P (n.node s a) as' w) in
-        (called, arguments-used s q given (arguments-read s name given (or_left (is_operand name) (is_on_files name) called) (rest-so P (n.node s a) as' w)))
+        used-as k usage at name (f.arguments given) (suits.part s a q (first-so P (n.node s a) as' w))
+        (λ e. arguments-used s q given (subst (λ t. All (n.arguments_nodes s t given)) e (rest-so P (n.node s a) as' w)))
 
     arguments-used : (s : Setting) → Q s → (o : y.Held-SystemCall-arguments) → All (n.arguments_nodes s false o) → AreUsedArgs k (f.arguments o)
     arguments-used s q y.SystemCall-arguments-None' w = tt
@@ -178,24 +168,3 @@ module _ (k : Classes) (P : n.Node → Type 0) (Q : Setting → Type 0) (suits :
     argument-used : (s : Setting) → Q s → (o : g.Held-SystemArgument-argument) (others : x.Args) → AreUsedArgs k others → All (n.argument_nodes s false o) → AreUsedArgs k (f.held o others)
     argument-used s q g.SystemArgument-argument-None' others u w = u
     argument-used s q (g.SystemArgument-argument-Some' a) others u w = (ex-used s q a w, u)
-
-  -- ---- calls that are no operands
-
-  -- a call that is the whole of what stands there, in an initial or a clocked process or elsewhere
-  pub whole-call-used : (s : Setting) → Q s → (a : y.SystemCall) → All (n.system_nodes s Whole a) → IsUsedSide k (f.system a) × (s.timed ≡ false → IsUsed k (f.system a))
-  unfolding n.system_nodes
-  whole-call-used s q (y.SystemCall' at name given) w =
-      let a = n.system Whole (y.SystemCall' at name given) in
-      let as' = n.arguments_nodes s (n.is_load name) given in
-      let called : (is_operand name || (s.timed && is_on_files name)) ≡ true = suits.part s a q (first-so P (n.node s a) as' w) in
-      let known = timed-name s.timed name called in
-      let inside = arguments-used s q given (arguments-read s name given known (rest-so P (n.node s a) as' w)) in
-      ((known, inside), λ t. (untimed-name s.timed name t called, inside))
-
-  -- a call that is a statement
-  pub task-used : (s : Setting) → Q s → (at : Place) (a : y.SystemCall) → All (n.system_nodes s Task a) → IsUsedStatement k (f.task at (f.system a))
-  unfolding n.system_nodes
-  task-used s q at (y.SystemCall' from name given) w =
-      let a = n.system Task (y.SystemCall' from name given) in
-      let as' = n.arguments_nodes s (n.is_load name) given in
-      by-load (IsLoad k (f.arguments given)) (AreUsedArgs k (f.arguments given)) (λ t. All (n.arguments_nodes s t given)) (n.is_load name) (suits.part s a q (first-so P (n.node s a) as' w)) (rest-so P (n.node s a) as' w) (λ v. arguments-used s q given v)

@@ -23,7 +23,8 @@ use Rattle.vl_flat.specs.Surface as x
 use Rattle.vl_flat.specs.Binding as f
 use Rattle.vl_used.specs.Used.{Classes, AreOfBits, AreOfAWord, IsRead, IsWritten, IsWatched}
 use Rattle.vl_named.proofs.Opens.{selects_before, bounds, named-opens, select-opens}
-use Rattle.vl_named.proofs.Loading.{IsCalled, system-called}
+use Rattle.vl_named.proofs.Sides.{Loads}
+use Rattle.vl_named.proofs.Loading.{system-loads}
 
 -- a name with its selects, where it is read
 abbrev pub Reads : Classes → x.Ex → Type 0
@@ -35,12 +36,12 @@ abbrev pub Writes : Classes → x.Ex → Type 0
 Writes k (x.Named at t ss) = IsWritten (k.read t) ss
 Writes k e = ⊥
 
--- what a part of an expression needs, in an initial or a clocked process or elsewhere
-abbrev pub Fits : Classes → Bool → n.Part → Type 0
-Fits k timed (n.value a) = Reads k (f.named a)
-Fits k timed (n.call name count) = k.called name.name ≡ Some (c.Function count)
-Fits k timed (n.system usage a) = IsCalled k timed usage (f.system a)
-Fits k timed part = ⊤
+-- what a part of an expression needs
+abbrev pub Fits : Classes → n.Part → Type 0
+Fits k (n.value a) = Reads k (f.named a)
+Fits k (n.call name count) = k.called name.name ≡ Some (c.Function count)
+Fits k (n.system usage a) = Loads k usage (f.system a)
+Fits k part = ⊤
 
 -- ---- selects
 
@@ -147,12 +148,12 @@ module _ (m : Meanings) (k : Classes) (means : Means m k) where
       let q = meant setting.parameters (λ kind. u.is_watchable kind.class) (m.read name.name) fine.known fine.used in
       subst IsWatched (is-class name.name q.0 q.1) (watched-so q.0.class q.2)
 
-  pub part-fits : (setting : Setting) (a : n.Part) → ⊤ → IsFine m (n.node setting a) → Fits k setting.timed a
+  pub part-fits : (setting : Setting) (a : n.Part) → ⊤ → IsFine m (n.node setting a) → Fits k a
   part-fits setting (n.value a) q fine = value-fits setting a fine
   part-fits setting (n.call name count) q fine =
       let q = meant setting.parameters (λ kind. u.is_callable count kind.class) (m.called name.name) fine.known fine.used in
       sym (sym (ap class_of q.1) ∙ means.called name.name) ∙ ap (λ z. Some z) (called-so count q.0.class q.2)
-  part-fits setting (n.system usage a) q fine = system-called m.read k (λ t kind e. is-class t kind e) setting.timed usage a (untrue _ fine.allowed)
+  part-fits setting (n.system usage a) q fine = system-loads m.read k (λ t kind e. is-class t kind e) setting.timed usage a (untrue _ fine.allowed)
   part-fits setting a q fine = tt
 
 -- ---- constants
@@ -170,7 +171,7 @@ module _ (m : Meanings) (k : Classes) (means : MeansParameters m k) where
       let p = untrue (is_parameter kind.class) g in
       subst (λ z. IsRead z x.NoSelects) (sym (means.read t kind.class (ap class_of e) p)) (parameter-read kind.class p)
 
-  pub constant-fits : (setting : Setting) (a : n.Part) → setting.constant ≡ true → IsFine m (n.node setting a) → Fits k setting.timed a
+  pub constant-fits : (setting : Setting) (a : n.Part) → setting.constant ≡ true → IsFine m (n.node setting a) → Fits k a
   constant-fits setting (n.value a) q fine =
       let o = out-Name a in
       let t = o.identifier.name in

@@ -1,5 +1,5 @@
 -- Items without faults: each name is used as what it is.
-use Rattle.std.proofs.Common.{◌≡◌, false, if◌then◌else◌, List, [], ◌∷◌, ◌++◌, map, length, Option, Some, None, refl}
+use Rattle.std.proofs.Common.{◌≡◌, if◌then◌else◌, List, [], ◌∷◌, ◌++◌, map, length, Option, Some, None, refl}
 use Rattle.std.specs.Prelude.{⊤, flat_map, All, option_map}
 use Rattle.std.specs.Option.{option_map_or}
 use Rattle.std.proofs.lemmas.List.Elements.{All-nil, All-cons}
@@ -31,12 +31,12 @@ use Rattle.vl_uses.specs.UseFaults.{Meanings}
 use Rattle.vl_flat.specs.Binding.{ex, left, statement}
 use Rattle.vl_flat.specs.Items as x
 use Rattle.vl_flat.specs.Declarations as d
-use Rattle.vl_used.specs.Used.{Classes, IsUsed, IsUsedSide, IsUsedLeft, IsUsedValue, IsUsedOwnValue, IsUsedRange, IsUsedType, IsUsedDeclared, IsUsedTrigger, IsUsedStatement, IsWatched, AreConnected, IsUsedFunction, IsUsedItem}
+use Rattle.vl_named.proofs.Sides.{used-side}
+use Rattle.vl_used.specs.Used.{Classes, IsUsed, IsUsedSide, IsUsedOwnValue, IsUsedLeft, IsUsedValue, IsUsedRange, IsUsedType, IsUsedDeclared, IsUsedTrigger, IsUsedStatement, IsWatched, AreConnected, IsUsedFunction, IsUsedItem}
 use Rattle.vl_named.proofs.Fitting.{IsFine, Means, event-fits}
 use Rattle.vl_named.proofs.Expressions.{Every, lefts-so, rights-so, first-so, rest-so}
-use Rattle.vl_named.proofs.Types.{each-same, each-used, value-used, own-value-used, bounds-used, range-used, type-used}
-use Rattle.vl_named.proofs.Wholes.{side-from}
-use Rattle.vl_named.proofs.Statements.{suits, fine-ex, fine-right-side, continuous-used, statement-used}
+use Rattle.vl_named.proofs.Types.{each-same, each-used, value-used, own-used, bounds-used, range-used, type-used}
+use Rattle.vl_named.proofs.Statements.{suits, fine-ex, fine-right-side, assignment-used, statement-used}
 
 module _ (m : Meanings) (k : Classes) (means : Means m k) where
   abbrev P : n.Node → Type 0
@@ -83,7 +83,7 @@ module _ (m : Meanings) (k : Classes) (means : Means m k) where
   outputs-used : (st : Setting) (type : x.DataType) → IsUsedType k type → (as' : List DeclarationAssignment) → Every P (n.output_variables_nodes st as') → All (IsUsedDeclared k) (map (d.output_variable type) as')
   outputs-used st type u as' w =
       each-used P (d.output_variable type) (λ a. n.given (n.first_value_nodes st) a.value) (IsUsedDeclared k)
-      (λ a v. record { type = u; words = tt; value = own-value-used P k (n.first_value_nodes st) (first-value-used st) a.value v }) as' w
+      (λ a v. record { type = u; words = tt; value = own-used P k (n.first_value_nodes st) (first-value-used st) a.value v }) as' w
 
   pub ports-used : (st : Setting) (a : PortDeclaration) → Every P (n.port_nodes st a) → All (IsUsedDeclared k) (d.ports_in a)
   ports-used st (pd.Net at direction wire signed range names) w =
@@ -98,7 +98,7 @@ module _ (m : Meanings) (k : Classes) (means : Means m k) where
   nets-used : (st : Setting) (type : x.DataType) → IsUsedType k type → (as' : List DeclarationAssignment) → Every P (n.nets_nodes st as') → All (IsUsedDeclared k) (map (d.assigned_net type) as')
   nets-used st type u as' w =
       each-used P (d.assigned_net type) (λ a. n.given (n.expression_nodes st) a.value) (IsUsedDeclared k)
-      (λ a v. record { type = u; words = tt; value = own-value-used P k (n.expression_nodes st) (λ v w. side-from k (ex v) (fits st v w)) a.value v }) as' w
+      (λ a v. record { type = u; words = tt; value = own-used P k (n.expression_nodes st) (λ v w. used-side k (ex v) (fits st v w)) a.value v }) as' w
 
   words-used : (st : Setting) (o : Option VariableMore) → Every P (n.given (n.variable_nodes st) o) → IsUsedRange k (d.words_in o)
   words-used st None w = tt
@@ -120,9 +120,9 @@ module _ (m : Meanings) (k : Classes) (means : Means m k) where
   abbrev setting-of : Assignment → x.Setting
   setting-of a = record { target = left a.target; value = ex a.value }
 
-  assigns-used : (st : Setting) → st.timed ≡ false → (as' : List Assignment) → Every P (n.continuous_nodes st as') → All (λ (a : x.Setting). IsUsedLeft k a.target × IsUsed k a.value) (map setting-of as')
-  assigns-used st t as' w =
-      each-used P setting-of (n.assignment_nodes Continuous st) (λ a. IsUsedLeft k a.target × IsUsed k a.value) (λ a v. continuous-used m k means st t a v) as' w
+  assigns-used : (st : Setting) (as' : List Assignment) → Every P (n.continuous_nodes st as') → All (λ (a : x.Setting). IsUsedLeft k a.target × IsUsedSide k a.value) (map setting-of as')
+  assigns-used st as' w =
+      each-used P setting-of (n.assignment_nodes Continuous st) (λ a. IsUsedLeft k a.target × IsUsedSide k a.value) (λ a v. assignment-used m k means Continuous st a v) as' w
 
   events-used : (st : Setting) (es : List Event) → Every P (map (λ (a : Event). n.node st (n.event a.name)) es) → All (λ (a : Event). IsWatched (k.read a.name.name)) es
   events-used st [] w = All-nil (λ (a : Event). IsWatched (k.read a.name.name))
@@ -168,23 +168,23 @@ module _ (m : Meanings) (k : Classes) (means : Means m k) where
   -- ---- items
 
   -- functions apart
-  pub item-used : (st : Setting) → st.timed ≡ false → (a : ItemTree) → ((f : FunctionTree) → a ≡ i.Function f → IsUsedFunction k (d.function f)) → Every P (n.item_nodes st a) → IsUsedItem k (d.item a)
-  item-used st t (i.Port a) f w = ports-used st a w
-  item-used st t (i.Parameter at word type as') f w =
+  pub item-used : (st : Setting) (a : ItemTree) → ((f : FunctionTree) → a ≡ i.Function f → IsUsedFunction k (d.function f)) → Every P (n.item_nodes st a) → IsUsedItem k (d.item a)
+  item-used st (i.Port a) f w = ports-used st a w
+  item-used st (i.Parameter at word type as') f w =
       let bs = n.type_nodes st type in
       let cs = n.parameter_nodes st as' in
       (declared-type st type (lefts-so P bs cs w), parameters-used st as' (rights-so P bs cs w))
-  item-used st t (i.Wire at signed range as') f w =
+  item-used st (i.Wire at signed range as') f w =
       let bs = n.given (n.range_nodes st) range in
       let cs = n.nets_nodes st as' in
       nets-used st (d.vector signed range) (declared-range st range (lefts-so P bs cs w)) as' (rights-so P bs cs w)
-  item-used st t (i.Reg at signed range as') f w =
+  item-used st (i.Reg at signed range as') f w =
       let bs = n.given (n.range_nodes st) range in
       let cs = n.variables_nodes st as' in
       variables-used st (d.vector signed range) (declared-range st range (lefts-so P bs cs w)) as' (rights-so P bs cs w)
-  item-used st t (i.Integer at as') f w = variables-used st x.Integer tt as' w
-  item-used st t (i.Assign at as') f w = assigns-used st t as' w
-  item-used st t (i.Initial at a) f w = statement-used m k means (timely st) a w
-  item-used st t (i.Always at trigger a) f w = always-used st trigger a w
-  item-used st t (i.Function a) f w = f a refl
-  item-used st t (i.Instance a) f w = instances-used st a w
+  item-used st (i.Integer at as') f w = variables-used st x.Integer tt as' w
+  item-used st (i.Assign at as') f w = assigns-used st as' w
+  item-used st (i.Initial at a) f w = statement-used m k means (timely st) a w
+  item-used st (i.Always at trigger a) f w = always-used st trigger a w
+  item-used st (i.Function a) f w = f a refl
+  item-used st (i.Instance a) f w = instances-used st a w

@@ -1,4 +1,5 @@
 pub mod Opens
+pub mod Sides
 pub mod Loading
 pub mod Fitting
 pub mod Expressions

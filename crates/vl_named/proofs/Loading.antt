@@ -1,8 +1,8 @@
--- Calls of system tasks and functions by where they stand, and the primaries that whole expressions are.
-use Rattle.std.proofs.Common.{◌≡◌, ℕ, Bool, true, false, true≢false, List, [], ◌∷◌, Option, Some, None, refl, sym, ap, ◌∙◌, subst}
-use Rattle.std.specs.Prelude.{⊤, ◌&&◌, ◌||◌, if◌then◌else◌, is_some, codes}
+-- Calls of system tasks that load memories, and the primaries that whole expressions are.
+use Rattle.std.proofs.Common.{◌≡◌, ℕ, Bool, true, false, true≢false, if◌then◌else◌, ⊎_elim, List, [], ◌∷◌, Option, Some, None, refl, sym, ap, ◌∙◌, subst}
+use Rattle.std.specs.Prelude.{⊤, ◌&&◌, ◌||◌, is_some, codes}
 use Rattle.std.specs.Str.{bytes_eq}
-use Rattle.std.proofs.lemmas.Bool.{and_parts, or_left, or_right}
+use Rattle.std.proofs.lemmas.Bool.{and_parts, or_cases, or_left, or_right}
 use Rattle.vl_base.specs.declared.place.Place.{Place}
 use Rattle.vl_grammar.specs.declared.tree.Identifier.{Identifier}
 use Rattle.vl_grammar.specs.declared.tree.Expression.{Expression, out-Expression}
@@ -29,74 +29,8 @@ use Rattle.vl_uses.specs.Nodes.{is_load}
 use Rattle.vl_flat.specs.Surface as x
 use Rattle.vl_flat.specs.Binding as f
 use Rattle.vl_used.specs.Used.{Classes, IsMemoryName, IsLoad, ByTest, is_operand, is_on_files}
+use Rattle.vl_named.proofs.Sides.{Loads}
 use Rattle.vl_named.proofs.Opens.{unary, linked, chosen, selects_before, given, held, ex-opens, binary-opens, named-opens, argument-opens, system-opens}
-
--- a call that is used so, in an initial or a clocked process or elsewhere: a task that loads a memory has one, and a function
--- is one that may stand there
-abbrev pub IsCalled : Classes → Bool → Usage → x.Ex → Type 0
-IsCalled k timed Task (x.System at name given) = ByTest (is_load name) (IsLoad k given) ⊤
-IsCalled k timed Whole (x.System at name given) = (is_operand name || (timed && is_on_files name)) ≡ true
-IsCalled k timed Operand (x.System at name given) = is_operand name ≡ true
-IsCalled k timed usage e = ⊥
-
--- ---- names of functions
-
--- the name of a call that is an operand
-operand-name : (timed : Bool) (name : List ℕ) (as' : Option (List SystemArgument)) → l.is_operand timed name as' ≡ true → is_operand name ≡ true
-operand-name timed name as' h = by (bytes_eq name (codes "$signed")) (bytes_eq name (codes "$unsigned")) (bytes_eq name (codes "$time")) (l.is_one as') (timed && l.is_none as') h
-  where
-    by : (a b d y z : Bool) → (if a || b then y else if d then z else false) ≡ true → (a || (b || d)) ≡ true
-    by true b d y z e = refl
-    by false true d y z e = refl
-    by false false true y z e = refl
-    by false false false y z e = e
-
--- the name of a call of a function on files
-file-name : (means : List ℕ → Option Kind) (name : List ℕ) (as' : Option (List SystemArgument)) → l.is_file_function means name as' ≡ true → is_on_files name ≡ true
-file-name means name as' h =
-    by (bytes_eq name (codes "$fopen")) (bytes_eq name (codes "$fread")) (bytes_eq name (codes "$fgetc")) (bytes_eq name (codes "$feof")) (l.is_open as') (l.is_read means as') (l.is_one as') h
-  where
-    by : (a b d e w y z : Bool) → (if a then w else if b then y else if d || e then z else false) ≡ true → (a || (b || (d || e))) ≡ true
-    by true b d e w y z g = refl
-    by false true d e w y z g = refl
-    by false false true e w y z g = refl
-    by false false false true w y z g = refl
-    by false false false false w y z g = g
-
--- the name of a call that is the whole
-whole-name : (means : List ℕ → Option Kind) (timed : Bool) (name : List ℕ) (as' : Option (List SystemArgument)) → l.is_allowed means timed Whole name as' ≡ true
-    → (is_operand name || (timed && is_on_files name)) ≡ true
-whole-name means timed name as' h = by timed (l.is_operand timed name as') (operand-name timed name as') h
-  where
-    by : (t o : Bool) → (o ≡ true → is_operand name ≡ true) → (o || (t && l.is_file_function means name as')) ≡ true → (is_operand name || (t && is_on_files name)) ≡ true
-    by t true f g = or_left (is_operand name) (t && is_on_files name) (f refl)
-    by true false f g = or_right (is_operand name) (is_on_files name) (file-name means name as' g)
-    by false false f g = absurd (true≢false (sym g))
-
--- outside initial and clocked processes it is an operand's
-pub untimed-name : (timed : Bool) (name : List ℕ) → timed ≡ false → (is_operand name || (timed && is_on_files name)) ≡ true → is_operand name ≡ true
-untimed-name timed name t h = by timed (is_operand name) t h
-  where
-    by : (t o : Bool) → t ≡ false → (o || (t && is_on_files name)) ≡ true → o ≡ true
-    by t true e g = refl
-    by true false e g = absurd (true≢false e)
-    by false false e g = g
-
-pub timed-name : (timed : Bool) (name : List ℕ) → (is_operand name || (timed && is_on_files name)) ≡ true → (is_operand name || is_on_files name) ≡ true
-timed-name true name h = h
-timed-name false name h = by (is_operand name) h
-  where
-    by : (o : Bool) → (o || false) ≡ true → (o || is_on_files name) ≡ true
-    by true g = refl
-    by false g = absurd (true≢false (sym g))
-
--- no function loads a memory
-pub loads-not : (name : List ℕ) → (is_operand name || is_on_files name) ≡ true → is_load name ≡ false
-loads-not name h = by (is_load name) refl
-  where
-    by : (t : Bool) → is_load name ≡ t → is_load name ≡ false
-    by true e = absurd (true≢false (sym (subst (λ z. (is_operand z || is_on_files z) ≡ true) (sym (bytes_eq-to name (codes "$readmemh") e)) h)))
-    by false e = e
 
 -- ---- whole expressions
 
@@ -211,11 +145,35 @@ module _ (means : List ℕ → Option Kind) (k : Classes) (known : (t : List ℕ
   by-test true h = h refl
   by-test false h = tt
 
-  call-allowed : (timed : Bool) (usage : Usage) (at : Place) (name : List ℕ) (as' : Option (List SystemArgument)) → l.is_allowed means timed usage name as' ≡ true
-      → IsCalled k timed usage (x.System at name (given as'))
-  call-allowed timed Task at name as' h = by-test (is_load name) (λ e. memory-loads as' (subst (λ z. l.is_task means z as' ≡ true) (sym (bytes_eq-to name (codes "$readmemh") e)) h))
-  call-allowed timed Whole at name as' h = whole-name means timed name as' h
-  call-allowed timed Operand at name as' h = operand-name timed name as' h
+  -- ---- functions
 
-  pub system-called : (timed : Bool) (usage : Usage) (a : SystemCall) → l.is_allowed means timed usage (out-SystemCall a).name (out-SystemCall a).arguments ≡ true → IsCalled k timed usage (f.system a)
-  system-called timed usage a h = let o = out-SystemCall a in subst (IsCalled k timed usage) (sym (system-opens a)) (call-allowed timed usage o.place o.name o.arguments h)
+  operand-named : (a b e : Bool) (y z : Bool) → (if a || b then y else if e then z else false) ≡ true → (a || (b || e)) ≡ true
+  operand-named true b e y z h = refl
+  operand-named false true e y z h = refl
+  operand-named false false true y z h = refl
+  operand-named false false false y z h = h
+
+  files-named : (a b e g : Bool) (y z w : Bool) → (if a then y else if b then z else if e || g then w else false) ≡ true → (a || (b || (e || g))) ≡ true
+  files-named true b e g y z w h = refl
+  files-named false true e g y z w h = refl
+  files-named false false true g y z w h = refl
+  files-named false false false true y z w h = refl
+  files-named false false false false y z w h = h
+
+  operand-allowed : (timed : Bool) (name : List ℕ) (as' : Option (List SystemArgument)) → l.is_operand timed name as' ≡ true → is_operand name ≡ true
+  operand-allowed timed name as' h = operand-named (bytes_eq name (codes "$signed")) (bytes_eq name (codes "$unsigned")) (bytes_eq name (codes "$time")) (l.is_one as') (timed && l.is_none as') h
+
+  files-allowed : (name : List ℕ) (as' : Option (List SystemArgument)) → l.is_file_function means name as' ≡ true → is_on_files name ≡ true
+  files-allowed name as' h =
+      files-named (bytes_eq name (codes "$fopen")) (bytes_eq name (codes "$fread")) (bytes_eq name (codes "$fgetc")) (bytes_eq name (codes "$feof")) (l.is_open as') (l.is_read means as') (l.is_one as') h
+
+  pub system-loads : (timed : Bool) (usage : Usage) (a : SystemCall) → l.is_allowed means timed usage (out-SystemCall a).name (out-SystemCall a).arguments ≡ true → Loads k usage (f.system a)
+  system-loads timed usage a h = let o = out-SystemCall a in subst (Loads k usage) (sym (system-opens a)) (by usage o.name o.arguments h)
+    where
+      by : (usage : Usage) (name : List ℕ) (as' : Option (List SystemArgument)) → l.is_allowed means timed usage name as' ≡ true → Loads k usage (x.System (out-SystemCall a).place name (given as'))
+      by Task name as' h = by-test (is_load name) (λ e. memory-loads as' (subst (λ z. l.is_task means z as' ≡ true) (sym (bytes_eq-to name (codes "$readmemh") e)) h))
+      by Operand name as' h = operand-allowed timed name as' h
+      by Whole name as' h =
+          let either = or_cases (l.is_operand timed name as') (timed && l.is_file_function means name as') h in
+          ⊎_elim (λ q. or_left (is_operand name) (is_on_files name) (operand-allowed timed name as' q))
+          (λ q. or_right (is_operand name) (is_on_files name) (files-allowed name as' (and_parts timed (l.is_file_function means name as') q).1)) either

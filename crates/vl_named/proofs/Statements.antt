@@ -1,9 +1,10 @@
 -- Left sides and statements without faults: each name is used as what it is.
-use Rattle.std.proofs.Common.{◌≡◌, false, List, [], ◌∷◌, ◌++◌}
+use Rattle.std.proofs.Common.{List, [], ◌∷◌, ◌++◌}
 use Rattle.std.specs.Prelude.{⊤, flat_map}
 use Rattle.vl_base.specs.declared.place.Place.{Place}
 use Rattle.vl_grammar.specs.declared.tree.Expression.{Expression}
 use Rattle.vl_grammar.specs.declared.tree.Name as nm
+use Rattle.vl_grammar.specs.declared.tree.SystemCall as y
 use Rattle.vl_source.specs.declared.tree.Assignment.{Assignment}
 use Rattle.vl_source.specs.declared.tree.CaseKeyword.{CaseKeyword}
 use Rattle.vl_source.specs.declared.tree.CaseItem as ci
@@ -11,16 +12,18 @@ use Rattle.vl_source.specs.declared.tree.Statement as s
 use Rattle.vl_source.specs.declared.tree.Lvalue as l
 use Rattle.vl_uses.specs.declared.setting.Setting.{Setting}
 use Rattle.vl_uses.specs.declared.setting.Side.{Side}
-use Rattle.vl_uses.specs.declared.setting.Side.TheVariants.{Continuous, Procedural}
+use Rattle.vl_uses.specs.declared.setting.Side.TheVariants.{Procedural}
+use Rattle.vl_uses.specs.declared.setting.Usage.TheVariants.{Task}
 use Rattle.vl_uses.specs.Settings.{constantly, of_index}
 use Rattle.vl_uses.specs.Nodes as n
 use Rattle.vl_uses.specs.UseFaults.{Meanings}
 use Rattle.vl_flat.specs.Surface as x
 use Rattle.vl_flat.specs.Binding as f
+use Rattle.vl_named.proofs.Sides.{UsedAs}
 use Rattle.vl_used.specs.Used.{Classes, IsUsed, AreUsed, IsUsedSide, IsUsedLeft, AreUsedLefts, IsUsedStatement, AreUsedStatements, AreUsedItems}
 use Rattle.vl_named.proofs.Fitting.{Writes, IsFine, Means, part-fits, target-fits}
-use Rattle.vl_named.proofs.Expressions.{Every, Suits, lefts-so, rights-so, first-so, rest-so, ex-used, selects-used, task-used}
-use Rattle.vl_named.proofs.Wholes.{right-side-used, untimed-used, condition-used, label-used}
+use Rattle.vl_named.proofs.Expressions.{Every, Suits, lefts-so, rights-so, first-so, rest-so, ex-used, selects-used, system-used}
+use Rattle.vl_named.proofs.Wholes.{right-side-used, condition-used, label-used}
 
 module _ (m : Meanings) (k : Classes) (means : Means m k) where
   abbrev pub Fine : List n.Node → Type 0
@@ -63,20 +66,12 @@ module _ (m : Meanings) (k : Classes) (means : Means m k) where
     lefts-used side st (l.more_of-Lvalue a rest) w =
         (left-used side st a (left-of (n.lvalue_nodes side st a) (n.lvalue_row side st rest) w), lefts-used side st rest (right-of (n.lvalue_nodes side st a) (n.lvalue_row side st rest) w))
 
-  assignment-used : (st : Setting) (a : Assignment) → Fine (n.assignment_nodes Procedural st a) → IsUsedLeft k (f.left a.target) × IsUsedSide k (f.ex a.value)
+  pub assignment-used : (side : Side) (st : Setting) (a : Assignment) → Fine (n.assignment_nodes side st a) → IsUsedLeft k (f.left a.target) × IsUsedSide k (f.ex a.value)
   unfolding n.assignment_nodes
-  assignment-used st a w =
-      let as' = n.lvalue_nodes Procedural st a.target in
-      let bs = n.right_side_nodes st a.value in
-      (left-used Procedural st a.target (left-of as' bs w), fine-right-side st a.value (right-of as' bs w))
-
-  -- a continuous assignment stands in no process
-  pub continuous-used : (st : Setting) → st.timed ≡ false → (a : Assignment) → Fine (n.assignment_nodes Continuous st a) → IsUsedLeft k (f.left a.target) × IsUsed k (f.ex a.value)
-  unfolding n.assignment_nodes
-  continuous-used st t a w =
-      let as' = n.lvalue_nodes Continuous st a.target in
-      let bs = n.right_side_nodes st a.value in
-      (left-used Continuous st a.target (left-of as' bs w), untimed-used k (IsFine m) (λ s. ⊤) suits st tt t a.value (right-of as' bs w))
+  assignment-used side st a w = (
+    left-used side st a.target (left-of (n.lvalue_nodes side st a.target) (n.right_side_nodes st a.value) w),
+    fine-right-side st a.value (right-of (n.lvalue_nodes side st a.target) (n.right_side_nodes st a.value) w),
+  )
 
   -- ---- statements
 
@@ -86,6 +81,9 @@ module _ (m : Meanings) (k : Classes) (means : Means m k) where
     label-used k (IsFine m) (λ s. ⊤) suits st tt word a (left-of (n.label_nodes st word a) (flat_map (n.label_nodes st word) as') w),
     labels-used st word as' (right-of (n.label_nodes st word a) (flat_map (n.label_nodes st word) as') w),
   )
+
+  task-used : (at : Place) (a : y.SystemCall) → UsedAs k Task (f.system a) → IsUsedStatement k (f.task at (f.system a))
+  task-used at (y.SystemCall' q name given) u = u
 
   mutual
     unfolding n.statement_nodes n.otherwise_nodes n.statement_row n.case_row n.case_nodes
@@ -109,8 +107,8 @@ module _ (m : Meanings) (k : Classes) (means : Means m k) where
         let ds = n.statement_row st row in
         let three = left-of (as' ++ bs ++ cs) ds w in
         let two = left-of (as' ++ bs) cs three in
-        let first = assignment-used st start (left-of as' bs two) in
-        let next = assignment-used st step (right-of (as' ++ bs) cs three) in
+        let first = assignment-used Procedural st start (left-of as' bs two) in
+        let next = assignment-used Procedural st step (right-of (as' ++ bs) cs three) in
         (first.0, first.1, fine-ex st test (right-of as' bs two), next.0, next.1, first-used st row (right-of (as' ++ bs ++ cs) ds w))
     statement-used st (s.Repeat' at count h row) w =
         let as' = n.expression_nodes (constantly st) count in
@@ -120,7 +118,7 @@ module _ (m : Meanings) (k : Classes) (means : Means m k) where
         let as' = n.lvalue_nodes Procedural st target in
         let bs = n.right_side_nodes st value in
         (left-used Procedural st target (left-of as' bs w), fine-right-side st value (right-of as' bs w))
-    statement-used st (s.System at call) w = task-used k (IsFine m) (λ s. ⊤) suits st tt at call w
+    statement-used st (s.System at call) w = task-used at call (system-used k (IsFine m) (λ s. ⊤) suits st tt Task call w)
 
     other-used : (st : Setting) (o : s.Held-Statement-If-3) (at : Place) → Fine (n.otherwise_nodes st o) → IsUsedStatement k (f.other o at)
     other-used st s.None' at w = tt

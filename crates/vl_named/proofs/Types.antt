@@ -11,7 +11,7 @@ use Rattle.vl_uses.specs.Settings.{constantly}
 use Rattle.vl_uses.specs.Nodes as n
 use Rattle.vl_flat.specs.Binding.{ex}
 use Rattle.vl_flat.specs.Declarations.{bounds, type}
-use Rattle.vl_used.specs.Used.{Classes, IsUsed, IsUsedValue, IsUsedSide, IsUsedOwnValue, IsUsedRange, IsUsedType}
+use Rattle.vl_used.specs.Used.{IsUsedSide, IsUsedOwnValue, Classes, IsUsed, IsUsedValue, IsUsedRange, IsUsedType}
 use Rattle.vl_named.proofs.Expressions.{Every, Suits, lefts-so, rights-so, ex-used}
 
 -- what one part alone needs
@@ -36,9 +36,9 @@ module _ (P : n.Node → Type 0) where
   value-used k G each None w = tt
   value-used k G each (Some v) w = each v w
 
-  pub own-value-used : (k : Classes) (G : Expression → List n.Node) → ((v : Expression) → Every P (G v) → IsUsedSide k (ex v)) → (o : Option Expression) → Every P (n.given G o) → IsUsedOwnValue k (option_map ex o)
-  own-value-used k G each None w = tt
-  own-value-used k G each (Some v) w = each v w
+  pub own-used : (k : Classes) (G : Expression → List n.Node) → ((v : Expression) → Every P (G v) → IsUsedSide k (ex v)) → (o : Option Expression) → Every P (n.given G o) → IsUsedOwnValue k (option_map ex o)
+  own-used k G each None w = tt
+  own-used k G each (Some v) w = each v w
 
 module _ (k : Classes) (P : n.Node → Type 0) (Q : Setting → Type 0) (suits : Suits k P Q) where
   -- a range's bounds are constants

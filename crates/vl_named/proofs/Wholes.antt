@@ -1,7 +1,5 @@
--- Right sides, conditions and labels whose parts fit: a call of a function on files may be the whole of one.
+-- Right sides, conditions and labels whose parts fit: a system call may be the whole of one.
 use Rattle.std.proofs.Common.{◌≡◌, Bool, true, false, if◌then◌else◌, List, [], ◌∷◌, Option, Some, None, refl, sym, subst}
-use Rattle.std.proofs.lemmas.Bool.{or_left}
-use Rattle.vl_base.specs.declared.place.Place.{Place}
 use Rattle.vl_grammar.specs.declared.tree.Expression as e
 use Rattle.vl_grammar.specs.declared.tree.Expression.{Expression}
 use Rattle.vl_grammar.specs.declared.tree.Binary as b
@@ -20,63 +18,56 @@ use Rattle.vl_uses.specs.Alone as s
 use Rattle.vl_uses.specs.Nodes as n
 use Rattle.vl_flat.specs.Binding as f
 use Rattle.vl_flat.specs.Surface as x
-use Rattle.vl_used.specs.Used.{Classes, IsUsed, IsUsedSide, IsUsedTest, is_operand, is_on_files}
+use Rattle.vl_base.specs.declared.place.Place.{Place}
+use Rattle.vl_used.specs.Used.{Classes, IsUsed, IsUsedSide, IsUsedTest}
+use Rattle.vl_named.proofs.Sides.{used-side, side-test}
 use Rattle.vl_named.proofs.Loading.{some-same, operand-is, sole-is}
-use Rattle.vl_named.proofs.Expressions.{Every, Suits, ex-used, whole-call-used}
+use Rattle.vl_named.proofs.Expressions.{Every, Suits, ex-used, system-used}
 
 -- ---- parentheses
 
--- what holds of an expression holds of it in parentheses
-module _ (T : x.Ex → Type 0) (parens : (at : Place) (a : x.Ex) → T a → T (x.Paren at a)) where
+-- what holds in parentheses as without them
+module _ (R : x.Ex → Type 0) (paren : (at : Place) (a : x.Ex) → R a → R (x.Paren at a)) where
   -- an operand that stands alone, or another
-  alone-so : {m : _} (v y : Expression) (marks : List UnaryMark) (links : b.Row_of-Link m) (a : x.Ex) → (T (f.bound links (f.marked marks a)) → T (f.ex v))
-      → ((T a → T (f.ex v)) → T (f.ex y) → T (f.ex v)) → T (f.ex (if s.stands_alone marks links then y else v)) → T (f.ex v)
-  alone-so v y [] b.end_of-Link a back inside u = inside back u
-  alone-so v y [] (b.more_of-Link o at ms h row rest) a back inside u = u
-  alone-so v y (m ∷ marks) links a back inside u = u
+  alone-used : {m : _} (v y : Expression) (marks : List UnaryMark) (links : b.Row_of-Link m) (a : x.Ex) → (R (f.bound links (f.marked marks a)) → R (f.ex v))
+      → ((R a → R (f.ex v)) → R (f.ex y) → R (f.ex v)) → R (f.ex (if s.stands_alone marks links then y else v)) → R (f.ex v)
+  alone-used v y [] b.end_of-Link a back inside u = inside back u
+  alone-used v y [] (b.more_of-Link o at ms h row rest) a back inside u = u
+  alone-used v y (m ∷ marks) links a back inside u = u
 
   mutual
     unfolding s.stripped s.stripped_row s.stripped_primary s.stripped_inner
 
-    -- what is so inside parentheses is so with them
-    stripped-so : (v : Expression) → T (f.ex (s.stripped v)) → T (f.ex v)
-    stripped-so (e.Expression' at h whole e.Expression-choice-None') u = row-so (e.Expression' at h whole e.Expression-choice-None') whole (λ w. w) u
-    stripped-so (e.Expression' at h whole (e.Expression-choice-Some' t choice)) u = u
+    -- what is used inside parentheses is used with them
+    stripped-used : (v : Expression) → R (f.ex (s.stripped v)) → R (f.ex v)
+    stripped-used (e.Expression' at h whole e.Expression-choice-None') u = row-used (e.Expression' at h whole e.Expression-choice-None') whole (λ w. w) u
+    stripped-used (e.Expression' at h whole (e.Expression-choice-Some' t choice)) u = u
 
-    row-so : {m : _} (v : Expression) (row : e.Row_of-Binary m) → (T (f.first_binary row) → T (f.ex v)) → T (f.ex (s.stripped_row v row)) → T (f.ex v)
-    row-so v e.end_of-Binary back u = u
-    row-so v (e.more_of-Binary (b.Binary' at from marks h primary t links) rest) back u =
-        alone-so v (s.stripped_primary v primary) marks links (f.first_primary primary) back (λ b w. primary-so v primary b w) u
+    row-used : {m : _} (v : Expression) (row : e.Row_of-Binary m) → (R (f.first_binary row) → R (f.ex v)) → R (f.ex (s.stripped_row v row)) → R (f.ex v)
+    row-used v e.end_of-Binary back u = u
+    row-used v (e.more_of-Binary (b.Binary' at from marks h primary t links) rest) back u =
+        alone-used v (s.stripped_primary v primary) marks links (f.first_primary primary) back (λ b w. primary-used v primary b w) u
 
-    primary-so : {m : _} (v : Expression) (row : b.Row_of-Primary m) → (T (f.first_primary row) → T (f.ex v)) → T (f.ex (s.stripped_primary v row)) → T (f.ex v)
-    primary-so v (b.more_of-Primary (p.Parenthesized' at h inner) rest) back u = inner-so v inner (λ w. back (parens at (f.first inner) w)) u
-    primary-so v row back u = u
+    primary-used : {m : _} (v : Expression) (row : b.Row_of-Primary m) → (R (f.first_primary row) → R (f.ex v)) → R (f.ex (s.stripped_primary v row)) → R (f.ex v)
+    primary-used v (b.more_of-Primary (p.Parenthesized' at h inner) rest) back u = inner-used v inner (λ w. back (paren at (f.first inner) w)) u
+    primary-used v row back u = u
 
-    inner-so : {m : _} (v : Expression) (row : p.Row_of-Expression m) → (T (f.first row) → T (f.ex v)) → T (f.ex (s.stripped_inner v row)) → T (f.ex v)
-    inner-so v p.end_of-Expression back u = u
-    inner-so v (p.more_of-Expression inner rest) back u = back (stripped-so inner u)
+    inner-used : {m : _} (v : Expression) (row : p.Row_of-Expression m) → (R (f.first row) → R (f.ex v)) → R (f.ex (s.stripped_inner v row)) → R (f.ex v)
+    inner-used v p.end_of-Expression back u = u
+    inner-used v (p.more_of-Expression inner rest) back u = back (stripped-used inner u)
 
-  -- a primary that is the whole
-  apart-so : (v : Expression) (y : Primary) → s.apart v ≡ Some y → T (f.primary y) → T (f.ex v)
-  apart-so v y h u = stripped-so v (subst T (sym (sole-is (s.stripped v) y h)) u)
+  apart-used : (v : Expression) (y : Primary) → s.apart v ≡ Some y → R (f.primary y) → R (f.ex v)
+  apart-used v y h u = stripped-used v (subst R (sym (sole-is (s.stripped v) y h)) u)
+
+  row-apart-used : {m : _} (row : p.Row_of-Expression m) (y : Primary) → s.row_apart row ≡ Some y → R (f.primary y) → R (f.first row)
+  row-apart-used p.end_of-Expression y h u = absurd cc
+  row-apart-used (p.more_of-Expression inner rest) y h u = apart-used inner y h u
+
+  primary-apart-used : (a y : Primary) → s.primary_apart a ≡ Some y → R (f.primary y) → R (f.primary a)
+  primary-apart-used (p.Parenthesized' at q inner) y h u = paren at (f.first inner) (row-apart-used inner y h u)
+  primary-apart-used a y h u = subst (λ w. R (f.primary w)) (sym (some-same a y h)) u
 
 module _ (k : Classes) where
-  -- ---- operands are right sides, and right sides are conditions
-
-  pub side-from : (a : x.Ex) → IsUsed k a → IsUsedSide k a
-  side-from (x.System at name given) u = (or_left (is_operand name) (is_on_files name) u.0, u.1)
-  side-from (x.Paren at a) u = side-from a u
-  side-from a u = u
-
-  behind-not : (at : Place) (op : UnaryOperator) (a : x.Ex) → IsUsed k a → IsUsedTest k (x.Unary at op a)
-  behind-not at o.LogicalNot a u = side-from a u
-  behind-not at op a u = u
-
-  test-from : (a : x.Ex) → IsUsedSide k a → IsUsedTest k a
-  test-from (x.Unary at op a) u = behind-not at op a u
-  test-from (x.Paren at a) u = test-from a u
-  test-from a u = u
-
   -- ---- calls that are the whole
 
   call-is : (q : Option Primary) (a : SystemCall) → n.call_in q ≡ Some a → q ≡ Some (p.System a)
@@ -86,24 +77,10 @@ module _ (k : Classes) where
       same y g = cc
   call-is q a h = absurd cc
 
-  used-apart : (v : Expression) (y : Primary) → s.apart v ≡ Some y → IsUsed k (f.primary y) → IsUsed k (f.ex v)
-  used-apart = apart-so (IsUsed k) (λ at a u. u)
-
-  side-apart : (v : Expression) (y : Primary) → s.apart v ≡ Some y → IsUsedSide k (f.primary y) → IsUsedSide k (f.ex v)
-  side-apart = apart-so (IsUsedSide k) (λ at a u. u)
-
   -- ---- behind one `!`
 
-  row-apart-used : {m : _} (row : p.Row_of-Expression m) (y : Primary) → s.row_apart row ≡ Some y → IsUsedSide k (f.primary y) → IsUsedSide k (f.first row)
-  row-apart-used p.end_of-Expression y h u = tt
-  row-apart-used (p.more_of-Expression inner rest) y h u = side-apart inner y h u
-
-  primary-apart-used : (a y : Primary) → s.primary_apart a ≡ Some y → IsUsedSide k (f.primary y) → IsUsedSide k (f.primary a)
-  primary-apart-used (p.Parenthesized' at q inner) y h u = row-apart-used inner y h u
-  primary-apart-used a y h u = subst (λ w. IsUsedSide k (f.primary w)) (sym (some-same a y h)) u
-
   mark-used : (at : Place) (op : UnaryOperator) (a y : Primary) → s.behind_mark op a ≡ Some y → IsUsedSide k (f.primary y) → IsUsedTest k (x.Unary at op (f.primary a))
-  mark-used at o.LogicalNot a y h u = primary-apart-used a y h u
+  mark-used at o.LogicalNot a y h u = primary-apart-used (IsUsedSide k) (λ at a w. w) a y h u
   mark-used at op a y h u = absurd cc
 
   marks-used : (ms : List UnaryMark) (a y : Primary) → s.behind_marks ms a ≡ Some y → IsUsedSide k (f.primary y) → IsUsedTest k (f.marked ms (f.primary a))
@@ -112,7 +89,7 @@ module _ (k : Classes) where
   marks-used (m ∷ w ∷ ms) a y h u = absurd cc
 
   negated-used : (v : Expression) (y : Primary) → s.negated v ≡ Some y → IsUsedSide k (f.primary y) → IsUsedTest k (f.ex v)
-  negated-used v y h u = stripped-so (IsUsedTest k) (λ at a w. w) v (by (s.operand_of (s.stripped v)) refl h)
+  negated-used v y h u = stripped-used (IsUsedTest k) (λ at a w. w) v (by (s.operand_of (s.stripped v)) refl h)
     where
       by : (q : Option Unary) → s.operand_of (s.stripped v) ≡ q → s.negated_in q ≡ Some y → IsUsedTest k (f.ex (s.stripped v))
       by None g i = absurd cc
@@ -124,39 +101,29 @@ module _ (k : Classes) where
   number-used v h = by (s.apart v) refl h
     where
       by : (q : Option Primary) → s.apart v ≡ q → n.is_number q ≡ true → IsUsed k (f.ex v)
-      by (Some (p.Number at a)) g i = used-apart v (p.Number at a) g tt
+      by (Some (p.Number at a)) g i = apart-used (IsUsed k) (λ at a w. w) v (p.Number at a) g tt
       by q g i = absurd cc
 
 module _ (k : Classes) (P : n.Node → Type 0) (Q : Setting → Type 0) (suits : Suits k P Q) where
   -- a call that is the whole, or what else stands there
-  whole-so : (R : Type 0) (st : Setting) (q : Option Primary) (others : List n.Node) → ((a : SystemCall) → q ≡ Some (p.System a) → Every P (n.system_nodes st Whole a) → R)
-      → (Every P others → R) → Every P (n.whole_nodes st (n.call_in q) others) → R
-  whole-so R st q others call rest w = by (n.call_in q) refl w
+  whole-used : (R : x.Ex → Type 0) (st : Setting) → Q st → (v : Expression) (q : Option Primary) → ((y : Primary) → q ≡ Some y → IsUsedSide k (f.primary y) → R (f.ex v))
+      → (others : List n.Node) → (Every P others → R (f.ex v)) → Every P (n.whole_nodes st (n.call_in q) others) → R (f.ex v)
+  whole-used R st c v q back others rest w = by (n.call_in q) refl w
     where
-      by : (o : Option SystemCall) → n.call_in q ≡ o → Every P (n.whole_nodes st o others) → R
+      by : (o : Option SystemCall) → n.call_in q ≡ o → Every P (n.whole_nodes st o others) → R (f.ex v)
       by None h u = rest u
-      by (Some a) h u = call a (call-is k q a h) u
+      by (Some a) h u = back (p.System a) (call-is k q a h) (system-used k P Q suits st c Whole a u)
 
   pub right-side-used : (st : Setting) → Q st → (v : Expression) → Every P (n.right_side_nodes st v) → IsUsedSide k (f.ex v)
   unfolding n.right_side_nodes
   right-side-used st c v w =
-      whole-so (IsUsedSide k (f.ex v)) st (s.apart v) (n.expression_nodes st v) (λ a h u. side-apart k v (p.System a) h (whole-call-used k P Q suits st c a u).0)
-      (λ u. side-from k (f.ex v) (ex-used k P Q suits st c v u)) w
-
-  -- outside initial and clocked processes it is as an operand
-  pub untimed-used : (st : Setting) → Q st → st.timed ≡ false → (v : Expression) → Every P (n.right_side_nodes st v) → IsUsed k (f.ex v)
-  unfolding n.right_side_nodes
-  untimed-used st c t v w =
-      whole-so (IsUsed k (f.ex v)) st (s.apart v) (n.expression_nodes st v) (λ a h u. used-apart k v (p.System a) h ((whole-call-used k P Q suits st c a u).1 t))
-      (λ u. ex-used k P Q suits st c v u) w
+      whole-used (IsUsedSide k) st c v (s.apart v) (apart-used (IsUsedSide k) (λ at a w. w) v) (n.expression_nodes st v) (λ u. used-side k (f.ex v) (ex-used k P Q suits st c v u)) w
 
   pub condition-used : (st : Setting) → Q st → (v : Expression) → Every P (n.condition_nodes st v) → IsUsedTest k (f.ex v)
   unfolding n.condition_nodes
   condition-used st c v w =
-      let as' = n.expression_nodes st v in
-      whole-so (IsUsedTest k (f.ex v)) st (s.apart v) (n.whole_nodes st (n.call_in (s.negated v)) as') (λ a h u. test-from k (f.ex v) (side-apart k v (p.System a) h (whole-call-used k P Q suits st c a u).0))
-      (λ r. whole-so (IsUsedTest k (f.ex v)) st (s.negated v) as' (λ a h u. negated-used k v (p.System a) h (whole-call-used k P Q suits st c a u).0)
-      (λ u. test-from k (f.ex v) (side-from k (f.ex v) (ex-used k P Q suits st c v u))) r) w
+      whole-used (IsUsedTest k) st c v (s.apart v) (λ y h u. apart-used (IsUsedTest k) (λ at a w. w) v y h (side-test k (f.primary y) u)) (n.whole_nodes st (n.call_in (s.negated v)) (n.expression_nodes st v))
+      (λ u. whole-used (IsUsedTest k) st c v (s.negated v) (negated-used k v) (n.expression_nodes st v) (λ u. side-test k (f.ex v) (used-side k (f.ex v) (ex-used k P Q suits st c v u))) u) w
 
   pub label-used : (st : Setting) → Q st → (word : CaseKeyword) (v : Expression) → Every P (n.label_nodes st word v) → IsUsed k (f.ex v)
   unfolding n.label_nodes

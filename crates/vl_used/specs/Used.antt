@@ -217,7 +217,7 @@ pub record IsUsedFunction (k : Classes) (f : i.Function) : Type 0 where
 abbrev pub IsUsedItem : Classes → i.Item → Type 0
 IsUsedItem k (i.Parameters type ps) = IsUsedType k type × All (λ a. IsUsed k a.value) ps
 IsUsedItem k (i.Signals ds) = All (IsUsedDeclared k) ds
-IsUsedItem k (i.Assigns as') = All (λ a. IsUsedLeft k a.target × IsUsed k a.value) as'
+IsUsedItem k (i.Assigns as') = All (λ a. IsUsedLeft k a.target × IsUsedSide k a.value) as'
 IsUsedItem k (i.Initial at a) = IsUsedStatement k a
 IsUsedItem k (i.Always at trigger a) = IsUsedTrigger k trigger × IsUsedStatement k a
 IsUsedItem k (i.Functions f) = IsUsedFunction k f

@@ -1,0 +1,10 @@
+mod Parts
+mod Expressions
+mod Targets
+mod Tasks
+mod Statements
+mod Functions
+mod Items
+mod Instances
+mod Declared
+mod Whole

@@ -1,0 +1,17 @@
+pub mod Funs
+pub mod Putting
+pub mod Stepping
+pub mod Heading
+pub mod Holding
+pub mod Unrolling
+pub mod Closing
+pub mod Texts
+pub mod Whole
+pub mod Closed
+pub mod Resting
+pub mod Calling
+pub mod Costing
+pub mod Bare
+pub mod Reading
+pub mod Waking
+pub mod Sounding

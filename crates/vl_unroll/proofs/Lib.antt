@@ -15,3 +15,5 @@ pub mod Bare
 pub mod Reading
 pub mod Waking
 pub mod Sounding
+pub mod Arguments
+pub mod Placing

@@ -17,6 +17,9 @@ ghost use Rattle.vl_design.specs.Laws.{IsUnrolled, IsUnrolledStm};
 ghost use Rattle.vl_design.specs.Turns.{turns_read};
 ghost use Rattle.vl_unroll.specs.Unroll.{is_loop, unrolled, unrolled_flat};
 ghost use Rattle.vl_unroll.specs.Fits.{CanUnroll, IsStill, IsBlock, IsOf, IsClosed, block_put, queue_put, origin_put};
+ghost use Rattle.vl_design.specs.Placed.{Design};
+ghost use Rattle.vl_design.specs.Plainly.{flat};
+ghost use Rattle.vl_unroll.specs.Placed.{unrolled_placed};
 ghost use Rattle.vl_unroll.specs.Examples.{looping, loop, two_turns, calling, calling_unrolled};
 
 /// A block whose loops are unrolled does what the block does, its count of acts included, from every state in which the
@@ -73,6 +76,11 @@ pub fn no_loop_is_left()
 /// A sound design whose loops are unrolled is sound.
 pub fn stays_sound()
     ensures { (d : Flat) → IsSound d → IsSound (unrolled_flat d) }
+{}
+
+/// The plain tree of a placed design with its loops unrolled is the plain design with its loops unrolled.
+pub fn places_do_not_matter()
+    ensures { (d : Design) → CanUnroll (flat d) → flat (unrolled_placed d) ≡ unrolled_flat (flat d) }
 {}
 
 /// A loop of two turns is unrolled to its two turns, and the design is one of which the laws speak.

@@ -1,6 +1,6 @@
 //! What unrolling keeps.
 
-ghost use Rattle.std.specs.Prelude.{◌≡◌, ℕ, Bool, true, false, List, []};
+ghost use Rattle.std.specs.Prelude.{◌≡◌, ◌+◌, ◌*◌, ℕ, Bool, true, false, List, [], sum_by};
 ghost use Rattle.vl_base.specs.declared.files.File.{File};
 ghost use Rattle.vl_design.specs.Syntax.{Flat, Stm};
 ghost use Rattle.vl_design.specs.State.{State};
@@ -20,7 +20,12 @@ ghost use Rattle.vl_turns.specs.Fits.{CanUnroll, IsStill, IsBlock, IsOf, IsClose
 ghost use Rattle.vl_design.specs.Placed.{Design};
 ghost use Rattle.vl_design.specs.Plainly.{flat};
 ghost use Rattle.vl_turns.specs.Placed.{unrolled_placed};
-ghost use Rattle.vl_turns.specs.Examples.{looping, loop, two_turns, calling, calling_unrolled};
+ghost use Rattle.vl_design.specs.declared.stop.Stop.TheVariants.{Limit};
+ghost use Rattle.vl_design.specs.Placed.{Nop};
+ghost use Rattle.vl_design.specs.Plain.{plain_scope};
+ghost use Rattle.vl_design.specs.Functions.{fresh};
+ghost use Rattle.vl_turns.specs.Limits.{first_limit, stm_count, process_count, statements, nodes};
+ghost use Rattle.vl_turns.specs.Examples.{looping, loop, two_turns, calling, calling_unrolled, at, repeating, branch, calling_twice};
 
 /// A block whose loops are unrolled does what the block does, its count of acts included, from every state in which the
 /// loop variables are 0; and they are so again behind it.
@@ -93,4 +98,19 @@ pub fn two_turns_are_unrolled()
 pub fn a_call_stays()
     ensures text { unrolled_flat calling ≡ calling_unrolled }
     ensures premises { CanUnroll calling }
+{}
+
+/// A loop of 4,096 turns is within limit 8, and one of 4,097 turns passes it, at its process.
+pub fn a_loop_of_4096_turns_is_allowed()
+    ensures within { first_limit (repeating 4096) ≡ None }
+    ensures past { first_limit (repeating 4097) ≡ Some (Limit (at 1) 8) }
+{}
+
+/// An `if` without `else` and its null statement are two statements, and `else ;` is a third; a function's body counts at
+/// each of its calls, its statements and its nodes.
+pub fn counts()
+    ensures missing { stm_count (statements (λ f. 0)) (plain_scope []) (branch (Nop (at 1))) (fresh []) ≡ 2 }
+    ensures written { stm_count (statements (λ f. 0)) (plain_scope []) (branch (Nop (at 4))) (fresh []) ≡ 3 }
+    ensures called_statements { sum_by (process_count calling_twice statements) calling_twice.processes ≡ 1 + 2 * (1 + 1) }
+    ensures called_nodes { sum_by (process_count calling_twice nodes) calling_twice.processes ≡ 2 * (2 + 3) }
 {}

@@ -30,6 +30,36 @@ copies_plain : (path : List ℕ) (n : ℕ) (a : p.Stm) (b : d.Stm) → plain.stm
 copies_plain path zero a b h = refl
 copies_plain path (suc n) a b h = rw (h, copies_plain path n a b h) refl
 
+-- ---- the assignments of a header: they have no system call, so the path doesn't matter
+
+if_is_none : (path : List ℕ) (t : p.Exp) (u : d.Exp) (a b : d.Stm) (j : ℕ) (x : d.Exp) → plain.called_first path t (d.If u a b) ≡ d.Set (d.Whole j) x → ⊥
+if_is_none path (p.Sys q name given) u a b j x h = cc
+if_is_none path (p.Un o LogNot (p.Sys q name given)) u a b j x h = cc
+if_is_none path t u a b j x h = cc
+
+later_is_none : (path : List ℕ) (t : p.Exp) (u : d.Target) (y : d.Exp) (j : ℕ) (x : d.Exp) → plain.called_first path t (d.Later u y) ≡ d.Set (d.Whole j) x → ⊥
+later_is_none path (p.Sys q name given) u y j x h = cc
+later_is_none path (p.Un o LogNot (p.Sys q name given)) u y j x h = cc
+later_is_none path t u y j x h = cc
+
+set_any : (path : List ℕ) (t : p.Exp) (u : d.Target) (y : d.Exp) (j : ℕ) (x : d.Exp) → plain.called_first path t (d.Set u y) ≡ d.Set (d.Whole j) x → (q : List ℕ) →
+    plain.called_first q t (d.Set u y) ≡ plain.called_first path t (d.Set u y)
+set_any path (p.Sys o name given) u y j x h q = let z : ⊥ = cc in absurd z
+set_any path (p.Un o LogNot (p.Sys r name given)) u y j x h q = let z : ⊥ = cc in absurd z
+set_any path t u y j x h q = refl
+
+pub assigns_any : (path : List ℕ) (a : p.Stm) (j : ℕ) (x : d.Exp) → plain.stm path a ≡ d.Set (d.Whole j) x → (q : List ℕ) → plain.stm q a ≡ plain.stm path a
+assigns_any path (p.Nop o) j x h q = let z : ⊥ = cc in absurd z
+assigns_any path (p.Seq o p.NoStms) j x h q = let z : ⊥ = cc in absurd z
+assigns_any path (p.Seq o (p.MoreStms a as')) j x h q = let z : ⊥ = cc in absurd z
+assigns_any path (p.If o t a b) j x h q = absurd (if_is_none path t _ _ _ j x h)
+assigns_any path (p.Case o y is wild) j x h q = let z : ⊥ = cc in absurd z
+assigns_any path (p.For o k start test step a) j x h q = let z : ⊥ = cc in absurd z
+assigns_any path (p.Repeat o n a) j x h q = let z : ⊥ = cc in absurd z
+assigns_any path (p.Set o t y) j x h q = set_any path y _ _ j x h q
+assigns_any path (p.Later o t y) j x h q = absurd (later_is_none path y _ _ j x h)
+assigns_any path (p.Task o name given) j x h q = let z : ⊥ = cc in absurd z
+
 module _ (scope : Scope) (path : List ℕ) where
   module _ (e : State) where
     abbrev putting : p.Exp → p.Exp
@@ -62,7 +92,7 @@ module _ (scope : Scope) (path : List ℕ) where
     item_loops (p.MoreExps x es) a others h = h
 
   mutual
-    pub stm_plain : (a : p.Stm) → HasLoops scope.names.rows (plain.stm path a) → (e : State) → plain.stm path (stm_unrolled scope path a e) ≡ unrolled scope (plain.stm path a) e
+    pub stm_plain : (a : p.Stm) → HasLoops scope.names.rows (plain.stm path a) → (e : State) → plain.stm path (stm_unrolled scope a e) ≡ unrolled scope (plain.stm path a) e
     stm_plain (p.Nop q) l e = refl
     stm_plain (p.Seq q as') l e = stms_plain as' l e
     stm_plain (p.If q t a b) l e =
@@ -70,19 +100,24 @@ module _ (scope : Scope) (path : List ℕ) where
         (λ k. rw (exp_plain scope.names.rows e.values t, stm_plain a k.0 e, stm_plain b k.1 e) refl) l
     stm_plain (p.Case q x is wild) l e = rw (exp_plain scope.names.rows e.values x, items_plain is l e) refl
     stm_plain (p.For q j start test step a) l e =
-        turns_plain path most_turns (goes_on scope (plain.exp test)) (exec scope (plain.stm path step)) (stm_unrolled scope path a) (unrolled scope (plain.stm path a)) (stm_plain a l.4) (exec scope (plain.stm path start) e)
-    stm_plain (p.Repeat q n a) l e = copies_plain path n (stm_unrolled scope path a e) (unrolled scope (plain.stm path a) e) (stm_plain a l e)
+        let on = goes_on scope (plain.exp test) in
+        let body = unrolled scope (plain.stm path a) in
+        let first = exec scope (plain.stm [] start) e in
+        turns_plain path most_turns on (exec scope (plain.stm [] step)) (stm_unrolled scope a) body (stm_plain a l.4) first
+        ∙ (ap (λ z. in_turns most_turns on (exec scope z) body first) (assigns_any path step j (l.3).source (l.3).whole [])
+        ∙ ap (λ z. in_turns most_turns on (exec scope (plain.stm path step)) body (exec scope z e)) (assigns_any path start j (l.1).source (l.1).whole []))
+    stm_plain (p.Repeat q n a) l e = copies_plain path n (stm_unrolled scope a e) (unrolled scope (plain.stm path a) e) (stm_plain a l e)
     stm_plain (p.Set q t x) l e =
         first_plain e x (d.Set (plain.target t) (plain.exp x)) _ (λ k. rw (target_plain scope.names.rows e.values t, exp_plain scope.names.rows e.values x) refl) l
     stm_plain (p.Later q t x) l e =
         first_plain e x (d.Later (plain.target t) (plain.exp x)) _ (λ k. rw (target_plain scope.names.rows e.values t, exp_plain scope.names.rows e.values x) refl) l
     stm_plain (p.Task q name given) l e = ap d.Sys (task_plain scope.names.rows e.values path name given l)
 
-    stms_plain : (as' : p.Stms) → HasLoops scope.names.rows (plain.stms path as') → (e : State) → plain.stms path (stms_unrolled scope path as' e) ≡ unrolled scope (plain.stms path as') e
+    stms_plain : (as' : p.Stms) → HasLoops scope.names.rows (plain.stms path as') → (e : State) → plain.stms path (stms_unrolled scope as' e) ≡ unrolled scope (plain.stms path as') e
     stms_plain p.NoStms l e = refl
     stms_plain (p.MoreStms a as') l e = rw (stm_plain a l.0 e, stms_plain as' l.1 e) refl
 
-    items_plain : (is : p.Items) → HaveLoops scope.names.rows (plain.items path is) → (e : State) → plain.items path (items_unrolled scope path is e) ≡ unrolled_items scope (plain.items path is) e
+    items_plain : (is : p.Items) → HaveLoops scope.names.rows (plain.items path is) → (e : State) → plain.items path (items_unrolled scope is e) ≡ unrolled_items scope (plain.items path is) e
     items_plain p.NoItems l e = refl
     items_plain (p.MoreItems es a others) l e =
         let h = item_loops e es (plain.stm path a) (plain.items path others) l in

@@ -69,17 +69,16 @@ abbrev pub copies : ℕ → p.Stm → p.Stms
 copies zero a = p.NoStms
 copies (suc n) a = p.MoreStms a (copies n a)
 
--- statements of an instance of this path
-module _ (scope : Scope) (path : List ℕ) where
+module _ (scope : Scope) where
   abbrev mutual
-    -- e has the values of the loop variables
+    -- e has the values of the loop variables; a header has no system call, so no path
     pub stm_unrolled : p.Stm → State → p.Stm
     stm_unrolled (p.Nop at) e = p.Nop at
     stm_unrolled (p.Seq at as') e = p.Seq at (stms_unrolled as' e)
     stm_unrolled (p.If at t a b) e = p.If at (exp_put scope.names.rows e.values t) (stm_unrolled a e) (stm_unrolled b e)
     stm_unrolled (p.Case at x is wild) e = p.Case at (exp_put scope.names.rows e.values x) (items_unrolled is e) wild
     stm_unrolled (p.For at j start test step a) e =
-        p.Seq at (turn_list most_turns (goes_on scope (plain.exp test)) (exec scope (plain.stm path step)) (stm_unrolled a) (exec scope (plain.stm path start) e))
+        p.Seq at (turn_list most_turns (goes_on scope (plain.exp test)) (exec scope (plain.stm [] step)) (stm_unrolled a) (exec scope (plain.stm [] start) e))
     stm_unrolled (p.Repeat at n a) e = p.Seq at (copies n (stm_unrolled a e))
     stm_unrolled (p.Set at t x) e = p.Set at (target_put scope.names.rows e.values t) (exp_put scope.names.rows e.values x)
     stm_unrolled (p.Later at t x) e = p.Later at (target_put scope.names.rows e.values t) (exp_put scope.names.rows e.values x)
@@ -96,10 +95,10 @@ module _ (scope : Scope) (path : List ℕ) where
 -- ---- designs: signals, and the heads of functions and processes, stay
 
 abbrev pub func_unrolled : Scope → p.Func → p.Func
-func_unrolled scope f = let body = inner scope (plain.fun f) in record f { body = stm_unrolled body [] f.body (still body) }
+func_unrolled scope f = let body = inner scope (plain.fun f) in record f { body = stm_unrolled body f.body (still body) }
 
 abbrev pub process_unrolled : Scope → p.Process → p.Process
-process_unrolled scope a = record a { body = stm_unrolled scope a.path a.body (still scope) }
+process_unrolled scope a = record a { body = stm_unrolled scope a.body (still scope) }
 
 -- the placed design with its loops unrolled
 abbrev pub unrolled_placed : p.Design → p.Design

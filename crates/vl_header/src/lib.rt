@@ -1,0 +1,5 @@
+#![tactic(auto)]
+
+pub mod contexts;
+pub mod room;
+pub mod selects;

@@ -1,15 +1,16 @@
 -- What numbers name.
-use Rattle.std.proofs.Common.{◌≡◌, ◌<◌, ◌≤◌, ◌-◌, ◌^◌, ℕ, true, false, Bool, List, length, map, ◌++◌, refl, sym, ap, ◌∙◌, arith, subst}
+use Rattle.std.proofs.Common.{◌≡◌, ◌<◌, ◌≤◌, ◌-◌, ◌^◌, ℕ, zero, suc, true, false, Bool, List, [], ◌∷◌, length, map, ◌++◌, refl, sym, ap, ◌∙◌, arith, subst}
 use Rattle.std.specs.Prelude.{slice_get, slice_index, Option, Some, None, ⊤}
 use Rattle.std.proofs.lemmas.Option.{slice_get_within}
 use Rattle.vl_design.specs.declared.design.Form.{Form}
 use Rattle.vl_design.specs.declared.design.SigKind.{SigKind}
 use Rattle.vl_design.specs.Syntax.{Row}
-use Rattle.vl_design.specs.Width.{Names, signal_form, row_form}
+use Rattle.vl_design.specs.Width.{Names, signal_form, row_form, joined}
 use Rattle.vl_design.specs.Plain.{plain_scope}
 use Rattle.vl_design.specs.Sound.{IsSignal, IsNamed, IsOf, HasValue, IsWidth}
 use Rattle.vl_turns.specs.Unroll.{is_loop, is_loop_row, is_loop_kind}
-use Rattle.vl_header.specs.Rooms.{AreNumbers}
+use Rattle.vl_header.specs.Rooms.{AreNumbers, values_of}
+use Rattle.vl_design.specs.Value.{value_of}
 
 of-width : (P : SigKind → Type 0) (rows : List Row) (k : ℕ) → IsOf P (slice_get rows k) → IsWidth (signal_form rows k).width
 of-width P rows k h = go (slice_get rows k) h
@@ -52,8 +53,19 @@ loop-there rows numbers j n h = let i = named-there (plain_scope rows).names j (
 pub loop-is : (rows : List Row) (numbers : List ℕ) (j : ℕ) → AreNumbers rows numbers → is_loop rows j ≡ true → IsNamed (plain_scope rows).names j
 loop-is rows numbers j n h = loop-named rows j h (n.widths j h)
 
+-- the number of a signal, in the values of numbers
+pub value-is : (numbers : List ℕ) (j : ℕ) → value_of (values_of numbers) j ≡ slice_index numbers j
+value-is [] j = refl
+value-is (n ∷ ns) zero = refl
+value-is (n ∷ ns) (suc j) = value-is ns j
+
 pub ruleset lookups = (named-width, named-there, signal-named)
+
+pub joined-width : (a b : Form) → IsWidth a.width → IsWidth b.width → IsWidth (joined a b).width
+joined-width a b p q = record { wide = omega arith; narrow = omega arith }
+
+pub ruleset form_rules = (joined-width, named-width, signal-named, named-there)
 
 pub ruleset kinds = (named-width, named-there)
 
-pub ruleset numbers = (loop-is, loop-there)
+pub ruleset numbers = (loop-is, loop-there, value-is)

@@ -1,2 +1,3 @@
 pub mod Rooms
 pub mod Near
+pub mod Constants

@@ -1,11 +1,12 @@
 //! What the numbers in a header name, and the numbers of loop variables.
 
-ghost use Rattle.std.specs.Prelude.{◌≡◌, true, slice_index, Some};
+ghost use Rattle.std.specs.Prelude.{◌≡◌, true, Some};
+ghost use Rattle.vl_design.specs.Value.{value_of};
 ghost use Rattle.vl_design.specs.Rows.{row_of};
 ghost use Rattle.vl_design.specs.Sound.{IsNamed, IsWidth};
 ghost use Rattle.vl_design.specs.Width as w;
 ghost use Rattle.vl_turns.specs.Unroll.{is_loop as spec_is_loop, is_loop_kind};
-ghost use Rattle.vl_header.specs.Rooms.{names_of, rows_of, AreNumbers};
+ghost use Rattle.vl_header.specs.Rooms.{names_of, rows_of, values_of, AreNumbers};
 
 use vl_base::bits::Bits;
 use vl_design::design::{Form, SigKind, Signal};
@@ -74,7 +75,7 @@ pub fn signal_form(room: &Room<'_>, number: u32) -> Form
 pub fn number_of(room: &Room<'_>, numbers: &[u128], number: u32) -> Bits
     requires loops { spec_is_loop (rows_of room.now) number ≡ true }
     requires numbers { AreNumbers (rows_of room.now) numbers.now }
-    ensures value { result.value ≡ slice_index numbers.now number }
+    ensures value { result.value ≡ value_of (values_of numbers.now) number }
     ensures width { result.width ≡ (w.signal_form (rows_of room.now) number).width }
 {
     let form = signal_form(room, number);

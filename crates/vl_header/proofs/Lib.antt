@@ -1,3 +1,4 @@
 pub mod Names
 pub mod Nears
 pub mod Widen
+pub mod Stepping

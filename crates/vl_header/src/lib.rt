@@ -2,6 +2,7 @@
 
 pub mod contexts;
 pub mod forms;
+pub mod header;
 pub mod room;
 pub mod selects;
 pub mod values;

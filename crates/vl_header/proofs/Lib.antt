@@ -2,3 +2,4 @@ pub mod Names
 pub mod Nears
 pub mod Widen
 pub mod Stepping
+pub mod Turning

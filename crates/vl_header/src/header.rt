@@ -1,7 +1,7 @@
 //! The assignments and the test of a header (IEEE 1364-2005, clause 9.6).
 
 ghost use Rattle.std.specs.Prelude.{◌≡◌, ◌<◌, ◌%◌, ◌^◌, ℕ, true, slice_set, [], map, IfOk};
-ghost use Rattle.vl_design.specs.Exec.{exec, goes_on, turns, most_turns};
+ghost use Rattle.vl_design.specs.Exec.{exec, goes_on, most_turns};
 ghost use Rattle.vl_design.specs.Plainly.{stm};
 ghost use Rattle.vl_design.specs.Seen.{stm_of};
 ghost use Rattle.vl_design.specs.Trees.{exp_of};
@@ -10,7 +10,7 @@ ghost use Rattle.vl_design.specs.Value as d;
 ghost use Rattle.vl_design.specs.Width as w;
 ghost use Rattle.vl_turns.specs.Unroll.{is_loop};
 ghost use Rattle.vl_header.specs.Constants.{IsConstant};
-ghost use Rattle.vl_header.specs.Heads.{IsHead, turn_states};
+ghost use Rattle.vl_header.specs.Heads.{IsHead, AreTurns};
 ghost use Rattle.vl_header.specs.Rooms.{names_of, rows_of, scope_of, state_of, sample_of, AreNumbers};
 
 use crate::contexts::assigned;
@@ -85,6 +85,7 @@ pub struct Turns {
 }
 
 /// The turns of a loop, from its first assignment on; the number of its variable is changed.
+#[tactic(auto, using(crate::proofs::Stepping::steps))]
 fn all_turns(
     alloc: Global,
     room: &Room<'_>,
@@ -98,12 +99,17 @@ fn all_turns(
     requires constant { IsConstant (rows_of room.now) (exp_of test.now) }
     requires head { IsHead (names_of room.now) variable (stm_of step.now) }
     requires numbers { AreNumbers (rows_of room.now) numbers.old }
-    ensures states { IfOk result (λ t. turn_states most_turns (goes_on (scope_of room.now) (exp_of test.now)) (exec (scope_of room.now) (stm [] (stm_of step.now))) (state_of numbers.old) ≡ map (λ v. state_of (slice_set numbers.old variable v)) t.numbers.items) }
-    ensures endless { IfOk result (λ t. t.endless ≡ goes_on (scope_of room.now) (exp_of test.now) (turns most_turns (goes_on (scope_of room.now) (exp_of test.now)) (exec (scope_of room.now) (stm [] (stm_of step.now))) (state_of numbers.old))) }
+    ensures turns { IfOk result (λ t. AreTurns (scope_of room.now) (exp_of test.now) (stm [] (stm_of step.now)) most_turns (state_of numbers.old) (map (λ v. state_of (slice_set numbers.old variable v)) t.numbers.items) t.endless) }
     ensures others { IfOk result (λ t. (v : ℕ) → slice_set numbers.old variable v ≡ slice_set numbers.new variable v) }
 {
     let mut all = Vec::new(alloc);
-    while all.len() < 4096 && holds(room, numbers, test) {
+    for turn in 0..4096_u32 {
+        if !holds(room, numbers, test) {
+            return Ok(Turns {
+                numbers: all,
+                endless: false,
+            });
+        }
         all.push(numbers[variable as usize])?;
         assign(room, numbers, variable, step);
     }

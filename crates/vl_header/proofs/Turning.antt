@@ -1,0 +1,75 @@
+-- The turns of a loop one by one.
+use Rattle.std.proofs.Common.{◌≡◌, ◌+◌, ℕ, zero, suc, Bool, true, false, List, [], ◌∷◌, ◌++◌, map, refl, sym, ap, ◌∙◌, append_assoc}
+use Rattle.std.specs.Prelude.{slice_set, slice_index}
+use Rattle.vl_design.specs.Syntax.{Exp, Stm}
+use Rattle.vl_design.specs.Width.{Scope}
+use Rattle.vl_design.specs.State.{State}
+use Rattle.vl_design.specs.Exec.{exec, goes_on, turns}
+use Rattle.vl_header.specs.Heads.{turn_states, AreTurns}
+use Rattle.vl_header.specs.Rooms.{state_of}
+use Rattle.vl_header.proofs.Stepping.{set-same}
+
+at-true : {A : Type 0} (b : Bool) (x y : A) → b ≡ true → (elim b [ true ↦ x | false ↦ y ]) ≡ x
+at-true true x y h = refl
+at-true false x y h = let z : ⊥ = cc in absurd z
+
+at-false : {A : Type 0} (b : Bool) (x y : A) → b ≡ false → (elim b [ true ↦ x | false ↦ y ]) ≡ y
+at-false false x y h = refl
+at-false true x y h = let z : ⊥ = cc in absurd z
+
+states-go : {S : Type 0} (n : ℕ) (test : S → Bool) (step : S → S) (s : S) → test s ≡ true → turn_states (suc n) test step s ≡ s ∷ turn_states n test step (step s)
+unfolding turn_states
+states-go {S} n test step s h = at-true {A = List S} (test s) (s ∷ turn_states n test step (step s)) [] h
+
+states-stay : {S : Type 0} (n : ℕ) (test : S → Bool) (step : S → S) (s : S) → test s ≡ false → turn_states n test step s ≡ []
+unfolding turn_states
+states-stay zero test step s h = refl
+states-stay {S} (suc n) test step s h = at-false {A = List S} (test s) (s ∷ turn_states n test step (step s)) [] h
+
+turns-go : {S : Type 0} (n : ℕ) (test : S → Bool) (step : S → S) (s : S) → test s ≡ true → turns (suc n) test step s ≡ turns n test step (step s)
+turns-go n test step s h = at-true (test s) (turns n test step (step s)) s h
+
+turns-stay : {S : Type 0} (n : ℕ) (test : S → Bool) (step : S → S) (s : S) → test s ≡ false → turns n test step s ≡ s
+turns-stay zero test step s h = refl
+turns-stay (suc n) test step s h = at-false (test s) (turns n test step (step s)) s h
+
+states-none : {S : Type 0} (test : S → Bool) (step : S → S) (s : S) → turn_states zero test step s ≡ []
+unfolding turn_states
+states-none test step s = refl
+
+append-none : {A : Type 0} (xs : List A) → xs ++ [] ≡ xs
+append-none [] = refl
+append-none (x ∷ xs) = ap (λ z. x ∷ z) (append-none xs)
+
+-- of at most n turns from s these were made, and at most m are left from t on
+pub record Leads (scope : Scope) (test : Exp) (step : Stm) (n : ℕ) (s : State) (done : List State) (m : ℕ) (t : State) : Type 0 where
+  pub states : turn_states n (goes_on scope test) (exec scope step) s ≡ done ++ turn_states m (goes_on scope test) (exec scope step) t
+  pub ends : turns n (goes_on scope test) (exec scope step) s ≡ turns m (goes_on scope test) (exec scope step) t
+
+module _ (scope : Scope) (test : Exp) (step : Stm) (n : ℕ) (s : State) where
+  pub leads-init : Leads scope test step n s [] n s
+  leads-init = record { states = refl; ends = refl }
+
+  pub leads-more : (done : List State) (m : ℕ) (t u : State) → Leads scope test step n s done (suc m) t → goes_on scope test t ≡ true → exec scope step t ≡ u → Leads scope test step n s (done ++ t ∷ []) m u
+  leads-more done m t u l h e = record {
+    states = l.states ∙ (ap (λ z. done ++ z) (states-go m (goes_on scope test) (exec scope step) t h) ∙ (sym (append_assoc done (t ∷ []) (turn_states m (goes_on scope test) (exec scope step) (exec scope step t)))
+        ∙ ap (λ z. (done ++ t ∷ []) ++ turn_states m (goes_on scope test) (exec scope step) z) e));
+    ends = l.ends ∙ (turns-go m (goes_on scope test) (exec scope step) t h ∙ ap (turns m (goes_on scope test) (exec scope step)) e);
+  }
+
+  pub leads-stay : (done : List State) (m : ℕ) (t : State) → Leads scope test step n s done m t → goes_on scope test t ≡ false → AreTurns scope test step n s done false
+  unfolding AreTurns
+  leads-stay done m t l h = (
+    l.states ∙ (ap (λ z. done ++ z) (states-stay m (goes_on scope test) (exec scope step) t h) ∙ append-none done),
+    sym (ap (goes_on scope test) (l.ends ∙ turns-stay m (goes_on scope test) (exec scope step) t h) ∙ h),
+  )
+
+  pub leads-end : (done : List State) (m : ℕ) (t : State) (b : Bool) → m ≡ zero → Leads scope test step n s done m t → b ≡ goes_on scope test t → AreTurns scope test step n s done b
+  unfolding AreTurns
+  leads-end done m t b e l h =
+      let k : Leads scope test step n s done zero t = rw (← e) l in
+      (k.states ∙ (ap (λ z. done ++ z) (states-none (goes_on scope test) (exec scope step) t) ∙ append-none done), h ∙ sym (ap (goes_on scope test) (k.ends)))
+
+pub map-push : {A B : Type 0} (f : A → B) (xs : List A) (x : A) → map f (xs ++ x ∷ []) ≡ map f xs ++ f x ∷ []
+map-push f [] x = refl
+map-push f (y ∷ xs) x = ap (λ z. f y ∷ z) (map-push f xs x)

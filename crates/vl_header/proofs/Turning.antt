@@ -1,5 +1,5 @@
 -- The turns of a loop one by one.
-use Rattle.std.proofs.Common.{◌≡◌, ◌+◌, ℕ, zero, suc, Bool, true, false, List, [], ◌∷◌, ◌++◌, map, refl, sym, ap, ◌∙◌, append_assoc}
+use Rattle.std.proofs.Common.{◌≡◌, ◌+◌, ◌-◌, ◌≤◌, ℕ, zero, suc, Bool, true, false, List, [], ◌∷◌, ◌++◌, map, refl, sym, ap, ◌∙◌, subst, append_assoc, arith}
 use Rattle.std.specs.Prelude.{slice_set, slice_index}
 use Rattle.vl_design.specs.Syntax.{Exp, Stm}
 use Rattle.vl_design.specs.Width.{Scope}
@@ -73,3 +73,14 @@ module _ (scope : Scope) (test : Exp) (step : Stm) (n : ℕ) (s : State) where
 pub map-push : {A B : Type 0} (f : A → B) (xs : List A) (x : A) → map f (xs ++ x ∷ []) ≡ map f xs ++ f x ∷ []
 map-push f [] x = refl
 map-push f (y ∷ xs) x = ap (λ z. f y ∷ z) (map-push f xs x)
+
+-- one turn more, of this number of the loop variable j
+pub leads-push : (scope : Scope) (test : Exp) (step : Stm) (n : ℕ) (s : State) (first ns next : List ℕ) (j : ℕ) (all more : List ℕ) (left v : ℕ) (b : Bool) →
+    Leads scope test step n s (map (λ u. state_of (slice_set first j u)) all) left (state_of ns) → b ≡ goes_on scope test (state_of ns) → b ≡ true → exec scope step (state_of ns) ≡ state_of next →
+    more ≡ all ++ v ∷ [] → slice_set first j v ≡ ns → 1 ≤ left → Leads scope test step n s (map (λ u. state_of (slice_set first j u)) more) (left - 1) (state_of next)
+leads-push scope test step n s first ns next j all more left v b l g t e m k i =
+    let here : suc (left - 1) ≡ left = omega arith in
+    let f = λ (u : ℕ). state_of (slice_set first j u) in
+    let q : map f more ≡ map f all ++ state_of ns ∷ [] = ap (map f) m ∙ (map-push f all v ∙ ap (λ z. map f all ++ state_of z ∷ []) k) in
+    let l' : Leads scope test step n s (map f all) (suc (left - 1)) (state_of ns) = rw here l in
+    subst (λ z. Leads scope test step n s z (left - 1) (state_of next)) (sym q) (leads-more scope test step n s (map f all) (left - 1) (state_of ns) (state_of next) l' (sym g ∙ t) e)

@@ -3,7 +3,7 @@ use Rattle.std.proofs.Common.{◌≡◌, ℕ, zero, suc, Bool, true, false, List
 use Rattle.std.specs.Prelude.{if◌then◌else◌, ◌==◌, codes}
 use Rattle.std.specs.Str.{bytes_eq}
 use Rattle.vl_base.specs.Display.{Format, format_of, lower_case}
-use Rattle.vl_design.specs.Syntax.{Exp, Num, Label, Sig, Word, Pick, Slice, Un, Bin, Cond, Cat, Rep, Cast, Call, Time, LastAnswer, NoExps, MoreExps, Piece, Literal, Shown, Task, Print, Finish, Fgetc, Feof, Fclose, Row}
+use Rattle.vl_design.specs.Syntax.{Exp, Sig, Piece, Literal, Shown, Task, Print, Finish, Fgetc, Feof, Fclose, Row}
 use Rattle.vl_design.specs.Formats.{Arg, Null, Str, Value, operand, behind, with_text, FormatPosition, InText, Percent, PercentZero, with_item, format_pieces, taken, pieces_from}
 use Rattle.vl_design.specs.Calls.{finish_of, save_of, fopen_of, fread_of, file_of, read_hex_of, task_of}
 use Rattle.vl_design.specs.Reads.{task_writes}

@@ -5,7 +5,7 @@ use Rattle.std.proofs.lemmas.List.{length-set, length-map}
 use Rattle.std.proofs.lemmas.Option.{slice_get-map}
 use Rattle.vl_base.specs.declared.files.File.{File}
 use Rattle.vl_design.specs.Syntax.{Stm, Row, Fun, Flat}
-use Rattle.vl_design.specs.Width.{Names, Scope, names_of, names_in, result_form_of, input_widths_of}
+use Rattle.vl_design.specs.Width.{Scope, names_of, names_in, result_form_of, input_widths_of}
 use Rattle.vl_design.specs.Sound.{IsSoundStm, IsSoundFun}
 use Rattle.vl_design.specs.Value.{value_of, words_of}
 use Rattle.vl_design.specs.State.{State}

@@ -1,5 +1,5 @@
 -- The plain tree of a placed design with its loops unrolled is the plain design with its loops unrolled.
-use Rattle.std.proofs.Common.{◌≡◌, ℕ, zero, suc, Bool, true, false, List, [], ◌∷◌, ◌++◌, map, refl, sym, ap, ◌∙◌}
+use Rattle.std.proofs.Common.{◌≡◌, ℕ, zero, suc, Bool, true, false, List, [], ◌∷◌, map, refl, ap, ◌∙◌}
 use Rattle.std.specs.List.{AllByRecursion}
 use Rattle.std.proofs.lemmas.List.Elements.{recursion_from_All}
 use Rattle.vl_base.specs.declared.bits.UnOp.TheVariants.{LogNot}
@@ -8,7 +8,6 @@ use Rattle.vl_design.specs.Width.{Scope}
 use Rattle.vl_design.specs.State.{State}
 use Rattle.vl_design.specs.Exec.{exec, goes_on, most_turns}
 use Rattle.vl_design.specs.Functions.{scope_of, inner}
-use Rattle.vl_design.specs.Rows.{row_of}
 use Rattle.vl_design.specs.Placed as p
 use Rattle.vl_design.specs.Plainly as plain
 use Rattle.vl_turns.specs.Unroll.{is_loop, unrolled, unrolled_items, in_turns, so_many, still, unrolled_fun, unrolled_proc, unrolled_flat}

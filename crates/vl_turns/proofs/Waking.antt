@@ -7,7 +7,7 @@ use Rattle.std.proofs.lemmas.Bool.{eq-eqb}
 use Rattle.std.proofs.lemmas.List.Elements.{recursion_from_All}
 use Rattle.vl_base.specs.declared.files.File.{File}
 use Rattle.vl_design.specs.declared.design.ProcKind.{ProcKind}
-use Rattle.vl_design.specs.Syntax.{Stm, Row, Proc, Flat}
+use Rattle.vl_design.specs.Syntax.{Row, Proc, Flat}
 use Rattle.vl_design.specs.Value.{words_of}
 use Rattle.vl_design.specs.State.{State, counted}
 use Rattle.vl_design.specs.Exec.{exec}

@@ -1,12 +1,15 @@
 -- The turns of a loop one by one.
 use Rattle.std.proofs.Common.{◌≡◌, ◌+◌, ◌-◌, ◌≤◌, ℕ, zero, suc, Bool, true, false, List, [], ◌∷◌, ◌++◌, map, refl, sym, ap, ◌∙◌, subst, append_assoc, arith}
 use Rattle.std.specs.Prelude.{slice_set, slice_index}
-use Rattle.vl_design.specs.Syntax.{Exp, Stm}
+use Rattle.std.specs.Prelude.{All}
+use Rattle.std.specs.List.{AllByRecursion}
+use Rattle.std.proofs.lemmas.List.Elements.{All-push, All-from_recursion, recursion_from_All}
+use Rattle.vl_design.specs.Syntax.{Exp, Stm, Row}
 use Rattle.vl_design.specs.Width.{Scope}
 use Rattle.vl_design.specs.State.{State}
 use Rattle.vl_design.specs.Exec.{exec, goes_on, turns}
 use Rattle.vl_header.specs.Heads.{turn_states, AreTurns}
-use Rattle.vl_header.specs.Rooms.{state_of}
+use Rattle.vl_header.specs.Rooms.{state_of, AreNumbers}
 use Rattle.vl_header.proofs.Stepping.{set-same}
 
 at-true : {A : Type 0} (b : Bool) (x y : A) → b ≡ true → (elim b [ true ↦ x | false ↦ y ]) ≡ x
@@ -84,3 +87,25 @@ leads-push scope test step n s first ns next j all more left v b l g t e m k i =
     let q : map f more ≡ map f all ++ state_of ns ∷ [] = ap (map f) m ∙ (map-push f all v ∙ ap (λ z. map f all ++ state_of z ∷ []) k) in
     let l' : Leads scope test step n s (map f all) (suc (left - 1)) (state_of ns) = rw here l in
     subst (λ z. Leads scope test step n s z (left - 1) (state_of next)) (sym q) (leads-more scope test step n s (map f all) (left - 1) (state_of ns) (state_of next) l' (sym g ∙ t) e)
+
+pub fits-push : (rows : List Row) (first ns : List ℕ) (j : ℕ) (all more : List ℕ) (v : ℕ) → All (λ u. AreNumbers rows (slice_set first j u)) all → AreNumbers rows ns → more ≡ all ++ v ∷ [] → slice_set first j v ≡ ns →
+    All (λ u. AreNumbers rows (slice_set first j u)) more
+fits-push rows first ns j all more v h n m k = subst (All (λ u. AreNumbers rows (slice_set first j u))) (sym m) (All-push (λ u. AreNumbers rows (slice_set first j u)) all v h (subst (AreNumbers rows) (sym k) n))
+
+-- the same numbers of a loop variable from numbers that differ in it alone
+pub map-alike : (f g : ℕ → State) → ((v : ℕ) → f v ≡ g v) → (xs : List ℕ) → map f xs ≡ map g xs
+map-alike f g h [] = refl
+map-alike f g h (x ∷ xs) = rw (h x, map-alike f g h xs) refl
+
+pub all-alike : (rows : List Row) (a b : List ℕ) (j : ℕ) → ((v : ℕ) → slice_set a j v ≡ slice_set b j v) → (xs : List ℕ) → All (λ v. AreNumbers rows (slice_set b j v)) xs → All (λ v. AreNumbers rows (slice_set a j v)) xs
+all-alike rows a b j h xs k = All-from_recursion (λ v. AreNumbers rows (slice_set a j v)) xs (go xs (recursion_from_All (λ v. AreNumbers rows (slice_set b j v)) xs k))
+  where
+    go : (ys : List ℕ) → AllByRecursion (λ v. AreNumbers rows (slice_set b j v)) ys → AllByRecursion (λ v. AreNumbers rows (slice_set a j v)) ys
+    go [] i = i
+    go (y ∷ ys) i = (subst (AreNumbers rows) (sym (h y)) i.0, go ys i.1)
+
+pub turns-alike : (scope : Scope) (test : Exp) (step : Stm) (n : ℕ) (s t : State) (a b : List ℕ) (j : ℕ) (xs : List ℕ) (e : Bool) → s ≡ t → ((v : ℕ) → slice_set a j v ≡ slice_set b j v) →
+    AreTurns scope test step n t (map (λ v. state_of (slice_set b j v)) xs) e → AreTurns scope test step n s (map (λ v. state_of (slice_set a j v)) xs) e
+turns-alike scope test step n s t a b j xs e p h k =
+    subst (λ z. AreTurns scope test step n z (map (λ v. state_of (slice_set a j v)) xs) e) (sym p)
+    (subst (λ z. AreTurns scope test step n t z e) (sym (map-alike (λ v. state_of (slice_set a j v)) (λ v. state_of (slice_set b j v)) (λ v. ap state_of (h v)) xs)) k)

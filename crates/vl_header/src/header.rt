@@ -1,6 +1,6 @@
 //! The assignments and the test of a header (IEEE 1364-2005, clause 9.6).
 
-ghost use Rattle.std.specs.Prelude.{◌≡◌, ◌<◌, ◌%◌, ◌^◌, ℕ, true, slice_set, [], map, IfOk};
+ghost use Rattle.std.specs.Prelude.{◌≡◌, ◌<◌, ◌%◌, ◌^◌, ℕ, true, slice_set, [], map, All, IfOk};
 ghost use Rattle.vl_design.specs.Exec.{exec, goes_on, most_turns};
 ghost use Rattle.vl_design.specs.Plainly.{stm};
 ghost use Rattle.vl_design.specs.Seen.{stm_of};
@@ -100,6 +100,7 @@ fn all_turns(
     requires head { IsHead (names_of room.now) variable (stm_of step.now) }
     requires numbers { AreNumbers (rows_of room.now) numbers.old }
     ensures turns { IfOk result (λ t. AreTurns (scope_of room.now) (exp_of test.now) (stm [] (stm_of step.now)) most_turns (state_of numbers.old) (map (λ v. state_of (slice_set numbers.old variable v)) t.numbers.items) t.endless) }
+    ensures fits { IfOk result (λ t. All (λ v. AreNumbers (rows_of room.now) (slice_set numbers.old variable v)) t.numbers.items) }
     ensures others { IfOk result (λ t. (v : ℕ) → slice_set numbers.old variable v ≡ slice_set numbers.new variable v) }
 {
     let mut all = Vec::new(alloc);
@@ -117,4 +118,32 @@ fn all_turns(
         numbers: all,
         endless: holds(room, numbers, test),
     })
+}
+
+/// The turns of a loop: the number of its variable in each, and whether there are more than 4,096.
+#[tactic(auto, using(crate::proofs::Stepping::steps))]
+pub fn turns_of(
+    alloc: Global,
+    room: &Room<'_>,
+    numbers: &mut [u128],
+    variable: u32,
+    start: &Stmt,
+    test: &Expr,
+    step: &Stmt,
+) -> Result<Turns, AllocError>
+    requires loops { is_loop (rows_of room.now) variable ≡ true }
+    requires start { IsHead (names_of room.now) variable (stm_of start.now) }
+    requires sound { IsSoundExp (names_of room.now) (exp_of test.now) }
+    requires constant { IsConstant (rows_of room.now) (exp_of test.now) }
+    requires step { IsHead (names_of room.now) variable (stm_of step.now) }
+    requires numbers { AreNumbers (rows_of room.now) numbers.old }
+    ensures turns { IfOk result (λ t. AreTurns (scope_of room.now) (exp_of test.now) (stm [] (stm_of step.now)) most_turns (exec (scope_of room.now) (stm [] (stm_of start.now)) (state_of numbers.old)) (map (λ v. state_of (slice_set numbers.old variable v)) t.numbers.items) t.endless) }
+    ensures fits { IfOk result (λ t. All (λ v. AreNumbers (rows_of room.now) (slice_set numbers.old variable v)) t.numbers.items) }
+    ensures kept { IfOk result (λ t. numbers.new ≡ numbers.old) }
+{
+    let before = numbers[variable as usize];
+    assign(room, numbers, variable, start);
+    let all = all_turns(alloc, room, numbers, variable, test, step)?;
+    numbers[variable as usize] = before;
+    Ok(all)
 }

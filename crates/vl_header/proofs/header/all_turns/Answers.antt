@@ -3,8 +3,10 @@ use Rattle.std.proofs.lemmas.List.{set-get_or}
 use Rattle.vl_design.specs.Plainly.{stm}
 use Rattle.vl_design.specs.Seen.{stm_of}
 use Rattle.vl_design.specs.Trees.{exp_of}
-use Rattle.vl_header.specs.Rooms.{scope_of, state_of}
-use Rattle.vl_header.proofs.Turning.{Leads, leads-init, leads-stay, leads-end, leads-push}
+use Rattle.vl_header.specs.Rooms.{scope_of, rows_of, state_of, AreNumbers}
+use Rattle.std.specs.Prelude.{All}
+use Rattle.std.proofs.lemmas.List.Elements.{All-nil}
+use Rattle.vl_header.proofs.Turning.{Leads, fits-push, leads-init, leads-stay, leads-end, leads-push}
 use Rattle.vl_header.proofs.header.all_turns.Goals as goal
 
 pub loop-turn-init : goal.loop-turn-init
@@ -16,6 +18,7 @@ loop-turn-init c =
     record {
       numbers = c.requires.numbers;
       others = λ v. refl;
+      fits = subst (All (λ (v : ℕ). AreNumbers (rows_of c.args.room.now) (slice_set c.args.numbers.now c.args.variable v))) (sym c.new-all.ensures.items) (All-nil (λ (v : ℕ). AreNumbers (rows_of c.args.room.now) (slice_set c.args.numbers.now c.args.variable v)));
       left = 4096;
       sum = refl;
       leads = subst (λ (z : List ℕ). Leads scope test step 4096 s (map (λ v. state_of (slice_set c.args.numbers.now c.args.variable v)) z) 4096 s) (sym c.new-all.ensures.items) (leads-init scope test step 4096 s);
@@ -35,6 +38,7 @@ loop-turn-preserved c =
     record {
       numbers = c.assign.ensures.numbers;
       others = λ v. i.others v ∙ c.assign.ensures.others v;
+      fits = fits-push (rows_of c.args.room.now) c.args.numbers.now c.loop-turn.numbers c.args.variable c.loop-turn.all.items _ _ i.fits i.numbers c.in_ok-push.ensures.items (i.others _ ∙ set-get_or c.loop-turn.numbers c.args.variable 0);
       left = i.left - 1;
       sum = omega arith;
       leads = leads-push (scope_of c.args.room.now) (exp_of c.args.test.now) (stm [] (stm_of c.args.step.now)) 4096 (state_of c.args.numbers.now) c.args.numbers.now c.loop-turn.numbers _ c.args.variable c.loop-turn.all.items _ i.left _ c.holds.result

@@ -1,4 +1,5 @@
 use Rattle.std.proofs.Common.{◌≡◌, ◌+◌, ℕ, slice_set, map}
+use Rattle.std.specs.Prelude.{All}
 use Rattle.vl_design.specs.Plainly.{stm}
 use Rattle.vl_design.specs.Seen.{stm_of}
 use Rattle.vl_design.specs.Trees.{exp_of}
@@ -11,6 +12,7 @@ abbrev pub invariant-loop-turn : goal.invariant-loop-turn
 invariant-loop-turn l = record {
   numbers : AreNumbers (rows_of l.room) l.numbers;
   others : (v : ℕ) → slice_set l.initial.numbers l.variable v ≡ slice_set l.numbers l.variable v;
+  fits : All (λ v. AreNumbers (rows_of l.room) (slice_set l.initial.numbers l.variable v)) l.all.items;
   left : ℕ;
   sum : left + l.turn ≡ 4096;
   leads : Leads (scope_of l.room) (exp_of l.test) (stm [] (stm_of l.step)) 4096 (state_of l.initial.numbers) (map (λ v. state_of (slice_set l.initial.numbers l.variable v)) l.all.items) left (state_of l.numbers);

@@ -1,0 +1,5 @@
+pub mod Names
+pub mod Nears
+pub mod Widen
+pub mod Stepping
+pub mod Turning

@@ -1,0 +1,4 @@
+pub mod Rooms
+pub mod Near
+pub mod Constants
+pub mod Heads

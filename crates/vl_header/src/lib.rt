@@ -1,0 +1,8 @@
+#![tactic(auto)]
+
+pub mod contexts;
+pub mod forms;
+pub mod header;
+pub mod room;
+pub mod selects;
+pub mod values;

@@ -1,0 +1,4 @@
+//! Designs with their loops unrolled, and what unrolling keeps.
+#![tactic(auto)]
+
+pub mod laws;

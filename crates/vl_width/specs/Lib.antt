@@ -1,0 +1,6 @@
+pub mod Widths
+pub mod Value
+pub mod IsSized
+pub mod Sizing
+pub mod Read
+pub mod Room

@@ -8,7 +8,8 @@ use vl_design::design::Form;
 
 /// The longer of two widths, signed where both are.
 pub(crate) fn joined(a: Form, b: Form) -> Form
-    ensures { result ≡ w.joined a b }
+    ensures value { result ≡ w.joined a b }
+    ensures small { a.width < 256 → b.width < 256 → result.width < 256 }
 {
     Form {
         width: a.width.max(b.width),
@@ -17,7 +18,7 @@ pub(crate) fn joined(a: Form, b: Form) -> Form
 }
 
 /// One unsigned bit.
-fn bit() -> Form
+pub(crate) fn bit() -> Form
     ensures { result ≡ w.bit }
 {
     Form {
@@ -28,7 +29,8 @@ fn bit() -> Form
 
 /// The form of a unary operator's value.
 pub(crate) fn unary_form(op: UnOp, a: Form) -> Form
-    ensures { result ≡ w.unary_form op a }
+    ensures value { result ≡ w.unary_form op a }
+    ensures small { a.width < 256 → result.width < 256 }
 {
     match op {
         UnOp::Neg | UnOp::Not => a,
@@ -38,7 +40,8 @@ pub(crate) fn unary_form(op: UnOp, a: Form) -> Form
 
 /// The form of a binary operator's value.
 pub(crate) fn binary_form(op: BinOp, a: Form, b: Form) -> Form
-    ensures { result ≡ w.binary_form op a b }
+    ensures value { result ≡ w.binary_form op a b }
+    ensures small { a.width < 256 → b.width < 256 → result.width < 256 }
 {
     match op {
         BinOp::Add

@@ -1,6 +1,7 @@
 //! Sized expressions: each node at the width and sign of its context.
 #![tactic(auto)]
 
-pub mod contexts;
-pub mod reading;
+pub(crate) mod contexts;
+pub(crate) mod reading;
+pub(crate) mod own;
 pub mod room;

@@ -1,6 +1,6 @@
 //! What the numbers of an expression name.
 
-ghost use Rattle.std.specs.Prelude.{◌≡◌, ◌<◌, ◌++◌, map, length};
+ghost use Rattle.std.specs.Prelude.{◌≡◌, ◌<◌, ◌++◌, map, length, slice_index};
 ghost use Rattle.vl_design.specs.Trees.{row_of, flat_of, fun_of};
 ghost use Rattle.vl_design.specs.Width as w;
 ghost use Rattle.vl_design.specs.Sound.{IsSound, IsWidth};
@@ -84,4 +84,16 @@ pub(crate) fn result_form(room: &Room<'_>, function: u32) -> Form
 {
     let f = &room.functions[function as usize];
     signal_form(room.signals, f.locals.as_slice(), f.result)
+}
+
+/// The width of an input of a function.
+pub(crate) fn input_width(room: &Room<'_>, function: u32, i: usize) -> u32
+    requires inputs { HaveInputs (names_of room.now) }
+    requires within { i < length (w.input_widths (names_of room.now) function) }
+    ensures value { result ≡ slice_index (w.input_widths (names_of room.now) function) i }
+    ensures small { result < 256 }
+{
+    let f = &room.functions[function as usize];
+    let input = f.inputs.as_slice()[i];
+    signal_form(room.signals, f.locals.as_slice(), input).width
 }

@@ -1,8 +1,8 @@
 -- Each node at its own width and sign: lists.
 use Rattle.std.proofs.Common.{◌≡◌, ◌<◌, ◌≤◌, ◌+◌, ◌*◌, ℕ, zero, suc, Bool, false, List, [], ◌∷◌, ◌++◌, map, length, take, drop, get_or, refl, sym, ap, ◌∙◌, arith, subst, Option, Some, None, suc-mul, add-one}
 use Rattle.std.specs.Prelude.{slice_get, All, option_map}
-use Rattle.std.proofs.lemmas.List.{length-map}
-use Rattle.std.proofs.lemmas.Option.{slice_get-map, slice_get_within, slice_get_read}
+use Rattle.std.proofs.lemmas.List.{length-map, get_or-map}
+use Rattle.std.proofs.lemmas.Option.{slice_get-map, slice_get_within, slice_get-get_or}
 use Rattle.std.specs.declared.alloc.Global.{Global}
 use Rattle.std.specs.declared.vec.Vec.{Vec}
 use Rattle.vl_design.specs.declared.design.Expr.{Expr}
@@ -114,9 +114,6 @@ call-there fs k n h = at (slice_get fs k) refl
         absurd (subst (λ o. Takes o n) z h)
     at (Some f) e = slice_get_within fs k f e
 
-pub call-fun : (fs : List Func) (k : ℕ) (f : Func) → k < length fs → f ≡ get_or fs k f → slice_get (map fun_of fs) k ≡ Some (fun_of f)
-call-fun fs k f l e = slice_get-map fun_of fs k ∙ ap (option_map fun_of) (slice_get_read fs (length fs) k f refl l e)
-
 -- ---- arguments one by one
 
 pub at-more : {A : Type 0} (g : A → Sized) (xs : List A) (ws : List ℕ) (i : ℕ) (x : A) → i < length xs → length xs ≡ length ws
@@ -125,11 +122,6 @@ at-more g [] ws i x l e = absurd (omega arith)
 at-more g (y ∷ ys) [] i x l e = absurd (omega arith)
 at-more g (y ∷ ys) (w ∷ ws) zero x l e = refl
 at-more g (y ∷ ys) (w ∷ ws) (suc i) x l e = ap (λ zs. at_input (g y) w ∷ zs) (at-more g ys ws i x (omega arith) (omega arith))
-
-pub width-at : (h : ℕ → ℕ) (ks : List ℕ) (i : ℕ) → All IsWidth (map h ks) → i < length ks → IsWidth (h (get_or ks i 0))
-width-at h [] i a l = absurd (omega arith)
-width-at h (k ∷ ks) zero a l = a zero zero (omega arith)
-width-at h (k ∷ ks) (suc i) a l = width-at h ks i (λ j e m. a (suc j) e (omega arith)) (omega arith)
 
 -- ---- what the calls need
 
@@ -177,3 +169,14 @@ input-there names fs k i e l = at (slice_get fs k) refl
 pub takes-widths : (names : Names) (o : Option Fun) (n : ℕ) → Takes o n → n ≡ length (input_widths_of names o)
 takes-widths names None n h = absurd h
 takes-widths names (Some f) n h = h ∙ sym (length-map f.inputs (λ k. (signal_form (rows_in names f) k).width))
+
+-- the width of an input is that of the signal that it names
+pub input-at : (names : Names) (fs : List Func) (k i : ℕ) (d : Func) → names.funs ≡ map fun_of fs → k < length fs → i < length (input_widths names k)
+    → get_or (input_widths names k) i 0 ≡ (signal_form (rows_in names (fun_of (get_or fs k d))) (get_or (get_or fs k d).inputs i 0)).width
+input-at names fs k i d e l m =
+    let f = get_or fs k d in
+    let h : ℕ → ℕ = λ j. (signal_form (rows_in names (fun_of f)) j).width in
+    let g : slice_get names.funs k ≡ Some (fun_of f) = ap (λ xs. slice_get xs k) e ∙ (slice_get-map fun_of fs k ∙ ap (option_map fun_of) (slice_get-get_or fs k d l)) in
+    let w : input_widths names k ≡ map h f.inputs = ap (input_widths_of names) g in
+    let n : i < length f.inputs = omega (arith, ap length w, length-map f.inputs h) in
+    ap (λ ws. get_or ws i 0) w ∙ get_or-map h f.inputs i 0 0 n

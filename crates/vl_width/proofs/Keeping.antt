@@ -53,17 +53,14 @@ if-below : (b : Bool) (x y m : ℕ) → x < m → y < m → (if b then x else y)
 if-below true x y m h k = h
 if-below false x y m h k = k
 
-widths-same : (names : Names) (es : Exps) → widths_of (several_at (own_parts names es)) ≡ total_width names es
+pub widths-same : (names : Names) (es : Exps) → widths_of (several_at (own_parts names es)) ≡ total_width names es
 widths-same names NoExps = refl
 widths-same names (MoreExps e es) = ap (λ n. (form names e).width + n) (widths-same names es)
 
-assigned-fits : (w : ℕ) (f : Form) → Fits f (assigned w f)
+pub assigned-fits : (w : ℕ) (f : Form) → Fits f (assigned w f)
 assigned-fits w f = record { wide = omega arith; signed = λ h. h }
 
 module _ (scope : Scope) (s : Sample) where
-  names : Names
-  names = scope.names
-
   mutual
     pub keeps : (e : Exp) (c : Form) → IsSoundExp scope.names e → Fits (form scope.names e) c → sized_value scope s (read_at (own scope.names e) c) ≡ value scope s e c
     keeps (Num v w g) c h f = refl
@@ -91,7 +88,7 @@ module _ (scope : Scope) (s : Sample) where
         let sa = sized-below scope s (read_at (own scope.names a) l) in
         let sb = sized-below scope s (read_at (own scope.names b) r) in
         unchanged (binary_width op l.width) _ c (binary-below op l.signed l.width _ _ sa (λ n. rw (one_width op fa fb c n) sb)) (binary-stays op fa fb c f)
-        ∙ (ap (λ x. binary_value op l.signed l.width x _) p ∙ ap (binary_value op l.signed l.width (value scope s a l)) q)
+        ∙ (ap (λ x. binary_value op l.signed l.width x (sized_value scope s (read_at (own scope.names b) r))) p ∙ ap (binary_value op l.signed l.width (value scope s a l)) q)
     keeps (Cond t a b) c h f =
         let fa = form scope.names a in
         let fb = form scope.names b in
@@ -111,7 +108,7 @@ module _ (scope : Scope) (s : Sample) where
         let t = total_width scope.names es in
         rw w (unchanged (n * t) _ c (repeated-below n t _ (rw w at l)) (unsigned-stays (n * t) c f.wide f.signed) ∙ ap (repeated n t) p)
     keeps (Cast g a) c h f = rw (keeps a (form scope.names a) h (itself (form scope.names a))) refl
-    keeps (Call k es) c h f = rw (inputs es (input_widths scope.names k) h.2) refl
+    keeps (Call k es) c h f = ap (λ vs. resized c.signed (result_form scope.names k).width c.width (scope.call k vs)) (inputs es (input_widths scope.names k) h.2)
     keeps Time c h f = unchanged 64 _ c (mod_below s.time (2 ^ 64) (pow_pos 64)) (unsigned-stays 64 c f.wide f.signed)
     keeps LastAnswer c h f = refl
 

@@ -5,3 +5,4 @@ pub(crate) mod contexts;
 pub(crate) mod reading;
 pub(crate) mod own;
 pub mod room;
+pub mod size;

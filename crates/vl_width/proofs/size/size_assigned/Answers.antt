@@ -1,0 +1,25 @@
+use Rattle.std.proofs.Common.{◌≡◌, ◌∙◌, ap, arith, max}
+use Rattle.vl_design.specs.declared.design.Form.{Form}
+use Rattle.vl_design.specs.Sized.{Sized, sized_of}
+use Rattle.vl_design.specs.Trees.{exp_of}
+use Rattle.vl_design.specs.Width.{form, assigned}
+use Rattle.vl_design.specs.Sound.{IsWidth}
+use Rattle.vl_width.specs.Widths.{form_of}
+use Rattle.vl_width.specs.Sizing.{own, read_at}
+use Rattle.vl_width.specs.Room.{names_of}
+use Rattle.vl_width.proofs.Forms.{Fits, form-is, itself}
+use Rattle.vl_width.proofs.Keeping.{assigned-fits}
+use Rattle.vl_width.proofs.WellFormed.{well, kept, assigned-wide}
+use Rattle.vl_width.proofs.size.size_assigned.Goals as goal
+
+pub returns-clause-value : goal.returns-clause-value
+returns-clause-value c =
+    let names = names_of c.args.room.now in
+    let e = exp_of c.args.e.now in
+    let f : c.form_of-form.result ≡ form names e = c.form_of-form.ensures.value ∙ ap form_of c.in_ok-x.ensures in
+    let context = ? in
+    let is = c.read_at.ensures ∙ (ap (λ x. read_at x _) c.in_ok-x.ensures ∙ ap (read_at (own names e)) context) in
+    kept names e (assigned c.args.width (form names e)) (sized_of c.read_at.new.x) c.requires.sound (assigned-fits c.args.width (form names e)) ?
+
+pub returns-clause-sized : goal.returns-clause-sized
+returns-clause-sized c = ?

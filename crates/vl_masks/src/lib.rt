@@ -1,0 +1,4 @@
+//! Which bits a statement drives, assigns on every path and reads first, as masks.
+#![tactic(auto)]
+
+pub mod parts;

@@ -1,2 +1,4 @@
 pub mod Masking
 pub mod Lists
+pub mod Rows
+pub mod Ranges

@@ -2,3 +2,4 @@ pub mod Masking
 pub mod Lists
 pub mod Rows
 pub mod Ranges
+pub mod Looking

@@ -1,5 +1,5 @@
 -- Sets of bits, as masks and as lists of parts.
-use Rattle.std.specs.Prelude.{ℕ, ◌<◌, Bool, false, ◌||◌, ◌&&◌, ◌==◌, List, [], ◌∷◌, All, slice_index}
+use Rattle.std.specs.Prelude.{◌≡◌, ℕ, ◌<◌, Bool, false, not, ◌||◌, ◌&&◌, ◌==◌, List, [], ◌∷◌, All, slice_index}
 use Rattle.std.specs.Int.{bit_at}
 use Rattle.vl_paths.specs.Bits.{Bit}
 use Rattle.vl_masks.specs.declared.parts.Part.{Part}
@@ -24,3 +24,7 @@ in_parts (p ∷ ps) b = in_part p b || in_parts ps b
 -- the parts are of the first n signals
 abbrev pub AreOf : ℕ → List Part → Type 0
 AreOf n parts = All (λ p. p.signal < n) parts
+
+-- of the bits that pass the test those that aren't known are added to the parts
+abbrev pub Looks : List ℕ → List Part → List Part → (Bit → Bool) → Type 0
+Looks known before after test = (b : Bit) → in_parts after b ≡ (in_parts before b || (not (in_masks known b) && test b))

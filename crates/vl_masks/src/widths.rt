@@ -6,6 +6,7 @@ ghost use Rattle.vl_design.specs.Sound.{IsNamed, IsWidth};
 ghost use Rattle.vl_design.specs.Trees.{row_of};
 ghost use Rattle.vl_paths.specs.Bits.{Bit, is_among, is_of};
 ghost use Rattle.vl_index.specs.Seen.{names_seen};
+ghost use Rattle.vl_index.specs.Constants.{near};
 ghost use Rattle.vl_masks.specs.Masks.{has, in_part};
 
 use crate::parts::Part;
@@ -85,6 +86,22 @@ fn behind(width: u8, low: i64, count: u8) -> u8
     }
 }
 
+/// A place, or the nearest one beside 128 bits.
+#[tactic(auto, using(vl_index::proofs::Places::places))]
+pub fn near_place(low: i64) -> i64
+    ensures same { result ≡ near low }
+    ensures least { neg_ℤ (pos 128) ≤ℤ result }
+    ensures most { result ≤ℤ pos 128 }
+{
+    if low < -128 {
+        -128
+    } else if low > 128 {
+        128
+    } else {
+        low
+    }
+}
+
 /// The bits of these `width` ones that are among so many from `low` on.
 #[tactic(auto, using(crate::proofs::Ranges::ranges))]
 fn range(width: u8, low: i64, count: u8) -> u128
@@ -121,13 +138,11 @@ pub fn whole(m: &Meanings<'_>, number: u32) -> Part
 pub fn select(m: &Meanings<'_>, number: u32, low: i64, count: u8) -> Part
     requires named { IsNamed (names_seen m.now) number }
     requires count { count ≤ 128 }
-    requires least { neg_ℤ (pos 128) ≤ℤ low }
-    requires most { low ≤ℤ pos 128 }
     ensures signal { result.signal ≡ number }
-    ensures bits { (b : Bit) → in_part result b ≡ (is_of (names_seen m.now) b number && is_among b number low count) }
+    ensures bits { (b : Bit) → in_part result b ≡ (is_of (names_seen m.now) b number && is_among b number (near low) count) }
 {
     Part {
         signal: number,
-        bits: range(width_of(m, number), low, count),
+        bits: range(width_of(m, number), near_place(low), count),
     }
 }

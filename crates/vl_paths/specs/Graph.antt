@@ -1,6 +1,6 @@
 -- The loop graph of a design whose loops are unrolled: which combinational process drives a bit that which one reads
 -- (IEEE 1364-2005, clauses 6.1 and 9.7.5; that it is by bits is own).
-use Rattle.std.specs.Prelude.{◌≡◌, ℕ, ◌<◌, Bool, true, false, ◌&&◌, List, [], ◌∷◌, length, ⊤}
+use Rattle.std.specs.Prelude.{◌≡◌, ℕ, Bool, true, false, ◌&&◌, List, [], ◌∷◌, ⊤}
 use Rattle.vl_design.specs.Syntax.{Flat}
 use Rattle.vl_design.specs.Width.{names_of}
 use Rattle.vl_design.specs.Queue.{is_comb, proc_at}
@@ -26,9 +26,9 @@ module _ (d : Flat) where
   -- none of these drives a bit that q reads
   abbrev pub NoneDrives : List ℕ → ℕ → Type 0
   NoneDrives [] q = ⊤
-  NoneDrives (p ∷ ps) q = (Edge p q → ⊥) × NoneDrives ps q
+  NoneDrives (p ∷ ps) q = ((b : Bit) → drives p b ≡ true → reads q b ≡ false) × NoneDrives ps q
 
-  -- no process drives a bit that it reads itself, or that one before it reads
+  -- no process reads a bit that it drives itself, or that one behind it drives
   abbrev pub Levelled : List ℕ → Type 0
   Levelled [] = ⊤
   Levelled (p ∷ ps) = NoneDrives (p ∷ ps) p × Levelled ps

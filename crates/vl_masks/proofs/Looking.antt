@@ -23,12 +23,14 @@ near_serves names b k z w h g = at (is_of names b k) refl
   where
     thirds : (z : ℤ) → (z <ℤ neg_ℤ (pos 128)) ⊎ (pos 128 <ℤ z) ⊎ ((neg_ℤ (pos 128) ≤ℤ z) × (z ≤ℤ pos 128))
     thirds z = grind (arith, ints)
+
     at : (x : Bool) → is_of names b k ≡ x → (x && is_among b k (near z) w) ≡ (x && is_among b k z w)
     at false e = refl
     at true e = go (thirds z)
       where
         place : b.place < 128
         place = let p : pos b.place <ℤ (pos 0 +ℤ pos (signal_form names.rows k).width) = among_place b k (pos 0) (signal_form names.rows k).width e in omega (arith, ints, p, h)
+
         go : (z <ℤ neg_ℤ (pos 128)) ⊎ (pos 128 <ℤ z) ⊎ ((neg_ℤ (pos 128) ≤ℤ z) × (z ≤ℤ pos 128)) → is_among b k (near z) w ≡ is_among b k z w
         go (inl l) = ap (λ x. is_among b k x w) (near_below z l) ∙ outside b k (neg_ℤ (pos 128)) w (inr (omega (arith, ints, g))) ∙ sym (outside b k z w (inr (omega (arith, ints, g, l))))
         go (inr (inl l)) = ap (λ x. is_among b k x w) (near_above z l) ∙ outside b k (pos 128) w (inl (omega (arith, ints, place))) ∙ sym (outside b k z w (inl (omega (arith, ints, place, l))))
@@ -39,6 +41,7 @@ near_twice z = go (thirds z)
   where
     thirds : (z : ℤ) → (z <ℤ neg_ℤ (pos 128)) ⊎ (pos 128 <ℤ z) ⊎ ((neg_ℤ (pos 128) ≤ℤ z) × (z ≤ℤ pos 128))
     thirds z = grind (arith, ints)
+
     go : (z <ℤ neg_ℤ (pos 128)) ⊎ (pos 128 <ℤ z) ⊎ ((neg_ℤ (pos 128) ≤ℤ z) × (z ≤ℤ pos 128)) → near (near z) ≡ near z
     go (inl l) = rw (near_below z l) refl
     go (inr (inl l)) = rw (near_above z l) refl

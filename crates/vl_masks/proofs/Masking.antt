@@ -39,6 +39,7 @@ has_without a m i f g = has_and a (340282366920938463463374607431768211455 - m) 
   where
     halves : (i : ℕ) → (i < 128) ⊎ (128 ≤ i)
     halves i = grind arith
+
     go : (i < 128) ⊎ (128 ≤ i) → (has a i && has (340282366920938463463374607431768211455 - m) i) ≡ (has a i && not (has m i))
     go (inl l) = ap (λ x. has a i && x) (has_not m i g l)
     go (inr l) = rw (has_above a i f l) refl

@@ -33,6 +33,7 @@ ones_have w i = go (halves i w)
   where
     halves : (i w : ℕ) → (i < w) ⊎ (w ≤ i)
     halves i w = grind arith
+
     go : (i < w) ⊎ (w ≤ i) → has (2 ^ w - 1) i ≡ from_to (pos 0) w i
     go (inl l) = one (bit_at (2 ^ w - 1) i) (bit_at_ones w i l) ∙ sym (inside (pos 0) w i (omega (arith, ints)) (omega (arith, ints)))
     go (inr l) = nil (bit_at (2 ^ w - 1) i) (bit_at_ones_above w i l) ∙ sym (above (pos 0) w i (omega (arith, ints)))
@@ -49,8 +50,10 @@ mask_has w count lo hi i low lh l first h k end = go (thirds i lo hi)
   where
     reach : pos hi ≤ℤ (low +ℤ pos count)
     reach = k (omega arith)
+
     thirds : (i lo hi : ℕ) → (i < lo) ⊎ ((lo ≤ i) × (i < hi)) ⊎ (hi ≤ i)
     thirds i lo hi = grind arith
+
     go : (i < lo) ⊎ ((lo ≤ i) × (i < hi)) ⊎ (hi ≤ i) → has (2 ^ hi - 2 ^ lo) i ≡ (from_to (pos 0) w i && from_to low count i)
     go (inl m) = nil (bit_at (2 ^ hi - 2 ^ lo) i) (bit_at_mask_below lo hi i m) ∙ sym (under first)
       where
@@ -73,6 +76,7 @@ none_has w count lo hi i low l first end = has_none i ∙ sym (go first end (hal
   where
     halves : (i lo : ℕ) → (i < lo) ⊎ (lo ≤ i)
     halves i lo = grind arith
+
     go : (lo ≡ 0) ⊎ (pos lo ≡ low) → (hi ≡ w) ⊎ (pos hi ≡ low +ℤ pos count) ⊎ ((hi ≡ 0) × ((low +ℤ pos count) ≤ℤ pos 0)) → (i < lo) ⊎ (lo ≤ i) → (from_to (pos 0) w i && from_to low count i) ≡ false
     go (inl f) e (inl m) = absurd (omega (arith, f, m))
     go (inr f) e (inl m) = ap (λ x. from_to (pos 0) w i && x) (below low count i (omega (arith, ints, f, m))) ∙ and_false (from_to (pos 0) w i)

@@ -156,11 +156,7 @@ pub fn shared(
 }
 
 /// The parts are put into the masks. Gives what is new of them.
-pub fn gain(
-    alloc: Global,
-    known: &mut Vec<u128>,
-    parts: &[Part],
-) -> Result<Vec<Part>, AllocError>
+pub fn gain(alloc: Global, known: &mut Vec<u128>, parts: &[Part]) -> Result<Vec<Part>, AllocError>
     requires { AreOf (length known.old.items) parts.now }
     ensures long { OnOk result (length known.new.items ≡ length known.old.items) }
     ensures known { OnOk result ((b : Bit) → in_masks known.new.items b ≡ (in_masks known.old.items b || in_parts parts.now b)) }

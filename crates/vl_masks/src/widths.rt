@@ -113,11 +113,7 @@ fn range(width: u8, low: i64, count: u8) -> u128
 {
     let first = start(low);
     let end = behind(width, low, count);
-    if first < end {
-        between(first, end)
-    } else {
-        0
-    }
+    if first < end { between(first, end) } else { 0 }
 }
 
 /// All bits of a signal.

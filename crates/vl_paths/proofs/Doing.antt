@@ -103,9 +103,9 @@ module _ (is_memory : ℕ → Bool) (scope : Scope) where
     all_has : (b : Bit) (s : Sample) (ts : Targets) → some_bit_set scope.names false b ts ≡ true → has b (all_spots scope s ts) ≡ true
     all_has b s NoTargets h = let z : ⊥ = cc in absurd z
     all_has b s (MoreTargets t ts) h = has_joined b (spots scope s t) (all_spots scope s ts) ∙ (elim (or_true (bit_set scope.names false b t) (some_bit_set scope.names false b ts) h) [
-          inl g ↦ or_left (has b (spots scope s t)) _ (set_has b s t g)
-        | inr g ↦ or_right (has b (spots scope s t)) _ (all_has b s ts g)
-        ])
+      | inl g ↦ or_left (has b (spots scope s t)) _ (set_has b s t g)
+      | inr g ↦ or_right (has b (spots scope s t)) _ (all_has b s ts g)
+    ])
 
   -- ---- states
 
@@ -118,16 +118,20 @@ module _ (is_memory : ℕ → Bool) (scope : Scope) where
       same_spots (Whole k) h = refl
       same_spots (WordAt m a) h = rw (same_value a h (form scope.names a)) refl
       same_spots (PickAt base i from w) h =
-          rw (same_spots base (λ b g. h b (or_left (index_reads scope.names b base) (bit_read scope.names b i) g)),
-              same_value i (λ b g. h b (or_right (index_reads scope.names b base) (bit_read scope.names b i) g)) (form scope.names i)) refl
+          rw (
+            same_spots base (λ b g. h b (or_left (index_reads scope.names b base) (bit_read scope.names b i) g)),
+            same_value i (λ b g. h b (or_right (index_reads scope.names b base) (bit_read scope.names b i) g)) (form scope.names i),
+          ) refl
       same_spots (SliceAt base low w) h = rw (same_spots base h) refl
       same_spots (Several ts) h = same_all_spots ts h
 
       same_all_spots : (xs : Targets) → ((b : Bit) → some_index_reads scope.names b xs ≡ true → p b ≡ true) → all_spots scope (sample s) xs ≡ all_spots scope (sample t) xs
       same_all_spots NoTargets h = refl
       same_all_spots (MoreTargets x xs) h =
-          rw (same_spots x (λ b g. h b (or_left (index_reads scope.names b x) (some_index_reads scope.names b xs) g)),
-              same_all_spots xs (λ b g. h b (or_right (index_reads scope.names b x) (some_index_reads scope.names b xs) g))) refl
+          rw (
+            same_spots x (λ b g. h b (or_left (index_reads scope.names b x) (some_index_reads scope.names b xs) g)),
+            same_all_spots xs (λ b g. h b (or_right (index_reads scope.names b x) (some_index_reads scope.names b xs) g)),
+          ) refl
 
     same_match : (c : Form) (v : ℕ) (es : Exps) → ((b : Bit) → some_bit_read scope.names b es ≡ true → p b ≡ true) → some_match scope (sample s) c v es ≡ some_match scope (sample t) c v es
     same_match c v NoExps h = refl
@@ -156,23 +160,32 @@ module _ (is_memory : ℕ → Bool) (scope : Scope) where
       where
         done_s : State
         done_s = record s { values = all_updated scope.names.rows s.values (assignment scope (sample s) x e) }
+
         done_t : State
         done_t = record t { values = all_updated scope.names.rows t.values (assignment scope (sample t) x e) }
+
         same : assignment scope (sample s) x e ≡ assignment scope (sample t) x e
-        same = rw (same_spots x (λ b g. h b (or_left (index_reads scope.names b x) (bit_read scope.names b e) g)),
-                   same_value e (λ b g. h b (or_right (index_reads scope.names b x) (bit_read scope.names b e) g)) (assigned (target_width scope.names x) (form scope.names e))) refl
+        same = rw (
+          same_spots x (λ b g. h b (or_left (index_reads scope.names b x) (bit_read scope.names b e) g)),
+          same_value e (λ b g. h b (or_right (index_reads scope.names b x) (bit_read scope.names b e) g)) (assigned (target_width scope.names x) (form scope.names e)),
+        ) refl
+
         val : ℕ
         val = value scope (sample s) e (assigned (target_width scope.names x) (form scope.names e))
+
         more : (b : Bit) → q b ≡ true → (p b || covered is_memory scope.names.rows (assignment scope (sample s) x e) b) ≡ true
         more b g = elim (or_true (p b) (bit_set scope.names false b x) (c b g)) [
-              inl k ↦ or_left (p b) _ k
-            | inr k ↦ or_right (p b) _ (has_covered b (spots scope (sample s) x) val ∙ set_has b (sample s) x k)
-            ]
+          | inl k ↦ or_left (p b) _ k
+          | inr k ↦ or_right (p b) _ (has_covered b (spots scope (sample s) x) val ∙ set_has b (sample s) x k)
+        ]
+
         values : Paired is_memory scope.names.rows q (all_updated scope.names.rows s.values (assignment scope (sample s) x e)) (all_updated scope.names.rows t.values (assignment scope (sample t) x e))
         values = subst (λ us. Paired is_memory scope.names.rows q (all_updated scope.names.rows s.values (assignment scope (sample s) x e)) (all_updated scope.names.rows t.values us)) same
             (after_all is_memory scope.names.rows (assignment scope (sample s) x e) (updates_of (spots scope (sample s) x) val (are_spots (sample s) x plain)) p q s.values t.values more d.values)
+
         done : Twins is_memory scope.names.rows q done_s done_t
         done = record { values = values; time = d.time; answer = d.answer; alive = d.alive; too = d.too }
+
         by : (i j : Bool) → i ≡ false → j ≡ false → Twins is_memory scope.names.rows q (if i then s else done_s) (if j then t else done_t)
         by false false g k = done
         by true j g k = let z : ⊥ = cc in absurd z
@@ -206,17 +219,17 @@ module _ (is_memory : ℕ → Bool) (scope : Scope) where
     exec_twins (Then x y) n p q s t h c d =
         let r : Bit → Bool = λ b. p b || always scope.names b x in
         exec_twins y n.1 r q (exec scope x s) (exec scope x t)
-          (λ b g. behind (p b) (always scope.names b x) (early scope.names b x) (early scope.names b y) (h b) g)
-          (λ b g. or_assoc (p b) (always scope.names b x) (always scope.names b y) ∙ c b g)
-          (exec_twins x n.0 p r s t (λ b g. h b (or_left (early scope.names b x) (not (always scope.names b x) && early scope.names b y) g)) (λ b g. g) d)
+        (λ b g. behind (p b) (always scope.names b x) (early scope.names b x) (early scope.names b y) (h b) g)
+        (λ b g. or_assoc (p b) (always scope.names b x) (always scope.names b y) ∙ c b g)
+        (exec_twins x n.0 p r s t (λ b g. h b (or_left (early scope.names b x) (not (always scope.names b x) && early scope.names b y) g)) (λ b g. g) d)
     exec_twins (If u x y) n p q s t h c d =
         let s' : State = counted_if (asks u || (holds scope s x || holds scope s y)) s in
         let t' : State = counted_if (asks u || (holds scope t x || holds scope t y)) t in
         let d' : Twins is_memory scope.names.rows p s' t' = counted_twins p s t d (asks u || (holds scope s x || holds scope s y)) (asks u || (holds scope t x || holds scope t y)) in
         pick q (is_true scope u s) (is_true scope u t) (exec scope x s') (exec scope x t') (exec scope y s') (exec scope y t')
-          (ap (λ v. not (v == 0)) (same_value p s t d u (λ b g. h b (or_left (bit_read scope.names b u) (early scope.names b x || early scope.names b y) g)) (form scope.names u)))
-          (exec_twins x n.0 p q s' t' (λ b g. h b (or_right (bit_read scope.names b u) (early scope.names b x || early scope.names b y) (or_left (early scope.names b x) (early scope.names b y) g))) (λ b g. or_and_left (p b) (always scope.names b x) (always scope.names b y) (c b g)) d')
-          (exec_twins y n.1 p q s' t' (λ b g. h b (or_right (bit_read scope.names b u) (early scope.names b x || early scope.names b y) (or_right (early scope.names b x) (early scope.names b y) g))) (λ b g. or_and_right (p b) (always scope.names b x) (always scope.names b y) (c b g)) d')
+        (ap (λ v. not (v == 0)) (same_value p s t d u (λ b g. h b (or_left (bit_read scope.names b u) (early scope.names b x || early scope.names b y) g)) (form scope.names u)))
+        (exec_twins x n.0 p q s' t' (λ b g. h b (or_right (bit_read scope.names b u) (early scope.names b x || early scope.names b y) (or_left (early scope.names b x) (early scope.names b y) g))) (λ b g. or_and_left (p b) (always scope.names b x) (always scope.names b y) (c b g)) d')
+        (exec_twins y n.1 p q s' t' (λ b g. h b (or_right (bit_read scope.names b u) (early scope.names b x || early scope.names b y) (or_right (early scope.names b x) (early scope.names b y) g))) (λ b g. or_and_right (p b) (always scope.names b x) (always scope.names b y) (c b g)) d')
     exec_twins (Case e items) n p q s t h c d =
         let s' : State = counted_if (items_hold scope s items) s in
         let t' : State = counted_if (items_hold scope t items) t in
@@ -226,7 +239,7 @@ module _ (is_memory : ℕ → Bool) (scope : Scope) where
         let l : (b : Bit) → (bit_read scope.names b e || label_reads scope.names b items) ≡ true → p b ≡ true = λ b g. h b (or_left (bit_read scope.names b e || label_reads scope.names b items) (early_in scope.names b items) g) in
         let v : value scope (sample s) e f ≡ value scope (sample t) e f = same_value p s t d e (λ b g. l b (or_left (bit_read scope.names b e) (label_reads scope.names b items) g)) f in
         let z = items_twins items n (value scope (sample s) e f) f true p q s' t' (exec_default scope items s') (exec_default scope items t')
-              (λ b g. l b (or_right (bit_read scope.names b e) (label_reads scope.names b items) g)) k c (default_twins items n p q s' t' k c d') d' in
+        (λ b g. l b (or_right (bit_read scope.names b e) (label_reads scope.names b items) g)) k c (default_twins items n p q s' t' k c d') d' in
         subst (λ m. Twins is_memory scope.names.rows q (exec_items scope (value scope (sample s) e f) f items (exec_default scope items s') s') (exec_items scope m f items (exec_default scope items t') t')) v z
     exec_twins (Set x e) n p q s t h c d = set_twins p s t d x e q n h c
     exec_twins (For k start test step a) n p q s t h c d = absurd n
@@ -241,13 +254,13 @@ module _ (is_memory : ℕ → Bool) (scope : Scope) where
     items_twins NoItems n v f o p q s t os ot l h c w d = w
     items_twins (Labelled es a others) n v f o p q s t os ot l h c w d =
         pick q (some_match scope (sample s) f v es) (some_match scope (sample t) f v es) (exec scope a s) (exec scope a t) (exec_items scope v f others os s) (exec_items scope v f others ot t)
-          (same_match p s t d f v es (λ b g. l b (or_left (some_bit_read scope.names b es) (label_reads scope.names b others) g)))
-          (exec_twins a n.0 p q s t (λ b g. h b (or_left (early scope.names b a) (early_in scope.names b others) g)) (λ b g. or_and_left (p b) (always scope.names b a) (always_in scope.names b o others) (c b g)) d)
-          (items_twins others n.1 v f o p q s t os ot (λ b g. l b (or_right (some_bit_read scope.names b es) (label_reads scope.names b others) g)) (λ b g. h b (or_right (early scope.names b a) (early_in scope.names b others) g))
-            (λ b g. or_and_right (p b) (always scope.names b a) (always_in scope.names b o others) (c b g)) w d)
+        (same_match p s t d f v es (λ b g. l b (or_left (some_bit_read scope.names b es) (label_reads scope.names b others) g)))
+        (exec_twins a n.0 p q s t (λ b g. h b (or_left (early scope.names b a) (early_in scope.names b others) g)) (λ b g. or_and_left (p b) (always scope.names b a) (always_in scope.names b o others) (c b g)) d)
+        (items_twins others n.1 v f o p q s t os ot (λ b g. l b (or_right (some_bit_read scope.names b es) (label_reads scope.names b others) g)) (λ b g. h b (or_right (early scope.names b a) (early_in scope.names b others) g))
+        (λ b g. or_and_right (p b) (always scope.names b a) (always_in scope.names b o others) (c b g)) w d)
     items_twins (Default a others) n v f o p q s t os ot l h c w d =
         items_twins others n.1 v f false p q s t os ot l (λ b g. h b (or_right (early scope.names b a) (early_in scope.names b others) g))
-          (λ b g. or_and_right (p b) (always scope.names b a) (always_in scope.names b false others) (c b g)) w d
+        (λ b g. or_and_right (p b) (always scope.names b a) (always_in scope.names b false others) (c b g)) w d
 
     default_twins : (items : Items) → AreNetItems is_memory items → (p q : Bit → Bool) (s t : State) → ((b : Bit) → early_in scope.names b items ≡ true → p b ≡ true) →
         ((b : Bit) → q b ≡ true → (p b || always_in scope.names b true items) ≡ true) → Twins is_memory scope.names.rows p s t →

@@ -39,6 +39,7 @@ word_below rows v k word r = go (cases_lt word (length (words_of v k)))
 module _ (names : Names) (files others : List File) (call called : ℕ → List ℕ → ℕ) (s t : Sample) where
   abbrev here : Scope
   here = record { names = names; files = files; call = call }
+
   abbrev there : Scope
   there = record { names = names; files = others; call = called }
 
@@ -78,7 +79,7 @@ known_is scope s from i = go (either (is_constant i))
     go : (is_constant i ≡ true) ⊎ (is_constant i ≡ false) → (known_low scope.names from i ≡ Some (lowest_bit from (own_reading scope s i))) ⊎ (known_low scope.names from i ≡ None)
     go (inl e) = inl (ap (λ x. if x then Some (lowest_bit from (own_reading (closed scope.names) nothing i)) else None) e
         ∙ ap (λ v. Some (lowest_bit from (reading (form scope.names i).signed (form scope.names i).width v)))
-            (constant_value scope.names [] scope.files (λ f given. 0) scope.call nothing s i (is_constant_not (has varies i) e) (form scope.names i)))
+        (constant_value scope.names [] scope.files (λ f given. 0) scope.call nothing s i (is_constant_not (has varies i) e) (form scope.names i)))
     go (inr e) = inr (ap (λ x. if x then Some (lowest_bit from (own_reading (closed scope.names) nothing i)) else None) e)
 
 picked_below : (w v : ℕ) (low : ℤ) (width : ℕ) → picked w v low width < 2 ^ width
@@ -98,13 +99,15 @@ module _ (scope : Scope) (p : Bit → Bool) (s t : Sample) (d : SameAt scope.nam
       picked (signal_form scope.names.rows k).width (value scope s (Sig k) (signal_form scope.names.rows k)) low w ≡ picked (signal_form scope.names.rows k).width (value scope t (Sig k) (signal_form scope.names.rows k)) low w
   part_same k low w h = rw (own s d.left, own t d.right)
       (same_from_bits_below w _ _ (picked_below wide (value_of s.values k) low w) (picked_below wide (value_of t.values k) low w)
-        (λ i l. picked-bit wide (value_of s.values k) low w i (word_below scope.names.rows s.values k 0 d.left) l
-          ∙ one i l (low +ℤ pos i) refl ∙ sym (picked-bit wide (value_of t.values k) low w i (word_below scope.names.rows t.values k 0 d.right) l)))
+      (λ i l. picked-bit wide (value_of s.values k) low w i (word_below scope.names.rows s.values k 0 d.left) l
+      ∙ one i l (low +ℤ pos i) refl ∙ sym (picked-bit wide (value_of t.values k) low w i (word_below scope.names.rows t.values k 0 d.right) l)))
     where
       wide : ℕ
       wide = (signal_form scope.names.rows k).width
+
       own : (u : Sample) → InRange scope.names.rows u.values → value scope u (Sig k) (signal_form scope.names.rows k) ≡ value_of u.values k
       own u r = wrapped-reading (signal_form scope.names.rows k).signed wide (value_of u.values k) (word_below scope.names.rows u.values k 0 r)
+
       one : (i : ℕ) → i < w → (z : ℤ) → low +ℤ pos i ≡ z → bit_of (value_of s.values k) z ≡ bit_of (value_of t.values k) z
       one i l (negsuc n) e = refl
       one i l (pos j) e = go (cases_lt j wide)
@@ -129,21 +132,27 @@ module _ (scope : Scope) (p : Bit → Bool) (s t : Sample) (d : SameAt scope.nam
     value_same (Label v care w signed) h c = refl
     value_same (Sig k) h c = rw (word_same k 0 h) refl
     value_same (Word m a) h c =
-        rw (value_same a (λ b g. h b (or_right (is_of scope.names b m) (bit_read scope.names b a) g)) (form scope.names a),
-            word_same m _ (λ b g. h b (or_left (is_of scope.names b m) (bit_read scope.names b a) g))) refl
+        rw (
+          value_same a (λ b g. h b (or_right (is_of scope.names b m) (bit_read scope.names b a) g)) (form scope.names a),
+          word_same m _ (λ b g. h b (or_left (is_of scope.names b m) (bit_read scope.names b a) g)),
+        ) refl
     value_same (Pick base i from w) h c =
         rw (← value_same i (λ b g. h b (or_right (select_reads b base (known_low scope.names from i) w (bit_read scope.names b base)) (bit_read scope.names b i) g)) (form scope.names i))
         (select_same base (known_low scope.names from i) (lowest_bit from (own_reading scope s i)) w (known_is scope s from i)
-          (λ b g. h b (or_left (select_reads b base (known_low scope.names from i) w (bit_read scope.names b base)) (bit_read scope.names b i) g)) (λ k f. value_same base k f))
+        (λ b g. h b (or_left (select_reads b base (known_low scope.names from i) w (bit_read scope.names b base)) (bit_read scope.names b i) g)) (λ k f. value_same base k f))
     value_same (Slice base low w) h c = select_same base (Some low) low w (inl refl) h (λ k f. value_same base k f)
     value_same (Un op a) h c = rw (value_same a h _) refl
     value_same (Bin op x y) h c =
-        rw (value_same x (λ b g. h b (or_left (bit_read scope.names b x) (bit_read scope.names b y) g)) _,
-            value_same y (λ b g. h b (or_right (bit_read scope.names b x) (bit_read scope.names b y) g)) _) refl
+        rw (
+          value_same x (λ b g. h b (or_left (bit_read scope.names b x) (bit_read scope.names b y) g)) _,
+          value_same y (λ b g. h b (or_right (bit_read scope.names b x) (bit_read scope.names b y) g)) _,
+        ) refl
     value_same (Cond u x y) h c =
-        rw (value_same u (λ b g. h b (or_left (bit_read scope.names b u) (bit_read scope.names b x || bit_read scope.names b y) g)) (form scope.names u),
-            value_same x (λ b g. h b (or_right (bit_read scope.names b u) (bit_read scope.names b x || bit_read scope.names b y) (or_left (bit_read scope.names b x) (bit_read scope.names b y) g))) c,
-            value_same y (λ b g. h b (or_right (bit_read scope.names b u) (bit_read scope.names b x || bit_read scope.names b y) (or_right (bit_read scope.names b x) (bit_read scope.names b y) g))) c) refl
+        rw (
+          value_same u (λ b g. h b (or_left (bit_read scope.names b u) (bit_read scope.names b x || bit_read scope.names b y) g)) (form scope.names u),
+          value_same x (λ b g. h b (or_right (bit_read scope.names b u) (bit_read scope.names b x || bit_read scope.names b y) (or_left (bit_read scope.names b x) (bit_read scope.names b y) g))) c,
+          value_same y (λ b g. h b (or_right (bit_read scope.names b u) (bit_read scope.names b x || bit_read scope.names b y) (or_right (bit_read scope.names b x) (bit_read scope.names b y) g))) c,
+        ) refl
     value_same (Cat es) h c = side_same es h
     value_same (Rep n es) h c = rw (side_same es h) refl
     value_same (Cast signed a) h c = rw (value_same a h (form scope.names a)) refl
@@ -154,12 +163,16 @@ module _ (scope : Scope) (p : Bit → Bool) (s t : Sample) (d : SameAt scope.nam
     side_same : (es : Exps) → ((b : Bit) → some_bit_read scope.names b es ≡ true → p b ≡ true) → side_by_side scope s es ≡ side_by_side scope t es
     side_same NoExps h = refl
     side_same (MoreExps e es) h =
-        rw (value_same e (λ b g. h b (or_left (bit_read scope.names b e) (some_bit_read scope.names b es) g)) (form scope.names e),
-            side_same es (λ b g. h b (or_right (bit_read scope.names b e) (some_bit_read scope.names b es) g))) refl
+        rw (
+          value_same e (λ b g. h b (or_left (bit_read scope.names b e) (some_bit_read scope.names b es) g)) (form scope.names e),
+          side_same es (λ b g. h b (or_right (bit_read scope.names b e) (some_bit_read scope.names b es) g)),
+        ) refl
 
     arguments_same : (es : Exps) → ((b : Bit) → some_bit_read scope.names b es ≡ true → p b ≡ true) → (ws : List ℕ) → arguments scope s es ws ≡ arguments scope t es ws
     arguments_same NoExps h ws = refl
     arguments_same (MoreExps e es) h [] = refl
     arguments_same (MoreExps e es) h (w ∷ ws) =
-        rw (value_same e (λ b g. h b (or_left (bit_read scope.names b e) (some_bit_read scope.names b es) g)) _,
-            arguments_same es (λ b g. h b (or_right (bit_read scope.names b e) (some_bit_read scope.names b es) g)) ws) refl
+        rw (
+          value_same e (λ b g. h b (or_left (bit_read scope.names b e) (some_bit_read scope.names b es) g)) _,
+          arguments_same es (λ b g. h b (or_right (bit_read scope.names b e) (some_bit_read scope.names b es) g)) ws,
+        ) refl

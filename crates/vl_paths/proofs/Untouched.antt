@@ -47,6 +47,7 @@ words_after rows u x k = go (equal k u.signal) (cases_lt u.signal (length x))
   where
     ws : List ℕ
     ws = slice_set (words_of x u.signal) u.word (placed (signal_form rows u.signal).width (slice_index (words_of x u.signal) u.word) u.low u.width u.value)
+
     go : (k ≡ u.signal) ⊎ (k ≢ u.signal) → (u.signal < length x) ⊎ (length x ≤ u.signal) → length (words_of (with_update rows x u) k) ≡ length (words_of x k)
     go (inr e) y = ap length (words_elsewhere x u.signal k ws e)
     go (inl e) (inl l) = rw e (ap length (words_there x u.signal ws l) ∙ length-set (words_of x u.signal) u.word _)
@@ -64,10 +65,13 @@ module _ (is_memory : ℕ → Bool) (rows : List Row) where
     where
       wide : ℕ
       wide = (signal_form rows u.signal).width
+
       past : (x : List (List ℕ)) → length (words_of x b.signal) ≤ word → slice_index (words_of x b.signal) word ≡ 0
       past x l = get_or_past (words_of x b.signal) word 0 l
+
       there : b.signal ≡ u.signal → word < length (words_of v b.signal) → u.signal < length v
       there e l = elim (cases_lt u.signal (length v)) [ inl m ↦ m | inr m ↦ absurd (let z : length (words_of v b.signal) ≡ 0 = rw e (ap length (words_none v u.signal m)) in omega (arith, z, l)) ]
+
       go : (b.signal ≡ u.signal) ⊎ (b.signal ≢ u.signal) → (word < length (words_of v b.signal)) ⊎ (length (words_of v b.signal) ≤ word) →
           bit_of (slice_index (words_of (with_update rows v u) b.signal) word) (pos b.place) ≡ bit_of (slice_index (words_of v b.signal) word) (pos b.place)
       go e (inr l) = ap (λ x. bit_of x (pos b.place)) (past (with_update rows v u) (omega (arith, words_after rows u v b.signal, l)) ∙ sym (past v l))
@@ -76,14 +80,19 @@ module _ (is_memory : ℕ → Bool) (rows : List Row) where
         where
           zero_word : word ≡ 0
           zero_word = let m : length (words_of v b.signal) ≤ 1 = lone b.signal (ap is_memory e ∙ plain.signal) in omega (arith, l, m)
+
           old : ℕ
           old = slice_index (words_of v u.signal) 0
+
           some : 0 < length (words_of v u.signal)
           some = let f : length (words_of v b.signal) ≡ length (words_of v u.signal) = ap (λ k. length (words_of v k)) e in omega (arith, f, l)
+
           now : slice_index (words_of (with_update rows v u) b.signal) word ≡ placed wide old u.low u.width u.value
           now = rw (e, zero_word, plain.word) (ap (λ ws. slice_index ws 0) (words_there v u.signal _ (there e l)) ∙ get_or-set_same (words_of v u.signal) 0 _ 0 some)
+
           old_is : slice_index (words_of v b.signal) word ≡ old
           old_is = rw (e, zero_word) refl
+
           by : (b.place < wide) ⊎ (wide ≤ b.place) → (pos b.place <ℤ u.low) ⊎ ((u.low ≤ℤ pos b.place) × (pos b.place <ℤ (u.low +ℤ pos u.width))) ⊎ ((u.low +ℤ pos u.width) ≤ℤ pos b.place) →
               bit_of (placed wide old u.low u.width u.value) (pos b.place) ≡ bit_of (slice_index (words_of v b.signal) word) (pos b.place)
           by (inr m) y = bit_at_above (placed wide old u.low u.width u.value) wide b.place (placed_below wide old u.low u.width u.value) m
@@ -164,12 +173,12 @@ module _ (scope : Scope) (R : State → State → Type 0) (T : Target → Type 0
         let f = or_false (can_act a) (can_act b) g.1 in
         let e : counted_if (asks t || (holds scope s a || holds scope s b)) s ≡ s = uncounted _ s (holds_none scope (If t a b) h s) in
         subst (λ s'. R s (if is_true scope t s then exec scope a s' else exec scope b s')) (sym e)
-          (choose (is_true scope t s) s (exec scope a s) (exec scope b s) (net_leads a n.0 f.0 s) (net_leads b n.1 f.1 s))
+        (choose (is_true scope t s) s (exec scope a s) (exec scope b s) (net_leads a n.0 f.0 s) (net_leads b n.1 f.1 s))
     net_leads (Case e items) n h s =
         let k : counted_if (items_hold scope s items) s ≡ s = uncounted _ s (holds_none scope (Case e items) h s) in
         let f : Form = items_form scope.names (form scope.names e) items in
         subst (λ s'. R s (exec_items scope (value scope (sample s) e f) f items (exec_default scope items s') s')) (sym k)
-          (items_lead items n h (value scope (sample s) e f) f s (exec_default scope items s) (default_leads items n h s))
+        (items_lead items n h (value scope (sample s) e f) f s (exec_default scope items s) (default_leads items n h s))
     net_leads (Set t e) n h s = choose s.finished s s _ (same s) (sets t e s n)
     net_leads (For k start test step a) n h s = absurd n
     net_leads (Repeat m a) n h s = absurd n
@@ -242,10 +251,10 @@ module _ (is_memory : ℕ → Bool) (scope : Scope) where
   pub keeps_bit : (b : Bit) (a : Stm) → IsNetStm is_memory a → can_act a ≡ false → touched scope.names b a ≡ false → (s : State) → InRange scope.names.rows s.values → Lone is_memory s.values → SameBit b (exec scope a s).values s.values
   keeps_bit b a n h c s r l =
       (net_leads scope (λ s t. InRange scope.names.rows s.values → Lone is_memory s.values → Kept b s.values t.values) (λ t. IsPlain is_memory t × (bit_set scope.names true b t ≡ false))
-        (λ s r l. record { range = r; lone = l; bit = λ w. refl })
-        (λ x y z f g r l. let i = f r l in let j = g i.range i.lone in record { range = j.range; lone = j.lone; bit = λ w. j.bit w ∙ i.bit w })
-        (λ t e s p r l. sets t e s p.0 p.1 r l)
-        a (misses b a n c) h s r l).bit
+      (λ s r l. record { range = r; lone = l; bit = λ w. refl })
+      (λ x y z f g r l. let i = f r l in let j = g i.range i.lone in record { range = j.range; lone = j.lone; bit = λ w. j.bit w ∙ i.bit w })
+      (λ t e s p r l. sets t e s p.0 p.1 r l)
+      a (misses b a n c) h s r l).bit
     where
       sets : (t : Target) (e : Exp) (s : State) → IsPlain is_memory t → bit_set scope.names true b t ≡ false → InRange scope.names.rows s.values → Lone is_memory s.values →
           Kept b s.values (all_updated scope.names.rows s.values (assignment scope (sample s) t e))

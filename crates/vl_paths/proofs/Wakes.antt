@@ -30,9 +30,9 @@ module _ (names : Names) (b : Bit) (p : ℕ → Bool) where
     unread (Pick base i from w) h g =
         let f = or_false (reads p base) (reads p i) g in
         elim (or_true (select_reads b base (known_low names from i) w (bit_read names b base)) (bit_read names b i) h) [
-            inl k ↦ unread base (select base (known_low names from i) w (bit_read names b base) k) f.0
+          | inl k ↦ unread base (select base (known_low names from i) w (bit_read names b base) k) f.0
           | inr k ↦ unread i k f.1
-          ]
+        ]
     unread (Slice base low w) h g = unread base (select base (Some low) w (bit_read names b base) h) g
     unread (Un op a) h g = unread a h g
     unread (Bin op x y) h g = let f = or_false (reads p x) (reads p y) g in elim (or_true (bit_read names b x) (bit_read names b y) h) [ inl i ↦ unread x i f.0 | inr i ↦ unread y i f.1 ]
@@ -40,9 +40,9 @@ module _ (names : Names) (b : Bit) (p : ℕ → Bool) where
         let f = or_false (reads p t) (reads p x || reads p y) g in
         let e = or_false (reads p x) (reads p y) f.1 in
         elim (or_true (bit_read names b t) (bit_read names b x || bit_read names b y) h) [
-            inl i ↦ unread t i f.0
+          | inl i ↦ unread t i f.0
           | inr j ↦ elim (or_true (bit_read names b x) (bit_read names b y) j) [ inl i ↦ unread x i e.0 | inr i ↦ unread y i e.1 ]
-          ]
+        ]
     unread (Cat es) h g = some_unread es h g
     unread (Rep n es) h g = some_unread es h g
     unread (Cast s a) h g = unread a h g
@@ -86,15 +86,15 @@ module _ (names : Names) (b : Bit) (p : ℕ → Bool) where
         let f = or_false (reads p t) (stm_reads p x || stm_reads p y) g in
         let e = or_false (stm_reads p x) (stm_reads p y) f.1 in
         elim (or_true (bit_read names b t) (early names b x || early names b y) h) [
-            inl i ↦ unread t i f.0
+          | inl i ↦ unread t i f.0
           | inr j ↦ elim (or_true (early names b x) (early names b y) j) [ inl i ↦ stm_unread x i e.0 | inr i ↦ stm_unread y i e.1 ]
-          ]
+        ]
     stm_unread (Case e items) h g =
         let f = or_false (reads p e) (items_read p items) g in
         elim (or_true (bit_read names b e || label_reads names b items) (early_in names b items) h) [
-            inl j ↦ elim (or_true (bit_read names b e) (label_reads names b items) j) [ inl i ↦ unread e i f.0 | inr i ↦ labels_unread items i f.1 ]
+          | inl j ↦ elim (or_true (bit_read names b e) (label_reads names b items) j) [ inl i ↦ unread e i f.0 | inr i ↦ labels_unread items i f.1 ]
           | inr i ↦ items_unread items i f.1
-          ]
+        ]
     stm_unread (Set t e) h g = let f = or_false (target_reads p t) (reads p e) g in elim (or_true (index_reads names b t) (bit_read names b e) h) [ inl i ↦ index_unread t i f.0 | inr i ↦ unread e i f.1 ]
     stm_unread (For k start test step a) h g = let z : ⊥ = cc in absurd z
     stm_unread (Repeat n a) h g = let z : ⊥ = cc in absurd z

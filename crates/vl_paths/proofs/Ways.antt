@@ -74,7 +74,6 @@ module _ (names : Names) (b : Bit) where
   read_joined (Tries e items ∷ p) q = rw (read_joined p q) (sym (or_assoc (bit_read names b e || label_reads names b items) (read_first_on names b p) (not (assigned_on names b p) && read_first_on names b q)))
   read_joined (Sets t e ∷ p) q = rw (read_joined p q) (fold_read (index_reads names b t || bit_read names b e) (bit_set names false b t) (assigned_on names b p) (read_first_on names b p) (read_first_on names b q))
 
-
   mutual
     some_path : (a : Stm) → (p : List Step) × IsPath a p
     some_path (Then x y) = let q = some_path x in let r = some_path y in (q.0 ++ r.0, (q.0, r.0, q.1, r.1, refl))
@@ -97,8 +96,8 @@ module _ (names : Names) (b : Bit) where
     assigned : (a : Stm) → always names b a ≡ true → (p : List Step) → IsPath a p → assigned_on names b p ≡ true
     assigned (Then x y) h p w = rw (w.4, assigned_joined w.0 w.1) (
         elim (or_true (always names b x) (always names b y) h) [
-          inl g ↦ or_left (assigned_on names b w.0) (assigned_on names b w.1) (assigned x g w.0 w.2)
-        | inr g ↦ or_right (assigned_on names b w.0) (assigned_on names b w.1) (assigned y g w.1 w.3)
+          | inl g ↦ or_left (assigned_on names b w.0) (assigned_on names b w.1) (assigned x g w.0 w.2)
+          | inr g ↦ or_right (assigned_on names b w.0) (assigned_on names b w.1) (assigned y g w.1 w.3)
         ])
     assigned (If t x y) h p w = let g = and_true (always names b x) (always names b y) h in rw w.2 (
         elim w.1 [ inl v ↦ assigned x g.0 w.0 v | inr v ↦ assigned y g.1 w.0 v ])
@@ -127,9 +126,9 @@ module _ (names : Names) (b : Bit) where
         let r = unassigned y g.1 in
         (q.0 ++ r.0, (q.0, r.0, q.1, r.1, refl), rw (assigned_joined q.0 r.0, q.2) r.2)
     unassigned (If t x y) h = elim (and_false (always names b x) (always names b y) h) [
-          inl g ↦ let q = unassigned x g in (Looks t ∷ q.0, (q.0, inl q.1, refl), q.2)
-        | inr g ↦ let q = unassigned y g in (Looks t ∷ q.0, (q.0, inr q.1, refl), q.2)
-        ]
+      | inl g ↦ let q = unassigned x g in (Looks t ∷ q.0, (q.0, inl q.1, refl), q.2)
+      | inr g ↦ let q = unassigned y g in (Looks t ∷ q.0, (q.0, inr q.1, refl), q.2)
+    ]
     unassigned (Case e items) h = let q = unassigned_in items true h in (Tries e items ∷ q.0, (q.0, q.1, refl), q.2)
     unassigned (Set t e) h = (Sets t e ∷ [], refl, rw h refl)
     unassigned Nop h = ([], refl, refl)
@@ -142,39 +141,39 @@ module _ (names : Names) (b : Bit) where
     unassigned_in NoItems true h = ([], (refl, refl), refl)
     unassigned_in NoItems false h = let z : ⊥ = cc in absurd z
     unassigned_in (Labelled es a others) o h = elim (and_false (always names b a) (always_in names b o others) h) [
-          inl g ↦ let q = unassigned a g in (q.0, inl q.1, q.2)
-        | inr g ↦ let q = unassigned_in others o g in (q.0, inr q.1, q.2)
-        ]
+      | inl g ↦ let q = unassigned a g in (q.0, inl q.1, q.2)
+      | inr g ↦ let q = unassigned_in others o g in (q.0, inr q.1, q.2)
+    ]
     unassigned_in (Default a others) o h = elim (and_false (always names b a) (always_in names b false others) h) [
-          inl g ↦ let q = unassigned a g in (q.0, inl q.1, q.2)
-        | inr g ↦ let q = unassigned_in others false g in (q.0, inr q.1, q.2)
-        ]
+      | inl g ↦ let q = unassigned a g in (q.0, inl q.1, q.2)
+      | inr g ↦ let q = unassigned_in others false g in (q.0, inr q.1, q.2)
+    ]
 
   -- what is in the set of reads is read first on some path
   mutual
     read : (a : Stm) → early names b a ≡ true → IsReadFirst names b a
     read (Then x y) h = elim (or_true (early names b x) (not (always names b x) && early names b y) h) [
-          inl g ↦
-            let q = read x g in
-            let r = some_path y in
-            (q.0 ++ r.0, (q.0, r.0, q.1, r.1, refl), rw (read_joined q.0 r.0) (or_left (read_first_on names b q.0) (not (assigned_on names b q.0) && read_first_on names b r.0) q.2))
-        | inr g ↦
-            let f = and_true (not (always names b x)) (early names b y) g in
-            let q = unassigned x (not_true (always names b x) f.0) in
-            let r = read y f.1 in
-            (q.0 ++ r.0, (q.0, r.0, q.1, r.1, refl), rw (read_joined q.0 r.0, q.2) (or_right (read_first_on names b q.0) (read_first_on names b r.0) r.2))
-        ]
+      | inl g ↦
+          let q = read x g in
+          let r = some_path y in
+          (q.0 ++ r.0, (q.0, r.0, q.1, r.1, refl), rw (read_joined q.0 r.0) (or_left (read_first_on names b q.0) (not (assigned_on names b q.0) && read_first_on names b r.0) q.2))
+      | inr g ↦
+          let f = and_true (not (always names b x)) (early names b y) g in
+          let q = unassigned x (not_true (always names b x) f.0) in
+          let r = read y f.1 in
+          (q.0 ++ r.0, (q.0, r.0, q.1, r.1, refl), rw (read_joined q.0 r.0, q.2) (or_right (read_first_on names b q.0) (read_first_on names b r.0) r.2))
+    ]
     read (If t x y) h = elim (or_true (bit_read names b t) (early names b x || early names b y) h) [
-          inl g ↦ let q = some_path x in (Looks t ∷ q.0, (q.0, inl q.1, refl), or_left (bit_read names b t) (read_first_on names b q.0) g)
-        | inr g ↦ elim (or_true (early names b x) (early names b y) g) [
-            inl f ↦ let q = read x f in (Looks t ∷ q.0, (q.0, inl q.1, refl), or_right (bit_read names b t) (read_first_on names b q.0) q.2)
-          | inr f ↦ let q = read y f in (Looks t ∷ q.0, (q.0, inr q.1, refl), or_right (bit_read names b t) (read_first_on names b q.0) q.2)
-          ]
-        ]
+      | inl g ↦ let q = some_path x in (Looks t ∷ q.0, (q.0, inl q.1, refl), or_left (bit_read names b t) (read_first_on names b q.0) g)
+      | inr g ↦ elim (or_true (early names b x) (early names b y) g) [
+        | inl f ↦ let q = read x f in (Looks t ∷ q.0, (q.0, inl q.1, refl), or_right (bit_read names b t) (read_first_on names b q.0) q.2)
+        | inr f ↦ let q = read y f in (Looks t ∷ q.0, (q.0, inr q.1, refl), or_right (bit_read names b t) (read_first_on names b q.0) q.2)
+      ]
+    ]
     read (Case e items) h = elim (or_true (bit_read names b e || label_reads names b items) (early_in names b items) h) [
-          inl g ↦ let q = some_way items in (Tries e items ∷ q.0, (q.0, q.1, refl), or_left (bit_read names b e || label_reads names b items) (read_first_on names b q.0) g)
-        | inr g ↦ let q = read_in items true g in (Tries e items ∷ q.0, (q.0, q.1, refl), or_right (bit_read names b e || label_reads names b items) (read_first_on names b q.0) q.2)
-        ]
+      | inl g ↦ let q = some_way items in (Tries e items ∷ q.0, (q.0, q.1, refl), or_left (bit_read names b e || label_reads names b items) (read_first_on names b q.0) g)
+      | inr g ↦ let q = read_in items true g in (Tries e items ∷ q.0, (q.0, q.1, refl), or_right (bit_read names b e || label_reads names b items) (read_first_on names b q.0) q.2)
+    ]
     read (Set t e) h = (Sets t e ∷ [], refl, or_left (index_reads names b t || bit_read names b e) (not (bit_set names false b t) && false) h)
     read Nop h = let z : ⊥ = cc in absurd z
     read (For k start test step a) h = let z : ⊥ = cc in absurd z
@@ -185,13 +184,13 @@ module _ (names : Names) (b : Bit) where
     read_in : (items : Items) (o : Bool) → early_in names b items ≡ true → (p : List Step) × IsWay o items p × (read_first_on names b p ≡ true)
     read_in NoItems o h = let z : ⊥ = cc in absurd z
     read_in (Labelled es a others) o h = elim (or_true (early names b a) (early_in names b others) h) [
-          inl g ↦ let q = read a g in (q.0, inl q.1, q.2)
-        | inr g ↦ let q = read_in others o g in (q.0, inr q.1, q.2)
-        ]
+      | inl g ↦ let q = read a g in (q.0, inl q.1, q.2)
+      | inr g ↦ let q = read_in others o g in (q.0, inr q.1, q.2)
+    ]
     read_in (Default a others) o h = elim (or_true (early names b a) (early_in names b others) h) [
-          inl g ↦ let q = read a g in (q.0, inl q.1, q.2)
-        | inr g ↦ let q = read_in others false g in (q.0, inr q.1, q.2)
-        ]
+      | inl g ↦ let q = read a g in (q.0, inl q.1, q.2)
+      | inr g ↦ let q = read_in others false g in (q.0, inr q.1, q.2)
+    ]
 
   -- what is read first on some path is in the set
   mutual
@@ -199,8 +198,8 @@ module _ (names : Names) (b : Bit) where
     unread (Then x y) h p w =
         let g = or_false (early names b x) (not (always names b x) && early names b y) h in
         rw (w.4, read_joined w.0 w.1, unread x g.0 w.0 w.2) (elim (either (always names b x)) [
-          inl f ↦ rw (assigned x f w.0 w.2) refl
-        | inr f ↦ and_right (not (assigned_on names b w.0)) (read_first_on names b w.1) (unread y (not_early (always names b x) (early names b y) f g.1) w.1 w.3)
+          | inl f ↦ rw (assigned x f w.0 w.2) refl
+          | inr f ↦ and_right (not (assigned_on names b w.0)) (read_first_on names b w.1) (unread y (not_early (always names b x) (early names b y) f g.1) w.1 w.3)
         ])
     unread (If t x y) h p w =
         let g = or_false (bit_read names b t) (early names b x || early names b y) h in
@@ -224,13 +223,19 @@ module _ (names : Names) (b : Bit) where
         elim w [ inl v ↦ unread a g.0 p v | inr v ↦ unread_in others false g.1 p v ]
 
   pub assigned_exactly : (a : Stm) → (always names b a ≡ true) ↔ IsAssigned names b a
-  assigned_exactly a = (assigned a, λ h. elim (either (always names b a)) [
-      inl g ↦ g
-    | inr g ↦ let q = unassigned a g in let e = h q.0 q.1 in let f = q.2 in let z : ⊥ = cc in absurd z
-    ])
+  assigned_exactly a = (
+    assigned a,
+    λ h. elim (either (always names b a)) [
+      | inl g ↦ g
+      | inr g ↦ let q = unassigned a g in let e = h q.0 q.1 in let f = q.2 in let z : ⊥ = cc in absurd z
+    ],
+  )
 
   pub read_exactly : (a : Stm) → (early names b a ≡ true) ↔ IsReadFirst names b a
-  read_exactly a = (read a, λ q. elim (either (early names b a)) [
-      inl g ↦ g
-    | inr g ↦ let e = unread a g q.0 q.1 in let f = q.2 in let z : ⊥ = cc in absurd z
-    ])
+  read_exactly a = (
+    read a,
+    λ q. elim (either (early names b a)) [
+      | inl g ↦ g
+      | inr g ↦ let e = unread a g q.0 q.1 in let f = q.2 in let z : ⊥ = cc in absurd z
+    ],
+  )

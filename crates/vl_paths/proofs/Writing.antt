@@ -80,6 +80,7 @@ module _ (is_memory : ℕ → Bool) (rows : List Row) where
       where
         ws : List ℕ
         ws = slice_set (words_of x u.signal) u.word (placed (signal_form rows u.signal).width (slice_index (words_of x u.signal) u.word) u.low u.width u.value)
+
         go : (k ≡ u.signal) ⊎ (k ≢ u.signal) → (u.signal < length x) ⊎ (length x ≤ u.signal) → length (words_of (with_update rows x u) k) ≡ length (words_of x k)
         go (inr e) y = ap length (words_elsewhere x u.signal k ws e)
         go (inl e) (inl l) = rw e (ap length (words_there x u.signal ws l) ∙ length-set (words_of x u.signal) u.word _)
@@ -105,15 +106,20 @@ module _ (is_memory : ℕ → Bool) (rows : List Row) where
       where
         k : ℕ
         k = b.signal
+
         old : p b ≡ true → bit_of (slice_index (words_of v b.signal) word) (pos b.place) ≡ bit_of (slice_index (words_of w b.signal) word) (pos b.place)
         old g = d.same.bits b word g
+
         uncovered : ((covers rows u b ≡ true) → ⊥) → p b ≡ true
         uncovered n = elim (or_true (p b) (covers rows u b) h) [ inl g ↦ g | inr g ↦ absurd (n g) ]
+
         there : (x : List (List ℕ)) → length (words_of x b.signal) ≡ length (words_of v b.signal) → b.signal ≡ u.signal → word < length (words_of v b.signal) → u.signal < length x
         there x e s l = elim (cases_lt u.signal (length x)) [ inl m ↦ m | inr m ↦ absurd (let z : length (words_of x b.signal) ≡ 0 = rw s (ap length (words_none x u.signal m)) in omega (arith, z, e, l)) ]
+
         now : (x : List (List ℕ)) → length (words_of x b.signal) ≡ length (words_of v b.signal) → b.signal ≡ u.signal → word < length (words_of v b.signal) → word ≡ 0 →
             slice_index (words_of (with_update rows x u) b.signal) word ≡ placed (signal_form rows u.signal).width (slice_index (words_of x u.signal) 0) u.low u.width u.value
         now x e s l z = rw (s, z) (left_there x (there x e s l) (let f : length (words_of x u.signal) ≡ length (words_of v b.signal) = rw (← s) e in omega (arith, f, l)))
+
         go : (b.signal ≡ u.signal) ⊎ (b.signal ≢ u.signal) → (word < length (words_of v b.signal)) ⊎ (length (words_of v b.signal) ≤ word) →
             bit_of (slice_index (words_of (with_update rows v u) b.signal) word) (pos b.place) ≡ bit_of (slice_index (words_of (with_update rows w u) b.signal) word) (pos b.place)
         go e (inr l) = ap (λ x. bit_of x (pos b.place)) (no_word v b.signal word l ∙ sym (no_word w b.signal word (omega (arith, d.words b.signal, l))))
@@ -124,14 +130,19 @@ module _ (is_memory : ℕ → Bool) (rows : List Row) where
           where
             wide : ℕ
             wide = (signal_form rows u.signal).width
+
             zero_word : word ≡ 0
             zero_word = let m : length (words_of v b.signal) ≤ 1 = d.lone b.signal (ap is_memory e ∙ plain.signal) in omega (arith, l, m)
+
             before : List (List ℕ) → ℕ
             before x = slice_index (words_of x u.signal) 0
+
             after : List (List ℕ) → ℕ
             after x = placed wide (before x) u.low u.width u.value
+
             old0 : p b ≡ true → bit_of (before v) (pos b.place) ≡ bit_of (before w) (pos b.place)
             old0 g = d.same.bits (record { signal = u.signal; place = b.place }) 0 (subst (λ j. p (record { signal = j; place = b.place }) ≡ true) e g)
+
             by : (b.place < wide) ⊎ (wide ≤ b.place) → (pos b.place <ℤ u.low) ⊎ ((u.low ≤ℤ pos b.place) × (pos b.place <ℤ (u.low +ℤ pos u.width))) ⊎ ((u.low +ℤ pos u.width) ≤ℤ pos b.place) →
                 bit_of (after v) (pos b.place) ≡ bit_of (after w) (pos b.place)
             by (inr m) y = bit_at_above (after v) wide b.place (placed_below wide (before v) u.low u.width u.value) m ∙ sym (bit_at_above (after w) wide b.place (placed_below wide (before w) u.low u.width u.value) m)

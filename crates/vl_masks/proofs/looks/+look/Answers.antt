@@ -30,17 +30,17 @@ look-looks-requires-in-Call t c =
 pub look-returns-in-Cat : goal.look-returns-in-Cat
 look-returns-in-Cat t c =
     subst (λ z. OnOk c.looks.result (Looks c.args.known.now.items c.args.read.now.items c.looks.new.read.items (λ b. bits.bit_read (names_seen c.args.m.now) b z)))
-      (sym (cat-is c.args.e.now c.in-Cat.parts c.as_slice.result.now c.in-Cat.is c.as_slice.ensures.value)) c.looks.ensures
+    (sym (cat-is c.args.e.now c.in-Cat.parts c.as_slice.result.now c.in-Cat.is c.as_slice.ensures.value)) c.looks.ensures
 
 pub look-returns-in-Rep : goal.look-returns-in-Rep
 look-returns-in-Rep t c =
     subst (λ z. OnOk c.looks-in-Rep.result (Looks c.args.known.now.items c.args.read.now.items c.looks-in-Rep.new.read.items (λ b. bits.bit_read (names_seen c.args.m.now) b z)))
-      (sym (rep-is c.args.e.now c.in-Rep.field-0 c.in-Rep.parts c.as_slice-in-Rep.result.now c.in-Rep.is c.as_slice-in-Rep.ensures.value)) c.looks-in-Rep.ensures
+    (sym (rep-is c.args.e.now c.in-Rep.field-0 c.in-Rep.parts c.as_slice-in-Rep.result.now c.in-Rep.is c.as_slice-in-Rep.ensures.value)) c.looks-in-Rep.ensures
 
 pub look-returns-in-Call : goal.look-returns-in-Call
 look-returns-in-Call t c =
     subst (λ z. OnOk c.looks-in-Call.result (Looks c.args.known.now.items c.args.read.now.items c.looks-in-Call.new.read.items (λ b. bits.bit_read (names_seen c.args.m.now) b z)))
-      (sym (call-is c.args.e.now c.in-Call.field-0 c.in-Call.given c.as_slice-in-Call.result.now c.in-Call.is c.as_slice-in-Call.ensures.value)) c.looks-in-Call.ensures
+    (sym (call-is c.args.e.now c.in-Call.field-0 c.in-Call.given c.as_slice-in-Call.result.now c.in-Call.is c.as_slice-in-Call.ensures.value)) c.looks-in-Call.ensures
 
 pub looks-loop-e-preserved : goal.looks-loop-e-preserved
 looks-loop-e-preserved t c =

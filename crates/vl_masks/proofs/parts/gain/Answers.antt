@@ -25,7 +25,7 @@ loop-part-preserved c =
     let all = c.loop-part.all.items in
     let ks = c.loop-part.known.items in
     let new : (b : Bit) → in_masks c.show_part.new.known.items b ≡ (in_masks ks b || (in_part (get_or ps i none) b && not (in_masks ks b))) =
-        λ b. c.show_part.ensures.bits b ∙ ap (λ x. in_masks ks b || x) (c.unknown-new.ensures.bits b) in
+    λ b. c.show_part.ensures.bits b ∙ ap (λ x. in_masks ks b || x) (c.unknown-new.ensures.bits b) in
     record {
       long = c.show_part.ensures.long ∙ c.loop-part.invariant.long;
       within = c.in_ok-add.ensures.within (length c.args.known.now.items) c.loop-part.invariant.within (omega (arith, c.unknown-new.ensures.signal, c.requires i none c.loop-part-test.true));

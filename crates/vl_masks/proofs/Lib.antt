@@ -3,3 +3,4 @@ pub mod Lists
 pub mod Rows
 pub mod Ranges
 pub mod Looking
+pub mod Targets

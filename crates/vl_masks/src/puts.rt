@@ -1,6 +1,6 @@
 //! The bits that targets assign, and those that their indices read.
 
-ghost use Rattle.std.specs.Prelude.{◌≡◌, ◌&&◌, ◌||◌, not, false, Bool, ℤ, Option, None, option_map, length, OnOk, IfSome};
+ghost use Rattle.std.specs.Prelude.{◌≡◌, ◌<◌, ◌&&◌, ◌||◌, not, false, Bool, ℤ, Option, None, option_map, length, OnOk, IfSome};
 ghost use Rattle.vl_design.specs.Sound.{IsSoundTarget, IsSoundBase, IsWidth};
 ghost use Rattle.vl_design.specs.Trees.{target_of};
 ghost use Rattle.vl_paths.specs.Bits as bits;

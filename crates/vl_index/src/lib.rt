@@ -1,0 +1,8 @@
+//! What numbers stand for, and constant indices.
+#![tactic(auto)]
+
+mod forms;
+pub mod index;
+pub mod meanings;
+mod values;
+mod wholes;

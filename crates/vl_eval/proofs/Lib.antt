@@ -1,3 +1,6 @@
+pub mod Contexts
 pub mod Names
+pub mod Reading
 pub mod Rows
+pub mod Wholes
 pub mod Widths

@@ -1,5 +1,6 @@
 pub mod Contexts
 pub mod Names
+pub mod Readable
 pub mod Reading
 pub mod Rows
 pub mod Wholes

@@ -1,5 +1,6 @@
 -- Expressions are read operand by operand.
-use Rattle.std.proofs.Common.{◌≡◌, ◌<◌, ◌≤◌, ◌%◌, ◌^◌, refl, ap, sym, ◌∙◌, ℕ, List, [], ◌∷◌, ◌++◌, Bool, true, false, append_assoc, arith, ℤ, length, get_or, take, drop, ◌-◌}
+use Rattle.std.proofs.Common.{◌≡◌, ◌<◌, ◌≤◌, ◌%◌, ◌^◌, refl, ap, sym, ◌∙◌, ℕ, List, [], ◌∷◌, ◌++◌, Bool, true, false, append_assoc, arith, ℤ, length, get_or, take, drop, ◌-◌, ◌+◌, ◌*◌}
+use Rattle.std.proofs.Math.Pow.{pow-add}
 use Rattle.std.proofs.Math.Seq.{take-length}
 use Rattle.std.specs.Prelude.{slice_get, if◌then◌else◌, ◌==◌, pos}
 use Rattle.vl_base.specs.declared.bits.UnOp.{UnOp}
@@ -102,3 +103,67 @@ first-rest (x ∷ xs) h =
 
 pub reads-called : (names : Names) (s : Sample) (c : Form) (f : ℕ) (es : Exps) (calls : List ℕ) (v : ℕ) (vs : List ℕ) (w x y : ℕ) → calls ≡ v ∷ vs → w ≡ (result_form names f).width → y ≡ v % 2 ^ w → x ≡ resized c.signed w c.width y → Reads names s (Call f es) c calls x vs
 reads-called names s c f es calls v vs w x y e i j k = rw (k, j, i, e) (reads-call names s c f es v vs)
+
+-- a value that is equal was read too
+pub reads-same : (names : Names) (s : Sample) (e : Exp) (c : Form) (before left : List ℕ) (v w : ℕ) → w ≡ v → Reads names s e c before v left → Reads names s e c before w left
+reads-same names s e c before left v w i h = rw i h
+
+-- ---- values side by side
+
+pub reads-end : (names : Names) (s : Sample) (before : List ℕ) → ReadsAll names s NoExps before 0 before
+reads-end names s before = record { leads = λ files call rest fits e. (refl, e) }
+
+pub reads-more : (names : Names) (s : Sample) (e : Exp) (es : Exps) (before mid after : List ℕ) (x v : ℕ) → Reads names s e (form names e) before x mid → ReadsAll names s es mid v after → ReadsAll names s (MoreExps e es) before (appended x (total_width names es) v) after
+reads-more names s e es before mid after x v h k = record {
+  leads = λ files call rest fits i.
+      let g = scope_at names files call in
+      let p = h.leads files call _ fits (i ∙ append_assoc (answers_of g s e) (all_answers g s es) rest) in
+      let q = k.leads files call rest fits p.1 in
+      (rw (p.0, q.0) refl, q.1);
+}
+
+pub appended-more : (a w x t v : ℕ) → appended (appended a w x) t v ≡ appended a (w + t) (appended x t v)
+appended-more a w x t v = let p : 2 ^ (w + t) ≡ 2 ^ w * 2 ^ t = pow-add 2 w t in rw p (grind arith)
+
+-- what is read of the rest is read of the whole
+pub reads-on : (names : Names) (s : Sample) (whole : Exps) (before here mid : List ℕ) (e : Exp) (es rest : Exps) (a w x b : ℕ) → rest ≡ MoreExps e es → w ≡ (form names e).width → b ≡ appended a w x → Reads names s e (form names e) here x mid
+    → ((v : ℕ) (after : List ℕ) → ReadsAll names s rest here v after → ReadsAll names s whole before (appended a (total_width names rest) v) after)
+    → (v : ℕ) (after : List ℕ) → ReadsAll names s es mid v after → ReadsAll names s whole before (appended b (total_width names es) v) after
+reads-on names s whole before here mid e es rest a w x b i j k h leads v after l =
+    let m : ReadsAll names s rest here (appended x (total_width names es) v) after = rw i (reads-more names s e es here mid after x v h l) in
+    let n = leads _ after m in
+    let t : total_width names rest ≡ w + total_width names es = rw (i, j) refl in
+    let q : appended b (total_width names es) v ≡ appended a (total_width names rest) (appended x (total_width names es) v) = rw (k, t) (appended-more a w x (total_width names es) v) in
+    rw q n
+
+-- nothing is left of the whole
+pub reads-whole : (names : Names) (s : Sample) (whole : Exps) (before here : List ℕ) (rest : Exps) (a : ℕ) → rest ≡ NoExps
+    → ((v : ℕ) (after : List ℕ) → ReadsAll names s rest here v after → ReadsAll names s whole before (appended a (total_width names rest) v) after)
+    → ReadsAll names s whole before a here
+reads-whole names s whole before here rest a e leads =
+    let m : ReadsAll names s rest here 0 here = rw e (reads-end names s here) in
+    let n = leads 0 here m in
+    let t : total_width names rest ≡ 0 = rw e refl in
+    let q : a ≡ appended a (total_width names rest) 0 = rw t (omega arith) in
+    rw q n
+
+-- ---- reading by equations
+
+pub pick-read : (names : Names) (s : Sample) (c : Form) (before mid left : List ℕ) (b i : Exp) (from : LowestBit) (w v bw n iw : ℕ) (signed : Bool) (z : ℤ) (p x : ℕ)
+    → Reads names s b (form names b) before v mid → bw ≡ (form names b).width
+    → Reads names s i (form names i) mid n left → iw ≡ (form names i).width → signed ≡ (form names i).signed
+    → z ≡ reading signed iw n → p ≡ picked bw v (lowest_bit from z) w → x ≡ p
+    → Reads names s (Pick b i from w) c before x left
+pick-read names s c before mid left b i from w v bw n iw signed z p x h bwidth k iwidth isigned whole picks is =
+    let value : p ≡ picked (form names b).width v (lowest_bit from (reading (form names i).signed (form names i).width n)) w = rw (← isigned, ← iwidth, ← whole, ← bwidth) picks in
+    reads-same names s (Pick b i from w) c before left _ x (is ∙ value) (reads-pick names s c before b i from w v n mid left h k)
+
+pub binary-read : (names : Names) (s : Sample) (c : Form) (before mid left : List ℕ) (op : BinOp) (a b : Exp) (f g : Form) (x y w p v : ℕ)
+    → f ≡ left_form op (form names a) (form names b) c → g ≡ right_form op (form names a) (form names b) c
+    → Reads names s a f before x mid → Reads names s b g mid y left → w ≡ f.width → p ≡ binary_value op f.signed w x y → v ≡ p
+    → Reads names s (Bin op a b) c before v left
+binary-read names s c before mid left op a b f g x y w p v ef eg h k width value is =
+    let first = rw ef at h in
+    let second = rw eg at k in
+    let same : p ≡ binary_value op (left_form op (form names a) (form names b) c).signed (left_form op (form names a) (form names b) c).width x y = rw (← ef, ← width) value in
+    reads-same names s (Bin op a b) c before left _ v (is ∙ same) (reads-binary names s c before op a b x y mid left first second)

@@ -1,13 +1,9 @@
 -- What the evaluator's names, values and contexts stand for (IEEE 1364-2005, clauses 5 and 10.4).
-use Rattle.std.specs.Prelude.{◌≡◌, ℕ, ◌^◌, ◌<◌, ◌≤◌, List, ◌++◌, map}
+use Rattle.std.specs.Prelude.{ℕ, ◌^◌, ◌<◌, List, ◌++◌, map}
 use Rattle.vl_base.specs.declared.files.File.{File}
-use Rattle.vl_design.specs.declared.design.Form.{Form}
-use Rattle.vl_design.specs.Syntax.{Exp}
 use Rattle.vl_design.specs.Trees.{row_of, fun_of}
-use Rattle.vl_design.specs.Width.{Names, Scope, form, result_form}
+use Rattle.vl_design.specs.Width.{Names, Scope, result_form}
 use Rattle.vl_design.specs.Value as v
-use Rattle.vl_design.specs.Sound.{IsSoundExp}
-use Rattle.vl_design.specs.Laws.{IsFine}
 use Rattle.vl_eval.specs.declared.room.Room.{Room}
 use Rattle.vl_eval.specs.declared.room.Sample.{Sample}
 
@@ -30,10 +26,3 @@ scope_at names files call = record { names = names; files = files; call = call }
 -- what a call gives has the width of the function's result
 abbrev pub GivesFitting : Names → (ℕ → List ℕ → ℕ) → Type 0
 GivesFitting names call = (f : ℕ) (args : List ℕ) → call f args < 2 ^ (result_form names f).width
-
--- an expression can be read in a context
-pub record IsReadable (names : Names) (s : v.Sample) (e : Exp) (c : Form) : Type 0 where
-  pub sound : IsSoundExp names e
-  pub fine : IsFine names.rows s.values
-  pub wide : (form names e).width ≤ c.width
-  pub narrow : c.width ≤ 128

@@ -1,0 +1,7 @@
+pub mod Contexts
+pub mod Names
+pub mod Readable
+pub mod Reading
+pub mod Rows
+pub mod Wholes
+pub mod Widths

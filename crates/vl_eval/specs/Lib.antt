@@ -1,0 +1,4 @@
+pub mod Answers
+pub mod Rooms
+pub mod Shapes
+pub mod Wholes

@@ -40,7 +40,7 @@ module _ (ds : List Declared) where
   nodes-fine w as' h = λ a i. h (n.site w a) (In-map (n.site w) a as' i)
 
   plain-used : (count : ℕ) (a : ItemTree) → ((f : FunctionTree) → a ≡ i.Function f → IsUsedFunction (classes ds) (d.function f)) → AreFine (map (n.site None) (n.item_nodes (behind count) a)) → IsUsedItem (classes ds) (d.item a)
-  plain-used count a f h = item-used (u.meanings ds []) (classes ds) (module-means ds) (behind count) refl a f (nodes-fine None (n.item_nodes (behind count) a) h)
+  plain-used count a f h = item-used (u.meanings ds []) (classes ds) (module-means ds) (behind count) a f (nodes-fine None (n.item_nodes (behind count) a) h)
 
   item-fine : (count : ℕ) (a : ItemTree) → AreFine (n.item_sites count a) → IsUsedItem (classes ds) (d.item a)
   item-fine count (i.Function a) h = function-used ds count a (nodes-fine (Some a) (n.function_nodes (behind count) a) h)

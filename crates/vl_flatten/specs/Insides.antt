@@ -4,7 +4,7 @@ use Rattle.vl_flat.specs.Items.{Instances, NamedUnit, Module}
 use Rattle.vl_flat.specs.Processes.{Here}
 use Rattle.vl_flat.specs.Scopes.{Env}
 use Rattle.vl_flat.specs.Environments.{Counts, size, environment}
-use Rattle.vl_flat.specs.Connections.{given, named_connection, port_connection}
+use Rattle.vl_flat.specs.Connections.{given, spelled, named_connection, port_connection}
 use Rattle.vl_flat.specs.Flat.{Part, input_part, output_part, body, instance}
 use Rattle.vl_constant.specs.Seen.{look}
 use Rattle.vl_instance.specs.Tables.{joined}
@@ -24,6 +24,6 @@ contents n ms above base us u m =
 
 -- the tables are those of this instance
 pub record IsInside (a : Inside) (n : ℕ) (ms : List Module) (above : Here) (base : Counts) (us : Instances) (u : NamedUnit) (m : Module) : Type 0 where
-  pub overrides : joined a.overrides ≡ named_connection m.parameters us.overrides
+  pub overrides : joined a.overrides ≡ named_connection (spelled m.parameters) us.overrides
   pub ports : joined a.ports ≡ port_connection m u
   pub names : look a.names ≡ names_in n ms above base us u m

@@ -26,7 +26,7 @@ UsedAs k Whole e = IsUsedSide k e
 UsedAs k Operand e = IsUsed k e
 
 -- a function loads no memory
-loads-none : (name : List ℕ) → (is_operand name || is_on_files name) ≡ true → is_load name ≡ false
+pub loads-none : (name : List ℕ) → (is_operand name || is_on_files name) ≡ true → is_load name ≡ false
 loads-none name h = by (is_load name) refl
   where
     by : (c : Bool) → is_load name ≡ c → c ≡ false

@@ -45,6 +45,7 @@ use Rattle.vl_used.specs.Used as u
 use Rattle.vl_used.specs.Agreeing.{StandsAs, Agrees, StandsFor}
 use Rattle.vl_laws.proofs.Lists.{Each, each-left, each-right, found-holds, at-holds}
 use Rattle.vl_laws.proofs.Depth.{NoFault}
+use Rattle.vl_named.proofs.Sides.{used-side}
 use Rattle.vl_sound.specs.Numbers.{is_unfit, is_unfit_in}
 use Rattle.vl_sound.proofs.Parts.{none-left, none-right, all-flat, all-clear}
 use Rattle.vl_sound.proofs.Targets.{signal-named, event-named, left-sound}
@@ -97,11 +98,6 @@ abbrev pub IsHere : u.Classes → Here → w.Names → i.Item → Type 0
 IsHere k here design (i.Signals ds) = All (λ (y : i.Declared). HasOwn (k.read y.name.name) y.value) ds
 IsHere k here design (i.Functions a) = IsFunctionHere k here design a
 IsHere k here design item = ⊤
-
-used-side : (k : u.Classes) (a : x.Ex) → u.IsUsed k a → u.IsUsedSide k a
-used-side k (x.System at name given) v = (or_left (u.is_operand name) (u.is_on_files name) v.0, v.1)
-used-side k (x.Paren at a) v = used-side k a v
-used-side k a v = v
 
 both : {A : Type 0} (P Q : A → Type 0) (xs : List A) → All P xs → All Q xs → All (λ x. P x × Q x) xs
 both P Q xs h g = λ n x there. (h n x there, g n x there)

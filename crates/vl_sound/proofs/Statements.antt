@@ -28,19 +28,12 @@ use Rattle.vl_flat.specs.Targets as t
 use Rattle.vl_flat.specs.Statements as s
 use Rattle.vl_used.specs.Used as u
 use Rattle.vl_used.specs.Agreeing.{Agrees, StandsFor}
+use Rattle.vl_named.proofs.Sides.{loads-none}
 use Rattle.vl_sound.specs.Numbers.{is_unfit, is_unfit_in}
 use Rattle.vl_sound.proofs.Parts.{none-left, none-right, not-false, width-is, below-is}
 use Rattle.vl_sound.proofs.Expressions.{operand-by, made, sound}
 use Rattle.vl_sound.proofs.Targets.{left-sound, first-named}
 use Rattle.vl_sound.proofs.Tasks.{GoodTask, args-good, task-good, used-task-good}
-
--- a function that may be called in a right side loads no memory
-loads-none : (name : List ℕ) → (u.is_operand name || u.is_on_files name) ≡ true → is_load name ≡ false
-loads-none name h = by (is_load name) refl
-  where
-    by : (c : Bool) → is_load name ≡ c → c ≡ false
-    by false q = refl
-    by true q = let z : ⊥ = cc (subst (λ n. (u.is_operand n || u.is_on_files n) ≡ true) ((bytes_eq-Decides name (codes "$readmemh")).0 q) h) in absurd z
 
 -- the statement is sound where its numbers fit
 abbrev pub GoodIn : w.Names → d.Stm → Type 0

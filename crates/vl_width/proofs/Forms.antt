@@ -1,5 +1,5 @@
 -- The forms of sound expressions have 1 to 128 bits, and contexts are no narrower than what stands in them.
-use Rattle.std.proofs.Common.{◌≡◌, ◌<◌, ◌≤◌, ◌+◌, ◌*◌, ℕ, Bool, true, false, refl, sym, ap, ◌∙◌, arith, Option, Some, None}
+use Rattle.std.proofs.Common.{◌≡◌, ◌≤◌, ℕ, Bool, true, false, refl, arith, Option, Some, None}
 use Rattle.std.specs.Prelude.{slice_get, ◌&&◌, IsTrue}
 use Rattle.vl_base.specs.declared.bits.UnOp.{UnOp}
 use Rattle.vl_base.specs.declared.bits.UnOp.TheVariants.{Neg, Not, LogNot, RedAnd, RedOr, RedXor, RedNand, RedNor, RedXnor}
@@ -9,8 +9,8 @@ use Rattle.vl_base.specs.Value.{unary_width, binary_width, needs_one_width}
 use Rattle.vl_design.specs.declared.design.Form.{Form}
 use Rattle.vl_design.specs.declared.design.SigKind.{SigKind}
 use Rattle.vl_design.specs.Syntax.{Exp, Num, Label, Sig, Word, Pick, Slice, Un, Bin, Cond, Cat, Rep, Cast, Call, Time, LastAnswer, Row}
-use Rattle.vl_design.specs.Width.{Names, form, row_form, signal_form, joined, unary_form, binary_form, operand_form, left_form, right_form}
-use Rattle.vl_design.specs.Sound.{IsSoundExp, IsSignal, IsMemory, IsOf, HasValue, IsMem, IsWidth}
+use Rattle.vl_design.specs.Width.{Names, form, row_form, joined, unary_form, binary_form, operand_form, left_form, right_form}
+use Rattle.vl_design.specs.Sound.{IsSoundExp, IsOf, HasValue, IsMem, IsWidth}
 
 -- a context is at least as wide as what stands in it, and signed only where that is
 pub record Fits (f c : Form) : Type 0 where

@@ -1,11 +1,11 @@
 -- A sized expression has the value of the expression in its context.
-use Rattle.std.proofs.Common.{◌≡◌, ◌<◌, ◌≤◌, ◌+◌, ◌*◌, ◌%◌, ◌^◌, ℕ, zero, suc, Bool, true, false, List, [], ◌∷◌, length, refl, sym, ap, ◌∙◌, arith, Option, Some, None, get_or, suc-mul}
-use Rattle.std.specs.Prelude.{slice_get, slice_index, All, if◌then◌else◌, ◌==◌, ℤ, pos, negsuc}
+use Rattle.std.proofs.Common.{◌≡◌, ◌<◌, ◌≤◌, ◌+◌, ◌*◌, ◌^◌, ℕ, zero, suc, Bool, true, false, List, [], ◌∷◌, refl, sym, ap, ◌∙◌, arith, suc-mul}
+use Rattle.std.specs.Prelude.{if◌then◌else◌, ℤ, pos, negsuc}
 use Rattle.std.proofs.Math.Nat.{mod-eq_of_lt}
 use Rattle.std.proofs.Math.Pow.{pow_mono, pow_pos}
 use Rattle.std.proofs.lemmas.Nat.{mod_below}
-use Rattle.vl_base.specs.Value.{reading, resized, wrapped, unary_value, unary_width, binary_value, binary_width, needs_one_width}
-use Rattle.vl_base.specs.Selects.{picked, appended}
+use Rattle.vl_base.specs.Value.{reading, resized, unary_value, unary_width, binary_value, binary_width}
+use Rattle.vl_base.specs.Selects.{picked}
 use Rattle.vl_base.proofs.Congruent.{wrapped-below}
 use Rattle.vl_base.proofs.Readings.{wrapped-reading}
 use Rattle.vl_base.proofs.Bounds.{unary-below, binary-below}
@@ -13,13 +13,13 @@ use Rattle.vl_base.proofs.Parts.{joined-below}
 use Rattle.vl_design.specs.declared.design.Form.{Form}
 use Rattle.vl_design.specs.Syntax.{Exp, Num, Label, Sig, Word, Pick, Slice, Un, Bin, Cond, Cat, Rep, Cast, Call, Time, LastAnswer, Exps, NoExps, MoreExps}
 use Rattle.vl_design.specs.Sized.{Sized, At, Several, NoneSized, MoreSized}
-use Rattle.vl_design.specs.Width.{Scope, Names, form, total_width, signal_form, result_form, input_widths, operand_form, left_form, right_form, joined, assigned}
+use Rattle.vl_design.specs.Width.{Scope, Names, form, total_width, result_form, input_widths, operand_form, left_form, right_form, joined, assigned}
 use Rattle.vl_design.specs.Value as v
 use Rattle.vl_design.specs.Value.{Sample, value, word_at, words_of, lowest_bit, repeated}
-use Rattle.vl_design.specs.Sound.{IsSoundExp, AreSound, IsWidth}
+use Rattle.vl_design.specs.Sound.{IsSoundExp, AreSound}
 use Rattle.vl_width.specs.Widths.{width_of, widths_of, node_width}
 use Rattle.vl_width.specs.Value.{sized_value, node_value, side_by_side, arguments}
-use Rattle.vl_width.specs.Sizing.{own, own_node, own_parts, own_arguments, read_at, several_at}
+use Rattle.vl_width.specs.Sizing.{own, own_parts, own_arguments, read_at, several_at}
 use Rattle.vl_width.proofs.Forms.{Fits, Stays, itself, then-fits, first-joined, second-joined, operand-fits, left-fits, right-fits, unary-stays, binary-stays, one_width, unsigned-stays, whole-stays}
 
 -- a value that stays in its context

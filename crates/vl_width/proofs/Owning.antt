@@ -1,6 +1,6 @@
 -- Each node at its own width and sign: lists.
-use Rattle.std.proofs.Common.{◌≡◌, ◌<◌, ◌≤◌, ◌+◌, ◌*◌, ℕ, zero, suc, Bool, false, List, [], ◌∷◌, ◌++◌, map, length, take, drop, get_or, refl, sym, ap, ◌∙◌, arith, subst, Option, Some, None, suc-mul, add-one}
-use Rattle.std.specs.Prelude.{slice_get, All, option_map}
+use Rattle.std.proofs.Common.{◌≡◌, ◌<◌, ◌≤◌, ◌+◌, ◌*◌, ℕ, zero, suc, false, List, [], ◌∷◌, ◌++◌, map, length, take, drop, get_or, refl, sym, ap, ◌∙◌, arith, subst, Option, Some, None, suc-mul, add-one}
+use Rattle.std.specs.Prelude.{slice_get, option_map}
 use Rattle.std.proofs.lemmas.List.{length-map, get_or-map}
 use Rattle.std.proofs.lemmas.Option.{slice_get-map, slice_get_within, slice_get-get_or}
 use Rattle.std.specs.declared.alloc.Global.{Global}
@@ -9,19 +9,18 @@ use Rattle.vl_design.specs.declared.design.Expr.{Expr}
 use Rattle.vl_design.specs.declared.design.ExprNode as d
 use Rattle.vl_design.specs.declared.design.ExprNode.TheBlock as block
 use Rattle.vl_design.specs.declared.design.Func.{Func}
-use Rattle.vl_base.specs.declared.place.Place.{Place}
 use Rattle.vl_design.specs.declared.design.Form.{Form}
 use Rattle.vl_design.specs.declared.sized.SizedExpr.{SizedExpr}
 use Rattle.vl_design.specs.declared.sized.SizedNode as s
 use Rattle.vl_design.specs.Placed as p
 use Rattle.vl_design.specs.Plainly as plain
 use Rattle.vl_design.specs.Seen as seen
-use Rattle.vl_design.specs.Syntax.{Exp, Cat, Rep, Call, Fun}
+use Rattle.vl_design.specs.Syntax.{Cat, Rep, Call, Fun}
 use Rattle.vl_design.specs.Sized as z
 use Rattle.vl_design.specs.Sized.{Sized, At, Several, sized_of, node_of}
 use Rattle.vl_design.specs.Trees.{exp_of, exps_of, fun_of}
 use Rattle.vl_design.specs.Width.{Names, form, total_width, unsigned, result_form, input_widths, input_widths_of, signal_form, rows_in}
-use Rattle.vl_design.specs.Sound.{IsSoundExp, AreSound, IsWidth, Takes, count_of}
+use Rattle.vl_design.specs.Sound.{IsSoundExp, IsWidth, Takes, count_of}
 use Rattle.vl_width.specs.Nodes.{nodes, all_nodes}
 use Rattle.vl_width.specs.Sizing.{own, own_parts, own_arguments}
 use Rattle.vl_width.specs.Read.{own_of, at_input, at_inputs, widths_together, AreAllSound}
@@ -139,7 +138,6 @@ total-narrow (suc n) t h = let z : suc n * t ≤ 128 = h.narrow in omega (arith,
 
 pub item-sound : (names : Names) (es : List Expr) (i : ℕ) (x : Expr) → AreAllSound names es → i < length es → x ≡ get_or es i x → IsSoundExp names (exp_of x)
 item-sound names es i x h l e = rw e (sound-item names es i x h l)
-
 
 map-snoc : (xs : List SizedExpr) (x : SizedExpr) → map sized_of (xs ++ x ∷ []) ≡ map sized_of xs ++ sized_of x ∷ []
 map-snoc [] x = refl

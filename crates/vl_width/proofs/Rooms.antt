@@ -1,12 +1,12 @@
 -- What the numbers of an expression name.
-use Rattle.std.proofs.Common.{◌≡◌, ◌<◌, ◌≤◌, ◌+◌, ◌-◌, ℕ, zero, suc, List, [], ◌∷◌, ◌++◌, map, length, get_or, refl, sym, ap, ◌∙◌, arith, Option, Some, None, subst}
-use Rattle.std.specs.Prelude.{slice_get, All, option_map}
+use Rattle.std.proofs.Common.{◌≡◌, ℕ, zero, suc, List, [], ◌∷◌, ◌++◌, map, refl, sym, ap, ◌∙◌, arith, Option, Some, None}
+use Rattle.std.specs.Prelude.{slice_get, All}
 use Rattle.std.proofs.lemmas.Option.{slice_get_within, get_or_from_slice_get}
 use Rattle.vl_design.specs.declared.design.Func.{Func}
 use Rattle.vl_design.specs.declared.design.Design.{Design}
 use Rattle.vl_design.specs.Syntax.{Fun, Flat, Row}
-use Rattle.vl_design.specs.Width.{Names, names_in, names_of, rows_in, row_form, signal_form, input_widths, input_widths_of}
-use Rattle.vl_design.specs.Sound.{IsSound, IsSoundFun, IsSignal, IsOf, HasValue, IsWidth}
+use Rattle.vl_design.specs.Width.{Names, names_in, names_of, rows_in, row_form, signal_form, input_widths_of}
+use Rattle.vl_design.specs.Sound.{IsSound, IsSignal, IsOf, HasValue, IsWidth}
 use Rattle.vl_design.specs.declared.design.Signal.{Signal}
 use Rattle.vl_design.specs.Trees.{row_of, fun_of, flat_of}
 use Rattle.vl_design.proofs.TreeLemmas.{funs-map}

@@ -1,12 +1,12 @@
 -- Lists of sized expressions.
-use Rattle.std.proofs.Common.{◌≡◌, ◌<◌, ◌+◌, ℕ, zero, suc, List, [], ◌∷◌, map, length, get_or, refl, sym, ap, ◌∙◌, arith}
+use Rattle.std.proofs.Common.{◌≡◌, ◌<◌, ℕ, zero, suc, List, [], ◌∷◌, map, length, get_or, refl, sym, ap, ◌∙◌, arith}
 use Rattle.std.specs.declared.alloc.Global.{Global}
 use Rattle.std.specs.declared.vec.Vec.{Vec}
 use Rattle.vl_design.specs.declared.sized.SizedExpr.{SizedExpr}
 use Rattle.vl_design.specs.declared.sized.SizedNode as s
 use Rattle.vl_design.specs.declared.sized.SizedNode.TheBlock as block
 use Rattle.vl_design.specs.Sized.{Sized, Several, NoneSized, MoreSized, sized_of, several_of, At, node_of}
-use Rattle.vl_width.specs.Sizing.{read_at, several_at}
+use Rattle.vl_width.specs.Sizing.{several_at}
 use Rattle.vl_width.specs.Read.{each_at}
 
 abbrev pub listed : List Sized → Several

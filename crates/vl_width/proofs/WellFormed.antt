@@ -1,5 +1,5 @@
 -- A sized expression is well-formed.
-use Rattle.std.proofs.Common.{◌≡◌, ◌<◌, ◌≤◌, ◌+◌, ◌*◌, ℕ, zero, suc, List, [], ◌∷◌, length, refl, sym, ap, ◌∙◌, arith, subst}
+use Rattle.std.proofs.Common.{◌≡◌, ◌≤◌, ◌+◌, ℕ, zero, suc, List, [], ◌∷◌, length, refl, sym, ap, ◌∙◌, arith, subst}
 use Rattle.std.specs.Prelude.{slice_get, All}
 use Rattle.vl_base.specs.declared.bits.UnOp.{UnOp}
 use Rattle.vl_base.specs.declared.bits.UnOp.TheVariants.{Neg, Not, LogNot, RedAnd, RedOr, RedXor, RedNand, RedNor, RedXnor}
@@ -8,8 +8,8 @@ use Rattle.vl_base.specs.declared.bits.BinOp.TheVariants.{Add, Sub, Mul, Div, Re
 use Rattle.vl_base.specs.Value.{unary_width, binary_width}
 use Rattle.vl_design.specs.declared.design.Form.{Form}
 use Rattle.vl_design.specs.Syntax.{Exp, Num, Label, Sig, Word, Pick, Slice, Un, Bin, Cond, Cat, Rep, Cast, Call, Time, LastAnswer, Exps, NoExps, MoreExps}
-use Rattle.vl_design.specs.Width.{Scope, Names, form, total_width, input_widths, operand_form, left_form, right_form, joined, assigned}
-use Rattle.vl_design.specs.Sound.{IsSoundExp, AreSound, IsWidth, Takes, count_of}
+use Rattle.vl_design.specs.Width.{Scope, Names, form, input_widths, operand_form, left_form, right_form, joined, assigned}
+use Rattle.vl_design.specs.Sound.{IsSoundExp, AreSound, IsWidth, count_of}
 use Rattle.vl_width.specs.IsSized.{IsSized, AreSized, many_of}
 use Rattle.vl_width.specs.Sizing.{own, own_parts, own_arguments, read_at, several_at}
 use Rattle.vl_width.specs.Room.{HaveInputs}
@@ -82,9 +82,12 @@ module _ (names : Names) (inputs : HaveInputs names) where
         let fa = form names a in
         let fb = form names b in
         let l = left-is op fa fb c (form-is names a h.0) (form-is names b h.1) k in
-        let r = right-is op fa fb c (form-is names a h.0) (form-is names b h.1) k in
-        (k, binary-is op (left_form op fa fb c).width l, (binary-stays op fa fb c f).wide,
-          (one_width op fa fb c, sized a (left_form op fa fb c) h.0 l (left-fits op fa fb c f), sized b (right_form op fa fb c) h.1 r (right-fits op fa fb c f)))
+        let r = right-is op fa fb c (form-is names a h.0) (form-is names b h.1) k in (
+          k,
+          binary-is op (left_form op fa fb c).width l,
+          (binary-stays op fa fb c f).wide,
+          (one_width op fa fb c, sized a (left_form op fa fb c) h.0 l (left-fits op fa fb c f), sized b (right_form op fa fb c) h.1 r (right-fits op fa fb c f)),
+        )
     sized (Cond t a b) c h k f =
         let fa = form names a in
         let fb = form names b in

@@ -1,6 +1,5 @@
 -- What the numbers of an expression name.
 use Rattle.std.specs.Prelude.{ℕ, ◌++◌, map, All}
-use Rattle.vl_design.specs.Syntax.{Flat, Fun}
 use Rattle.vl_design.specs.Width.{Names, input_widths}
 use Rattle.vl_design.specs.Trees.{row_of, fun_of}
 use Rattle.vl_design.specs.Sound.{IsWidth}

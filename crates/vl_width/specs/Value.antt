@@ -1,5 +1,5 @@
 -- The value of a sized expression: no contexts are left (IEEE 1364-2005, clause 5).
-use Rattle.std.specs.Prelude.{ℕ, ◌%◌, ◌^◌, ℤ, List, [], ◌∷◌, slice_index, slice_get, if◌then◌else◌, ◌==◌}
+use Rattle.std.specs.Prelude.{ℕ, ◌%◌, ◌^◌, List, [], ◌∷◌, slice_index, slice_get, if◌then◌else◌, ◌==◌}
 use Rattle.vl_base.specs.Value.{reading, resized, unary_value, binary_value}
 use Rattle.vl_base.specs.Selects.{picked, appended}
 use Rattle.vl_design.specs.Sized.{Sized, At, Node, Num, Label, Sig, Word, Pick, Slice, Un, Bin, Cond, Cat, Rep, Cast, Call, Time, LastAnswer, Several, NoneSized, MoreSized}

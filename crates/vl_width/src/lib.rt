@@ -2,7 +2,7 @@
 #![tactic(auto)]
 
 pub(crate) mod contexts;
-pub(crate) mod reading;
 pub(crate) mod own;
+pub(crate) mod reading;
 pub mod room;
 pub mod size;

@@ -141,11 +141,17 @@ pub(crate) fn own(alloc: Global, room: &Room<'_>, e: &Expr) -> Result<SizedExpr,
         ExprNode::Pick(base, index, from, width) => {
             let base = operand(alloc, room, base)?;
             let index = operand(alloc, room, index)?;
-            Ok(at(unsigned(u32::from(*width)), SizedNode::Pick(base, index, *from, *width)))
+            Ok(at(
+                unsigned(u32::from(*width)),
+                SizedNode::Pick(base, index, *from, *width),
+            ))
         }
         ExprNode::Slice(base, low, width) => {
             let base = operand(alloc, room, base)?;
-            Ok(at(unsigned(u32::from(*width)), SizedNode::Slice(base, *low, *width)))
+            Ok(at(
+                unsigned(u32::from(*width)),
+                SizedNode::Slice(base, *low, *width),
+            ))
         }
         ExprNode::Un(op, a) => {
             let a = operand(alloc, room, a)?;

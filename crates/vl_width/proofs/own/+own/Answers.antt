@@ -1,11 +1,10 @@
-use Rattle.std.proofs.Common.{rules, ◌≡◌, ◌<◌, ◌≤◌, ◌+◌, ◌*◌, ◌∙◌, ap, sym, subst, map, length, get_or, arith, ℕ, List, Some, add-one}
-use Rattle.vl_design.specs.Syntax.{Cat, Rep, Call}
+use Rattle.std.proofs.Common.{◌≡◌, ◌+◌, ◌*◌, ◌∙◌, ap, sym, subst, map, arith}
 use Rattle.vl_design.specs.Sized.{sized_of}
-use Rattle.vl_design.specs.Trees.{exp_of, exps_of, fun_of}
-use Rattle.vl_design.specs.Sound.{IsSoundExp, IsWidth, Takes}
-use Rattle.vl_design.specs.Width.{total_width, unsigned, signal_form, input_widths}
+use Rattle.vl_design.specs.Trees.{exp_of, exps_of}
+use Rattle.vl_design.specs.Sound.{IsSoundExp}
+use Rattle.vl_design.specs.Width.{total_width, unsigned, input_widths}
 use Rattle.vl_width.specs.Nodes.{nodes, all_nodes}
-use Rattle.vl_width.specs.Read.{own_of, at_input, at_inputs, widths_together, AreAllSound}
+use Rattle.vl_width.specs.Read.{own_of, at_input, at_inputs, widths_together}
 use Rattle.vl_width.specs.Room.{names_of}
 use Rattle.vl_width.proofs.Owning.{exp-Cat, exp-Rep, exp-Call, own-Cat, own-Rep, own-Call, item-sound, item-nodes, call-there, takes-widths, widths-own, total-narrow, many-count, arguments-step}
 use Rattle.std.specs.Prelude.{slice_get}
@@ -92,15 +91,15 @@ pub own-returns-in_ok-all-in-Cat : goal.own-returns-in_ok-all-in-Cat
 own-returns-in_ok-all-in-Cat t c =
     c.at-in-Cat.ensures
     ∙ own-Cat (names_of c.args.room.now) c.args.e.now c.in-Cat.es c.in_ok-all-in-Cat.all c.unsigned-in-Cat.result c.total_width-width.result c.in-Cat.is
-      (c.in_ok-all-in-Cat.ensures ∙ ap (map (own_of (names_of c.args.room.now))) c.as_slice.ensures.value) c.unsigned-in-Cat.ensures
-      (c.total_width-width.ensures ∙ ap (λ xs. widths_together (map sized_of xs)) c.as_slice-in-Cat.ensures.value)
+    (c.in_ok-all-in-Cat.ensures ∙ ap (map (own_of (names_of c.args.room.now))) c.as_slice.ensures.value) c.unsigned-in-Cat.ensures
+    (c.total_width-width.ensures ∙ ap (λ xs. widths_together (map sized_of xs)) c.as_slice-in-Cat.ensures.value)
 
 pub own-returns-in_ok-all-in-Rep : goal.own-returns-in_ok-all-in-Rep
 own-returns-in_ok-all-in-Rep t c =
     c.at-in-Rep.ensures
     ∙ own-Rep (names_of c.args.room.now) c.args.e.now c.in-Rep.count c.in-Rep.es c.in_ok-all-in-Rep.all c.unsigned-in-Rep.result c.total_width.result c.in-Rep.is
-      (c.in_ok-all-in-Rep.ensures ∙ ap (map (own_of (names_of c.args.room.now))) c.as_slice-in-Rep.ensures.value) (c.unsigned-in-Rep.ensures ∙ ap (λ n. unsigned (n * c.total_width.result)) c.from-in-Rep.ensures)
-      (c.total_width.ensures ∙ ap (λ xs. widths_together (map sized_of xs)) c.as_slice-in-Rep-2.ensures.value)
+    (c.in_ok-all-in-Rep.ensures ∙ ap (map (own_of (names_of c.args.room.now))) c.as_slice-in-Rep.ensures.value) (c.unsigned-in-Rep.ensures ∙ ap (λ n. unsigned (n * c.total_width.result)) c.from-in-Rep.ensures)
+    (c.total_width.ensures ∙ ap (λ xs. widths_together (map sized_of xs)) c.as_slice-in-Rep-2.ensures.value)
 
 pub own-returns-in_ok-all-in-Call : goal.own-returns-in_ok-all-in-Call
 own-returns-in_ok-all-in-Call t c =
@@ -120,5 +119,5 @@ pub arguments-loop-i-preserved : goal.arguments-loop-i-preserved
 arguments-loop-i-preserved t c =
     let names = names_of c.args.room.now in
     arguments-step (own_of names) c.args.es.now (input_widths names c.args.function) c.loop-i.i c.index-es-i.result _ _ c.assigned.result
-      c.loop-i.invariant c.in_ok-push.ensures.items c.loop-i-test.true c.requires.many c.index-es-i.is
-      (c.assigned.ensures ∙ (ap (λ x. at_input x c.input_width-width.result) c.in_ok-argument.ensures ∙ ap (at_input (own_of names c.index-es-i.result)) c.input_width-width.ensures.value))
+    c.loop-i.invariant c.in_ok-push.ensures.items c.loop-i-test.true c.requires.many c.index-es-i.is
+    (c.assigned.ensures ∙ (ap (λ x. at_input x c.input_width-width.result) c.in_ok-argument.ensures ∙ ap (at_input (own_of names c.index-es-i.result)) c.input_width-width.ensures.value))

@@ -1,5 +1,5 @@
-use Rattle.std.proofs.Common.{ap, sym, ◌∙◌, ◌<◌, arith, map}
-use Rattle.vl_design.specs.Sized.{sized_of, At, Cat, Rep, Call, node_of}
+use Rattle.std.proofs.Common.{ap, sym, ◌∙◌, arith}
+use Rattle.vl_design.specs.Sized.{sized_of, Cat, Rep, Call, node_of}
 use Rattle.vl_width.specs.Sizing.{operands_at}
 use Rattle.vl_width.specs.Read.{each_at}
 use Rattle.vl_width.proofs.Rows.{row-each, alike}

@@ -1,7 +1,5 @@
-use Rattle.std.proofs.Common.{refl, ◌≡◌, ◌<◌, ◌∙◌, ap, sym, subst, arith, get_or, ◌++◌, map}
-use Rattle.vl_design.specs.Trees.{row_of}
+use Rattle.std.proofs.Common.{refl, ◌∙◌, ap, sym, subst, arith}
 use Rattle.vl_design.specs.Sound.{IsWidth}
-use Rattle.vl_design.specs.Width.{signal_form, input_widths}
 use Rattle.vl_width.specs.Room.{names_of}
 use Rattle.vl_width.proofs.Owning.{input-there, input-at}
 use Rattle.vl_width.proofs.room.input_width.Goals as goal

@@ -1,15 +1,13 @@
-use Rattle.std.proofs.Common.{◌≡◌, ◌∙◌, ap, arith, max}
+use Rattle.std.proofs.Common.{◌∙◌, ap, arith}
 use Rattle.vl_design.specs.declared.design.Form.{Form}
-use Rattle.vl_design.specs.Sized.{Sized, sized_of}
+use Rattle.vl_design.specs.Sized.{sized_of}
 use Rattle.vl_design.specs.Trees.{exp_of}
-use Rattle.vl_design.specs.Width.{form, assigned}
+use Rattle.vl_design.specs.Width.{form}
 use Rattle.vl_design.specs.Sound.{IsWidth}
-use Rattle.vl_width.specs.Widths.{form_of}
 use Rattle.vl_width.specs.Sizing.{own, read_at}
 use Rattle.vl_width.specs.Room.{names_of}
-use Rattle.vl_width.proofs.Forms.{Fits, form-is, itself}
-use Rattle.vl_width.proofs.Keeping.{assigned-fits}
-use Rattle.vl_width.proofs.WellFormed.{well, kept, assigned-wide}
+use Rattle.vl_width.proofs.Forms.{Fits, form-is}
+use Rattle.vl_width.proofs.WellFormed.{well, kept}
 use Rattle.vl_width.proofs.size.size.Goals as goal
 
 pub returns-clause-value : goal.returns-clause-value

@@ -1,6 +1,5 @@
 use Rattle.std.proofs.Common.{sym, subst}
-use Rattle.vl_design.specs.Trees.{flat_of, fun_of}
-use Rattle.vl_design.specs.Width.{names_of, names_in}
+use Rattle.vl_design.specs.Trees.{flat_of}
 use Rattle.vl_width.specs.Room.{HaveInputs}
 use Rattle.vl_width.proofs.Rooms.{have-inputs, names-function}
 use Rattle.vl_width.proofs.room.Room.of_function.Goals as goal

@@ -1,5 +1,5 @@
 -- Contexts of operands, and places near a value.
-use Rattle.std.proofs.Common.{◌≡◌, ◌≤◌, ◌<◌, ◌+◌, ◌/◌, ◌*◌, ◌%◌, ◌^◌, ℕ, suc, min, refl, ap, sym, ◌∙◌, arith, ℤ}
+use Rattle.std.proofs.Common.{◌≡◌, ◌≤◌, ◌<◌, ◌+◌, ◌*◌, ℕ, suc, min, refl, ap, sym, ◌∙◌, arith, ℤ}
 use Rattle.std.specs.Prelude.{pos, negsuc}
 use Rattle.std.proofs.Math.Nat.{mul-le-mul_right}
 use Rattle.vl_base.specs.Selects.{picked}

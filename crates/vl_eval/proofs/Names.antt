@@ -1,8 +1,7 @@
 -- What numbers name.
-use Rattle.std.proofs.Common.{◌≡◌, ◌<◌, ◌≤◌, ◌-◌, ℕ, List, length, map, ◌++◌, refl, sym, ap, ◌∙◌, arith, subst}
+use Rattle.std.proofs.Common.{◌≡◌, ◌<◌, ℕ, List, length, refl}
 use Rattle.std.specs.Prelude.{slice_get, Option, Some, None, ⊤}
 use Rattle.std.proofs.lemmas.Option.{slice_get_within}
-use Rattle.vl_design.specs.declared.design.Form.{Form}
 use Rattle.vl_design.specs.declared.design.SigKind.{SigKind}
 use Rattle.vl_design.specs.Syntax.{Row}
 use Rattle.vl_design.specs.Width.{Names, signal_form, row_form}

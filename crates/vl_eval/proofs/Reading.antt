@@ -1,8 +1,8 @@
 -- Expressions are read operand by operand.
-use Rattle.std.proofs.Common.{◌≡◌, ◌<◌, ◌≤◌, ◌%◌, ◌^◌, refl, ap, sym, ◌∙◌, ℕ, List, [], ◌∷◌, ◌++◌, Bool, true, false, append_assoc, arith, ℤ, length, get_or, take, drop, ◌-◌, ◌+◌, ◌*◌}
+use Rattle.std.proofs.Common.{◌≡◌, ◌<◌, ◌≤◌, ◌%◌, ◌^◌, refl, ap, sym, ◌∙◌, ℕ, List, [], ◌∷◌, ◌++◌, Bool, append_assoc, arith, ℤ, length, get_or, take, drop, ◌-◌, ◌+◌, ◌*◌}
 use Rattle.std.proofs.Math.Pow.{pow-add}
 use Rattle.std.proofs.Math.Seq.{take-length}
-use Rattle.std.specs.Prelude.{slice_get, if◌then◌else◌, ◌==◌, pos}
+use Rattle.std.specs.Prelude.{slice_get, if◌then◌else◌, ◌==◌}
 use Rattle.vl_base.specs.declared.bits.UnOp.{UnOp}
 use Rattle.vl_base.specs.declared.bits.BinOp.{BinOp}
 use Rattle.vl_base.specs.Value.{reading, resized, unary_value, binary_value}
@@ -10,12 +10,12 @@ use Rattle.vl_base.specs.Selects.{picked, appended}
 use Rattle.vl_design.specs.declared.design.Form.{Form}
 use Rattle.vl_design.specs.declared.design.LowestBit.{LowestBit}
 use Rattle.vl_design.specs.Syntax.{Exp, Num, Label, Sig, Word, Pick, Slice, Un, Bin, Cond, Cat, Rep, Cast, Call, Time, LastAnswer, Exps, NoExps, MoreExps}
-use Rattle.vl_design.specs.Width.{Names, Scope, form, total_width, signal_form, result_form, operand_form, left_form, right_form, input_widths}
-use Rattle.vl_design.specs.Value.{Sample, value, value_of, words_of, word_at, lowest_bit, repeated, side_by_side, arguments}
+use Rattle.vl_design.specs.Width.{Names, form, total_width, signal_form, result_form, operand_form, left_form, right_form, input_widths}
+use Rattle.vl_design.specs.Value.{Sample, value, value_of, words_of, word_at, lowest_bit, repeated, arguments}
 use Rattle.std.specs.Prelude.{slice_index}
 use Rattle.std.proofs.Math.Nat.{mod-eq_of_lt}
 use Rattle.vl_eval.specs.Answers.{Reads, ReadsAll, answers_of, all_answers}
-use Rattle.vl_eval.specs.Rooms.{scope_at, GivesFitting}
+use Rattle.vl_eval.specs.Rooms.{scope_at}
 
 module _ (names : Names) (s : Sample) (c : Form) (before : List ℕ) where
   pub reads-num : (v w : ℕ) (signed : Bool) → Reads names s (Num v w signed) c before (resized c.signed w c.width v) before

@@ -1,14 +1,14 @@
 -- Widths of sound expressions.
-use Rattle.std.proofs.Common.{◌≡◌, ◌<◌, ◌≤◌, ◌*◌, ℕ, zero, suc, List, length, map, refl, arith}
+use Rattle.std.proofs.Common.{◌≡◌, ◌<◌, ◌≤◌, ◌*◌, ℕ, zero, suc, List, length, refl, arith}
 use Rattle.std.specs.Prelude.{slice_get, Option, Some, None}
 use Rattle.std.proofs.lemmas.Option.{slice_get_within}
 use Rattle.vl_base.specs.declared.bits.UnOp.{UnOp}
 use Rattle.vl_base.specs.declared.bits.UnOp.TheVariants.{Neg, Not}
 use Rattle.vl_base.specs.declared.bits.BinOp.{BinOp}
-use Rattle.vl_base.specs.declared.bits.BinOp.TheVariants.{Add, Sub, Mul, Div, Rem, And, Or, Xor, Xnor, Shl, Shr, Sshr, LogAnd, LogOr}
+use Rattle.vl_base.specs.declared.bits.BinOp.TheVariants.{Add, Sub, Mul, Div, Rem, And, Or, Xor, Xnor, Shl, Shr, Sshr}
 use Rattle.vl_design.specs.declared.design.Form.{Form}
 use Rattle.vl_design.specs.Syntax.{Exp, Num, Label, Sig, Word, Pick, Slice, Un, Bin, Cond, Cat, Rep, Cast, Call, Time, LastAnswer, Fun}
-use Rattle.vl_design.specs.Width.{Names, form, signal_form, unary_form, binary_form, joined, total_width}
+use Rattle.vl_design.specs.Width.{Names, form, unary_form, binary_form, joined}
 use Rattle.vl_design.specs.Sound.{IsSoundExp, IsWidth, Takes}
 use Rattle.vl_eval.proofs.Names.{named-width, signal-named, memory-named, named-there}
 

@@ -1,5 +1,4 @@
 -- How a binary operator's context comes to its operands (IEEE 1364-2005, table 5-22).
-use Rattle.std.specs.Prelude.{◌≡◌}
 use Rattle.vl_base.specs.declared.bits.BinOp.{BinOp}
 use Rattle.vl_base.specs.declared.bits.BinOp.TheVariants.{Add, Sub, Mul, Div, Rem, And, Or, Xor, Xnor, Shl, Shr, Sshr, LogAnd, LogOr}
 use Rattle.vl_eval.specs.declared.form.Shape.{Shape}

@@ -1,5 +1,5 @@
 -- Whole numbers by size and sign, and the places of bits that lie outside a value (IEEE 1364-2005, clause 5.2.1).
-use Rattle.std.specs.Prelude.{ℕ, min, ℤ, pos, negsuc, neg_ℤ, if◌then◌else◌}
+use Rattle.std.specs.Prelude.{min, ℤ, pos, negsuc, neg_ℤ, if◌then◌else◌}
 use Rattle.vl_eval.specs.declared.selects.Whole.{Whole}
 
 abbrev pub whole_of : Whole → ℤ

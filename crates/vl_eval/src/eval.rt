@@ -331,13 +331,7 @@ fn read_parts<'a>(room: &Room<'_>, s: &Sample<'_>, e: &Expr, calls: &'a [u128]) 
 /// by their sign where the context is signed.
 #[cycle(eval)]
 #[tactic(auto, using(crate::proofs::Readable::readable))]
-pub fn eval<'a>(
-    room: &Room<'_>,
-    s: &Sample<'_>,
-    e: &Expr,
-    c: Form,
-    calls: &'a [u128],
-) -> Read<'a>
+pub fn eval<'a>(room: &Room<'_>, s: &Sample<'_>, e: &Expr, c: Form, calls: &'a [u128]) -> Read<'a>
     requires sound { IsSoundExp (names_of room.now) (exp_of e.now) }
     requires fine { IsFine (names_of room.now).rows (sample_of s.now).values }
     requires wide { (w.form (names_of room.now) (exp_of e.now)).width ≤ c.width }

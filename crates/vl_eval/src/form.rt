@@ -161,7 +161,9 @@ pub fn form_of(room: &Room<'_>, e: &Expr) -> Form
             signed: number.signed,
         },
         ExprNode::Sig(number) | ExprNode::Word(number, _) => signal_form(room, *number),
-        ExprNode::Pick(_, _, _, width) | ExprNode::Slice(_, _, width) => unsigned(u32::from(*width)),
+        ExprNode::Pick(_, _, _, width) | ExprNode::Slice(_, _, width) => unsigned(u32::from(
+            *width,
+        )),
         ExprNode::Un(op, a) => unary_form(*op, form_of(room, a)),
         ExprNode::Bin(op, a, b) => match shape_of(*op) {
             Shape::Both => joined(form_of(room, a), form_of(room, b)),

@@ -5,3 +5,4 @@ pub mod eval;
 pub mod form;
 pub mod room;
 pub mod selects;
+pub mod value;

@@ -124,7 +124,11 @@ fn word_among(lowest: i32, words: u64, address: Whole) -> u64
 pub fn word_number(signal: &Signal, address: Whole) -> u64
     ensures { result ≡ v.word_at (Some (row_of signal.now)) (whole_of address) }
 {
-    word_among(lower(signal.first, signal.last), word_count(signal), address)
+    word_among(
+        lower(signal.first, signal.last),
+        word_count(signal),
+        address,
+    )
 }
 
 /// A word of a signal of a width; 0 where there is none.

@@ -1,8 +1,7 @@
-use Rattle.std.proofs.Common.{◌≡◌, ◌≤◌, ◌<◌, ◌∙◌, ◌+◌, ◌^◌, ap, sym, refl, arith, drop}
+use Rattle.std.proofs.Common.{◌≡◌, ◌+◌, ap, arith, drop}
 use Rattle.std.proofs.lemmas.List.{drop_all}
 use Rattle.vl_base.specs.Selects.{appended}
 use Rattle.vl_design.specs.Trees.{exp_of, exps_of}
-use Rattle.vl_design.specs.Syntax.{NoExps}
 use Rattle.vl_design.specs.Width.{total_width}
 use Rattle.vl_eval.specs.Rooms.{names_of, sample_of}
 use Rattle.vl_eval.specs.Answers.{parts_of}

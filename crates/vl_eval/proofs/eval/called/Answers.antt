@@ -1,4 +1,4 @@
-use Rattle.std.proofs.Common.{◌≡◌, ap, ◌∙◌}
+use Rattle.std.proofs.Common.{ap}
 use Rattle.vl_design.specs.declared.design.Form.{Form}
 use Rattle.vl_eval.specs.Rooms.{names_of}
 use Rattle.vl_eval.proofs.Reading.{reads-called, first-rest}

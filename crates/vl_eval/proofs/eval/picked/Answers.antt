@@ -1,4 +1,4 @@
-use Rattle.std.proofs.Common.{◌∙◌, rules}
+use Rattle.std.proofs.Common.{rules}
 use Rattle.vl_eval.proofs.Contexts.{picked-near}
 use Rattle.vl_eval.proofs.eval.picked.Goals as goal
 

@@ -1,5 +1,4 @@
-use Rattle.std.proofs.Common.{◌≡◌, ◌≤◌, ◌+◌, ◌*◌, ℕ, suc, arith, add-one, refl}
-use Rattle.vl_design.specs.Value.{repeated}
+use Rattle.std.proofs.Common.{arith}
 use Rattle.vl_eval.proofs.Contexts.{copies-fit}
 use Rattle.vl_eval.proofs.eval.repeated.Goals as goal
 

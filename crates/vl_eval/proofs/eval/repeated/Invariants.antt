@@ -1,4 +1,4 @@
-use Rattle.std.proofs.Common.{◌≡◌, ◌≤◌, ◌<◌, ◌*◌, ◌^◌}
+use Rattle.std.proofs.Common.{◌≡◌, ◌<◌, ◌*◌, ◌^◌}
 use Rattle.vl_design.specs.Value.{repeated}
 use Rattle.vl_eval.proofs.eval.repeated.Given as goal
 

@@ -1,6 +1,4 @@
-use Rattle.std.proofs.Common.{sym, ap, ◌∙◌, arith}
-use Rattle.vl_design.specs.Trees.{exp_of, exps_of}
-use Rattle.vl_design.specs.Width.{total_width}
+use Rattle.std.proofs.Common.{arith}
 use Rattle.vl_eval.specs.Rooms.{names_of}
 use Rattle.vl_eval.proofs.Rows.{has-parts}
 use Rattle.vl_eval.proofs.form.+form.Goals as goal

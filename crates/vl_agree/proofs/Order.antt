@@ -120,8 +120,13 @@ params-groups : (gs : List ParameterGroup) → params (flat_map (λ (g : Paramet
 unfolding params
 params-groups [] = refl
 params-groups (g ∷ gs) =
-    omega (arith, params-groups gs, params-all g.assignments, params-append (s.parameter_declarations g.assignments) (flat_map (λ (g : ParameterGroup). s.parameter_declarations g.assignments) gs),
-    sum_by-cons (λ (a : ParameterGroup). length a.assignments) g gs)
+    omega (
+      arith,
+      params-groups gs,
+      params-all g.assignments,
+      params-append (s.parameter_declarations g.assignments) (flat_map (λ (g : ParameterGroup). s.parameter_declarations g.assignments) gs),
+      sum_by-cons (λ (a : ParameterGroup). length a.assignments) g gs,
+    )
 
 params-header : (o : Option (List ParameterGroup)) → params (option_map_or (flat_map (λ g. s.parameter_declarations g.assignments)) o []) ≡ u.header_parameters o
 unfolding params

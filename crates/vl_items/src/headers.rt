@@ -105,7 +105,11 @@ fn header_names(alloc: Global, groups: &[ParameterGroup]) -> Result<Vec<Identifi
 }
 
 /// Adds the parameters that an item declares for an instance's overrides.
-fn add_item_names(alloc: Global, all: Vec<Identifier>, a: &Item) -> Result<Vec<Identifier>, AllocError>
+fn add_item_names(
+    alloc: Global,
+    all: Vec<Identifier>,
+    a: &Item,
+) -> Result<Vec<Identifier>, AllocError>
     ensures { IfOk result (λ v. v.items ≡ all.items ++ h.item_parameters a.now) }
 {
     match a {

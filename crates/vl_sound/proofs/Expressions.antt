@@ -369,7 +369,7 @@ module _ (k : u.Classes) (scope : Scope) (agrees : Agrees k scope) where
           let all = none-right (ef.past scope (x.Repeated at n es)) _ h in
           let rest = none-right (ef.faults scope n) (ef.constant_must scope constants.is_count n 10 ++ ef.all_faults scope es) all in (
             subst (λ z. IsWidth (constants.count_of (e.constant scope n) * z)) (sym (total-is at es v.1))
-            (wide k scope (x.Repeated at n es) (short k scope (x.Repeated at n es) v h) (none-left (ef.past scope (x.Repeated at n es)) _ h)),
+                (wide k scope (x.Repeated at n es) (short k scope (x.Repeated at n es) v h) (none-left (ef.past scope (x.Repeated at n es)) _ h)),
             sounds es v.1 (none-right (ef.constant_must scope constants.is_count n 10) (ef.all_faults scope es) rest) f,
           )
       sound (x.Called at t es) v h f =

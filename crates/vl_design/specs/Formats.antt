@@ -1,6 +1,6 @@
 -- The texts of displays: arguments are taken from the left, and a string is a format whose items take the arguments
 -- after it (IEEE 1364-2005, clause 17.1.1).
-use Rattle.std.specs.Prelude.{ℕ, zero, suc, ◌+◌, ◌*◌, max, true, false, List, [], ◌∷◌, ◌++◌, length, if◌then◌else◌, ◌==◌, Option, Some, None, codes}
+use Rattle.std.specs.Prelude.{ℕ, zero, suc, ◌+◌, ◌*◌, ◌%◌, ◌^◌, max, true, false, List, [], ◌∷◌, ◌++◌, length, if◌then◌else◌, ◌==◌, Option, Some, None, codes}
 use Rattle.std.specs.Int.Digits.{number_from_digits}
 use Rattle.vl_base.specs.Display.{Format, Decimal, format_of, lower_case}
 use Rattle.vl_design.specs.Syntax.{Exp, Num, Piece, Literal, Shown}
@@ -12,8 +12,14 @@ pub data Arg : Type 0 where
   Value : (e : Exp) → Arg
 
 -- a string as an operand: 8 bits for each byte, the first at the top; the empty one is one zero byte (clause 5.2.3)
+abbrev pub text_width : List ℕ → ℕ
+text_width text = 8 * max 1 (length text)
+
+abbrev pub text_number : List ℕ → ℕ
+text_number text = number_from_digits 256 text % 2 ^ text_width text
+
 abbrev pub string_exp : List ℕ → Exp
-string_exp text = Num (number_from_digits 256 text) (8 * max 1 (length text)) false
+string_exp text = Num (text_number text) (text_width text) false
 
 -- what an item of a format shows: the next argument
 abbrev pub operand : List Arg → Exp
@@ -37,6 +43,11 @@ pub data FormatPosition : Type 0 where
   Percent : FormatPosition
   PercentZero : FormatPosition
 
+-- an item of no format shows nothing, and leaves the arguments
+abbrev pub behind_item : Option Format → List Arg → List Arg
+behind_item None args = args
+behind_item (Some format) args = behind args
+
 abbrev pub with_item : Option Format → Exp → List Piece → List Piece
 with_item None e ps = ps
 with_item (Some format) e ps = Shown format e ∷ ps
@@ -54,9 +65,9 @@ abbrev mutual
       else if c == 37 then with_text (37 ∷ []) (format_pieces path InText cs args)
       -- m
       else if lower_case c == 109 then with_text path (format_pieces path InText cs args)
-      else with_item (format_of c false) (operand args) (format_pieces path InText cs (behind args))
+      else with_item (format_of c false) (operand args) (format_pieces path InText cs (behind_item (format_of c false) args))
   format_pieces path PercentZero (c ∷ cs) args =
-      with_item (format_of c true) (operand args) (format_pieces path InText cs (behind args))
+      with_item (format_of c true) (operand args) (format_pieces path InText cs (behind_item (format_of c true) args))
 
 -- how many arguments pieces took
 abbrev pub taken : List Piece → ℕ

@@ -1,6 +1,5 @@
 -- The expressions of an instance in its design, and their forms (IEEE 1364-2005, clauses 3.6, 5 and 12).
-use Rattle.std.specs.Prelude.{ℕ, ◌+◌, ◌*◌, max, min, nat_lt, ℤ, pos, neg_ℤ, ◌+ℤ◌, ◌-ℤ◌, int_le, Bool, true, false, not, ◌&&◌, List, [], ◌∷◌, fold, length, Option, Some, None, if◌then◌else◌, codes}
-use Rattle.std.specs.Int.Digits.{number_from_digits}
+use Rattle.std.specs.Prelude.{ℕ, ◌+◌, ◌*◌, min, nat_lt, ℤ, pos, neg_ℤ, ◌+ℤ◌, ◌-ℤ◌, int_le, Bool, true, false, not, ◌&&◌, List, [], ◌∷◌, fold, length, Option, Some, None, if◌then◌else◌, codes}
 use Rattle.std.specs.Str.{bytes_eq}
 use Rattle.vl_base.specs.declared.place.Place.{Place}
 use Rattle.vl_base.specs.declared.bits.UnOp.{UnOp}
@@ -17,6 +16,7 @@ use Rattle.vl_design.specs.declared.design.Form.{Form}
 use Rattle.vl_design.specs.declared.design.LowestBit.{LowestBit}
 use Rattle.vl_design.specs.declared.design.SigKind.{SigKind}
 use Rattle.vl_design.specs.declared.design.SigKind.TheVariants.{Mem}
+use Rattle.vl_design.specs.Formats.{text_width, text_number}
 use Rattle.vl_design.specs.Rows.{range_width}
 use Rattle.vl_design.specs.Width.{unsigned, joined, unary_form, binary_form}
 use Rattle.vl_flat.specs.declared.binding.Binding.{Binding}
@@ -80,10 +80,10 @@ abbrev pub is_long : List ℕ → Bool
 is_long text = nat_lt 16 (length text)
 
 abbrev pub text_form : List ℕ → Form
-text_form text = if is_long text then unsigned 1 else unsigned (8 * max 1 (length text))
+text_form text = if is_long text then unsigned 1 else unsigned (text_width text)
 
 abbrev pub text_value : List ℕ → ℕ
-text_value text = if is_long text then 0 else number_from_digits 256 text
+text_value text = if is_long text then 0 else text_number text
 
 abbrev pub operand : Place → List ℕ → p.Exp
 operand at text = p.Num at (text_value text) (text_form text).width false

@@ -4,7 +4,7 @@ use Rattle.std.specs.Prelude.{Option, Some, None, is_some}
 use Rattle.std.proofs.lemmas.Grind.{common_steps}
 use Rattle.vl_base.specs.Display.{Format}
 use Rattle.vl_design.specs.Syntax.{Exp, Piece, Literal, Shown}
-use Rattle.vl_design.specs.Formats.{with_text, with_item, taken}
+use Rattle.vl_design.specs.Formats.{with_text, behind_item, with_item, taken}
 use Rattle.vl_judge.specs.Walked.{one_if}
 
 pub taken-text : (t : List ℕ) (ps : List Piece) → taken (with_text t ps) ≡ taken ps
@@ -16,4 +16,8 @@ pub taken-item : (o : Option Format) (e : Exp) (ps : List Piece) → taken (with
 taken-item None e ps = omega arith
 taken-item (Some f) e ps = refl
 
-pub ruleset pieces = (common_steps, taken-text, taken-item)
+pub behind-none : (o : Option Format) → behind_item o [] ≡ []
+behind-none None = refl
+behind-none (Some f) = refl
+
+pub ruleset pieces = (common_steps, taken-text, taken-item, behind-none)

@@ -4,7 +4,7 @@ use Rattle.std.specs.Prelude.{if◌then◌else◌, ◌==◌, codes}
 use Rattle.std.specs.Str.{bytes_eq}
 use Rattle.vl_base.specs.Display.{Format, format_of, lower_case}
 use Rattle.vl_design.specs.Syntax.{Exp, Sig, Piece, Literal, Shown, Task, Print, Finish, Fgetc, Feof, Fclose, Row}
-use Rattle.vl_design.specs.Formats.{Arg, Null, Str, Value, operand, behind, with_text, FormatPosition, InText, Percent, PercentZero, with_item, format_pieces, taken, pieces_from}
+use Rattle.vl_design.specs.Formats.{Arg, Null, Str, Value, operand, behind, with_text, FormatPosition, InText, Percent, PercentZero, behind_item, with_item, format_pieces, taken, pieces_from}
 use Rattle.vl_design.specs.Calls.{finish_of, save_of, fopen_of, fread_of, file_of, read_hex_of, task_of}
 use Rattle.vl_design.specs.Reads.{task_writes}
 use Rattle.vl_design.specs.Placed as p
@@ -70,6 +70,10 @@ module _ (rows : List Row) (at : List (List ℕ)) where
   behind_put [] = refl
   behind_put (x ∷ xs) = refl
 
+  behind_item_put : (o : Option Format) (xs : List Arg) → behind_item o (map put_arg xs) ≡ map put_arg (behind_item o xs)
+  behind_item_put None xs = refl
+  behind_item_put (Some f) xs = behind_put xs
+
   text_put : (text : List ℕ) (ps : List Piece) → with_text text (put_pieces rows at ps) ≡ put_pieces rows at (with_text text ps)
   text_put text [] = refl
   text_put text (Literal t ∷ ps) = refl
@@ -91,12 +95,12 @@ module _ (rows : List Row) (at : List (List ℕ)) where
   format_put path Percent (c ∷ cs) xs =
       let here : (text : List ℕ) → with_text text (format_pieces path InText cs (map put_arg xs)) ≡ put_pieces rows at (with_text text (format_pieces path InText cs xs))
       = λ text. ap (with_text text) (format_put path InText cs xs) ∙ text_put text (format_pieces path InText cs xs) in
-      let there : with_item (format_of c false) (operand (map put_arg xs)) (format_pieces path InText cs (behind (map put_arg xs))) ≡ put_pieces rows at (with_item (format_of c false) (operand xs) (format_pieces path InText cs (behind xs)))
-      = rw (operand_put xs, behind_put xs, format_put path InText cs (behind xs)) (item_put (format_of c false) (operand xs) _) in
+      let there : with_item (format_of c false) (operand (map put_arg xs)) (format_pieces path InText cs (behind_item (format_of c false) (map put_arg xs))) ≡ put_pieces rows at (with_item (format_of c false) (operand xs) (format_pieces path InText cs (behind_item (format_of c false) xs)))
+      = rw (operand_put xs, behind_item_put (format_of c false) xs, format_put path InText cs (behind_item (format_of c false) xs)) (item_put (format_of c false) (operand xs) _) in
       chosen (c == 48) (format_put path PercentZero cs xs)
       (chosen (c == 37) (here (37 ∷ [])) (chosen (lower_case c == 109) (here path) there ∙ sym (if_put (lower_case c == 109) _ _)) ∙ sym (if_put (c == 37) _ _))
       ∙ sym (if_put (c == 48) _ _)
-  format_put path PercentZero (c ∷ cs) xs = rw (operand_put xs, behind_put xs, format_put path InText cs (behind xs)) (item_put (format_of c true) (operand xs) _)
+  format_put path PercentZero (c ∷ cs) xs = rw (operand_put xs, behind_item_put (format_of c true) xs, format_put path InText cs (behind_item (format_of c true) xs)) (item_put (format_of c true) (operand xs) _)
 
   taken_put : (ps : List Piece) → taken (put_pieces rows at ps) ≡ taken ps
   taken_put [] = refl

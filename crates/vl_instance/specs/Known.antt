@@ -8,7 +8,6 @@ use Rattle.vl_flat.specs.Items as x
 use Rattle.vl_design.specs.Placed.{Exp}
 use Rattle.vl_flat.specs.Scopes.{Env, none, bind, plainly}
 use Rattle.vl_flat.specs.Expressions.{constant}
-use Rattle.vl_flat.specs.Kinds.{kind_of}
 use Rattle.vl_flat.specs.Parameters.{converted, value_of}
 use Rattle.vl_flat.specs.Ranges.{type_form}
 use Rattle.vl_flat.specs.Connections.{expression_of}
@@ -16,10 +15,11 @@ use Rattle.vl_flat.specs.Environments as e
 use Rattle.vl_constant.specs.declared.scope.Known.{Known}
 use Rattle.vl_constant.specs.Seen.{look}
 use Rattle.vl_kinds.specs.declared.counts.Counts.{Counts}
+use Rattle.vl_kinds.specs.Facts.{Facts, kind_by}
 use Rattle.vl_kinds.specs.Sized as s
 use Rattle.vl_instance.specs.declared.given.Above.{Above}
 use Rattle.vl_instance.specs.declared.given.Surroundings.{Surroundings}
-use Rattle.vl_instance.specs.Given.{clocks_of, wired_of}
+use Rattle.vl_instance.specs.Given.{clocks_by, wired_by}
 use Rattle.vl_instance.specs.Tables.{joined}
 
 abbrev pub counts_of : Counts → e.Counts
@@ -38,9 +38,9 @@ override_in s t = option_map (constant (plainly (look s.names.now))) (expression
 abbrev pub with_parameter : (List ℕ → Option Exp) → x.DataType → Env → x.Parameter → Env
 with_parameter overrides type env a = bind env a.name.name (b.Constant (converted env type (value_of env (overrides a.name.name) a)))
 
--- the kind of a name of a module
-abbrev pub kind_in : x.Module → Above → List ℕ → SigKind
-kind_in m above t = kind_of m (clocks_of m above t) (wired_of m above t) t
+-- the kind of a name, where so much is known of each name
+abbrev pub kinds_by : (List ℕ → Facts) → Above → List ℕ → SigKind
+kinds_by told above t = kind_by (told t) (clocks_by told above t) (wired_by told above t)
 
 abbrev pub one_signal : e.Counts
 one_signal = record { signals = 1; functions = 0 }
@@ -60,6 +60,17 @@ with_function k f =
 abbrev pub with_parameters : (List ℕ → Option Exp) → x.DataType → List x.Parameter → e.Known → e.Known
 with_parameters overrides type ps k = record k { env = fold (with_parameter overrides type) k.env ps }
 
+-- an item, where sizes tells how many signals and functions the modules have
+abbrev pub with_item : (List ℕ → e.Counts) → (List ℕ → Option Exp) → (List ℕ → SigKind) → e.Known → x.Item → e.Known
+with_item sizes overrides kinds k (x.Parameters type ps) = with_parameters overrides type ps k
+with_item sizes overrides kinds k (x.Signals ds) = fold (with_signal kinds) k ds
+with_item sizes overrides kinds k (x.Functions f) = with_function k f
+with_item sizes overrides kinds k item = record k { next = e.plus k.next (e.item_counts sizes item) }
+
 -- no name is known, and these numbers come next
 abbrev pub nothing_known : Counts → e.Known
 nothing_known base = record { env = none; next = counts_of base }
+
+-- the names of items, the first signal and function having these numbers
+abbrev pub names_by : (List ℕ → e.Counts) → (List ℕ → Option Exp) → (List ℕ → SigKind) → Counts → List x.Item → Env
+names_by sizes overrides kinds base items = (fold (with_item sizes overrides kinds) (nothing_known base) items).env

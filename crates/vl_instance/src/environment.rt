@@ -1,13 +1,13 @@
 //! What the names of an instance stand for (IEEE 1364-2005, clause 12).
 
-ghost use Rattle.std.specs.Prelude.{◌≡◌, ◌≤◌, ℕ, List, IfOk};
+ghost use Rattle.std.specs.Prelude.{◌≡◌, ◌≤◌, ℕ, List, map, IfOk};
 ghost use Rattle.vl_flat.specs.Items as x;
 ghost use Rattle.vl_flat.specs.Environments as e;
 ghost use Rattle.vl_items.specs.SeenItems.{seen_function, seen_item, seen_module};
 ghost use Rattle.vl_constant.specs.Seen.{look};
 ghost use Rattle.vl_kinds.specs.Facts.{facts, facts_of};
-ghost use Rattle.vl_kinds.specs.Sized.{IsSizes};
-ghost use Rattle.vl_instance.specs.Given.{given_of};
+ghost use Rattle.vl_kinds.specs.Sized.{IsSizes, size_of};
+ghost use Rattle.vl_instance.specs.Given.{given_of, overrides_of};
 ghost use Rattle.vl_instance.specs.Known as spec;
 
 use crate::given::Above;
@@ -59,7 +59,8 @@ fn add_item<'m>(
     above: &Above<'_, '_, '_, 'm>,
     item: &'m Item,
 ) -> Result<Counts, AllocError>
-    ensures { IfOk result (λ after. (ms : List x.Module) (m : x.Module) (path : List ℕ) (base : e.Counts) → IsSizes sizes.now ms → depth ≤ 129 → facts_of roles.now ≡ facts m →
+    ensures table { IfOk result (λ after. spec.known names.new after ≡ spec.with_item (size_of sizes.now depth) (overrides_of above.now) (spec.kinds_by (facts_of roles.now) above.now) (spec.known names.old next) (seen_item item.entry.now)) }
+    ensures module { IfOk result (λ after. (ms : List x.Module) (m : x.Module) (path : List ℕ) (base : e.Counts) → IsSizes sizes.now ms → depth ≤ 129 → facts_of roles.now ≡ facts m →
         spec.known names.new after ≡ e.with_item (e.size depth ms) (given_of m above.now path base) m (spec.known names.old next) (seen_item item.entry.now)) }
 {
     match item {
@@ -92,7 +93,8 @@ pub fn environment<'m>(
     base: Counts,
     definition: &'m Module,
 ) -> Result<Names<'m>, AllocError>
-    ensures { IfOk result (λ names. (ms : List x.Module) (path : List ℕ) → IsSizes sizes.now ms → depth ≤ 129 → facts_of roles.now ≡ facts (seen_module definition.entry.now) →
+    ensures table { IfOk result (λ names. look names ≡ spec.names_by (size_of sizes.now depth) (overrides_of above.now) (spec.kinds_by (facts_of roles.now) above.now) base (map seen_item definition.entry.now.items.items)) }
+    ensures module { IfOk result (λ names. (ms : List x.Module) (path : List ℕ) → IsSizes sizes.now ms → depth ≤ 129 → facts_of roles.now ≡ facts (seen_module definition.entry.now) →
         look names ≡ e.environment (e.size depth ms) (given_of (seen_module definition.entry.now) above.now path (spec.counts_of base)) (seen_module definition.entry.now)) }
 {
     let mut names = IndexMap::new(alloc);

@@ -5,7 +5,8 @@ ghost use Rattle.vl_flat.specs.Items as x;
 ghost use Rattle.vl_flat.specs.Functions as f;
 ghost use Rattle.vl_constant.specs.Seen.{look};
 ghost use Rattle.vl_constant.specs.Types.{numbers};
-ghost use Rattle.vl_kinds.specs.Facts.{body_facts, body_facts_of};
+ghost use Rattle.vl_flat.specs.Scopes.{none};
+ghost use Rattle.vl_kinds.specs.Facts.{body_facts_of};
 ghost use Rattle.vl_instance.specs.Variables as v;
 ghost use Rattle.vl_instance.specs.Tables.{inside};
 
@@ -69,7 +70,7 @@ fn plain_shape(kind: SigKind, signed: bool, ranged: bool, range: Range) -> Shape
 
 /// What a variable of a function is.
 fn local_shape(names: &Names<'_>, roles: &BodyRoles<'_>, variable: &Variable<'_>) -> Shape
-    ensures { (a : x.Function) → body_facts_of roles.now ≡ body_facts a.body → result ≡ f.local_shape (look names.now) a (v.seen_variable variable.now) }
+    ensures { result ≡ v.local_shape (look names.now) (body_facts_of roles.now) (v.seen_variable variable.now) }
 {
     let kind = local_kind(roles, variable.is_free, variable.name.name.as_slice());
     let range = type_range(&module_scope(names), variable.kind);
@@ -89,8 +90,7 @@ fn add_local<'m>(
     roles: &BodyRoles<'_>,
     variable: &Variable<'m>,
 ) -> Result<(), AllocError>
-    ensures { OnOk result ((a : x.Function) → body_facts_of roles.now ≡ body_facts a.body →
-        look locals.new ≡ v.with_local (look names.now) a number (look locals.old) (v.seen_variable variable.now)) }
+    ensures { OnOk result (look locals.new ≡ v.with_local (look names.now) (body_facts_of roles.now) number (look locals.old) (v.seen_variable variable.now)) }
 {
     let shape = local_shape(names, roles, variable);
     bind(
@@ -107,7 +107,8 @@ pub fn locals<'m>(
     behind: u32,
     frame: &Frame<'m>,
 ) -> Result<Names<'m>, AllocError>
-    ensures { IfOk result (λ locals. (a : x.Function) → v.IsFrame frame.now a → inside (look names.now) (look locals) ≡ f.function_scope behind (look names.now) a) }
+    ensures table { IfOk result (λ locals. look locals ≡ v.with_own (look names.now) (body_facts_of frame.now.roles) behind none (map v.seen_variable frame.now.variables.items)) }
+    ensures function { IfOk result (λ locals. (a : x.Function) → v.IsFrame frame.now a → inside (look names.now) (look locals) ≡ f.function_scope behind (look names.now) a) }
 {
     let mut locals = IndexMap::new(alloc);
     let mut number = behind;
@@ -125,7 +126,8 @@ pub fn local_signals(
     path: &[u8],
     frame: &Frame<'_>,
 ) -> Result<Vec<Signal>, AllocError>
-    ensures { IfOk result (λ signals. (a : x.Function) → v.IsFrame frame.now a → signals.items ≡ map (λ l. f.signal path.now l.name (f.local_shape (look names.now) a l)) a.locals) }
+    ensures table { IfOk result (λ signals. signals.items ≡ map (λ l. f.signal path.now l.name (v.local_shape (look names.now) (body_facts_of frame.now.roles) l)) (map v.seen_variable frame.now.variables.items)) }
+    ensures function { IfOk result (λ signals. (a : x.Function) → v.IsFrame frame.now a → signals.items ≡ map (λ l. f.signal path.now l.name (f.local_shape (look names.now) a l)) a.locals) }
 {
     let mut signals = Vec::new(alloc);
     for variable in frame.variables.as_slice() {
@@ -156,7 +158,8 @@ fn numbers_of(
 
 /// The numbers of the inputs of a function, whose first variable has this number.
 pub fn input_numbers(alloc: Global, behind: u32, frame: &Frame<'_>) -> Result<Vec<u32>, AllocError>
-    ensures { IfOk result (λ numbers. (a : x.Function) → v.IsFrame frame.now a → numbers.items ≡ f.input_numbers behind a.locals) }
+    ensures table { IfOk result (λ numbers. numbers.items ≡ f.input_numbers behind (map v.seen_variable frame.now.variables.items)) }
+    ensures function { IfOk result (λ numbers. (a : x.Function) → v.IsFrame frame.now a → numbers.items ≡ f.input_numbers behind a.locals) }
 {
     numbers_of(alloc, behind, frame.variables.as_slice())
 }

@@ -1,9 +1,8 @@
 //! What an instance is given by the item above it (IEEE 1364-2005, clauses 12.2.2 and 12.3).
 
 ghost use Rattle.std.specs.Prelude.{◌≡◌, option_map};
-ghost use Rattle.vl_flat.specs.Items as x;
 ghost use Rattle.vl_flat.specs.Expressions as flat;
-ghost use Rattle.vl_kinds.specs.Facts.{facts, facts_of};
+ghost use Rattle.vl_kinds.specs.Facts.{facts_of};
 ghost use Rattle.vl_instance.specs.Given as spec;
 
 use crate::connections::{Connected, expression};
@@ -51,7 +50,7 @@ fn is_joined(given: &Surroundings<'_, '_, '_, '_>, name: &[u8]) -> bool
 
 /// A name is an input that is a clock: of the top each is.
 pub fn is_clock(roles: &Roles<'_>, above: &Above<'_, '_, '_, '_>, name: &[u8]) -> bool
-    ensures { (m : x.Module) → facts_of roles.now ≡ facts m → result ≡ spec.clocks_of m above.now name.now }
+    ensures { result ≡ spec.clocks_by (facts_of roles.now) above.now name.now }
 {
     match above {
         Above::Top => is_input(roles, name),
@@ -61,7 +60,7 @@ pub fn is_clock(roles: &Roles<'_>, above: &Above<'_, '_, '_, '_>, name: &[u8]) -
 
 /// A name is an output that is connected.
 pub fn is_wired(roles: &Roles<'_>, above: &Above<'_, '_, '_, '_>, name: &[u8]) -> bool
-    ensures { (m : x.Module) → facts_of roles.now ≡ facts m → result ≡ spec.wired_of m above.now name.now }
+    ensures { result ≡ spec.wired_by (facts_of roles.now) above.now name.now }
 {
     match above {
         Above::Top => false,

@@ -1,11 +1,10 @@
 //! Signals of an instance (IEEE 1364-2005, clauses 4.2, 4.3 and 4.9).
 
 ghost use Rattle.std.specs.Prelude.{◌≡◌, map, fold, IfOk};
-ghost use Rattle.vl_flat.specs.Items as x;
 ghost use Rattle.vl_flat.specs.Environments as e;
 ghost use Rattle.vl_items.specs.SeenItems.{seen_declared, seen_type};
 ghost use Rattle.vl_constant.specs.Seen.{look};
-ghost use Rattle.vl_kinds.specs.Facts.{facts, facts_of};
+ghost use Rattle.vl_kinds.specs.Facts.{facts_of};
 ghost use Rattle.vl_instance.specs.Known as spec;
 
 use crate::given::{Above, is_clock, is_wired};
@@ -39,7 +38,7 @@ fn shape(names: &Names<'_>, signal: SigKind, kind: &DataType, declared: &Declare
 
 /// The kind of a name.
 fn signal_kind(roles: &Roles<'_>, above: &Above<'_, '_, '_, '_>, name: &[u8]) -> SigKind
-    ensures { (m : x.Module) → facts_of roles.now ≡ facts m → result ≡ spec.kind_in m above.now name.now }
+    ensures { result ≡ spec.kinds_by (facts_of roles.now) above.now name.now }
 {
     let clock = is_clock(roles, above, name);
     let wired = is_wired(roles, above, name);
@@ -65,7 +64,7 @@ fn add_signal<'m>(
     kind: &DataType,
     declared: &'m Declared,
 ) -> Result<Counts, AllocError>
-    ensures { IfOk result (λ after. (m : x.Module) → facts_of roles.now ≡ facts m → spec.known names.new after ≡ spec.with_signal (spec.kind_in m above.now) (spec.known names.old next) (seen_declared (seen_type kind.now) declared.entry.now)) }
+    ensures { IfOk result (λ after. spec.known names.new after ≡ spec.with_signal (spec.kinds_by (facts_of roles.now) above.now) (spec.known names.old next) (seen_declared (seen_type kind.now) declared.entry.now)) }
 {
     let name = declared.name.name.as_slice();
     if is_known(names, name) {
@@ -85,7 +84,7 @@ pub fn add_signals<'m>(
     kind: &DataType,
     declared: &'m [Declared],
 ) -> Result<Counts, AllocError>
-    ensures { IfOk result (λ after. (m : x.Module) → facts_of roles.now ≡ facts m → spec.known names.new after ≡ fold (spec.with_signal (spec.kind_in m above.now)) (spec.known names.old next) (map (seen_declared (seen_type kind.now)) declared.entry.now)) }
+    ensures { IfOk result (λ after. spec.known names.new after ≡ fold (spec.with_signal (spec.kinds_by (facts_of roles.now) above.now)) (spec.known names.old next) (map (seen_declared (seen_type kind.now)) declared.entry.now)) }
 {
     let mut next = next;
     for one in declared {

@@ -58,7 +58,8 @@ pub fn make_roles(alloc: Global, m: &Module) -> Result<Roles<'_>, AllocError>
 
 /// The name is an input.
 pub fn is_input(roles: &Roles<'_>, name: &[u8]) -> bool
-    ensures { (m : x.Module) → facts_of roles.now ≡ facts m → result ≡ k.is_input m name.now }
+    ensures table { result ≡ (facts_of roles.now name.now).input }
+    ensures module { (m : x.Module) → facts_of roles.now ≡ facts m → result ≡ k.is_input m name.now }
 {
     declaration_at(&roles.declared, name).input
 }
@@ -103,7 +104,8 @@ fn kind_known(roles: &Roles<'_>, clock: bool, wired: bool, name: &[u8]) -> SigKi
 
 /// The kind of a name, of which is told whether it is a clock, and an output that is connected.
 pub fn kind_of(roles: &Roles<'_>, clock: bool, wired: bool, name: &[u8]) -> SigKind
-    ensures { (m : x.Module) → facts_of roles.now ≡ facts m → result ≡ k.kind_of m clock wired name.now }
+    ensures table { result ≡ kind_by (facts_of roles.now name.now) clock wired }
+    ensures module { (m : x.Module) → facts_of roles.now ≡ facts m → result ≡ k.kind_of m clock wired name.now }
 {
     kind_known(roles, clock, wired, name)
 }

@@ -219,7 +219,8 @@ pub fn instances_size(
     depth: u8,
     instances: &Instances,
 ) -> Result<Counts, AllocError>
-    ensures { IfOk result (λ c. (ms : List x.Module) → spec.IsSizes sizes.now ms → depth ≤ 129 → spec.counts_of c ≡ e.item_counts (e.size depth ms) (x.Instantiates (seen_instances instances.now))) }
+    ensures table { IfOk result (λ c. spec.counts_of c ≡ e.item_counts (spec.size_of sizes.now depth) (x.Instantiates (seen_instances instances.now))) }
+    ensures modules { IfOk result (λ c. (ms : List x.Module) → spec.IsSizes sizes.now ms → depth ≤ 129 → spec.counts_of c ≡ e.item_counts (e.size depth ms) (x.Instantiates (seen_instances instances.now))) }
 {
     let round = round_at(sizes.rounds.as_slice(), depth);
     Ok(exactly(instances_counts(&sizes.index, round, instances))?)

@@ -17,7 +17,7 @@ returns c = λ m there.
     let facts-are = c.roles_at-roles.ensures m there ∙ ap facts (sym is) in
     let g = f.top_given md in
     let sizes = e.size 128 ms in
-    let names = c.in_ok-names.ensures ms md.name.name c.requires.library.sizes (omega arith) facts-are in
+    let names = c.in_ok-names.ensures.module ms md.name.name c.requires.library.sizes (omega arith) facts-are in
     let behind = ap (λ z. z.signals) (c.in_ok-all.ensures ms c.requires.library.sizes (omega arith)) in
     let items = f.items_parts (f.instance 128 ms) sizes ms in
     let body = ap (λ n. items (record { env = look c.in_ok-names.names; path = c.as_slice-name.result.now; behind = n }) g e.no_more (map seen_item c.as_slice.result.now)) behind
@@ -38,7 +38,7 @@ returns-in_err-add_items c = λ m there.
     let g = f.top_given md in
     let sizes = e.size 128 ms in
     let stop = c.in_err-add_items.field-0.0 in
-    let names = c.in_ok-names.ensures ms md.name.name c.requires.library.sizes (omega arith) facts-are in
+    let names = c.in_ok-names.ensures.module ms md.name.name c.requires.library.sizes (omega arith) facts-are in
     let behind = ap (λ z. z.signals) (c.in_ok-all.ensures ms c.requires.library.sizes (omega arith)) in
     let items = f.items_parts (f.instance 128 ms) sizes ms in
     let body = ap (λ n. items (record { env = look c.in_ok-names.names; path = c.as_slice-name.result.now; behind = n }) g e.no_more (map seen_item c.as_slice.result.now)) behind

@@ -15,9 +15,9 @@ returns c = λ frame.
     let n = c.args.here.behind in
     let path = c.args.here.path.now in
     let named = c.in_ok-name.ensures ∙ ap (f.dotted path) c.as_slice.ensures in
-    let inputs = c.from_vec.ensures ∙ c.in_ok-inputs.ensures a frame in
-    let locals = c.from_vec-2.ensures ∙ (c.in_ok-signals.ensures a frame ∙ ap (λ p. map (λ l. f.signal p l.name (f.local_shape env a l)) a.locals) (c.as_slice-2.ensures ∙ named)) in
-    let body = c.in_ok-body.ensures ∙ ap (λ s. statement s (seen_statement c.args.a.now.body)) (c.function_scope.ensures ∙ c.in_ok-own.ensures a frame) in
+    let inputs = c.from_vec.ensures ∙ c.in_ok-inputs.ensures.function a frame in
+    let locals = c.from_vec-2.ensures ∙ (c.in_ok-signals.ensures.function a frame ∙ ap (λ p. map (λ l. f.signal p l.name (f.local_shape env a l)) a.locals) (c.as_slice-2.ensures ∙ named)) in
+    let body = c.in_ok-body.ensures ∙ ap (λ s. statement s (seen_statement c.args.a.now.body)) (c.function_scope.ensures ∙ c.in_ok-own.ensures.function a frame) in
     same-func c.args.a.now.name.place n c.in_ok-name.name (f.dotted path a.name.name) c.from_vec.result (f.input_numbers n a.locals)
     c.from_vec-2.result (map (λ l. f.signal (f.dotted path a.name.name) l.name (f.local_shape env a l)) a.locals) (stm_of c.in_ok-body.body) (statement (f.function_scope n env a) a.body)
     named inputs locals body

@@ -21,6 +21,6 @@ returns c = λ frame.
     let variables = c.variables_faults-best.ensures
     ∙ (ap (λ z. earliest c.args.best (own (map seen_variable z))) c.as_slice.ensures.value ∙ ap (λ z. earliest c.args.best (own z)) frame.variables) in
     c.statement_faults.ensures
-    ∙ (ap (λ s. earliest c.variables_faults-best.result (statement_faults s a.body)) (c.function_scope.ensures ∙ c.in_ok-own.ensures a frame)
+    ∙ (ap (λ s. earliest c.variables_faults-best.result (statement_faults s a.body)) (c.function_scope.ensures ∙ c.in_ok-own.ensures.function a frame)
     ∙ (ap (λ z. earliest z (statement_faults scope a.body)) variables
     ∙ sym (earliest-append c.args.best (own a.locals) (statement_faults scope a.body))))

@@ -13,5 +13,5 @@ returns c =
     let next = counts_of c.args.next in
     let size = e.item_counts (e.size c.args.depth ms) (x.Instantiates (seen_instances c.args.instances.now)) in
     c.in_ok-sum.ensures
-    ∙ (ap (e.plus next) (c.in_ok-size.ensures ms c.requires.library.sizes c.requires.depth)
+    ∙ (ap (e.plus next) (c.in_ok-size.ensures.modules ms c.requires.library.sizes c.requires.depth)
     ∙ ap (λ z. e.plus z size) (sym (plus-none next)))

@@ -33,6 +33,6 @@ returns c = λ m there.
     subst (λ z. IsInside made n ms here base us u z) is (record {
       overrides = c.in_ok-overrides.ensures;
       ports = c.in_ok-ports.ensures;
-      names = c.in_ok-names.ensures ms (dotted here.path u.name.name) c.requires.library.sizes (omega (arith, c.requires.depth)) facts-are
+      names = c.in_ok-names.ensures.module ms (dotted here.path u.name.name) c.requires.library.sizes (omega (arith, c.requires.depth)) facts-are
           ∙ ap (λ z. e.environment (e.size n ms) z md) given-is;
     })

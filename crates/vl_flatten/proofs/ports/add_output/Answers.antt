@@ -15,7 +15,7 @@ returns-in-Some c = λ m joined.
     let env = look c.args.ports.names.now in
     let u = seen_unit c.args.ports.unit.now in
     let t = c.args.name.now in
-    let output = sym (c.is_input.ensures m joined.roles) ∙ c.if-is_input.false in
+    let output = sym (c.is_input.ensures.module m joined.roles) ∙ c.if-is_input.false in
     let given = sym (c.expression.ensures ∙ ap (λ j. k.expression_of (j t)) joined.connected) ∙ ap (option_map (λ e. seen e.now)) c.in-Some.is in
     subst (λ parts. Adds c.args.making.now c.add_connected.new.making parts c.add_connected.result) (sym (an-output above env m u t (seen c.in-Some.e.now) output given))
     (c.add_connected.ensures m joined)

@@ -1,11 +1,11 @@
 use Rattle.std.proofs.Common.{◌≡◌, map, drop}
-use Rattle.vl_flat.specs.Items as x
-use Rattle.vl_flat.specs.Functions.{with_locals}
+use Rattle.vl_flat.specs.Scopes.{none}
 use Rattle.vl_constant.specs.Seen.{look}
-use Rattle.vl_instance.specs.Tables.{inside}
-use Rattle.vl_instance.specs.Variables.{seen_variable, IsFrame}
+use Rattle.vl_kinds.specs.Facts.{body_facts_of}
+use Rattle.vl_instance.specs.Variables.{seen_variable, with_own}
 use Rattle.vl_instance.proofs.functions.locals.Given as goal
 
 abbrev pub invariant-loop-variable : goal.invariant-loop-variable
-invariant-loop-variable l = (a : x.Function) → IsFrame l.frame a
-    → with_locals (look l.names) (inside (look l.names) (look l.locals)).names a l.number (map seen_variable (drop l.variable-index l.frame.variables.items)) ≡ with_locals (look l.names) (look l.names) a l.behind (map seen_variable l.frame.variables.items)
+invariant-loop-variable l =
+    with_own (look l.names) (body_facts_of l.frame.roles) l.number (look l.locals) (map seen_variable (drop l.variable-index l.frame.variables.items))
+    ≡ with_own (look l.names) (body_facts_of l.frame.roles) l.behind none (map seen_variable l.frame.variables.items)

@@ -6,8 +6,17 @@ use Rattle.vl_kinds.specs.Sized.{kept, told, round_at}
 use Rattle.vl_kinds.proofs.Keeping.{kept-times, kept-twice}
 use Rattle.vl_kinds.proofs.sizes.instances_size.Goals as goal
 
-pub returns : goal.returns
-returns c = λ ms sized deep.
+pub returns-clause-table : goal.returns-clause-table
+returns-clause-table c =
+    let units = c.args.instances.now.units.items in
+    let t = c.args.instances.now.definition in
+    let index = c.args.sizes.now.index in
+    c.in_ok-exactly.ensures (e.times (length units) (told index c.round_at-round.result.now t)) c.instances_counts.ensures
+    ∙ ap (λ z. e.times (length units) (told index z t)) (c.round_at-round.ensures ∙ ap (λ z. round_at z c.args.depth) c.as_slice.ensures.value)
+    ∙ ap (λ k. e.times k (told index (round_at c.args.sizes.now.rounds.items c.args.depth) t)) (sym (length-map units seen_unit))
+
+pub returns-clause-modules : goal.returns-clause-modules
+returns-clause-modules c = λ ms sized deep.
     let units = c.args.instances.now.units.items in
     let n = length units in
     let t = c.args.instances.now.definition in

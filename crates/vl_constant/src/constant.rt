@@ -9,13 +9,14 @@ ghost use Rattle.vl_bind.specs.Seen.{seen};
 ghost use Rattle.vl_constant.specs.Seen.{seen_scope, binding_of};
 ghost use Rattle.vl_constant.specs.Folded as spec;
 
-use crate::forms::{
-    binary_form, bit, joined, left_form, mark, operand_form, operated, right_form, unary_form,
-};
+use crate::forms::{mark, operated};
 use crate::scope::{Known, Scope, meaning};
 use vl_base::bits::{Bits, binary, resize, unary};
 use vl_bind::surface::Ex;
 use vl_design::design::Form;
+use vl_form::form::{
+    binary_form, joined, left_form, operand_form, right_form, unary_form, unsigned,
+};
 
 /// The number of at most 16 bytes, the first at the top.
 #[tactic(auto, using(crate::proofs::Bytes::bytes))]
@@ -72,7 +73,7 @@ pub(crate) fn constant_form(scope: &Scope<'_, '_>, e: &Ex) -> Form
         Ex::Text(_, text) => form_of(text_bits(text.as_slice()), false),
         Ex::Named(_, name, _) => match meaning(scope, name.as_slice()) {
             Some(Known::Constant(v)) => form_of(v.bits, v.signed),
-            _ => bit(),
+            _ => unsigned(1),
         },
         Ex::Paren(_, a) => constant_form(scope, a),
         Ex::Unary(_, operator, a) => {
@@ -92,7 +93,7 @@ pub(crate) fn constant_form(scope: &Scope<'_, '_>, e: &Ex) -> Form
             let g = constant_form(scope, b);
             joined(f, g)
         }
-        _ => bit(),
+        _ => unsigned(1),
     }
 }
 

@@ -15,13 +15,14 @@ ghost use Rattle.vl_constant.specs.Seen.{seen_scope, binding_of};
 ghost use Rattle.vl_constant.specs.Kept.{kept, selects_form};
 
 use crate::constant::text_bits;
-use crate::forms::{binary_form, bit, joined, mark, operated, unary_form};
+use crate::forms::{mark, operated};
 use crate::ranges::{Range, bits_in};
 use crate::scope::{Known, Scope, found_in, meaning};
 use crate::whole::{bound, count};
 use vl_base::bits::UnOp;
 use vl_bind::surface::{Argument, Ex, Select};
 use vl_design::design::{Form, SigKind};
+use vl_form::form::{binary_form, joined, unary_form, unsigned};
 use vl_grammar::tree::SelectMark;
 
 /// The name is this one.
@@ -40,16 +41,6 @@ pub fn keeps_texts(name: &[u8]) -> bool
         || is_word(name, b"$fopen".as_slice())
         || is_word(name, b"$save".as_slice())
         || is_word(name, b"$readmemh".as_slice())
-}
-
-/// So many bits, unsigned.
-fn unsigned(width: u32) -> Form
-    ensures { result ≡ w.unsigned width }
-{
-    Form {
-        width,
-        signed: false,
-    }
 }
 
 /// A number of bits, kept within 129.
@@ -78,7 +69,7 @@ pub fn known_form(known: Option<Known>) -> Form
     ensures { result ≡ kept (scopes.form_of (option_map binding_of known)) }
 {
     match known {
-        None => bit(),
+        None => unsigned(1),
         Some(Known::Constant(v)) => Form {
             width: u32::from(v.bits.width),
             signed: v.signed,
@@ -121,7 +112,7 @@ pub fn selects_form(scope: &Scope<'_, '_>, form: Form, selects: &[Select]) -> Fo
             signed: form.signed,
         },
         [first, rest @ ..] => match first {
-            Select::Index(_, _) => selects_form(scope, bit(), rest),
+            Select::Index(_, _) => selects_form(scope, unsigned(1), rest),
             Select::Range(_, mark, left, right) => {
                 selects_form(scope, unsigned(taken(scope, *mark, left, right)), rest)
             }
@@ -141,7 +132,7 @@ pub fn named_form(scope: &Scope<'_, '_>, known: Option<Known>, selects: &[Select
                 if is_memory(known) {
                     selects_form(scope, known_form(known), rest)
                 } else {
-                    selects_form(scope, bit(), rest)
+                    selects_form(scope, unsigned(1), rest)
                 }
             }
             Select::Range(_, mark, left, right) => {
@@ -270,6 +261,6 @@ fn first_form(scope: &Scope<'_, '_>, given: &[Argument]) -> Form
 {
     match given {
         [Argument::Value(e), ..] => form(scope, e),
-        _ => bit(),
+        _ => unsigned(1),
     }
 }

@@ -11,10 +11,10 @@ ghost use Rattle.vl_constant.specs.Seen.{seen_scope};
 ghost use Rattle.vl_constant.specs.Wholes.{whole_of};
 
 use crate::constant::{constant_form, evaluate, is_constant};
-use crate::forms::assigned;
 use crate::scope::Scope;
 use vl_base::bits::{Bits, resize};
 use vl_bind::surface::Ex;
+use vl_form::form::assigned;
 
 /// A whole number by its size and its sign.
 #[derive(Clone, Copy)]
@@ -224,6 +224,6 @@ pub fn assigned_value(scope: &Scope<'_, '_>, e: &Ex, width: u8) -> Bits
         return Bits { value: 0, width };
     }
     let form = constant_form(scope, e);
-    let context = assigned(width, form);
+    let context = assigned(u32::from(width), form);
     resize(evaluate(scope, e, context), false, width)
 }

@@ -11,36 +11,7 @@ ghost use Rattle.vl_eval.specs.Answers.{parts_of};
 use crate::room::Room;
 use vl_base::bits::{BinOp, UnOp};
 use vl_design::design::{Expr, ExprNode, Form, Signal};
-
-/// So many bits, unsigned.
-pub fn unsigned(width: u32) -> Form
-    ensures { result ≡ w.unsigned width }
-{
-    Form {
-        width,
-        signed: false,
-    }
-}
-
-/// The longer of two widths, signed where both are.
-pub fn joined(a: Form, b: Form) -> Form
-    ensures { result ≡ w.joined a b }
-{
-    Form {
-        width: a.width.max(b.width),
-        signed: a.signed && b.signed,
-    }
-}
-
-/// The context of the right side of an assignment to so many bits.
-pub fn assigned(width: u32, own: Form) -> Form
-    ensures { result ≡ w.assigned width own }
-{
-    Form {
-        width: width.max(own.width),
-        signed: own.signed,
-    }
-}
+use vl_form::form::{joined, unary_form, unsigned};
 
 /// The width and the sign of a signal's words.
 fn form_of_signal(signal: &Signal) -> Form
@@ -86,16 +57,6 @@ pub fn result_form(room: &Room<'_>, function: u32) -> Form
         return form_of_signal(&func.locals.as_slice()[number - inner]);
     }
     unsigned(1)
-}
-
-/// The form of a unary operator's value.
-fn unary_form(op: UnOp, a: Form) -> Form
-    ensures { result ≡ w.unary_form op a }
-{
-    match op {
-        UnOp::Neg | UnOp::Not => a,
-        _ => unsigned(1),
-    }
 }
 
 /// How a binary operator's width and context come from its operands.

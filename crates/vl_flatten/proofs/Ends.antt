@@ -1,22 +1,26 @@
 -- From what is made to the design.
 use Rattle.std.proofs.Common.{◌≡◌, ap, sym, ◌∙◌, subst, ℕ, List}
-use Rattle.std.specs.Prelude.{Result, Ok, Err, None, Some}
+use Rattle.std.specs.Prelude.{Result, Ok, Err, IfOk, None, Some}
 use Rattle.std.specs.Result.{IsErr, IsErrAnd}
 use Rattle.vl_source.specs.declared.tree.Source.{Source}
 use Rattle.vl_base.specs.declared.place.Place.{Place}
 use Rattle.vl_scope.specs.Faults.{IsFirst, at}
 use Rattle.vl_names.specs.declared.names.NamesFault.{NamesFault}
 use Rattle.vl_names.specs.declared.names.NamesFault.TheVariants as n
-use Rattle.vl_names.specs.NameFaults.{IsNameFault}
+use Rattle.vl_names.specs.NameFaults.{IsNameFault, of_declaration, of_use}
 use Rattle.vl_design.specs.declared.design.Design.{Design}
 use Rattle.vl_design.specs.declared.design.Signal.{Signal}
 use Rattle.vl_design.specs.declared.stop.Stop.{Stop}
+use Rattle.vl_design.specs.Trees.{flat_of}
+use Rattle.vl_design.specs.Sound.{IsSound}
 use Rattle.vl_design.specs.declared.stop.Stop.TheVariants.{Construct, Limit, Memory}
 use Rattle.vl_flat.specs.Items as x
 use Rattle.vl_design.specs.Placed as p
 use Rattle.vl_flat.specs.Flat.{parts_from, design_of}
 use Rattle.vl_flat.specs.Outcome as o
 use Rattle.vl_flat.specs.Outcome.{◌>>=◌}
+use Rattle.vl_sound.specs.Inputs.{NoLoopInputs}
+use Rattle.vl_sound.proofs.Whole.{source-sound}
 use Rattle.vl_flatten.specs.Growing.{Makes}
 use Rattle.vl_flatten.specs.Meeting.{Meets, Elaborates, IsElaboration, misnamed, named, stop_of}
 
@@ -46,3 +50,12 @@ pub stopped : {A : Type 0} (s : Source) (r : Result A NamesFault) (f : NamesFaul
     → ((q : Place) (k : ℕ) → r ≡ Err (n.Construct q k) → IsFirst (IsNameFault s) (Some (at q k))) → stop ≡ stop_of f → Elaborates s (Err stop)
 stopped s r (n.Construct q k) stop is of e = subst (λ z. Elaborates s (Err z)) (sym e) (misnamed (of q k is))
 stopped s r n.Memory stop is of e = subst (λ z. Elaborates s (Err z)) (sym e) tt
+
+-- a design that meets the flat design of a source without faults of names is sound
+pub sound-met : (s : Source) (r : Result Design Stop) → IsFirst (IsNameFault s) None → Meets r (o.flattened s) → IfOk r (λ d. IsSound (flat_of d))
+sound-met s (Ok d) none h = (source-sound s (λ f z. none f (of_declaration f z)) (λ f z. none f (of_use f z)) _ h).sound
+sound-met s (Err e) none h = tt
+
+pub inputs-met : (s : Source) (r : Result Design Stop) → IsFirst (IsNameFault s) None → Meets r (o.flattened s) → IfOk r (λ d. NoLoopInputs (flat_of d))
+inputs-met s (Ok d) none h = (source-sound s (λ f z. none f (of_declaration f z)) (λ f z. none f (of_use f z)) _ h).inputs
+inputs-met s (Err e) none h = tt

@@ -12,4 +12,3 @@ pub mod Tops
 pub mod Ends
 pub mod Once
 pub mod Bound
-pub mod Widths

@@ -1,11 +1,14 @@
 //! From a source to its flat design (IEEE 1364-2005, clause 12).
 
-ghost use Rattle.std.specs.Prelude.{◌≡◌, ◌<◌, length, map, slice_get, Some};
+ghost use Rattle.std.specs.Prelude.{◌≡◌, ◌<◌, length, map, slice_get, Some, IfOk};
+ghost use Rattle.vl_design.specs.Sound.{IsSound};
+ghost use Rattle.vl_design.specs.Trees.{flat_of};
 ghost use Rattle.vl_flat.specs.Items as x;
 ghost use Rattle.vl_flat.specs.Declarations.{modules};
 ghost use Rattle.vl_flat.specs.Flat as f;
 ghost use Rattle.vl_flat.specs.Outcome as o;
 ghost use Rattle.vl_items.specs.SeenItems.{seen_module};
+ghost use Rattle.vl_sound.specs.Inputs.{NoLoopInputs};
 ghost use Rattle.vl_flatten.specs.Growing.{Makes};
 ghost use Rattle.vl_flatten.specs.Libraries.{IsLibrary, modules_of};
 ghost use Rattle.vl_flatten.specs.Meeting.{Meets, Elaborates, stop_of};
@@ -110,9 +113,12 @@ fn stop_of(fault: NamesFault) -> Stop
 }
 
 /// The flat design of a source, or the first fault of its names and then of its design: a refused construct or a limit, by its
-/// place and its number.
+/// place and its number. The design is sound: each name stands for what it is used as, and no input of a function is a loop
+/// variable.
 pub fn elaborate(alloc: Global, source: &Source) -> Result<Design, Stop>
-    ensures { Elaborates source.now result }
+    ensures elaborated { Elaborates source.now result }
+    ensures sound { IfOk result (λ d. IsSound (flat_of d)) }
+    ensures inputs { IfOk result (λ d. NoLoopInputs (flat_of d)) }
 {
     match names(alloc, source) {
         Ok(()) => flatten(alloc, source),

@@ -1,20 +1,16 @@
 //! Laws of the definitions.
 
-ghost use Rattle.std.specs.Prelude.{◌≡◌, ◌∷◌, All, List, Ok, Result, is_some, true};
+ghost use Rattle.std.specs.Prelude.{◌≡◌, ◌∷◌, List, Result, is_some, true};
 ghost use Rattle.vl_grammar.specs.declared.tree.Binary.{Binary};
 ghost use Rattle.vl_grammar.specs.Binding.{term_of};
 ghost use Rattle.vl_source.specs.declared.tree.Module.{Module};
 ghost use Rattle.vl_source.specs.declared.tree.Source.{Source};
 ghost use Rattle.vl_scope.specs.declared.fault.Fault.{Fault};
 ghost use Rattle.vl_names.specs.NameFaults.{IsNameFault};
-ghost use Rattle.vl_design.specs.declared.design.Signal.{Signal};
-ghost use Rattle.vl_design.specs.Trees.{range_width};
-ghost use Rattle.vl_design.specs.Sound.{IsWidth};
 ghost use Rattle.vl_design.specs.declared.stop.Stop.{Stop};
 ghost use Rattle.vl_design.specs.Placed as placed;
 ghost use Rattle.vl_flat.specs.Binding.{binary};
 ghost use Rattle.vl_flat.specs.Flat.{top_of};
-ghost use Rattle.vl_flat.specs.Outcome.{flattened};
 ghost use Rattle.vl_flatten.specs.Meeting.{IsElaboration};
 ghost use Rattle.vl_flatten.specs.Terms.{surface};
 
@@ -31,10 +27,4 @@ pub fn a_source_has_one_elaboration()
 /// The operators of an expression are bound as the grammar binds them: by table 5-4, to the left within a row.
 pub fn operators_are_bound_as_the_grammar_binds_them()
     ensures { (e : Binary) → binary e ≡ surface (term_of e) }
-{}
-
-/// Each signal of a flat design has 1 to 128 bits, and so has each variable of its functions.
-pub fn a_flat_design_has_signals_of_1_to_128_bits()
-    ensures signals { (s : Source) (d : placed.Design) → flattened s ≡ Ok d → All (λ (r : Signal). IsWidth (range_width r.left r.right)) d.signals }
-    ensures locals { (s : Source) (d : placed.Design) → flattened s ≡ Ok d → All (λ (f : placed.Func). All (λ (r : Signal). IsWidth (range_width r.left r.right)) f.locals) d.funcs }
 {}

@@ -7,9 +7,9 @@ ghost use Rattle.vl_design.specs.Width as w;
 ghost use Rattle.vl_header.specs.Constants.{IsConstant};
 ghost use Rattle.vl_header.specs.Rooms.{names_of, rows_of};
 
-use crate::contexts::{binary_form, joined, unary_form, unsigned};
 use crate::room::{Room, signal_form};
 use vl_design::design::{Expr, ExprNode, Form};
+use vl_form::form::{binary_form, joined, unary_form, unsigned};
 
 /// The width and the sign of an expression in a header, read for itself.
 #[tactic(auto, using(crate::proofs::Names::form_rules))]

@@ -13,13 +13,13 @@ ghost use Rattle.vl_header.specs.Constants.{IsConstant};
 ghost use Rattle.vl_header.specs.Heads.{IsHead, AreTurns};
 ghost use Rattle.vl_header.specs.Rooms.{names_of, rows_of, scope_of, state_of, sample_of, AreNumbers};
 
-use crate::contexts::assigned;
 use crate::forms::form_of;
 use crate::room::{Room, signal_form};
 use crate::values::value;
 use std::alloc::{AllocError, Global};
 use vl_base::bits::resize;
 use vl_design::design::{Expr, Stmt, StmtNode};
+use vl_form::form::assigned;
 
 /// Whether a test holds.
 #[tactic(auto, using(crate::proofs::Widen::contexts))]

@@ -1,6 +1,5 @@
 #![tactic(auto)]
 
-pub mod contexts;
 pub mod forms;
 pub mod header;
 pub mod room;

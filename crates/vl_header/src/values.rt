@@ -11,13 +11,13 @@ ghost use Rattle.vl_design.specs.Value as d;
 ghost use Rattle.vl_header.specs.Constants.{IsConstant};
 ghost use Rattle.vl_header.specs.Rooms.{names_of, rows_of, scope_of, sample_of, AreNumbers};
 
-use crate::contexts::{left_form, operand_form, right_form};
 use crate::forms::form_of;
 use crate::room::{Room, number_of};
 use crate::selects::lowest;
 use vl_base::bits::{BinOp, Bits, UnOp, binary, resize, unary};
 use vl_base::select::pick;
 use vl_design::design::{Expr, ExprNode, Form, LowestBit};
+use vl_form::form::{left_form, operand_form, right_form};
 
 /// A value in a longer width.
 #[tactic(auto, using(crate::proofs::Widen::longer))]

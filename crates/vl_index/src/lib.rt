@@ -1,7 +1,6 @@
 //! What numbers stand for, and constant indices.
 #![tactic(auto)]
 
-mod forms;
 pub mod index;
 pub mod meanings;
 mod values;

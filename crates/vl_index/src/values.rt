@@ -12,14 +12,14 @@ ghost use Rattle.vl_paths.specs.Bits as b;
 ghost use Rattle.vl_index.specs.Seen.{names_seen};
 ghost use Rattle.vl_index.specs.Constants.{IsConstant, AreParts, IsReadable, near};
 
-use crate::forms::{
-    binary_form, joined, left_form, operand_form, right_form, unary_form, unsigned,
-};
 use crate::meanings::Meanings;
 use crate::wholes::{lowest_place, whole_number};
 use vl_base::bits::{Bits, binary, resize, unary};
 use vl_base::select::{append, pick};
 use vl_design::design::{Expr, ExprNode, Form, LowestBit};
+use vl_form::form::{
+    binary_form, joined, left_form, operand_form, right_form, unary_form, unsigned,
+};
 
 /// The expression reads something.
 #[cycle(varies)]

@@ -1,7 +1,7 @@
 //! Sized expressions: each node at the width and sign of its context.
 #![tactic(auto)]
 
-pub(crate) mod contexts;
+pub mod form;
 pub(crate) mod own;
 pub(crate) mod reading;
 pub mod room;

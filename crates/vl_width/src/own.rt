@@ -9,13 +9,13 @@ ghost use Rattle.vl_width.specs.Sizing as z;
 ghost use Rattle.vl_width.specs.Room.{names_of, HaveInputs};
 ghost use Rattle.vl_width.specs.Read.{own_of, at_input, at_inputs, widths_together, AreAllSound};
 
-use crate::contexts::{binary_form, joined, unary_form};
 use crate::reading::form_of;
 use crate::room::{Room, input_width, result_form, signal_form};
 use std::alloc::{AllocError, Global};
 use vl_base::items::Items;
 use vl_design::design::{Expr, ExprNode, Form, SysCall};
 use vl_design::sized::{SizedExpr, SizedNode};
+use vl_form::form::{binary_form, joined, unary_form, unsigned};
 
 /// A node at a width and sign.
 fn at(form: Form, node: SizedNode) -> SizedExpr
@@ -26,16 +26,6 @@ fn at(form: Form, node: SizedNode) -> SizedExpr
         width: form.width as u8,
         signed: form.signed,
         node,
-    }
-}
-
-/// An unsigned form.
-fn unsigned(width: u32) -> Form
-    ensures { result ≡ w.unsigned width }
-{
-    Form {
-        width,
-        signed: false,
     }
 }
 

@@ -6,10 +6,10 @@ ghost use Rattle.vl_width.specs.Widths as v;
 ghost use Rattle.vl_width.specs.Sizing as z;
 ghost use Rattle.vl_width.specs.Read.{each_at};
 
-use crate::contexts::{left_form, operand_form, right_form};
 use std::mem::replace;
 use vl_design::design::Form;
 use vl_design::sized::{SizedExpr, SizedNode};
+use vl_form::form::{left_form, operand_form, right_form};
 
 /// The width and sign at which an expression stands.
 pub(crate) fn form_of(x: &SizedExpr) -> Form

@@ -6,8 +6,8 @@ ghost use Rattle.vl_design.specs.Width as w;
 ghost use Rattle.vl_design.specs.Sound.{IsSound, IsWidth};
 ghost use Rattle.vl_width.specs.Room.{names_of, HaveInputs};
 
-use crate::contexts::bit;
 use vl_design::design::{Design, Form, Func, Signal};
+use vl_form::form::unsigned;
 
 /// What the numbers of an expression name: signals of a design, behind them the locals of the function in whose body the
 /// expression stands, and functions.
@@ -73,7 +73,7 @@ pub(crate) fn signal_form(signals: &[Signal], locals: &[Signal], number: u32) ->
     if local < locals.len() {
         return declared_form(&locals[local]);
     }
-    bit()
+    unsigned(1)
 }
 
 /// The width and sign of a function's result.

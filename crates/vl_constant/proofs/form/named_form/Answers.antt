@@ -6,8 +6,8 @@ use Rattle.vl_constant.proofs.form.named_form.Goals as goal
 
 pub returns-in-Range : goal.returns-in-Range
 returns-in-Range c =
-    name-range (seen_scope c.args.scope.now) (option_map binding_of c.args.known) c.unsigned.result c.selects_form-in-Range.result c.taken.result c.args.selects.now c.first-item.result c.in-Range.field-0 c.in-Range.mark c.in-Range.left c.in-Range.right
-    c.in-len1-up.len_at_least c.first-item.is c.in-Range.is c.selects_form-in-Range.ensures c.unsigned.ensures c.taken.ensures.same
+    name-range (seen_scope c.args.scope.now) (option_map binding_of c.args.known) c.unsigned-in-Range.result c.selects_form-in-Range.result c.taken.result c.args.selects.now c.first-item.result c.in-Range.field-0 c.in-Range.mark c.in-Range.left c.in-Range.right
+    c.in-len1-up.len_at_least c.first-item.is c.in-Range.is c.selects_form-in-Range.ensures c.unsigned-in-Range.ensures c.taken.ensures.same
 
 pub returns-then-is_memory : goal.returns-then-is_memory
 returns-then-is_memory c =
@@ -16,5 +16,5 @@ returns-then-is_memory c =
 
 pub returns-else-is_memory : goal.returns-else-is_memory
 returns-else-is_memory c =
-    name-bit (seen_scope c.args.scope.now) (option_map binding_of c.args.known) c.bit.result c.selects_form-else-is_memory.result c.args.selects.now c.first-item.result c.in-Index.field-0 c.in-Index.field-1
-    c.in-len1-up.len_at_least c.first-item.is c.in-Index.is (sym c.is_memory.ensures ∙ c.if-is_memory.false) c.selects_form-else-is_memory.ensures c.bit.ensures
+    name-bit (seen_scope c.args.scope.now) (option_map binding_of c.args.known) c.unsigned.result c.selects_form-else-is_memory.result c.args.selects.now c.first-item.result c.in-Index.field-0 c.in-Index.field-1
+    c.in-len1-up.len_at_least c.first-item.is c.in-Index.is (sym c.is_memory.ensures ∙ c.if-is_memory.false) c.selects_form-else-is_memory.ensures c.unsigned.ensures

@@ -14,5 +14,5 @@ returns-clause-value c =
     let e = seen c.args.e.now in
     let h : is_constant s.names e ≡ true = grind arith in
     c.resize.ensures.value
-    ∙ (ap (λ n. n % 2 ^ c.args.width) (c.evaluate.ensures.value ∙ ap (folded s.names e) (c.assigned-context.ensures ∙ ap (assigned c.args.width) c.constant_form-form.ensures.same))
+    ∙ (ap (λ n. n % 2 ^ c.args.width) (c.evaluate.ensures.value ∙ ap (folded s.names e) (c.assigned-context.ensures ∙ (ap (λ n. assigned n c.constant_form-form.result) c.from.ensures ∙ ap (assigned c.args.width) c.constant_form-form.ensures.same)))
     ∙ assigned-is s e c.args.width h)

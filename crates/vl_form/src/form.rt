@@ -1,6 +1,6 @@
-//! Widths and signs of operators, and the contexts of their operands (IEEE 1364-2005, clauses 5.4 and 5.5).
+//! Widths and signs: of values, and of the contexts in which operands are read (IEEE 1364-2005, clauses 5.4 and 5.5).
 
-ghost use Rattle.std.specs.Prelude.{◌≡◌, ◌≤◌, IsTrue};
+ghost use Rattle.std.specs.Prelude.{◌≡◌, ◌≤◌, ◌<◌, IsTrue};
 ghost use Rattle.vl_base.specs.Value.{needs_one_width, binary_width, unary_width};
 ghost use Rattle.vl_design.specs.Sound.{IsWidth};
 ghost use Rattle.vl_design.specs.Width as w;
@@ -9,7 +9,7 @@ use vl_base::bits::{BinOp, UnOp};
 use vl_design::design::Form;
 
 /// So many bits, unsigned.
-pub(crate) fn unsigned(width: u32) -> Form
+pub fn unsigned(width: u32) -> Form
     ensures { result ≡ w.unsigned width }
 {
     Form {
@@ -19,8 +19,9 @@ pub(crate) fn unsigned(width: u32) -> Form
 }
 
 /// The longer of two widths, signed where both are.
-pub(crate) fn joined(a: Form, b: Form) -> Form
-    ensures { result ≡ w.joined a b }
+pub fn joined(a: Form, b: Form) -> Form
+    ensures value { result ≡ w.joined a b }
+    ensures small { a.width < 256 → b.width < 256 → result.width < 256 }
 {
     Form {
         width: a.width.max(b.width),
@@ -29,7 +30,7 @@ pub(crate) fn joined(a: Form, b: Form) -> Form
 }
 
 /// The context of the right side of an assignment to so many bits.
-pub(crate) fn assigned(width: u32, own: Form) -> Form
+pub fn assigned(width: u32, own: Form) -> Form
     ensures { result ≡ w.assigned width own }
 {
     Form {
@@ -39,9 +40,10 @@ pub(crate) fn assigned(width: u32, own: Form) -> Form
 }
 
 /// The form of a unary operator's value.
-pub(crate) fn unary_form(op: UnOp, a: Form) -> Form
+pub fn unary_form(op: UnOp, a: Form) -> Form
     ensures value { result ≡ w.unary_form op a }
     ensures width { IsWidth a.width → IsWidth result.width }
+    ensures small { a.width < 256 → result.width < 256 }
 {
     match op {
         UnOp::Neg | UnOp::Not => a,
@@ -50,9 +52,10 @@ pub(crate) fn unary_form(op: UnOp, a: Form) -> Form
 }
 
 /// The form of a binary operator's value.
-pub(crate) fn binary_form(op: BinOp, a: Form, b: Form) -> Form
+pub fn binary_form(op: BinOp, a: Form, b: Form) -> Form
     ensures value { result ≡ w.binary_form op a b }
     ensures width { IsWidth a.width → IsWidth b.width → IsWidth result.width }
+    ensures small { a.width < 256 → b.width < 256 → result.width < 256 }
 {
     match op {
         BinOp::Add | BinOp::Sub | BinOp::Mul | BinOp::Div | BinOp::Rem => joined(a, b),
@@ -63,7 +66,7 @@ pub(crate) fn binary_form(op: BinOp, a: Form, b: Form) -> Form
 }
 
 /// The context of a unary operator's operand.
-pub(crate) fn operand_form(op: UnOp, a: Form, c: Form) -> Form
+pub fn operand_form(op: UnOp, a: Form, c: Form) -> Form
     ensures value { result ≡ w.operand_form op a c }
     ensures wide { (w.unary_form op a).width ≤ c.width → a.width ≤ result.width }
     ensures narrow { a.width ≤ 128 → c.width ≤ 128 → result.width ≤ 128 }
@@ -76,7 +79,7 @@ pub(crate) fn operand_form(op: UnOp, a: Form, c: Form) -> Form
 }
 
 /// The context of a binary operator's left operand.
-pub(crate) fn left_form(op: BinOp, a: Form, b: Form, c: Form) -> Form
+pub fn left_form(op: BinOp, a: Form, b: Form, c: Form) -> Form
     ensures value { result ≡ w.left_form op a b c }
     ensures wide { (w.binary_form op a b).width ≤ c.width → a.width ≤ result.width }
     ensures narrow { a.width ≤ 128 → b.width ≤ 128 → c.width ≤ 128 → result.width ≤ 128 }
@@ -92,7 +95,7 @@ pub(crate) fn left_form(op: BinOp, a: Form, b: Form, c: Form) -> Form
 }
 
 /// The context of its right operand.
-pub(crate) fn right_form(op: BinOp, a: Form, b: Form, c: Form) -> Form
+pub fn right_form(op: BinOp, a: Form, b: Form, c: Form) -> Form
     ensures value { result ≡ w.right_form op a b c }
     ensures wide { (w.binary_form op a b).width ≤ c.width → b.width ≤ result.width }
     ensures narrow { a.width ≤ 128 → b.width ≤ 128 → c.width ≤ 128 → result.width ≤ 128 }

@@ -1,6 +1,7 @@
 -- Expressions whose parts fit: each name is used as what it is.
 use Rattle.std.proofs.Common.{◌≡◌, Bool, true, false, if◌then◌else◌, List, [], ◌∷◌, ◌++◌, Some, refl, ap, ◌∙◌, subst, inl, inr, arith}
 use Rattle.std.specs.Prelude.{⊤, nat_lt}
+use Rattle.vl_base.specs.declared.number.Number.{Number}
 use Rattle.vl_base.specs.declared.place.Place.{Place}
 use Rattle.vl_grammar.specs.declared.tree.Expression as e
 use Rattle.vl_grammar.specs.declared.tree.Choice as ch
@@ -64,6 +65,14 @@ pub marked-used : (k : Classes) (ms : List UnaryMark) (a : x.Ex) → IsUsed k a 
 marked-used k [] a u = u
 marked-used k (m ∷ ms) a u = marked-used k ms a u
 
+-- a number counts as one that is proper
+pub proper-is : (a : Number) → f.is_proper (f.proper a) ≡ true
+proper-is a = by (f.is_proper a) refl
+  where
+    by : (t : Bool) → f.is_proper a ≡ t → f.is_proper (if t then a else f.zero_bit) ≡ true
+    by true h = h
+    by false h = refl
+
 row-count : {m : _} (row : p.Row_of-Expression m) → n.row_length row ≡ how_many (f.exs row)
 row-count p.end_of-Expression = refl
 row-count (p.more_of-Expression a rest) = let q = row-count rest in omega arith
@@ -112,7 +121,7 @@ module _ (k : Classes) (P : n.Node → Type 0) (Q : Setting → Type 0) (suits :
     operand-used s q (b.more_of-Primary a rest) w = primary-used s q a w
 
     pub primary-used : (s : Setting) → Q s → (a : p.Primary) → All (n.primary_nodes s a) → IsUsed k (f.primary a)
-    primary-used s q (p.Number at a) w = tt
+    primary-used s q (p.Number at a) w = proper-is a
     primary-used s q (p.Str at text) w = tt
     primary-used s q (p.Name a) w = name-used s q a (suits.part s (n.value a) q (first-so P (n.node s (n.value a)) (n.name_nodes s a) w)) (rest-so P (n.node s (n.value a)) (n.name_nodes s a) w)
     primary-used s q (p.Parenthesized' at h row) w = inner-used s q row w

@@ -22,7 +22,7 @@ use Rattle.vl_base.specs.declared.place.Place.{Place}
 use Rattle.vl_used.specs.Used.{Classes, IsUsed, IsUsedSide, IsUsedTest}
 use Rattle.vl_named.proofs.Sides.{used-side, side-test}
 use Rattle.vl_named.proofs.Loading.{some-same, operand-is, sole-is}
-use Rattle.vl_named.proofs.Expressions.{Every, Suits, ex-used, system-used}
+use Rattle.vl_named.proofs.Expressions.{Every, Suits, proper-is, ex-used, system-used}
 
 -- ---- parentheses
 
@@ -101,7 +101,7 @@ module _ (k : Classes) where
   number-used v h = by (s.apart v) refl h
     where
       by : (q : Option Primary) → s.apart v ≡ q → n.is_number q ≡ true → IsUsed k (f.ex v)
-      by (Some (p.Number at a)) g i = apart-used (IsUsed k) (λ at a w. w) v (p.Number at a) g tt
+      by (Some (p.Number at a)) g i = apart-used (IsUsed k) (λ at a w. w) v (p.Number at a) g (proper-is a)
       by q g i = absurd cc
 
 module _ (k : Classes) (P : n.Node → Type 0) (Q : Setting → Type 0) (suits : Suits k P Q) where

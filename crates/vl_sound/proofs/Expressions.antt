@@ -1,8 +1,9 @@
 -- An expression whose names are used as what they are, and stand for it, is sound where it has no fault.
-use Rattle.std.proofs.Common.{◌≡◌, ◌<◌, ◌^◌, ℕ, ◌+◌, ◌*◌, Bool, true, false, if◌then◌else◌, List, [], ◌++◌, length, Option, Some, None, refl, sym, ap, ◌∙◌, subst, arith}
-use Rattle.std.specs.Prelude.{ℤ, ⊤, fold, codes, not, ◌&&◌, ◌||◌, nat_lt, slice_get}
+use Rattle.std.proofs.Common.{◌≡◌, ℕ, ◌+◌, ◌*◌, Bool, true, false, if◌then◌else◌, List, [], ◌++◌, Option, Some, None, refl, sym, ap, ◌∙◌, subst}
+use Rattle.std.specs.Prelude.{ℤ, ⊤, fold, codes, not, ◌&&◌, ◌||◌, slice_get}
 use Rattle.std.specs.Str.{bytes_eq}
-use Rattle.std.proofs.lemmas.Bool.{and_parts, or_parts, or_from}
+use Rattle.std.proofs.Math.Pow.{pow_pos}
+use Rattle.std.proofs.lemmas.Bool.{or_from}
 use Rattle.std.proofs.lemmas.Slice.Eq.{bytes_eq-Decides}
 use Rattle.std.proofs.lemmas.Option.{slice_get_within}
 use Rattle.vl_base.specs.declared.place.Place.{Place}
@@ -18,7 +19,6 @@ use Rattle.vl_design.specs.declared.stop.Stop.{Stop}
 use Rattle.vl_design.specs.Syntax as d
 use Rattle.vl_design.specs.Rows.{range_width, has_width}
 use Rattle.vl_design.specs.Stops.{construct_if}
-use Rattle.vl_design.specs.Nodes.{has, some_have}
 use Rattle.vl_design.specs.Width as w
 use Rattle.vl_design.specs.Sound.{IsWidth, IsOf, HasValue, IsMem, IsSignal, IsMemory, Takes, count_of, IsSoundExp, AreSound}
 use Rattle.vl_design.specs.Placed as p
@@ -35,8 +35,8 @@ use Rattle.vl_laws.specs.Naming.{StandsIn, IsValue, IsCalled, IsResolved, AreRes
 use Rattle.vl_laws.proofs.Forms.{form-same}
 use Rattle.vl_used.specs.Used as u
 use Rattle.vl_used.specs.Agreeing.{StandsAs, Agrees, IsRowOf, StandsFor}
-use Rattle.vl_sound.specs.Numbers.{is_unfit}
-use Rattle.vl_sound.proofs.Parts.{none-left, none-right, clear, not-false, past-clear, width-is, below-is}
+use Rattle.vl_sound.specs.Widths.{HasWidth, HaveWidths}
+use Rattle.vl_sound.proofs.Parts.{none-left, none-right, clear, past-clear, width-is, one-bit, number-is, operand-is}
 
 -- ---- functions whose calls are operands
 
@@ -69,9 +69,6 @@ AtIndices P x.NoSelects = ⊤
 AtIndices P (x.Index at i others) = P i × AtIndices P others
 AtIndices P (x.Range at m.Range l r others) = AtIndices P others
 AtIndices P (x.Range at mark l r others) = P l × AtIndices P others
-
-pub one-bit : IsWidth 1
-one-bit = record { wide = omega arith; narrow = omega arith }
 
 -- ---- no string of a whole without faults is too long
 
@@ -205,9 +202,6 @@ module _ (k : u.Classes) (scope : Scope) (agrees : Agrees k scope) where
     abbrev Sound : p.Exp → Type 0
     Sound a = IsSoundExp design (plain.exp a)
 
-    abbrev Fit : p.Exp → Type 0
-    Fit a = has is_unfit (plain.exp a) ≡ false
-
     pub signal-is : (P : SigKind → Type 0) (t : List ℕ) (j : ℕ) (s : Shape) → scope.names t ≡ Some (b.Signal j s) → P s.kind → IsOf P (slice_get design.rows j)
     signal-is P t j s h v = let (r, at, is) = stands.signals t j s h in subst (IsOf P) (sym at) (subst P (sym is.kind) v, is.wide)
 
@@ -216,14 +210,6 @@ module _ (k : u.Classes) (scope : Scope) (agrees : Agrees k scope) where
     -- what selects of bits leave of a value
     abbrev bits : Place → ℤ × ℤ → x.Selects → p.Exp → p.Exp
     bits at r ss base = fold (e.stepped at) base (e.steps scope None r ss)
-
-    fit-bits : (at : Place) (r : ℤ × ℤ) (base : p.Exp) (ss : x.Selects) → u.AreOfBits ss → Fit (bits at r ss base) → Fit base × AtIndices (λ i. Fit (e.exp scope i)) ss
-    fit-bits at r base x.NoSelects v h = (h, tt)
-    fit-bits at r base (x.Index q i x.NoSelects) v h = let (f, g) = or_parts (has is_unfit (plain.exp base)) (has is_unfit (plain.exp (e.exp scope i))) h in (f, (g, tt))
-    fit-bits at r base (x.Range q m.Range l o x.NoSelects) v h = (h, tt)
-    fit-bits at r base (x.Range q m.Up l o x.NoSelects) v h = let (f, g) = or_parts (has is_unfit (plain.exp base)) (has is_unfit (plain.exp (e.exp scope l))) h in (f, (g, tt))
-    fit-bits at r base (x.Range q m.Down l o x.NoSelects) v h = let (f, g) = or_parts (has is_unfit (plain.exp base)) (has is_unfit (plain.exp (e.exp scope l))) h in (f, (g, tt))
-    fit-bits at r base ss v h = absurd v
 
     bits-sound : (at : Place) (r : ℤ × ℤ) (base : p.Exp) (f : Form) (ss : x.Selects) → u.AreOfBits ss → Sound base → AtIndices (λ i. Sound (e.exp scope i)) ss
         → IsWidth (fold e.step_form f (e.steps scope None r ss)).width → Sound (bits at r ss base)
@@ -238,75 +224,17 @@ module _ (k : u.Classes) (scope : Scope) (agrees : Agrees k scope) where
     abbrev word : Place → ℤ × ℤ → ℕ → x.Selects → p.Exp → p.Exp
     word at r j ss base = fold (e.stepped at) base (e.steps scope (Some j) r ss)
 
-    fit-word : (at : Place) (r : ℤ × ℤ) (j : ℕ) (base : p.Exp) (ss : x.Selects) → u.AreOfAWord ss → Fit (word at r j ss base) → AtIndices (λ i. Fit (e.exp scope i)) ss
-    fit-word at r j base (x.Index q i others) v h = fit-bits at r (p.Word at j (e.exp scope i)) others v h
-    fit-word at r j base x.NoSelects v h = absurd v
-    fit-word at r j base (x.Range q mark l o others) v h = absurd v
-
     word-sound : (at : Place) (r : ℤ × ℤ) (j : ℕ) (base : p.Exp) (f : Form) (ss : x.Selects) → u.AreOfAWord ss → IsMemory design j → AtIndices (λ i. Sound (e.exp scope i)) ss
         → IsWidth (fold e.step_form f (e.steps scope (Some j) r ss)).width → Sound (word at r j ss base)
     word-sound at r j base f (x.Index q i others) v h s w = bits-sound at r (p.Word at j (e.exp scope i)) f others v (h, s.0) s.1 w
     word-sound at r j base f x.NoSelects v h s w = absurd v
     word-sound at r j base f (x.Range q mark l o others) v h s w = absurd v
 
-    -- ---- names
-
-    pub number-sound : (v w : ℕ) (s : Bool) → has is_unfit (d.Num v w s) ≡ false → IsSoundExp design (d.Num v w s)
-    number-sound v w s h =
-        let (width, below) = and_parts (has_width w) (nat_lt v (2 ^ w)) (not-false (has_width w && nat_lt v (2 ^ w)) h) in
-        (width-is w width, below-is v (2 ^ w) below)
-
-    -- what a name that is read stands for: a value, or a memory
-    data Reads (b : Option Binding) (ss : x.Selects) : Type 0 where
-      a_value : u.AreOfBits ss → e.memory_of b ≡ None → ((at : Place) → Fit (e.whole at b) → Sound (e.whole at b)) → Reads b ss
-      a_memory : (j : ℕ) → u.AreOfAWord ss → e.memory_of b ≡ Some j → IsMemory design j → Reads b ss
-
-    signal-reads : (t : List ℕ) (j : ℕ) (s : Shape) (ss : x.Selects) → scope.names t ≡ Some (b.Signal j s) → HasValue s.kind → u.AreOfBits ss → Reads (Some (b.Signal j s)) ss
-    signal-reads t j s ss h v r = a_value r (ap (λ z. if z then Some j else None) (not-mem s.kind v)) (λ at f. signal-is HasValue t j s h v)
-
-    reads : (t : List ℕ) (class : Class) (b : Option Binding) (ss : x.Selects) → scope.names t ≡ b → StandsAs class b → u.IsRead (Some class) ss → Reads b ss
-    reads t c.Port (Some (b.Signal j s)) ss e h v = signal-reads t j s ss e h v
-    reads t c.Net (Some (b.Signal j s)) ss e h v = signal-reads t j s ss e h v
-    reads t c.Variable (Some (b.Signal j s)) ss e h v = signal-reads t j s ss e h v
-    reads t c.Memory (Some (b.Signal j s)) ss e h v = a_memory j v (ap (λ z. if z then Some j else None) (is-mem s.kind h)) (signal-is IsMem t j s e h)
-    reads t (c.Parameter n) (Some (b.Constant a)) ss e h v = a_value v refl (λ at f. number-sound a.value a.width a.signed f)
-    reads t (c.Function n) b ss e h v = absurd v
-    reads t c.Instance b ss e h v = absurd v
-    reads t class b ss e h v = absurd h
-
-    read-as : (t : List ℕ) (ss : x.Selects) → u.IsRead (k.read t) ss → Reads (scope.names t) ss
-    read-as t ss v = by (k.read t) refl v
-      where
-        by : (o : Option Class) → k.read t ≡ o → u.IsRead o ss → Reads (scope.names t) ss
-        by None e v = absurd v
-        by (Some class) e v = reads t class (scope.names t) ss refl (agrees.read t class e) v
-
-    abbrev named : Place → Option Binding → x.Selects → Option ℕ → p.Exp
-    named at b ss memory = fold (e.stepped at) (e.whole at b) (e.steps scope memory (range_of b) ss)
-
-    named-fit : (at : Place) (b : Option Binding) (ss : x.Selects) → Reads b ss → Fit (named at b ss (e.memory_of b)) → AtIndices (λ i. Fit (e.exp scope i)) ss
-    named-fit at b ss (a_value r is whole) h = (fit-bits at (range_of b) (e.whole at b) ss r (subst (λ z. Fit (named at b ss z)) is h)).1
-    named-fit at b ss (a_memory j r is there) h = fit-word at (range_of b) j (e.whole at b) ss r (subst (λ z. Fit (named at b ss z)) is h)
-
-    named-sound : (at : Place) (b : Option Binding) (ss : x.Selects) → Reads b ss → Fit (named at b ss (e.memory_of b)) → AtIndices (λ i. Sound (e.exp scope i)) ss
-        → IsWidth (e.named_form scope b ss).width → Sound (named at b ss (e.memory_of b))
-    named-sound at b ss (a_value r is whole) h i w =
-        let f = (fit-bits at (range_of b) (e.whole at b) ss r (subst (λ z. Fit (named at b ss z)) is h)).0 in
-        subst (λ z. Sound (named at b ss z)) (sym is)
-        (bits-sound at (range_of b) (e.whole at b) (form_of b) ss r (whole at f) i (subst (λ z. IsWidth (fold e.step_form (form_of b) (e.steps scope z (range_of b) ss)).width) is w))
-    named-sound at b ss (a_memory j r is there) h i w =
-        subst (λ z. Sound (named at b ss z)) (sym is)
-        (word-sound at (range_of b) j (e.whole at b) (form_of b) ss r there i (subst (λ z. IsWidth (fold e.step_form (form_of b) (e.steps scope z (range_of b) ss)).width) is w))
-
     -- ---- operators and calls
 
     marked-sound : (at : Place) (op : Option UnOp) (a : p.Exp) → Sound a → Sound (e.marked at op a)
     marked-sound at None a h = h
     marked-sound at (Some op) a h = h
-
-    marked-fit : (at : Place) (op : Option UnOp) (a : p.Exp) → Fit (e.marked at op a) → Fit a
-    marked-fit at None a h = h
-    marked-fit at (Some op) a h = h
 
     count-is : (es : x.Exs) → count_of (plain.exps (e.exps scope es)) ≡ u.how_many es
     count-is x.NoExs = refl
@@ -325,80 +253,116 @@ module _ (k : u.Classes) (scope : Scope) (agrees : Agrees k scope) where
     abbrev pub made : Place → List ℕ → p.Exp → p.Args → Bool → Bool → Bool → p.Exp
     made at name first args a b c = if a then p.Cast at true first else if b then p.Cast at false first else if c then p.Time at else p.Sys at name args
 
-    system-sound : (at : Place) (name : List ℕ) (first : p.Exp) (args : p.Args) → (Fit first → Sound first) → Fit (e.called_system at name first args) → Sound (e.called_system at name first args)
+    system-sound : (at : Place) (name : List ℕ) (first : p.Exp) (args : p.Args) → Sound first → Sound (e.called_system at name first args)
     system-sound at name first args s = by (bytes_eq name (codes "$signed")) (bytes_eq name (codes "$unsigned")) (bytes_eq name (codes "$time"))
       where
-        by : (a b c : Bool) → Fit (made at name first args a b c) → Sound (made at name first args a b c)
-        by true b c h = s h
-        by false true c h = s h
-        by false false true h = tt
-        by false false false h = tt
+        by : (a b c : Bool) → Sound (made at name first args a b c)
+        by true b c = s
+        by false true c = s
+        by false false true = tt
+        by false false false = tt
 
-    -- ---- expressions
+    -- one zero bit
+    pub zero-sound : IsSoundExp design (d.Num 0 1 false)
+    zero-sound = (one-bit, pow_pos 1)
 
-    mutual
-      pub sound : (a : x.Ex) → u.IsUsed k a → ef.faults scope a ≡ [] → Fit (e.exp scope a) → Sound (e.exp scope a)
-      sound (x.Number at n) v h f = number-sound n.value n.width n.signed f
-      sound (x.Text at text) v h f = number-sound (e.text_value text) (e.text_form text).width false f
-      sound (x.Named at t ss) v h f =
-          let r = read-as t ss v.0 in
-          let inside = none-right (ef.directions scope at (scope.names t) ss) (ef.selects_faults scope ss) (none-right (ef.past scope (x.Named at t ss)) _ h) in
-          named-sound at (scope.names t) ss r f (indices-sound ss v.1 inside (named-fit at (scope.names t) ss r f))
-          (wide k scope (x.Named at t ss) (short k scope (x.Named at t ss) v h) (none-left (ef.past scope (x.Named at t ss)) _ h))
-      sound (x.Paren at a) v h f = sound a v h f
-      sound (x.Unary at op a) v h f =
-          marked-sound at (e.unary_of op) (e.exp scope a) (sound a v (none-right (ef.past scope (x.Unary at op a)) (ef.faults scope a) h) (marked-fit at (e.unary_of op) (e.exp scope a) f))
-      sound (x.Binary at op a b) v h f =
-          let both = none-right (ef.past scope (x.Binary at op a b)) (ef.faults scope a ++ ef.faults scope b) h in
-          let (g, i) = or_parts (has is_unfit (plain.exp (e.exp scope a))) (has is_unfit (plain.exp (e.exp scope b))) f in
-          (sound a v.0 (none-left (ef.faults scope a) (ef.faults scope b) both) g, sound b v.1 (none-right (ef.faults scope a) (ef.faults scope b) both) i)
-      sound (x.Choice at t a b) v h f =
-          let all = none-right (ef.past scope (x.Choice at t a b)) (ef.faults scope t ++ (ef.faults scope a ++ ef.faults scope b)) h in
-          let both = none-right (ef.faults scope t) (ef.faults scope a ++ ef.faults scope b) all in
-          let (g, others) = or_parts (has is_unfit (plain.exp (e.exp scope t))) _ f in
-          let (i, j) = or_parts (has is_unfit (plain.exp (e.exp scope a))) (has is_unfit (plain.exp (e.exp scope b))) others in (
-            sound t v.0 (none-left (ef.faults scope t) _ all) g,
-            sound a v.1 (none-left (ef.faults scope a) (ef.faults scope b) both) i,
-            sound b v.2 (none-right (ef.faults scope a) (ef.faults scope b) both) j,
-          )
-      sound (x.Joined at es) v h f = (
-        subst IsWidth (sym (total-is at es v)) (wide k scope (x.Joined at es) (short k scope (x.Joined at es) v h) (none-left (ef.past scope (x.Joined at es)) _ h)),
-        sounds es v (none-right (ef.past scope (x.Joined at es)) (ef.all_faults scope es) h) f,
-      )
-      sound (x.Repeated at n es) v h f =
-          let all = none-right (ef.past scope (x.Repeated at n es)) _ h in
-          let rest = none-right (ef.faults scope n) (ef.constant_must scope constants.is_count n 10 ++ ef.all_faults scope es) all in (
-            subst (λ z. IsWidth (constants.count_of (e.constant scope n) * z)) (sym (total-is at es v.1))
-                (wide k scope (x.Repeated at n es) (short k scope (x.Repeated at n es) v h) (none-left (ef.past scope (x.Repeated at n es)) _ h)),
-            sounds es v.1 (none-right (ef.constant_must scope constants.is_count n 10) (ef.all_faults scope es) rest) f,
-          )
-      sound (x.Called at t es) v h f =
-          let (takes, width) = called-is t (u.how_many es) (scope.calls t) v.0 refl (agrees.called t (u.how_many es) v.0)
-          (wide k scope (x.Called at t es) (short k scope (x.Called at t es) v h) (none-left (ef.past scope (x.Called at t es)) _ h)) in (
-            subst (λ z. Takes (slice_get design.funs (number_of (scope.calls t))) z) (sym (count-is es)) takes,
-            width,
-            sounds es v.1 (none-right (ef.past scope (x.Called at t es)) (ef.all_faults scope es) h) f,
-          )
-      sound (x.System at name given) v h f =
-          system-sound at name (e.first_of scope at given) (e.args scope (e.keeps_texts name) given)
-          (λ g. first-sound at given v.1 (ap (λ z. ef.args_faults scope z given) (sym (keeps-none name v.0)) ∙ none-right (ef.past scope (x.System at name given)) _ h) g) f
+    module _ (widths : HaveWidths scope.names) where
+      -- ---- names
 
-      pub sounds : (es : x.Exs) → u.AreUsed k es → ef.all_faults scope es ≡ [] → some_have is_unfit (plain.exps (e.exps scope es)) ≡ false → AreSound design (plain.exps (e.exps scope es))
-      sounds x.NoExs v h f = tt
-      sounds (x.MoreExs a es) v h f =
-          let (g, i) = or_parts (has is_unfit (plain.exp (e.exp scope a))) (some_have is_unfit (plain.exps (e.exps scope es))) f in
-          (sound a v.0 (none-left (ef.faults scope a) (ef.all_faults scope es) h) g, sounds es v.1 (none-right (ef.faults scope a) (ef.all_faults scope es) h) i)
+      -- what a name that is read stands for: a value, or a memory
+      data Reads (b : Option Binding) (ss : x.Selects) : Type 0 where
+        a_value : u.AreOfBits ss → e.memory_of b ≡ None → ((at : Place) → Sound (e.whole at b)) → Reads b ss
+        a_memory : (j : ℕ) → u.AreOfAWord ss → e.memory_of b ≡ Some j → IsMemory design j → Reads b ss
 
-      pub indices-sound : (ss : x.Selects) → u.AreUsedSelects k ss → ef.selects_faults scope ss ≡ [] → AtIndices (λ i. Fit (e.exp scope i)) ss → AtIndices (λ i. Sound (e.exp scope i)) ss
-      indices-sound x.NoSelects v h f = tt
-      indices-sound (x.Index at a others) v h f =
-          (sound a v.0 (none-left (ef.faults scope a) (ef.selects_faults scope others) h) f.0, indices-sound others v.1 (none-right (ef.faults scope a) (ef.selects_faults scope others) h) f.1)
-      indices-sound (x.Range at m.Range l r others) v h f =
-          indices-sound others v.2 (behind-range k scope m.Range l r others h) f
-      indices-sound (x.Range at m.Up l r others) v h f = (sound l v.0 (none-left (ef.faults scope l) _ h) f.0, indices-sound others v.2 (behind-range k scope m.Up l r others h) f.1)
-      indices-sound (x.Range at m.Down l r others) v h f = (sound l v.0 (none-left (ef.faults scope l) _ h) f.0, indices-sound others v.2 (behind-range k scope m.Down l r others h) f.1)
+      signal-reads : (t : List ℕ) (j : ℕ) (s : Shape) (ss : x.Selects) → scope.names t ≡ Some (b.Signal j s) → HasValue s.kind → u.AreOfBits ss → Reads (Some (b.Signal j s)) ss
+      signal-reads t j s ss h v r = a_value r (ap (λ z. if z then Some j else None) (not-mem s.kind v)) (λ at. signal-is HasValue t j s h v)
 
-      first-sound : (at : Place) (given : x.Args) → u.AreUsedArgs k given → ef.args_faults scope false given ≡ [] → Fit (e.first_of scope at given) → Sound (e.first_of scope at given)
-      first-sound at x.NoArgs v h f = number-sound 0 1 false f
-      first-sound at (x.NullArg others) v h f = number-sound 0 1 false f
-      first-sound at (x.MoreArgs a others) v h f = sound a v.0 (none-left (ef.faults scope a) (ef.args_faults scope false others) h) f
+      reads : (t : List ℕ) (class : Class) (b : Option Binding) (ss : x.Selects) → scope.names t ≡ b → StandsAs class b → u.IsRead (Some class) ss → Reads b ss
+      reads t c.Port (Some (b.Signal j s)) ss e h v = signal-reads t j s ss e h v
+      reads t c.Net (Some (b.Signal j s)) ss e h v = signal-reads t j s ss e h v
+      reads t c.Variable (Some (b.Signal j s)) ss e h v = signal-reads t j s ss e h v
+      reads t c.Memory (Some (b.Signal j s)) ss e h v = a_memory j v (ap (λ z. if z then Some j else None) (is-mem s.kind h)) (signal-is IsMem t j s e h)
+      reads t (c.Parameter n) (Some (b.Constant a)) ss e h v = a_value v refl (λ at. (subst HasWidth e (widths t), h))
+      reads t (c.Function n) b ss e h v = absurd v
+      reads t c.Instance b ss e h v = absurd v
+      reads t class b ss e h v = absurd h
+
+      read-as : (t : List ℕ) (ss : x.Selects) → u.IsRead (k.read t) ss → Reads (scope.names t) ss
+      read-as t ss v = by (k.read t) refl v
+        where
+          by : (o : Option Class) → k.read t ≡ o → u.IsRead o ss → Reads (scope.names t) ss
+          by None e v = absurd v
+          by (Some class) e v = reads t class (scope.names t) ss refl (agrees.read t class e) v
+
+      abbrev named : Place → Option Binding → x.Selects → Option ℕ → p.Exp
+      named at b ss memory = fold (e.stepped at) (e.whole at b) (e.steps scope memory (range_of b) ss)
+
+      named-sound : (at : Place) (b : Option Binding) (ss : x.Selects) → Reads b ss → AtIndices (λ i. Sound (e.exp scope i)) ss → IsWidth (e.named_form scope b ss).width
+          → Sound (named at b ss (e.memory_of b))
+      named-sound at b ss (a_value r is whole) i w =
+          subst (λ z. Sound (named at b ss z)) (sym is)
+          (bits-sound at (range_of b) (e.whole at b) (form_of b) ss r (whole at) i (subst (λ z. IsWidth (fold e.step_form (form_of b) (e.steps scope z (range_of b) ss)).width) is w))
+      named-sound at b ss (a_memory j r is there) i w =
+          subst (λ z. Sound (named at b ss z)) (sym is)
+          (word-sound at (range_of b) j (e.whole at b) (form_of b) ss r there i (subst (λ z. IsWidth (fold e.step_form (form_of b) (e.steps scope z (range_of b) ss)).width) is w))
+
+      -- ---- expressions
+
+      mutual
+        pub sound : (a : x.Ex) → u.IsUsed k a → ef.faults scope a ≡ [] → Sound (e.exp scope a)
+        sound (x.Number at n) v h = let is = number-is n v in (is.0, is.1)
+        sound (x.Text at text) v h = operand-is text
+        sound (x.Named at t ss) v h =
+            let inside = none-right (ef.directions scope at (scope.names t) ss) (ef.selects_faults scope ss) (none-right (ef.past scope (x.Named at t ss)) _ h) in
+            named-sound at (scope.names t) ss (read-as t ss v.0) (indices-sound ss v.1 inside)
+            (wide k scope (x.Named at t ss) (short k scope (x.Named at t ss) v h) (none-left (ef.past scope (x.Named at t ss)) _ h))
+        sound (x.Paren at a) v h = sound a v h
+        sound (x.Unary at op a) v h = marked-sound at (e.unary_of op) (e.exp scope a) (sound a v (none-right (ef.past scope (x.Unary at op a)) (ef.faults scope a) h))
+        sound (x.Binary at op a b) v h =
+            let both = none-right (ef.past scope (x.Binary at op a b)) (ef.faults scope a ++ ef.faults scope b) h in
+            (sound a v.0 (none-left (ef.faults scope a) (ef.faults scope b) both), sound b v.1 (none-right (ef.faults scope a) (ef.faults scope b) both))
+        sound (x.Choice at t a b) v h =
+            let all = none-right (ef.past scope (x.Choice at t a b)) (ef.faults scope t ++ (ef.faults scope a ++ ef.faults scope b)) h in
+            let both = none-right (ef.faults scope t) (ef.faults scope a ++ ef.faults scope b) all in (
+              sound t v.0 (none-left (ef.faults scope t) _ all),
+              sound a v.1 (none-left (ef.faults scope a) (ef.faults scope b) both),
+              sound b v.2 (none-right (ef.faults scope a) (ef.faults scope b) both),
+            )
+        sound (x.Joined at es) v h = (
+          subst IsWidth (sym (total-is at es v)) (wide k scope (x.Joined at es) (short k scope (x.Joined at es) v h) (none-left (ef.past scope (x.Joined at es)) _ h)),
+          sounds es v (none-right (ef.past scope (x.Joined at es)) (ef.all_faults scope es) h),
+        )
+        sound (x.Repeated at n es) v h =
+            let all = none-right (ef.past scope (x.Repeated at n es)) _ h in
+            let rest = none-right (ef.faults scope n) (ef.constant_must scope constants.is_count n 10 ++ ef.all_faults scope es) all in (
+              subst (λ z. IsWidth (constants.count_of (e.constant scope n) * z)) (sym (total-is at es v.1))
+                  (wide k scope (x.Repeated at n es) (short k scope (x.Repeated at n es) v h) (none-left (ef.past scope (x.Repeated at n es)) _ h)),
+              sounds es v.1 (none-right (ef.constant_must scope constants.is_count n 10) (ef.all_faults scope es) rest),
+            )
+        sound (x.Called at t es) v h =
+            let (takes, width) = called-is t (u.how_many es) (scope.calls t) v.0 refl (agrees.called t (u.how_many es) v.0)
+            (wide k scope (x.Called at t es) (short k scope (x.Called at t es) v h) (none-left (ef.past scope (x.Called at t es)) _ h)) in (
+              subst (λ z. Takes (slice_get design.funs (number_of (scope.calls t))) z) (sym (count-is es)) takes,
+              width,
+              sounds es v.1 (none-right (ef.past scope (x.Called at t es)) (ef.all_faults scope es) h),
+            )
+        sound (x.System at name given) v h =
+            system-sound at name (e.first_of scope at given) (e.args scope (e.keeps_texts name) given)
+            (first-sound at given v.1 (ap (λ z. ef.args_faults scope z given) (sym (keeps-none name v.0)) ∙ none-right (ef.past scope (x.System at name given)) _ h))
+
+        pub sounds : (es : x.Exs) → u.AreUsed k es → ef.all_faults scope es ≡ [] → AreSound design (plain.exps (e.exps scope es))
+        sounds x.NoExs v h = tt
+        sounds (x.MoreExs a es) v h = (sound a v.0 (none-left (ef.faults scope a) (ef.all_faults scope es) h), sounds es v.1 (none-right (ef.faults scope a) (ef.all_faults scope es) h))
+
+        pub indices-sound : (ss : x.Selects) → u.AreUsedSelects k ss → ef.selects_faults scope ss ≡ [] → AtIndices (λ i. Sound (e.exp scope i)) ss
+        indices-sound x.NoSelects v h = tt
+        indices-sound (x.Index at a others) v h =
+            (sound a v.0 (none-left (ef.faults scope a) (ef.selects_faults scope others) h), indices-sound others v.1 (none-right (ef.faults scope a) (ef.selects_faults scope others) h))
+        indices-sound (x.Range at m.Range l r others) v h = indices-sound others v.2 (behind-range k scope m.Range l r others h)
+        indices-sound (x.Range at m.Up l r others) v h = (sound l v.0 (none-left (ef.faults scope l) _ h), indices-sound others v.2 (behind-range k scope m.Up l r others h))
+        indices-sound (x.Range at m.Down l r others) v h = (sound l v.0 (none-left (ef.faults scope l) _ h), indices-sound others v.2 (behind-range k scope m.Down l r others h))
+
+        first-sound : (at : Place) (given : x.Args) → u.AreUsedArgs k given → ef.args_faults scope false given ≡ [] → Sound (e.first_of scope at given)
+        first-sound at x.NoArgs v h = zero-sound
+        first-sound at (x.NullArg others) v h = zero-sound
+        first-sound at (x.MoreArgs a others) v h = sound a v.0 (none-left (ef.faults scope a) (ef.args_faults scope false others) h)

@@ -1,7 +1,6 @@
 -- A function of an instance is sound where it has no fault, and no input of it is a loop variable.
 use Rattle.std.proofs.Common.{◌≡◌, ◌≤◌, ℕ, zero, suc, ◌+◌, Bool, true, false, if◌then◌else◌, List, [], ◌∷◌, ◌++◌, map, length, Option, Some, None, refl, sym, ap, ◌∙◌, subst, arith}
 use Rattle.std.specs.Prelude.{ℤ, ⊤, ◌&&◌, not, nat_lt, flat_map, slice_get, All, option_map}
-use Rattle.std.proofs.lemmas.Bool.Decides.{nat_tests}
 use Rattle.std.proofs.lemmas.List.Elements.{All-nil, All-cons}
 use Rattle.std.proofs.lemmas.Option.{slice_get-map}
 use Rattle.vl_base.specs.declared.place.Place.{Place}
@@ -24,16 +23,17 @@ use Rattle.vl_flat.specs.Functions.{local_kind, local_shape, function_scope, sig
 use Rattle.vl_used.specs.Used as u
 use Rattle.vl_used.specs.Agreeing.{Agrees, StandsFor}
 use Rattle.vl_laws.proofs.Lists.{right-part}
-use Rattle.vl_sound.specs.Numbers.{is_unfit_in}
+use Rattle.vl_sound.specs.Widths.{HaveWidths}
 use Rattle.vl_sound.specs.Inputs.{IsNoLoop, HasNoLoopInputs}
-use Rattle.vl_sound.proofs.Parts.{none-left, none-right, clear, one-clear}
-use Rattle.vl_sound.proofs.Statements.{statement-good}
+use Rattle.vl_sound.proofs.Parts.{none-left, none-right, clear, narrow-is, one-clear}
+use Rattle.vl_sound.proofs.Widths.{function-widths}
+use Rattle.vl_sound.proofs.Statements.{statement-sound}
 
 -- ---- types of 1 to 128 bits
 
 type-wide : (c : Bool) (z : ℤ × ℤ) → nat_lt 128 (r.bits_in z) ≡ c → c ≡ false → IsWidth (r.bits_in (if c then r.too_wide z else z))
 type-wide true z h e = let y : ⊥ = cc in absurd y
-type-wide false z h e = record { wide = omega arith; narrow = grind (arith, nat_tests) }
+type-wide false z h e = narrow-is z h
 
 local-wide : (env : Env) (type : x.DataType) (at : Place) → r.type_faults env type at ≡ [] → IsWidth (r.bits_in (r.type_range env type))
 local-wide env type at h =
@@ -65,9 +65,9 @@ pub record IsPrepared (a : x.Function) : Type 0 where
   pub first : (l : x.Local) × (ls : List x.Local) × (a.locals ≡ l ∷ ls)
   pub inputs : (i : ℕ) (l : x.Local) → slice_get a.locals i ≡ Some l → l.is_input ≡ true → l.is_free ≡ false
 
--- the function is sound where its numbers fit, and no input of it is a loop variable
+-- the function is sound, and no input of it is a loop variable
 pub record IsGood (design : w.Names) (a : d.Fun) : Type 0 where
-  pub sound : is_unfit_in a.body ≡ false → IsSoundFun design a
+  pub sound : IsSoundFun design a
   pub inputs : HasNoLoopInputs design a
 
 module _ (k : u.Classes) (env : Env) (path : List ℕ) (a : x.Function) (design : w.Names) where
@@ -95,17 +95,17 @@ module _ (k : u.Classes) (env : Env) (path : List ℕ) (a : x.Function) (design 
       let own = one-clear (λ (l : x.Local). r.type_faults env l.type l.name.place) a.locals i l types e in
       subst (IsOf HasValue) (sym (row-at i l e)) (kind-value (l.is_free && (controls l.name.name a.body && not (strays l.name.name a.body))), local-wide env l.type l.name.place own)
 
-  pub function-good : IsPrepared a → u.IsUsedFunction k a → Agrees (u.within k a) (function_scope behind env a)
+  pub function-good : IsPrepared a → u.IsUsedFunction k a → HaveWidths env → Agrees (u.within k a) (function_scope behind env a)
       → StandsFor (u.within k a) (function_scope behind env a) (w.names_in design made) → function_faults behind env a ≡ [] → IsGood design made
-  function-good prepared used agrees stands h =
+  function-good prepared used widths agrees stands h =
       let (l, ls, is) = prepared.first in
       let here : behind + 0 ≡ behind = omega arith in
       record {
-        sound = λ f. record {
+        sound = record {
           inputs = numbers-of (IsSignal (w.names_in design made)) behind a.locals (λ i l e q. local-signal h i l e);
           result = subst (IsSignal (w.names_in design made)) here (local-signal h 0 l (ap (λ (z : List x.Local). slice_get z 0) is));
-          body = statement-good (u.within k a) (function_scope behind env a) agrees (w.names_in design made) stands [] a.body used.body
-              (none-right (flat_map (λ (l : x.Local). r.type_faults env l.type l.name.place) a.locals) (statement_faults (function_scope behind env a) a.body) h) f;
+          body = statement-sound (u.within k a) (function_scope behind env a) agrees (w.names_in design made) stands (function-widths behind env a widths) [] a.body used.body
+              (none-right (flat_map (λ (l : x.Local). r.type_faults env l.type l.name.place) a.locals) (statement_faults (function_scope behind env a) a.body) h);
         };
         inputs = numbers-of (λ j. (y : d.Row) → slice_get (w.rows_in design made) j ≡ Some y → IsNoLoop y.kind) behind a.locals
             (λ i l e q y there. subst (λ (z : d.Row). IsNoLoop z.kind) (same (sym (row-at i l e) ∙ there))

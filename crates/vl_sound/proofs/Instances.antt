@@ -28,16 +28,12 @@ use Rattle.vl_laws.specs.Instances.{IsInstance, of_top, of_item, here_of}
 use Rattle.vl_laws.proofs.Lists.{Each, each-from, each-right}
 use Rattle.vl_laws.proofs.Numbers.{design-is}
 use Rattle.vl_laws.proofs.Depth.{NoFault, judged-clear}
-use Rattle.vl_sound.specs.Numbers.{is_unfit_in, HasNumbers}
+use Rattle.vl_sound.specs.Widths.{HaveWidths}
 use Rattle.vl_sound.specs.Inputs.{HasNoLoopInputs, NoLoopInputs}
+use Rattle.vl_sound.proofs.Parts.{at-split}
 use Rattle.vl_sound.proofs.Targets.{signal-named}
 use Rattle.vl_sound.proofs.Functions.{IsGood}
-use Rattle.vl_sound.proofs.Items.{GoodProc, GoodPart, Done, done-nil, done-cons, done-append, done-flat, IsHere, item-good, input-done, output-done}
-
--- what holds of each holds of the one behind others
-at-split : {A : Type 0} (P : A → Type 0) (xs before after : List A) (y : A) → All P xs → xs ≡ before ++ y ∷ after → P y
-unfolding Each
-at-split P xs before after y h is = (each-right P before (y ∷ after) (each-from P (before ++ y ∷ after) (subst (All P) is h))).0
+use Rattle.vl_sound.proofs.Items.{SoundProc, GoodPart, Done, done-nil, done-cons, done-append, done-flat, IsHere, item-good, input-done, output-done}
 
 -- an instance: its names are used as what they are, agree with it and stand in the design for it
 pub record IsHome (ms : List i.Module) (top : i.Module) (design : w.Names) (n : ℕ) (g : Given) (m : i.Module) : Type 0 where
@@ -45,6 +41,7 @@ pub record IsHome (ms : List i.Module) (top : i.Module) (design : w.Names) (n : 
   pub used : u.AreUsedIn classes m
   pub agrees : Agrees classes (plainly (environment (size n ms) g m))
   pub stands : StandsFor classes (plainly (environment (size n ms) g m)) design
+  pub widths : HaveWidths (environment (size n ms) g m)
   pub items : All (IsHere classes (here_of n ms top g m) design) m.items
   pub ports : All (λ (t : Identifier). u.IsWatched (classes.read t.name)) m.ports
 
@@ -91,7 +88,7 @@ module _ (ms : List i.Module) (top : i.Module) (design : w.Names) (count : (f.wh
         by (Some of) named = units-done of before after us is named [] us.units refl next at
     item-done before after item is next at =
         done-cons design (f.item_part spot g next.signals item) []
-        (λ clear. item-good home.classes spot home.agrees design home.stands count g next.signals item (at-split (u.IsUsedItem home.classes) m.items before after item home.used is)
+        (λ clear. item-good home.classes spot home.agrees design home.stands home.widths count g next.signals item (at-split (u.IsUsedItem home.classes) m.items before after item home.used is)
         (at-split (IsHere home.classes spot design) m.items before after item home.items is) clear)
         (done-nil design)
 
@@ -112,7 +109,7 @@ module _ (ms : List i.Module) (top : i.Module) (design : w.Names) (count : (f.wh
 
   begin-good : (a : f.Part) → a.processes ≡ [] → a.funcs ≡ [] → GoodPart design a
   begin-good a h k = record {
-    processes = subst (All (GoodProc design)) (sym h) (All-nil (GoodProc design));
+    processes = subst (All (SoundProc design)) (sym h) (All-nil (SoundProc design));
     funcs = subst (All (λ f. IsGood design (plain.fun f))) (sym k) (All-nil (λ f. IsGood design (plain.fun f)));
   }
 
@@ -136,12 +133,12 @@ module _ (ms : List i.Module) (top : i.Module) (design : w.Names) (count : (f.wh
       let ins = flat_map (λ t. f.input_part above env of y t.name) of.ports in
       let bod = f.body (f.instance n ms) (size n ms) ms above.behind env own of in
       let outs = flat_map (λ t. f.output_part above env of y t.name) of.ports in
-      let named-port = λ (t : Identifier) (v : watched t). signal-named child.classes (plainly env) child.agrees design child.stands t.name v in
+      let named-port = λ (t : Identifier) (v : watched t). signal-named child.classes (plainly env) child.agrees design child.stands child.widths t.name v in
       done-cons design (f.beginning above.env own us) (ins ++ (bod ++ outs)) (λ clear. begin-good (f.beginning above.env own us) refl refl)
       (done-append design ins (bod ++ outs)
-      (done-flat design watched (λ (t : Identifier). f.input_part above env of y t.name) (λ t v. input-done parent.classes above parent.agrees design parent.stands env of y connected t.name (named-port t v)) of.ports child.ports)
+      (done-flat design watched (λ (t : Identifier). f.input_part above env of y t.name) (λ t v. input-done parent.classes above parent.agrees design parent.stands parent.widths env of y connected t.name (named-port t v)) of.ports child.ports)
       (done-append design bod outs (body-done n inner own of inside)
-      (done-flat design watched (λ (t : Identifier). f.output_part above env of y t.name) (λ t v. output-done parent.classes above parent.agrees design parent.stands env of y connected t.name (named-port t v)) of.ports child.ports)))
+      (done-flat design watched (λ (t : Identifier). f.output_part above env of y t.name) (λ t v. output-done parent.classes above parent.agrees design parent.stands parent.widths env of y connected t.name (named-port t v)) of.ports child.ports)))
 
   all-inner : (n : ℕ) → Inner n
   all-inner zero = inner-none
@@ -152,25 +149,11 @@ module _ (ms : List i.Module) (top : i.Module) (design : w.Names) (count : (f.wh
 
 -- ---- designs
 
-processes-sound : (design : w.Names) (as' : List p.Process) → All (GoodProc design) as' → All (λ (q : d.Proc). is_unfit_in q.body ≡ false) (map plain.proc as') → All (IsSoundProc design) (map plain.proc as')
-processes-sound design [] h g = All-nil (IsSoundProc design)
-processes-sound design (a ∷ as') h g =
-    let fit : d.Proc → Type 0 = λ q. is_unfit_in q.body ≡ false in
-    All-cons (IsSoundProc design) (plain.proc a) (map plain.proc as') (All-head (GoodProc design) a as' h (All-head fit (plain.proc a) (map plain.proc as') g))
-    (processes-sound design as' (All-tail (GoodProc design) a as' h) (All-tail fit (plain.proc a) (map plain.proc as') g))
-
-funs-sound : (design : w.Names) (as' : List d.Fun) → All (IsGood design) as' → All (λ (q : d.Fun). is_unfit_in q.body ≡ false) as' → All (IsSoundFun design) as'
-funs-sound design [] h g = All-nil (IsSoundFun design)
-funs-sound design (a ∷ as') h g =
-    let fit : d.Fun → Type 0 = λ q. is_unfit_in q.body ≡ false in
-    let one = All-head (IsGood design) a as' h in
-    All-cons (IsSoundFun design) a as' (one.sound (All-head fit a as' g)) (funs-sound design as' (All-tail (IsGood design) a as' h) (All-tail fit a as' g))
-
-all-processes : (design : w.Names) (parts : List f.Part) → All (GoodPart design) parts → All (GoodProc design) (flat_map (λ (a : f.Part). a.processes) parts)
-all-processes design [] h = All-nil (GoodProc design)
+all-processes : (design : w.Names) (parts : List f.Part) → All (GoodPart design) parts → All (SoundProc design) (flat_map (λ (a : f.Part). a.processes) parts)
+all-processes design [] h = All-nil (SoundProc design)
 all-processes design (a ∷ parts) h =
     let one = All-head (GoodPart design) a parts h in
-    All-append (GoodProc design) a.processes (flat_map (λ (a : f.Part). a.processes) parts) one.processes (all-processes design parts (All-tail (GoodPart design) a parts h))
+    All-append (SoundProc design) a.processes (flat_map (λ (a : f.Part). a.processes) parts) one.processes (all-processes design parts (All-tail (GoodPart design) a parts h))
 
 all-funs : (design : w.Names) (parts : List f.Part) → All (GoodPart design) parts → All (λ y. IsGood design (plain.fun y)) (flat_map (λ (a : f.Part). a.funcs) parts)
 all-funs design [] h = All-nil (λ y. IsGood design (plain.fun y))
@@ -184,7 +167,7 @@ ok-first (Err e) y z h = let q : ⊥ = cc in absurd q
 
 -- the design of instances that are at home
 pub record IsWhole (d : p.Design) : Type 0 where
-  pub sound : HasNumbers (plain.flat d) → IsSound (plain.flat d)
+  pub sound : IsSound (plain.flat d)
   pub inputs : NoLoopInputs (plain.flat d)
 
 pub whole-sound : (ms : List i.Module) (top : i.Module) (x : p.Design) → o.flattened_from ms top ≡ Ok x → (f.whole ms top).signals ≡ length x.signals
@@ -196,9 +179,12 @@ whole-sound ms top x is count homes =
     let names = w.names_of (plain.flat x) in
     let rows : (f.whole ms top).signals ≡ length names.signals = count ∙ sym (length-map x.signals row_of) in
     let good = all-done ms top names rows homes (judged-clear o.nothing_yet parts judged.0 judged.1) in
-    let processes = subst (λ (z : p.Design). All (GoodProc names) z.processes) made (all-processes names parts good) in
+    let processes = subst (λ (z : p.Design). All (SoundProc names) z.processes) made (all-processes names parts good) in
     let funs = All-map (IsGood names) plain.fun x.funcs (subst (λ (z : p.Design). All (λ y. IsGood names (plain.fun y)) z.funcs) made (all-funs names parts good)) in
     record {
-      sound = λ numbers. record { funs = funs-sound names (map plain.fun x.funcs) funs numbers.funs; procs = processes-sound names x.processes processes numbers.procs };
+      sound = record {
+        funs = All-weaker (IsGood names) (IsSoundFun names) (λ a good. good.sound) (map plain.fun x.funcs) funs;
+        procs = All-map (IsSoundProc names) plain.proc x.processes processes;
+      };
       inputs = All-weaker (IsGood names) (HasNoLoopInputs names) (λ a good. good.inputs) (map plain.fun x.funcs) funs;
     }

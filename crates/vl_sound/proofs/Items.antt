@@ -3,7 +3,7 @@ use Rattle.std.proofs.Common.{◌≡◌, ℕ, Bool, true, false, if◌then◌els
 use Rattle.std.specs.Prelude.{⊤, ◌&&◌, ◌||◌, not, flat_map, slice_get, find, position, All}
 use Rattle.std.specs.Option.{option_map_or, option_and_then}
 use Rattle.std.specs.Str.{bytes_eq}
-use Rattle.std.proofs.lemmas.Bool.{and_parts, or_parts, or_left}
+use Rattle.std.proofs.lemmas.Bool.{and_parts}
 use Rattle.std.proofs.lemmas.List.Elements.{All-nil, All-cons, All-append, All-head, All-tail, All-map, All-weaker}
 use Rattle.vl_base.specs.declared.place.Place.{Place}
 use Rattle.vl_source.specs.declared.tree.Trigger.{Trigger}
@@ -19,9 +19,8 @@ use Rattle.vl_design.specs.declared.stop.Stop.{Stop}
 use Rattle.vl_design.specs.declared.stop.Stop.TheVariants.{Construct}
 use Rattle.vl_design.specs.declared.design.Signal.{Signal}
 use Rattle.vl_design.specs.Syntax as d
-use Rattle.vl_design.specs.Nodes.{target_has}
 use Rattle.vl_design.specs.Width as w
-use Rattle.vl_design.specs.Sound.{HasValue, IsSignal, IsNamed, IsSoundProc}
+use Rattle.vl_design.specs.Sound.{HasValue, IsSignal, IsNamed, IsSoundStm, IsSoundProc}
 use Rattle.vl_design.specs.Placed as p
 use Rattle.vl_design.specs.Plainly as plain
 use Rattle.vl_flat.specs.declared.binding.Binding.{Binding}
@@ -43,23 +42,23 @@ use Rattle.vl_flat.specs.Connections as cn
 use Rattle.vl_flat.specs.Flat as f
 use Rattle.vl_used.specs.Used as u
 use Rattle.vl_used.specs.Agreeing.{StandsAs, Agrees, StandsFor}
-use Rattle.vl_laws.proofs.Lists.{Each, each-left, each-right, found-holds, at-holds}
+use Rattle.vl_laws.proofs.Lists.{Each, each-left, each-right}
 use Rattle.vl_laws.proofs.Depth.{NoFault}
 use Rattle.vl_named.proofs.Sides.{used-side}
-use Rattle.vl_sound.specs.Numbers.{is_unfit, is_unfit_in}
+use Rattle.vl_sound.specs.Widths.{HaveWidths}
 use Rattle.vl_sound.proofs.Parts.{none-left, none-right, all-flat, all-clear}
 use Rattle.vl_sound.proofs.Targets.{signal-named, event-named, left-sound}
-use Rattle.vl_sound.proofs.Statements.{GoodIn, assign-good, set-good, statement-good}
+use Rattle.vl_sound.proofs.Connected.{connected-used}
+use Rattle.vl_sound.proofs.Statements.{assign-sound, set-sound, statement-sound}
 use Rattle.vl_sound.proofs.Functions.{IsPrepared, IsGood, function-good}
 
 -- ---- parts
 
--- the process is sound where its numbers fit
-abbrev pub GoodProc : w.Names → p.Process → Type 0
-GoodProc design a = is_unfit_in (plain.proc a).body ≡ false → IsSoundProc design (plain.proc a)
+abbrev pub SoundProc : w.Names → p.Process → Type 0
+SoundProc design a = IsSoundProc design (plain.proc a)
 
 pub record GoodPart (design : w.Names) (a : f.Part) : Type 0 where
-  pub processes : All (GoodProc design) a.processes
+  pub processes : All (SoundProc design) a.processes
   pub funcs : All (λ f. IsGood design (plain.fun f)) a.funcs
 
 -- parts without faults are good
@@ -102,53 +101,53 @@ IsHere k here design item = ⊤
 both : {A : Type 0} (P Q : A → Type 0) (xs : List A) → All P xs → All Q xs → All (λ x. P x × Q x) xs
 both P Q xs h g = λ n x there. (h n x there, g n x there)
 
-module _ (k : u.Classes) (here : Here) (agrees : Agrees k (plainly here.env)) (design : w.Names) (stands : StandsFor k (plainly here.env) design) where
+module _ (k : u.Classes) (here : Here) (agrees : Agrees k (plainly here.env)) (design : w.Names) (stands : StandsFor k (plainly here.env) design) (widths : HaveWidths here.env) where
   process-good : (at : Place) (kind : ProcKind) (events : List Event) (a : p.Stm) → All (λ (e : d.Event). IsNamed design e.signal) (map plain.event events)
-      → GoodIn design (plain.stm here.path a) → GoodProc design (q.process here at kind events a)
-  process-good at kind events a named good f = record { events = named; body = good f }
+      → IsSoundStm design (plain.stm here.path a) → SoundProc design (q.process here at kind events a)
+  process-good at kind events a named good = record { events = named; body = good }
 
-  silent-good : (at : Place) (kind : ProcKind) (a : p.Stm) → GoodIn design (plain.stm here.path a) → GoodProc design (q.process here at kind [] a)
+  silent-good : (at : Place) (kind : ProcKind) (a : p.Stm) → IsSoundStm design (plain.stm here.path a) → SoundProc design (q.process here at kind [] a)
   silent-good at kind a good = process-good at kind [] a (All-nil (λ (e : d.Event). IsNamed design e.signal)) good
 
   -- ---- declared values
 
   own-good : (y : i.Declared) (o : Option x.Ex) → u.IsUsedOwnValue k o → HasOwn (k.read y.name.name) o → q.optional_faults here.env o ≡ []
-      → All (GoodProc design) (option_map_or (λ a. q.value_process here y a ∷ []) o [])
-  own-good y None v own h = All-nil (GoodProc design)
+      → All (SoundProc design) (option_map_or (λ a. q.value_process here y a ∷ []) o [])
+  own-good y None v own h = All-nil (SoundProc design)
   own-good y (Some a) v own h =
       let at = y.name.place in
       let to = p.Whole at (number_of (here.env y.name.name)) in
-      All-cons (GoodProc design) (q.value_process here y a) []
+      All-cons (SoundProc design) (q.value_process here y a) []
       (silent-good at (q.value_kind y.variable) (p.Set at to (e.exp (plainly here.env) a))
-      (assign-good k (plainly here.env) agrees design stands here.path at to a (λ fit. signal-named k (plainly here.env) agrees design stands y.name.name own) v h)) (All-nil (GoodProc design))
+      (assign-sound k (plainly here.env) agrees design stands widths here.path at to a (signal-named k (plainly here.env) agrees design stands widths y.name.name own) v h)) (All-nil (SoundProc design))
 
   declared-good : (y : i.Declared) → u.IsUsedDeclared k y × HasOwn (k.read y.name.name) y.value → q.declared_faults here.env y ≡ []
-      → All (GoodProc design) (option_map_or (λ a. q.value_process here y a ∷ []) y.value [])
+      → All (SoundProc design) (option_map_or (λ a. q.value_process here y a ∷ []) y.value [])
   declared-good y v h =
       own-good y y.value v.0.value v.1
       (none-right (q.binding_faults here.env y (here.env y.name.name)) (q.optional_faults here.env y.value)
       (none-right (range_faults here.env y.words) _ (none-right (type_faults here.env y.type y.name.place) _ h)))
 
   values-good : (ds : List i.Declared) → All (u.IsUsedDeclared k) ds → All (λ (y : i.Declared). HasOwn (k.read y.name.name) y.value) ds → flat_map (q.declared_faults here.env) ds ≡ []
-      → All (GoodProc design) (q.values here ds)
+      → All (SoundProc design) (q.values here ds)
   values-good ds v own h =
-      all-flat (GoodProc design) (λ (y : i.Declared). option_map_or (λ a. q.value_process here y a ∷ []) y.value []) ds
-      (all-clear (λ (y : i.Declared). u.IsUsedDeclared k y × HasOwn (k.read y.name.name) y.value) (λ (y : i.Declared). All (GoodProc design) (option_map_or (λ a. q.value_process here y a ∷ []) y.value []))
+      all-flat (SoundProc design) (λ (y : i.Declared). option_map_or (λ a. q.value_process here y a ∷ []) y.value []) ds
+      (all-clear (λ (y : i.Declared). u.IsUsedDeclared k y × HasOwn (k.read y.name.name) y.value) (λ (y : i.Declared). All (SoundProc design) (option_map_or (λ a. q.value_process here y a ∷ []) y.value []))
       (q.declared_faults here.env) declared-good ds (both (u.IsUsedDeclared k) (λ (y : i.Declared). HasOwn (k.read y.name.name) y.value) ds v own) h)
 
   -- ---- continuous assignments
 
-  assignment-good : (a : i.Setting) → u.IsUsedLeft k a.target × u.IsUsedSide k a.value → q.assignment_faults here.env a ≡ [] → GoodProc design (q.assignment here a)
+  assignment-good : (a : i.Setting) → u.IsUsedLeft k a.target × u.IsUsedSide k a.value → q.assignment_faults here.env a ≡ [] → SoundProc design (q.assignment here a)
   assignment-good a v h =
       let at = x.left_place a.target in
       silent-good at Assign (p.Set at (t.target (plainly here.env) a.target) (e.exp (plainly here.env) a.value))
-      (set-good k (plainly here.env) agrees design stands here.path at a.target a.value v.0 v.1 h)
+      (set-sound k (plainly here.env) agrees design stands widths here.path at a.target a.value v.0 v.1 h)
 
   assignments-good : (as' : List i.Setting) → All (λ (a : i.Setting). u.IsUsedLeft k a.target × u.IsUsedSide k a.value) as' → flat_map (q.assignment_faults here.env) as' ≡ []
-      → All (GoodProc design) (map (q.assignment here) as')
+      → All (SoundProc design) (map (q.assignment here) as')
   assignments-good as' v h =
-      All-map (GoodProc design) (q.assignment here) as'
-      (all-clear (λ (a : i.Setting). u.IsUsedLeft k a.target × u.IsUsedSide k a.value) (λ a. GoodProc design (q.assignment here a)) (q.assignment_faults here.env) assignment-good as' v h)
+      All-map (SoundProc design) (q.assignment here) as'
+      (all-clear (λ (a : i.Setting). u.IsUsedLeft k a.target × u.IsUsedSide k a.value) (λ a. SoundProc design (q.assignment here a)) (q.assignment_faults here.env) assignment-good as' v h)
 
   -- ---- triggers
 
@@ -157,19 +156,19 @@ module _ (k : u.Classes) (here : Here) (agrees : Agrees k (plainly here.env)) (d
       All-map (λ (e : d.Event). IsNamed design e.signal) plain.event (map (q.event here.env) es)
       (All-map (λ (e : Event). IsNamed design e.signal) (q.event here.env) es
       (All-weaker (λ (e : EventTree). u.IsWatched (k.read e.name.name)) (λ (e : EventTree). IsNamed design (number_of (here.env e.name.name)))
-      (λ e h. event-named k (plainly here.env) agrees design stands e.name.name h) es v))
+      (λ e h. event-named k (plainly here.env) agrees design stands widths e.name.name h) es v))
   events-named trigger v = All-nil (λ (e : d.Event). IsNamed design e.signal)
 
   -- ---- items
 
-  processes-part : (signals : List Signal) (a : List p.Process) (faults : List Stop) → All (GoodProc design) a → GoodPart design (record { signals = signals; funcs = []; processes = a; faults = faults; begins = [] })
+  processes-part : (signals : List Signal) (a : List p.Process) (faults : List Stop) → All (SoundProc design) a → GoodPart design (record { signals = signals; funcs = []; processes = a; faults = faults; begins = [] })
   processes-part signals a faults h = record { processes = h; funcs = All-nil (λ f. IsGood design (plain.fun f)) }
 
   here-good : here.behind ≡ length design.signals → (a : i.Function) → u.IsUsedFunction k a → IsFunctionHere k here design a → function_faults here.behind here.env a ≡ []
       → IsGood design (plain.fun (function here.behind here.env here.path a))
   here-good count a used home h =
       subst (λ n. IsGood design (plain.fun (function n here.env here.path a))) (sym count)
-      (function-good k here.env here.path a design home.prepared used
+      (function-good k here.env here.path a design home.prepared used widths
       (subst (λ n. Agrees (u.within k a) (function_scope n here.env a)) count home.agrees)
       (subst (λ n. StandsFor (u.within k a) (function_scope n here.env a) (w.names_in design (plain.fun (function n here.env here.path a)))) count home.stands)
       (subst (λ n. function_faults n here.env a ≡ []) count h))
@@ -177,28 +176,28 @@ module _ (k : u.Classes) (here : Here) (agrees : Agrees k (plainly here.env)) (d
   -- an item that is no instance
   pub item-good : here.behind ≡ length design.signals → (given : Given) (next : ℕ) (item : i.Item) → u.IsUsedItem k item → IsHere k here design item → q.item_faults here given.overrides item ≡ []
       → GoodPart design (f.item_part here given next item)
-  item-good count given next (i.Parameters type ps) v home h = processes-part _ [] _ (All-nil (GoodProc design))
+  item-good count given next (i.Parameters type ps) v home h = processes-part _ [] _ (All-nil (SoundProc design))
   item-good count given next (i.Signals ds) v home h = processes-part _ (q.values here ds) _ (values-good ds v home h)
   item-good count given next (i.Assigns as') v home h = processes-part _ (map (q.assignment here) as') _ (assignments-good as' v h)
   item-good count given next (i.Initial at a) v home h =
       processes-part _ (q.processes here (i.Initial at a)) _
-      (All-cons (GoodProc design) _ [] (silent-good at Init (s.statement (plainly here.env) a) (statement-good k (plainly here.env) agrees design stands here.path a v h)) (All-nil (GoodProc design)))
+      (All-cons (SoundProc design) _ [] (silent-good at Init (s.statement (plainly here.env) a) (statement-sound k (plainly here.env) agrees design stands widths here.path a v h)) (All-nil (SoundProc design)))
   item-good count given next (i.Always at trigger a) v home h =
       processes-part _ (q.processes here (i.Always at trigger a)) _
-      (All-cons (GoodProc design) _ []
-      (process-good at (q.trigger_kind trigger) (q.events here.env trigger) (s.statement (plainly here.env) a) (events-named trigger v.0) (statement-good k (plainly here.env) agrees design stands here.path a v.1 h))
-      (All-nil (GoodProc design)))
+      (All-cons (SoundProc design) _ []
+      (process-good at (q.trigger_kind trigger) (q.events here.env trigger) (s.statement (plainly here.env) a) (events-named trigger v.0) (statement-sound k (plainly here.env) agrees design stands widths here.path a v.1 h))
+      (All-nil (SoundProc design)))
   item-good count given next (i.Functions a) v home h =
-      record { processes = All-nil (GoodProc design); funcs = All-cons (λ f. IsGood design (plain.fun f)) (function here.behind here.env here.path a) [] (here-good count a v home h) (All-nil (λ f. IsGood design (plain.fun f))) }
-  item-good count given next (i.Instantiates us) v home h = processes-part _ [] _ (All-nil (GoodProc design))
+      record { processes = All-nil (SoundProc design); funcs = All-cons (λ f. IsGood design (plain.fun f)) (function here.behind here.env here.path a) [] (here-good count a v home h) (All-nil (λ f. IsGood design (plain.fun f))) }
+  item-good count given next (i.Instantiates us) v home h = processes-part _ [] _ (All-nil (SoundProc design))
 
   -- ---- inputs of an instance
 
   pub input-good : (at : Place) (j : ℕ) (a : x.Ex) → IsSignal design j → u.IsUsed k a → ef.faults (plainly here.env) a ≡ []
-      → GoodProc design (q.process here at Assign [] (p.Set at (p.Whole at j) (e.exp (plainly here.env) a)))
+      → SoundProc design (q.process here at Assign [] (p.Set at (p.Whole at j) (e.exp (plainly here.env) a)))
   input-good at j a there v h =
       silent-good at Assign (p.Set at (p.Whole at j) (e.exp (plainly here.env) a))
-      (assign-good k (plainly here.env) agrees design stands here.path at (p.Whole at j) a (λ fit. there) (used-side k a v) h)
+      (assign-sound k (plainly here.env) agrees design stands widths here.path at (p.Whole at j) a there (used-side k a v) h)
 
   -- ---- outputs of an instance
 
@@ -239,34 +238,19 @@ module _ (k : u.Classes) (here : Here) (agrees : Agrees k (plainly here.env)) (d
   nets-clear false at xs ys h = let z : ⊥ = cc in absurd z
 
   pub output-good : (at : Place) (j : ℕ) (a : x.Ex) → IsSignal design j → u.IsUsed k a → cn.output_faults here.env at a ≡ []
-      → GoodProc design (q.process here at Assign [] (p.Set at (t.target (plainly here.env) (cn.left_of a)) (p.Sig at j)))
+      → SoundProc design (q.process here at Assign [] (p.Set at (t.target (plainly here.env) (cn.left_of a)) (p.Sig at j)))
   output-good at j a there v h =
       let (nets, clear) = nets-clear (cn.are_nets here.env a) at (t.target_faults (plainly here.env) (cn.left_of a)) (ef.faults (plainly here.env) a) h in
       silent-good at Assign (p.Set at (t.target (plainly here.env) (cn.left_of a)) (p.Sig at j))
-      (λ fit. (left-sound k (plainly here.env) agrees design stands (cn.left_of a) (nets-left a v nets) clear (or_parts (target_has is_unfit (plain.target (t.target (plainly here.env) (cn.left_of a)))) false fit).0, there))
+      (left-sound k (plainly here.env) agrees design stands widths (cn.left_of a) (nets-left a v nets) clear, there)
 
   -- ---- connections
 
-  value-used : (o : Option i.Connection) → ((y : i.Connection) → o ≡ Some y → u.IsUsedValue k y.value) → (a : x.Ex) → cn.expression_of o ≡ Some a → u.IsUsed k a
-  value-used None g a h = let z : ⊥ = cc in absurd z
-  value-used (Some y) g a h = subst (u.IsUsedValue k) h (g y refl)
-
-  connected-used : (qs : List i.Connection) → u.AreConnected k qs → (names : List (List ℕ)) (n : List ℕ) (a : x.Ex) → cn.expression_of (cn.named_connection names qs n) ≡ Some a → u.IsUsed k a
-  connected-used qs v names n = of (position (bytes_eq n) names)
-    where
-      at-place : (c : Bool) (j : ℕ) (y : i.Connection) → (if c then find (cn.is_for n) qs else slice_get qs j) ≡ Some y → u.IsUsedValue k y.value
-      at-place true j y h = found-holds (λ (z : i.Connection). u.IsUsedValue k z.value) (cn.is_for n) qs y v h
-      at-place false j y h = at-holds (λ (z : i.Connection). u.IsUsedValue k z.value) qs j y v h
-
-      of : (o : Option ℕ) (a : x.Ex) → cn.expression_of (option_and_then (λ j. cn.connection_of qs j n) o) ≡ Some a → u.IsUsed k a
-      of None a h = let z : ⊥ = cc in absurd z
-      of (Some j) a h = value-used (cn.connection_of qs j n) (at-place (cn.by_name qs) j) a h
-
-  connection-done : (make : x.Ex → p.Process) (faults : x.Ex → List Stop) (o : Option x.Ex) → ((a : x.Ex) → o ≡ Some a → faults a ≡ [] → GoodProc design (make a))
+  connection-done : (make : x.Ex → p.Process) (faults : x.Ex → List Stop) (o : Option x.Ex) → ((a : x.Ex) → o ≡ Some a → faults a ≡ [] → SoundProc design (make a))
       → Done design (option_map_or (λ a. f.connection (make a ∷ []) (faults a) ∷ []) o [])
   connection-done make faults None g = done-nil design
   connection-done make faults (Some a) g =
-      done-cons design (f.connection (make a ∷ []) (faults a)) [] (λ h. record { processes = All-cons (GoodProc design) (make a) [] (g a refl h) (All-nil (GoodProc design)); funcs = All-nil (λ f. IsGood design (plain.fun f)) }) (done-nil design)
+      done-cons design (f.connection (make a ∷ []) (faults a)) [] (λ h. record { processes = All-cons (SoundProc design) (make a) [] (g a refl h) (All-nil (SoundProc design)); funcs = All-nil (λ f. IsGood design (plain.fun f)) }) (done-nil design)
 
   -- the connections of a unit of the module m, whose names are these, of a port that is a signal
   pub input-done : (env : Env) (m : i.Module) (y : i.NamedUnit) → u.AreConnected k y.connections → (n : List ℕ) → IsSignal design (number_of (env n)) → Done design (f.input_part here env m y n)
@@ -275,7 +259,7 @@ module _ (k : u.Classes) (here : Here) (agrees : Agrees k (plainly here.env)) (d
       by : (c : Bool) → Done design (if c then option_map_or (λ a. f.connection (cn.input_process here env (cn.place_in y (cn.port_connection m y n)) n a ∷ []) (cn.input_faults here.env a) ∷ []) (cn.expression_of (cn.port_connection m y n)) [] else [])
       by true =
           connection-done (λ a. cn.input_process here env (cn.place_in y (cn.port_connection m y n)) n a) (λ a. cn.input_faults here.env a) (cn.expression_of (cn.port_connection m y n))
-          (λ a is h. input-good (cn.place_in y (cn.port_connection m y n)) (number_of (env n)) a there (connected-used y.connections v (map (λ z. z.name) m.ports) n a is) h)
+          (λ a is h. input-good (cn.place_in y (cn.port_connection m y n)) (number_of (env n)) a there (connected-used k y.connections v (map (λ z. z.name) m.ports) n a is) h)
       by false = done-nil design
 
   pub output-done : (env : Env) (m : i.Module) (y : i.NamedUnit) → u.AreConnected k y.connections → (n : List ℕ) → IsSignal design (number_of (env n)) → Done design (f.output_part here env m y n)
@@ -285,4 +269,4 @@ module _ (k : u.Classes) (here : Here) (agrees : Agrees k (plainly here.env)) (d
       by true = done-nil design
       by false =
           connection-done (λ a. cn.output_process here env (cn.place_in y (cn.port_connection m y n)) n a) (λ a. cn.output_faults here.env (cn.place_in y (cn.port_connection m y n)) a) (cn.expression_of (cn.port_connection m y n))
-          (λ a is h. output-good (cn.place_in y (cn.port_connection m y n)) (number_of (env n)) a there (connected-used y.connections v (map (λ z. z.name) m.ports) n a is) h)
+          (λ a is h. output-good (cn.place_in y (cn.port_connection m y n)) (number_of (env n)) a there (connected-used k y.connections v (map (λ z. z.name) m.ports) n a is) h)

@@ -1,4 +1,6 @@
 mod Parts
+mod Connected
+mod Widths
 mod Expressions
 mod Targets
 mod Tasks

@@ -1,7 +1,6 @@
 -- A left side whose names are used as what they are, and stand for it, is sound where it has no fault.
 use Rattle.std.proofs.Common.{◌≡◌, ℕ, ◌+◌, Bool, true, false, if◌then◌else◌, List, [], ◌++◌, Option, Some, None, refl, sym, ap, ◌∙◌, subst, arith}
 use Rattle.std.specs.Prelude.{ℤ, ⊤, fold, not, ◌||◌, slice_get}
-use Rattle.std.proofs.lemmas.Bool.{or_parts}
 use Rattle.vl_base.specs.declared.place.Place.{Place}
 use Rattle.vl_grammar.specs.declared.tree.SelectMark.TheVariants as m
 use Rattle.vl_scope.specs.declared.kind.Class.{Class}
@@ -10,7 +9,6 @@ use Rattle.vl_design.specs.declared.design.Form.{Form}
 use Rattle.vl_design.specs.declared.stop.Stop.{Stop}
 use Rattle.vl_design.specs.Stops.{construct_if}
 use Rattle.vl_design.specs.Rows.{has_width}
-use Rattle.vl_design.specs.Nodes.{has, target_has, targets_have}
 use Rattle.vl_design.specs.Width as w
 use Rattle.vl_design.specs.Targets.{target_width, targets_width}
 use Rattle.vl_design.specs.Sound.{IsWidth, HasValue, IsMem, IsSignal, IsNamed, IsOf, IsMemory, IsSoundExp, IsSoundBase, IsSoundTarget, AreSoundTargets}
@@ -27,19 +25,16 @@ use Rattle.vl_flat.specs.Targets as t
 use Rattle.vl_flat.specs.Statements.{first_name, first_among}
 use Rattle.vl_used.specs.Used as u
 use Rattle.vl_used.specs.Agreeing.{StandsAs, Agrees, StandsFor}
-use Rattle.vl_sound.specs.Numbers.{is_unfit}
-use Rattle.vl_sound.proofs.Parts.{none-left, none-right, clear, not-false, width-is}
-use Rattle.vl_sound.proofs.Expressions.{AtIndices, one-bit, not-mem, is-mem, stands-in, signal-is, indices-sound}
+use Rattle.vl_sound.specs.Widths.{HaveWidths}
+use Rattle.vl_sound.proofs.Parts.{none-left, none-right, clear, not-false, width-is, one-bit}
+use Rattle.vl_sound.proofs.Expressions.{AtIndices, not-mem, is-mem, stands-in, signal-is, indices-sound}
 
-module _ (k : u.Classes) (scope : Scope) (agrees : Agrees k scope) (design : w.Names) (stands : StandsFor k scope design) where
+module _ (k : u.Classes) (scope : Scope) (agrees : Agrees k scope) (design : w.Names) (stands : StandsFor k scope design) (widths : HaveWidths scope.names) where
   abbrev Sound : p.Target → Type 0
   Sound a = IsSoundTarget design (plain.target a)
 
   abbrev Base : p.Target → Type 0
   Base a = IsSoundBase design (plain.target a)
-
-  abbrev Fit : p.Target → Type 0
-  Fit a = target_has is_unfit (plain.target a) ≡ false
 
   abbrev width : p.Target → ℕ
   width a = target_width design (plain.target a)
@@ -47,21 +42,10 @@ module _ (k : u.Classes) (scope : Scope) (agrees : Agrees k scope) (design : w.N
   abbrev SoundIndices : x.Selects → Type 0
   SoundIndices ss = AtIndices (λ i. IsSoundExp design (plain.exp (e.exp scope i))) ss
 
-  abbrev FitIndices : x.Selects → Type 0
-  FitIndices ss = AtIndices (λ i. has is_unfit (plain.exp (e.exp scope i)) ≡ false) ss
-
   -- ---- selects of bits
 
   abbrev bits : Place → ℤ × ℤ → x.Selects → p.Target → p.Target
   bits at r ss base = fold (t.stepped at) base (e.steps scope None r ss)
-
-  fit-bits : (at : Place) (r : ℤ × ℤ) (base : p.Target) (ss : x.Selects) → u.AreOfBits ss → Fit (bits at r ss base) → Fit base × FitIndices ss
-  fit-bits at r base x.NoSelects v h = (h, tt)
-  fit-bits at r base (x.Index q i x.NoSelects) v h = let (f, g) = or_parts (target_has is_unfit (plain.target base)) (has is_unfit (plain.exp (e.exp scope i))) h in (f, (g, tt))
-  fit-bits at r base (x.Range q m.Range l o x.NoSelects) v h = (h, tt)
-  fit-bits at r base (x.Range q m.Up l o x.NoSelects) v h = let (f, g) = or_parts (target_has is_unfit (plain.target base)) (has is_unfit (plain.exp (e.exp scope l))) h in (f, (g, tt))
-  fit-bits at r base (x.Range q m.Down l o x.NoSelects) v h = let (f, g) = or_parts (target_has is_unfit (plain.target base)) (has is_unfit (plain.exp (e.exp scope l))) h in (f, (g, tt))
-  fit-bits at r base ss v h = absurd v
 
   bits-sound : (at : Place) (r : ℤ × ℤ) (base : p.Target) (f : Form) (ss : x.Selects) → u.AreOfBits ss → Base base → Sound base → SoundIndices ss
       → IsWidth (fold e.step_form f (e.steps scope None r ss)).width → Sound (bits at r ss base)
@@ -157,11 +141,6 @@ module _ (k : u.Classes) (scope : Scope) (agrees : Agrees k scope) (design : w.N
   abbrev named : Place → Option Binding → x.Selects → Option ℕ → p.Target
   named at b ss memory = fold (t.stepped at) (p.Whole at (number_of b)) (e.steps scope memory (range_of b) ss)
 
-  fit-word : (at : Place) (r : ℤ × ℤ) (j : ℕ) (base : p.Target) (ss : x.Selects) → u.AreOfAWord ss → Fit (fold (t.stepped at) base (e.steps scope (Some j) r ss)) → FitIndices ss
-  fit-word at r j base (x.Index q i others) v h = fit-bits at r (p.WordAt at j (e.exp scope i)) others v h
-  fit-word at r j base x.NoSelects v h = absurd v
-  fit-word at r j base (x.Range q mark l o others) v h = absurd v
-
   word-sound : (at : Place) (r : ℤ × ℤ) (j : ℕ) (base : p.Target) (f : Form) (ss : x.Selects) → u.AreOfAWord ss → IsMemory design j → SoundIndices ss
       → IsWidth (fold e.step_form f (e.steps scope (Some j) r ss)).width → Sound (fold (t.stepped at) base (e.steps scope (Some j) r ss))
   word-sound at r j base f (x.Index q i others) v h s w = bits-sound at r (p.WordAt at j (e.exp scope i)) f others v (h, s.0) (h, s.0) s.1 w
@@ -173,10 +152,6 @@ module _ (k : u.Classes) (scope : Scope) (agrees : Agrees k scope) (design : w.N
   word-width at r j base f (x.Index q i others) v h = bits-width at r (p.WordAt at j (e.exp scope i)) f others v h
   word-width at r j base f x.NoSelects v h = absurd v
   word-width at r j base f (x.Range q mark l o others) v h = absurd v
-
-  named-fit : (at : Place) (b : Option Binding) (ss : x.Selects) → Writes b ss → Fit (named at b ss (e.memory_of b)) → FitIndices ss
-  named-fit at b ss (a_value r is there width) h = (fit-bits at (range_of b) (p.Whole at (number_of b)) ss r (subst (λ z. Fit (named at b ss z)) is h)).1
-  named-fit at b ss (a_memory j r is there width) h = fit-word at (range_of b) j (p.Whole at (number_of b)) ss r (subst (λ z. Fit (named at b ss z)) is h)
 
   named-sound : (at : Place) (b : Option Binding) (ss : x.Selects) → Writes b ss → SoundIndices ss → IsWidth (e.named_form scope b ss).width → Sound (named at b ss (e.memory_of b))
   named-sound at b ss (a_value r is there width) i w =
@@ -210,22 +185,20 @@ module _ (k : u.Classes) (scope : Scope) (agrees : Agrees k scope) (design : w.N
   wide-left at w others h = width-is w (not-false (has_width w) (clear (not (has_width w)) at 10 (none-left (construct_if (not (has_width w)) at 10) others h)))
 
   mutual
-    pub left-sound : (l : x.Left) → u.IsUsedLeft k l → t.target_faults scope l ≡ [] → Fit (t.target scope l) → Sound (t.target scope l)
-    left-sound (x.LeftName at n ss) v h f =
-        let r = written-as n ss v.0 in
+    pub left-sound : (l : x.Left) → u.IsUsedLeft k l → t.target_faults scope l ≡ [] → Sound (t.target scope l)
+    left-sound (x.LeftName at n ss) v h =
         let w = (e.named_form scope (scope.names n) ss).width in
         let inside = none-right (ef.directions scope at (scope.names n) ss) (ef.selects_faults scope ss) (none-right (construct_if (not (has_width w)) at 10) (ef.name_faults scope at (scope.names n) ss) h) in
-        named-sound at (scope.names n) ss r (indices-sound k scope agrees design stands ss v.1 inside (named-fit at (scope.names n) ss r f)) (wide-left at w (ef.name_faults scope at (scope.names n) ss) h)
-    left-sound (x.LeftList at ls) v h f = (
+        named-sound at (scope.names n) ss (written-as n ss v.0) (indices-sound k scope agrees design stands widths ss v.1 inside) (wide-left at w (ef.name_faults scope at (scope.names n) ss) h)
+    left-sound (x.LeftList at ls) v h = (
       subst IsWidth (sym (widths-same ls v)) (wide-left at (t.lefts_width scope ls) (t.targets_faults scope ls) h),
-      lefts-sound ls v (none-right (construct_if (not (has_width (t.lefts_width scope ls))) at 10) (t.targets_faults scope ls) h) f,
+      lefts-sound ls v (none-right (construct_if (not (has_width (t.lefts_width scope ls))) at 10) (t.targets_faults scope ls) h),
     )
 
-    lefts-sound : (ls : x.Lefts) → u.AreUsedLefts k ls → t.targets_faults scope ls ≡ [] → targets_have is_unfit (plain.targets (t.targets scope ls)) ≡ false → AreSoundTargets design (plain.targets (t.targets scope ls))
-    lefts-sound x.NoLefts v h f = tt
-    lefts-sound (x.MoreLefts l ls) v h f =
-        let (g, i) = or_parts (target_has is_unfit (plain.target (t.target scope l))) (targets_have is_unfit (plain.targets (t.targets scope ls))) f in
-        (left-sound l v.0 (none-left (t.target_faults scope l) (t.targets_faults scope ls) h) g, lefts-sound ls v.1 (none-right (t.target_faults scope l) (t.targets_faults scope ls) h) i)
+    lefts-sound : (ls : x.Lefts) → u.AreUsedLefts k ls → t.targets_faults scope ls ≡ [] → AreSoundTargets design (plain.targets (t.targets scope ls))
+    lefts-sound x.NoLefts v h = tt
+    lefts-sound (x.MoreLefts l ls) v h =
+        (left-sound l v.0 (none-left (t.target_faults scope l) (t.targets_faults scope ls) h), lefts-sound ls v.1 (none-right (t.target_faults scope l) (t.targets_faults scope ls) h))
 
   -- ---- the first name of a left side, which has one since it has a bit
 

@@ -30,9 +30,20 @@ use Rattle.vl_agree.proofs.Agree.{agrees}
 use Rattle.vl_agree.proofs.Bodies.{body-agrees}
 use Rattle.vl_agree.proofs.Instances.{clocks-are-inputs, instance-of}
 use Rattle.vl_agree.proofs.Stands.{stands, function-stands-for}
+use Rattle.vl_sound.specs.Widths.{HaveWidths}
+use Rattle.vl_sound.proofs.Widths.{IsUsedModule, instance-widths}
 use Rattle.vl_sound.proofs.Items.{IsHere}
 use Rattle.vl_sound.proofs.Declared.{at-in, from-in, IsPreparedItem, all-prepared, own-values, ports-watched}
 use Rattle.vl_sound.proofs.Instances.{IsHome, IsWhole, whole-sound}
+
+module _ (s : Source) (used : (e : Fault) → IsUseFault s e → ⊥) (top : i.Module) (is-top : f.top_of s ≡ Some top) where
+  module-used : (n : ℕ) (g : Given) (m : i.Module) → IsInstance (modules s) top n g m → IsUsedModule m
+  module-used n g m h =
+      let (tree, inside, same) = instance-of s top is-top n g m h in
+      subst IsUsedModule same (record { classes = u.classes (declarations tree); used = source-used s used tree inside })
+
+  pub parameters-wide : (n : ℕ) (g : Given) (m : i.Module) → IsInstance (modules s) top n g m → HaveWidths (environment (size n (modules s)) g m)
+  parameters-wide = instance-widths (modules s) top module-used
 
 module _ (s : Source) (fine : (e : Fault) → IsDeclarationFault s e → ⊥) (used : (e : Fault) → IsUseFault s e → ⊥) (top : i.Module) (is-top : f.top_of s ≡ Some top)
     (made : p.Design) (is-made : flattened s ≡ Ok made) where
@@ -73,6 +84,7 @@ module _ (s : Source) (fine : (e : Fault) → IsDeclarationFault s e → ⊥) (u
       used = source-used s used tree inside;
       agrees = agrees s fine tree inside (size n ms) g (clocks-are-inputs ms top n g (module' tree) instance);
       stands = stands s fine used top is-top made is-made n g tree inside instance;
+      widths = parameters-wide s used top is-top n g (module' tree) instance;
       items = from-in (IsHere k (here_of n ms top g (module' tree)) design) (module' tree).items item-here;
       ports = ports-watched s fine tree inside;
     }

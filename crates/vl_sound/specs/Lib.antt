@@ -1,2 +1,2 @@
 pub mod Inputs
-pub mod Numbers
+pub mod Widths

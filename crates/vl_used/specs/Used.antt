@@ -10,6 +10,7 @@ use Rattle.vl_scope.specs.declared.kind.Class.{Class}
 use Rattle.vl_scope.specs.declared.kind.Class.TheVariants as c
 use Rattle.vl_scope.specs.Declarations.{Declared, kind_in}
 use Rattle.vl_uses.specs.Nodes.{is_load}
+use Rattle.vl_flat.specs.Binding.{is_proper}
 use Rattle.vl_flat.specs.Surface as x
 use Rattle.vl_flat.specs.Items as i
 
@@ -106,7 +107,7 @@ module _ (k : Classes) where
   abbrev mutual
     -- each name of the expression is used as what it is; a function has as many arguments as inputs
     pub IsUsed : x.Ex → Type 0
-    IsUsed (x.Number at n) = ⊤
+    IsUsed (x.Number at n) = is_proper n ≡ true
     IsUsed (x.Text at text) = ⊤
     IsUsed (x.Named at t ss) = IsRead (k.read t) ss × AreUsedSelects ss
     IsUsed (x.Paren at a) = IsUsed a

@@ -1,5 +1,5 @@
-use Rattle.vl_sound.proofs.Statements.{statement-good}
+use Rattle.vl_sound.proofs.Statements.{statement-sound}
 use Rattle.vl_sound.proofs.laws.a_used_statement_without_faults_is_sound.Goals as goal
 
 pub returns : goal.returns
-returns c = statement-good
+returns c = statement-sound

@@ -1,6 +1,6 @@
 -- Expressions whose parts fit: each name is used as what it is.
 use Rattle.std.proofs.Common.{◌≡◌, Bool, true, false, if◌then◌else◌, List, [], ◌∷◌, ◌++◌, Some, refl, ap, ◌∙◌, subst, inl, inr, arith}
-use Rattle.std.specs.Prelude.{⊤, nat_lt}
+use Rattle.std.specs.Prelude.{nat_lt}
 use Rattle.vl_base.specs.declared.number.Number.{Number}
 use Rattle.vl_base.specs.declared.place.Place.{Place}
 use Rattle.vl_grammar.specs.declared.tree.Expression as e

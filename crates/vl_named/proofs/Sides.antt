@@ -1,5 +1,5 @@
 -- System calls by how they are used, and what is used so.
-use Rattle.std.proofs.Common.{◌≡◌, ℕ, Bool, true, false, true≢false, List, Option, refl, sym, subst}
+use Rattle.std.proofs.Common.{◌≡◌, ℕ, Bool, true, false, List, refl, sym, subst}
 use Rattle.std.specs.Prelude.{⊤, ◌||◌, codes}
 use Rattle.std.proofs.lemmas.Bool.{or_left}
 use Rattle.vl_base.specs.declared.place.Place.{Place}

@@ -1,7 +1,7 @@
 -- In a module without faults of declarations ports, and signals with values of their own, are nets or variables; and functions
 -- are prepared.
-use Rattle.std.proofs.Common.{◌≡◌, ℕ, ◌+◌, Bool, true, false, true≢false, if◌then◌else◌, ◌⊎◌, inl, inr, List, [], ◌∷◌, ◌++◌, map, get_or, Option, Some, None, refl, sym, ap, ◌∙◌, subst}
-use Rattle.std.specs.Prelude.{⊤, ◌&&◌, is_some, fold, flat_map, option_map, slice_get, All}
+use Rattle.std.proofs.Common.{◌≡◌, ℕ, Bool, true, false, true≢false, if◌then◌else◌, inl, inr, List, [], ◌∷◌, ◌++◌, map, Option, Some, None, refl, sym, ap, ◌∙◌, subst}
+use Rattle.std.specs.Prelude.{⊤, ◌&&◌, is_some, fold, flat_map, option_map, All}
 use Rattle.std.specs.Option.{option_map_or}
 use Rattle.std.specs.Str.{bytes_eq}
 use Rattle.std.proofs.lemmas.Bool.{and_parts}
@@ -42,8 +42,8 @@ use Rattle.vl_flat.specs.Kinds.{signals_in}
 use Rattle.vl_used.specs.Used as u
 use Rattle.vl_laws.proofs.Lists.{at-holds}
 use Rattle.vl_agree.proofs.Pairs.{pairs-there, pairs-back}
-use Rattle.vl_agree.proofs.Names.{Name, P, S, F, I, spelt, names_in, names_of, Said, SaidParameter, SaidSignal, SaidFunction, SaidInstance, all-said}
-use Rattle.vl_agree.proofs.Alone.{SaysClass, class-of, Unlike, Apart, alone, no-signal-apart}
+use Rattle.vl_agree.proofs.Names.{Name, P, S, F, I, names_in, names_of, Said, all-said}
+use Rattle.vl_agree.proofs.Alone.{class-of, alone, no-signal-apart}
 use Rattle.vl_agree.proofs.Agree.{memory-apart}
 use Rattle.vl_sound.proofs.Functions.{IsPrepared}
 use Rattle.vl_sound.proofs.Items.{HasOwn}

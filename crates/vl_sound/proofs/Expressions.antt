@@ -2,7 +2,6 @@
 use Rattle.std.proofs.Common.{◌≡◌, ℕ, ◌+◌, ◌*◌, Bool, true, false, if◌then◌else◌, List, [], ◌++◌, Option, Some, None, refl, sym, ap, ◌∙◌, subst}
 use Rattle.std.specs.Prelude.{ℤ, ⊤, fold, codes, not, ◌&&◌, ◌||◌, slice_get}
 use Rattle.std.specs.Str.{bytes_eq}
-use Rattle.std.proofs.Math.Pow.{pow_pos}
 use Rattle.std.proofs.lemmas.Bool.{or_from}
 use Rattle.std.proofs.lemmas.Slice.Eq.{bytes_eq-Decides}
 use Rattle.std.proofs.lemmas.Option.{slice_get_within}
@@ -15,12 +14,9 @@ use Rattle.vl_scope.specs.declared.kind.Class.TheVariants as c
 use Rattle.vl_design.specs.declared.design.Form.{Form}
 use Rattle.vl_design.specs.declared.design.SigKind.{SigKind}
 use Rattle.vl_design.specs.declared.design.SigKind.TheVariants as sk
-use Rattle.vl_design.specs.declared.stop.Stop.{Stop}
-use Rattle.vl_design.specs.Syntax as d
 use Rattle.vl_design.specs.Rows.{range_width, has_width}
-use Rattle.vl_design.specs.Stops.{construct_if}
 use Rattle.vl_design.specs.Width as w
-use Rattle.vl_design.specs.Sound.{IsWidth, IsOf, HasValue, IsMem, IsSignal, IsMemory, Takes, count_of, IsSoundExp, AreSound}
+use Rattle.vl_design.specs.Sound.{IsWidth, IsOf, HasValue, IsMem, IsMemory, Takes, count_of, IsSoundExp, AreSound}
 use Rattle.vl_design.specs.Placed as p
 use Rattle.vl_design.specs.Plainly as plain
 use Rattle.vl_flat.specs.declared.binding.Binding.{Binding}
@@ -34,9 +30,9 @@ use Rattle.vl_flat.specs.ExpressionFaults as ef
 use Rattle.vl_laws.specs.Naming.{StandsIn, IsValue, IsCalled, IsResolved, AreResolved, AreResolvedSelects, AreResolvedArgs}
 use Rattle.vl_laws.proofs.Forms.{form-same}
 use Rattle.vl_used.specs.Used as u
-use Rattle.vl_used.specs.Agreeing.{StandsAs, Agrees, IsRowOf, StandsFor}
+use Rattle.vl_used.specs.Agreeing.{StandsAs, Agrees, StandsFor}
 use Rattle.vl_sound.specs.Widths.{HasWidth, HaveWidths}
-use Rattle.vl_sound.proofs.Parts.{none-left, none-right, clear, past-clear, width-is, one-bit, number-is, operand-is}
+use Rattle.vl_sound.proofs.Parts.{none-left, none-right, clear, past-clear, width-is, one-bit, zero-is, number-is, operand-is}
 
 -- ---- functions whose calls are operands
 
@@ -262,10 +258,6 @@ module _ (k : u.Classes) (scope : Scope) (agrees : Agrees k scope) where
         by false false true = tt
         by false false false = tt
 
-    -- one zero bit
-    pub zero-sound : IsSoundExp design (d.Num 0 1 false)
-    zero-sound = (one-bit, pow_pos 1)
-
     module _ (widths : HaveWidths scope.names) where
       -- ---- names
 
@@ -363,6 +355,6 @@ module _ (k : u.Classes) (scope : Scope) (agrees : Agrees k scope) where
         indices-sound (x.Range at m.Down l r others) v h = (sound l v.0 (none-left (ef.faults scope l) _ h), indices-sound others v.2 (behind-range k scope m.Down l r others h))
 
         first-sound : (at : Place) (given : x.Args) → u.AreUsedArgs k given → ef.args_faults scope false given ≡ [] → Sound (e.first_of scope at given)
-        first-sound at x.NoArgs v h = zero-sound
-        first-sound at (x.NullArg others) v h = zero-sound
+        first-sound at x.NoArgs v h = zero-is
+        first-sound at (x.NullArg others) v h = zero-is
         first-sound at (x.MoreArgs a others) v h = sound a v.0 (none-left (ef.faults scope a) (ef.args_faults scope false others) h)

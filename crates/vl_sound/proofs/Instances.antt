@@ -1,23 +1,22 @@
 -- A flat design is sound: each part that an instance stands for is.
-use Rattle.std.proofs.Common.{◌≡◌, ℕ, zero, suc, ◌+◌, List, [], ◌∷◌, ◌++◌, map, length, Option, Some, None, Result, Ok, Err, refl, sym, ap, ◌∙◌, subst}
-use Rattle.std.specs.Prelude.{⊤, fold, flat_map, All, false}
+use Rattle.std.proofs.Common.{◌≡◌, ℕ, zero, suc, List, [], ◌∷◌, ◌++◌, map, length, Option, Some, None, Result, Ok, Err, refl, sym, ap, ◌∙◌, subst}
+use Rattle.std.specs.Prelude.{fold, flat_map, All}
 use Rattle.std.specs.Option.{option_map_or}
 use Rattle.std.proofs.lemmas.List.{append_assoc, length-map}
 use Rattle.std.proofs.lemmas.List.Sums.{fold-append}
-use Rattle.std.proofs.lemmas.List.Elements.{All-nil, All-cons, All-append, All-head, All-tail, All-map, All-weaker}
+use Rattle.std.proofs.lemmas.List.Elements.{All-nil, All-append, All-head, All-tail, All-map, All-weaker}
 use Rattle.vl_grammar.specs.declared.tree.Identifier.{Identifier}
 use Rattle.vl_design.specs.declared.stop.Stop.{Stop}
 use Rattle.vl_design.specs.Rows.{row_of}
-use Rattle.vl_design.specs.Syntax as d
 use Rattle.vl_design.specs.Width as w
 use Rattle.vl_design.specs.Sound.{IsSoundFun, IsSoundProc, IsSound}
 use Rattle.vl_design.specs.Placed as p
 use Rattle.vl_design.specs.Plainly as plain
 use Rattle.vl_flat.specs.Items as i
-use Rattle.vl_flat.specs.Scopes.{plainly, number_of}
+use Rattle.vl_flat.specs.Scopes.{plainly}
 use Rattle.vl_flat.specs.Environments.{Counts, Given, plus, module_named, size, environment}
 use Rattle.vl_flat.specs.Processes.{Here}
-use Rattle.vl_flat.specs.Connections.{given, override_faults}
+use Rattle.vl_flat.specs.Connections.{given}
 use Rattle.vl_flat.specs.Flat as f
 use Rattle.vl_flat.specs.Flat.{instance}
 use Rattle.vl_flat.specs.Outcome as o
@@ -25,9 +24,8 @@ use Rattle.vl_flat.specs.Outcome.{◌>>=◌}
 use Rattle.vl_used.specs.Used as u
 use Rattle.vl_used.specs.Agreeing.{Agrees, StandsFor}
 use Rattle.vl_laws.specs.Instances.{IsInstance, of_top, of_item, here_of}
-use Rattle.vl_laws.proofs.Lists.{Each, each-from, each-right}
 use Rattle.vl_laws.proofs.Numbers.{design-is}
-use Rattle.vl_laws.proofs.Depth.{NoFault, judged-clear}
+use Rattle.vl_laws.proofs.Depth.{judged-clear}
 use Rattle.vl_sound.specs.Widths.{HaveWidths}
 use Rattle.vl_sound.specs.Inputs.{HasNoLoopInputs, NoLoopInputs}
 use Rattle.vl_sound.proofs.Parts.{at-split}

@@ -1,8 +1,7 @@
 -- The parts of a flat design that items and connections stand for are sound where they have no fault.
-use Rattle.std.proofs.Common.{◌≡◌, ℕ, Bool, true, false, if◌then◌else◌, List, [], ◌∷◌, ◌++◌, map, length, Option, Some, None, refl, sym, ap, ◌∙◌, subst}
-use Rattle.std.specs.Prelude.{⊤, ◌&&◌, ◌||◌, not, flat_map, slice_get, find, position, All}
-use Rattle.std.specs.Option.{option_map_or, option_and_then}
-use Rattle.std.specs.Str.{bytes_eq}
+use Rattle.std.proofs.Common.{◌≡◌, ℕ, Bool, true, false, if◌then◌else◌, List, [], ◌∷◌, ◌++◌, map, length, Option, Some, None, refl, sym, subst}
+use Rattle.std.specs.Prelude.{⊤, ◌&&◌, not, flat_map, All}
+use Rattle.std.specs.Option.{option_map_or}
 use Rattle.std.proofs.lemmas.Bool.{and_parts}
 use Rattle.std.proofs.lemmas.List.Elements.{All-nil, All-cons, All-append, All-head, All-tail, All-map, All-weaker}
 use Rattle.vl_base.specs.declared.place.Place.{Place}
@@ -11,7 +10,6 @@ use Rattle.vl_source.specs.declared.tree.Trigger.TheVariants as g
 use Rattle.vl_source.specs.declared.tree.Event.{Event as EventTree}
 use Rattle.vl_scope.specs.declared.kind.Class.{Class}
 use Rattle.vl_scope.specs.declared.kind.Class.TheVariants as c
-use Rattle.vl_scope.specs.Faults.{In}
 use Rattle.vl_design.specs.declared.design.Event.{Event}
 use Rattle.vl_design.specs.declared.design.ProcKind.{ProcKind}
 use Rattle.vl_design.specs.declared.design.ProcKind.TheVariants.{Init, Assign}
@@ -20,7 +18,7 @@ use Rattle.vl_design.specs.declared.stop.Stop.TheVariants.{Construct}
 use Rattle.vl_design.specs.declared.design.Signal.{Signal}
 use Rattle.vl_design.specs.Syntax as d
 use Rattle.vl_design.specs.Width as w
-use Rattle.vl_design.specs.Sound.{HasValue, IsSignal, IsNamed, IsSoundStm, IsSoundProc}
+use Rattle.vl_design.specs.Sound.{IsSignal, IsNamed, IsSoundStm, IsSoundProc}
 use Rattle.vl_design.specs.Placed as p
 use Rattle.vl_design.specs.Plainly as plain
 use Rattle.vl_flat.specs.declared.binding.Binding.{Binding}
@@ -33,7 +31,7 @@ use Rattle.vl_flat.specs.ExpressionFaults as ef
 use Rattle.vl_flat.specs.Targets as t
 use Rattle.vl_flat.specs.Statements as s
 use Rattle.vl_flat.specs.Functions.{function_scope, function, function_faults}
-use Rattle.vl_flat.specs.Kinds.{signals_in, is_input}
+use Rattle.vl_flat.specs.Kinds.{is_input}
 use Rattle.vl_flat.specs.Ranges.{type_faults, range_faults}
 use Rattle.vl_flat.specs.Processes as q
 use Rattle.vl_flat.specs.Processes.{Here}
@@ -46,7 +44,7 @@ use Rattle.vl_laws.proofs.Lists.{Each, each-left, each-right}
 use Rattle.vl_laws.proofs.Depth.{NoFault}
 use Rattle.vl_named.proofs.Sides.{used-side}
 use Rattle.vl_sound.specs.Widths.{HaveWidths}
-use Rattle.vl_sound.proofs.Parts.{none-left, none-right, all-flat, all-clear}
+use Rattle.vl_sound.proofs.Parts.{none-right, all-flat, all-clear}
 use Rattle.vl_sound.proofs.Targets.{signal-named, event-named, left-sound}
 use Rattle.vl_sound.proofs.Connected.{connected-used}
 use Rattle.vl_sound.proofs.Statements.{assign-sound, set-sound, statement-sound}

@@ -1,6 +1,6 @@
 -- Small facts on faults, widths and lists.
 use Rattle.std.proofs.Common.{◌≡◌, ◌<◌, ◌≤◌, ◌^◌, ◌*◌, max, ℕ, Bool, true, false, List, [], ◌∷◌, ◌++◌, length, Option, Some, zero, suc, refl, subst, arith, if◌then◌else◌}
-use Rattle.std.specs.Prelude.{ℤ, not, ◌&&◌, nat_le, nat_lt, flat_map, map, slice_get, All}
+use Rattle.std.specs.Prelude.{ℤ, not, ◌&&◌, nat_le, nat_lt, flat_map, slice_get, All}
 use Rattle.std.proofs.Math.Pow.{pow_pos}
 use Rattle.std.proofs.lemmas.List.Elements.{All-nil, All-cons, All-append, All-head, All-tail}
 use Rattle.std.proofs.lemmas.Bool.{and_parts}
@@ -10,7 +10,7 @@ use Rattle.vl_base.specs.declared.number.Number.{Number}
 use Rattle.vl_base.specs.declared.place.Place.{Place}
 use Rattle.vl_design.specs.declared.design.Form.{Form}
 use Rattle.vl_design.specs.Formats.{text_width, text_number}
-use Rattle.vl_design.specs.Rows.{range_width, has_width}
+use Rattle.vl_design.specs.Rows.{has_width}
 use Rattle.vl_design.specs.Sound.{IsWidth}
 use Rattle.vl_design.specs.Stops.{construct_if}
 use Rattle.vl_design.specs.Width.{unsigned}
@@ -74,12 +74,16 @@ bytes-wide n h =
 pub text-is : (text : List ℕ) → is_long text ≡ false → IsWidth (text_width text) × (text_number text < 2 ^ text_width text)
 text-is text h = (bytes-wide (length text) h, mod_below _ (2 ^ text_width text) (pow_pos (text_width text)))
 
+-- one zero bit
+pub zero-is : IsWidth 1 × (0 < 2 ^ 1)
+zero-is = (one-bit, pow_pos 1)
+
 -- a string as an operand, also one that is too long
 pub operand-is : (text : List ℕ) → IsWidth (text_form text).width × (text_value text < 2 ^ (text_form text).width)
 operand-is text = by (is_long text) refl
   where
     by : (c : Bool) → is_long text ≡ c → let form : Form = if c then unsigned 1 else unsigned (text_width text) in IsWidth form.width × ((if c then 0 else text_number text) < 2 ^ form.width)
-    by true h = (one-bit, pow_pos 1)
+    by true h = zero-is
     by false h = text-is text h
 
 -- ---- lists

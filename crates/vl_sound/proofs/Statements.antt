@@ -1,18 +1,17 @@
 -- A statement whose names are used as what they are, and stand for it, is sound where it has no fault.
-use Rattle.std.proofs.Common.{◌≡◌, ◌<◌, ◌^◌, ℕ, Bool, true, false, if◌then◌else◌, List, [], ◌∷◌, ◌++◌, Option, Some, None, refl, sym, ap, ◌∙◌, subst}
-use Rattle.std.specs.Prelude.{⊤, ◌&&◌, ◌||◌, fold, nat_lt, not, codes}
+use Rattle.std.proofs.Common.{◌≡◌, ℕ, Bool, true, false, List, [], ◌∷◌, ◌++◌, Option, Some, None, refl, sym, subst}
+use Rattle.std.specs.Prelude.{⊤, ◌||◌, fold, codes}
 use Rattle.std.specs.Str.{bytes_eq}
 use Rattle.vl_scope.proofs.Listed.{bytes_eq-to}
 use Rattle.vl_base.specs.declared.place.Place.{Place}
 use Rattle.vl_base.specs.declared.bits.UnOp.TheVariants.{LogNot}
 use Rattle.vl_grammar.specs.declared.tree.UnaryOperator.{UnaryOperator}
 use Rattle.vl_grammar.specs.declared.tree.UnaryOperator.TheVariants as uo
-use Rattle.vl_uses.specs.Nodes.{is_load}
 use Rattle.vl_design.specs.declared.stop.Stop.{Stop}
 use Rattle.vl_design.specs.Syntax as d
 use Rattle.vl_design.specs.Calls.{task_of}
 use Rattle.vl_design.specs.Width as w
-use Rattle.vl_design.specs.Sound.{IsWidth, IsSoundExp, AreSound, IsSoundTarget, IsSoundTask, IsSoundStm, AreSoundItems}
+use Rattle.vl_design.specs.Sound.{IsSoundExp, AreSound, IsSoundTarget, IsSoundTask, IsSoundStm, AreSoundItems}
 use Rattle.vl_design.specs.Placed as p
 use Rattle.vl_design.specs.Plainly as plain
 use Rattle.vl_flat.specs.declared.binding.Binding.{Binding}

@@ -1,6 +1,6 @@
 -- A left side whose names are used as what they are, and stand for it, is sound where it has no fault.
-use Rattle.std.proofs.Common.{◌≡◌, ℕ, ◌+◌, Bool, true, false, if◌then◌else◌, List, [], ◌++◌, Option, Some, None, refl, sym, ap, ◌∙◌, subst, arith}
-use Rattle.std.specs.Prelude.{ℤ, ⊤, fold, not, ◌||◌, slice_get}
+use Rattle.std.proofs.Common.{◌≡◌, ℕ, ◌+◌, if◌then◌else◌, List, [], ◌++◌, Option, Some, None, refl, sym, ap, ◌∙◌, subst, arith}
+use Rattle.std.specs.Prelude.{ℤ, ⊤, fold, not}
 use Rattle.vl_base.specs.declared.place.Place.{Place}
 use Rattle.vl_grammar.specs.declared.tree.SelectMark.TheVariants as m
 use Rattle.vl_scope.specs.declared.kind.Class.{Class}
@@ -11,7 +11,7 @@ use Rattle.vl_design.specs.Stops.{construct_if}
 use Rattle.vl_design.specs.Rows.{has_width}
 use Rattle.vl_design.specs.Width as w
 use Rattle.vl_design.specs.Targets.{target_width, targets_width}
-use Rattle.vl_design.specs.Sound.{IsWidth, HasValue, IsMem, IsSignal, IsNamed, IsOf, IsMemory, IsSoundExp, IsSoundBase, IsSoundTarget, AreSoundTargets}
+use Rattle.vl_design.specs.Sound.{IsWidth, HasValue, IsMem, IsSignal, IsNamed, IsMemory, IsSoundExp, IsSoundBase, IsSoundTarget, AreSoundTargets}
 use Rattle.vl_design.specs.Placed as p
 use Rattle.vl_design.specs.Plainly as plain
 use Rattle.vl_flat.specs.declared.binding.Binding.{Binding}

@@ -12,7 +12,7 @@ use Rattle.vl_design.specs.Syntax as d
 use Rattle.vl_design.specs.Formats as f
 use Rattle.vl_design.specs.Calls.{finish_of, save_of, fopen_of, fread_of, file_of, read_hex_of, task_of}
 use Rattle.vl_design.specs.Width as w
-use Rattle.vl_design.specs.Sound.{IsMem, IsSoundExp, AreSound, IsSoundPiece, IsSoundTask, IsMemory}
+use Rattle.vl_design.specs.Sound.{IsMem, IsSoundExp, AreSound, IsSoundPiece, IsSoundTask}
 use Rattle.vl_design.specs.Placed as p
 use Rattle.vl_design.specs.Plainly as plain
 use Rattle.vl_flat.specs.declared.binding.Binding.{Binding}
@@ -24,8 +24,8 @@ use Rattle.vl_flat.specs.ExpressionFaults as ef
 use Rattle.vl_used.specs.Used as u
 use Rattle.vl_used.specs.Agreeing.{StandsAs, Agrees, StandsFor}
 use Rattle.vl_sound.specs.Widths.{HaveWidths}
-use Rattle.vl_sound.proofs.Parts.{none-left, none-right, clear, text-is}
-use Rattle.vl_sound.proofs.Expressions.{zero-sound, signal-is, sound}
+use Rattle.vl_sound.proofs.Parts.{none-left, none-right, clear, zero-is, text-is}
+use Rattle.vl_sound.proofs.Expressions.{signal-is, sound}
 
 -- ---- names of calls
 
@@ -157,8 +157,8 @@ module _ (k : u.Classes) (scope : Scope) (agrees : Agrees k scope) (design : w.N
   Shows args ps = AreShown (f.taken ps) args → Pieces ps
 
   operand-good : (n : ℕ) (args : List f.Arg) → AreShown (suc n) args → IsSoundExp design (f.operand args)
-  operand-good n [] g = zero-sound k scope agrees design stands
-  operand-good n (f.Null ∷ args) g = zero-sound k scope agrees design stands
+  operand-good n [] g = zero-is
+  operand-good n (f.Null ∷ args) g = zero-is
   operand-good n (f.Str text ∷ args) g = g.0
   operand-good n (f.Value a ∷ args) g = g.0
 

@@ -1,6 +1,5 @@
 -- The flat design of a source whose names have no faults is sound.
-use Rattle.std.proofs.Common.{◌≡◌, ℕ, List, [], ◌∷◌, length, Option, Some, None, Ok, refl, sym, ap, ◌∙◌, subst}
-use Rattle.std.specs.Prelude.{⊤, All}
+use Rattle.std.proofs.Common.{◌≡◌, ℕ, List, length, Option, Some, None, Ok, refl, sym, ap, ◌∙◌, subst}
 use Rattle.vl_source.specs.declared.tree.Source.{Source}
 use Rattle.vl_source.specs.declared.tree.Module.{Module as ModuleTree}
 use Rattle.vl_source.specs.Hierarchy.{graph_of, first_top}

@@ -1,6 +1,6 @@
 -- The parameters of an instance have from 1 to 128 bits.
-use Rattle.std.proofs.Common.{◌≡◌, ℕ, suc, ◌+◌, max, Bool, true, false, if◌then◌else◌, List, [], ◌∷◌, ◌++◌, Option, Some, None, refl, sym, ap, subst, arith}
-use Rattle.std.specs.Prelude.{ℤ, ⊤, pos, not, ◌&&◌, nat_lt, fold, is_some, option_map, All}
+use Rattle.std.proofs.Common.{◌≡◌, ℕ, suc, ◌+◌, Bool, true, false, if◌then◌else◌, List, [], ◌∷◌, Option, Some, None, refl, arith}
+use Rattle.std.specs.Prelude.{⊤, pos, ◌&&◌, fold, is_some, option_map, All}
 use Rattle.std.specs.Str.{bytes_eq}
 use Rattle.std.proofs.lemmas.Bool.{and_parts}
 use Rattle.std.proofs.lemmas.List.Elements.{All-head, All-tail}
@@ -10,7 +10,7 @@ use Rattle.vl_base.specs.declared.bits.BinOp.{BinOp}
 use Rattle.vl_base.specs.declared.bits.BinOp.TheVariants.{Shl}
 use Rattle.vl_base.specs.declared.place.Place.{Place}
 use Rattle.vl_design.specs.declared.design.Form.{Form}
-use Rattle.vl_design.specs.Width.{bit, unary_form, binary_form}
+use Rattle.vl_design.specs.Width.{unary_form, binary_form}
 use Rattle.vl_design.specs.Sound.{IsWidth}
 use Rattle.vl_design.specs.Placed as p
 use Rattle.vl_flat.specs.declared.binding.Binding.{Binding}
@@ -23,7 +23,7 @@ use Rattle.vl_flat.specs.Expressions as e
 use Rattle.vl_flat.specs.Ranges.{bits_in, written, is_wide, parameter_range}
 use Rattle.vl_flat.specs.Parameters.{converted, value_of}
 use Rattle.vl_flat.specs.Kinds.{kind_of}
-use Rattle.vl_flat.specs.Environments.{Counts, Given, Known, plus, shape, with_signal, with_parameter, with_item, environment, module_named, size}
+use Rattle.vl_flat.specs.Environments.{Counts, Given, Known, plus, shape, with_signal, with_parameter, with_item, environment, size}
 use Rattle.vl_flat.specs.Functions.{local_shape, with_locals, function_scope}
 use Rattle.vl_flat.specs.Connections as cn
 use Rattle.vl_used.specs.Used as u

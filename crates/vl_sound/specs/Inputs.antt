@@ -1,5 +1,5 @@
 -- Functions whose inputs keep their values: none is a loop variable (own; IEEE 1364-2005, clauses 9.6 and 10.4).
-use Rattle.std.specs.Prelude.{◌≡◌, ℕ, ⊤, slice_get, All, Some}
+use Rattle.std.specs.Prelude.{◌≡◌, ⊤, slice_get, All, Some}
 use Rattle.vl_design.specs.declared.design.SigKind.{SigKind}
 use Rattle.vl_design.specs.declared.design.SigKind.TheVariants.{Loop}
 use Rattle.vl_design.specs.Syntax.{Row, Fun, Flat}

@@ -1,7 +1,6 @@
 -- Names that are used as what they are (IEEE 1364-2005, clauses 5.2, 9.2, 9.7.2, 10.4.3 and 17).
 use Rattle.std.specs.Prelude.{◌≡◌, ℕ, ◌+◌, Bool, true, false, ◌||◌, List, drop, ⊤, All, Option, Some, None, option_map, if◌then◌else◌, codes}
 use Rattle.std.specs.List.{list_any}
-use Rattle.std.specs.Option.{option_map_or}
 use Rattle.std.specs.Str.{bytes_eq}
 use Rattle.vl_source.specs.declared.tree.Trigger.{Trigger}
 use Rattle.vl_source.specs.declared.tree.Trigger.TheVariants.{Events}
@@ -105,7 +104,8 @@ ByTest false A B = B
 
 module _ (k : Classes) where
   abbrev mutual
-    -- each name of the expression is used as what it is; a function has as many arguments as inputs
+    -- each name of the expression is used as what it is; a function has as many arguments as inputs; a number has 1 to 128 bits,
+    -- and its value fits them (clause 3.5.1; the bound is own)
     pub IsUsed : x.Ex → Type 0
     IsUsed (x.Number at n) = is_proper n ≡ true
     IsUsed (x.Text at text) = ⊤

@@ -19,13 +19,14 @@ loop-item-preserved c =
     let items = c.as_slice-item-items.result.now in
     let i = c.loop-item.item-index in
     let m = seen_module c.args.definition.now in
-    let below : i < length items = omega arith in
-    (fold-turn (with_item (size_of c.args.sizes.now c.args.depth) (overrides_of c.args.above.now) (kinds_by (facts_of c.args.roles.now) c.args.above.now)) seen_item (nothing_known c.args.base)
-    (known c.loop-item.names c.loop-item.next) (known c.add_item.new.names c.in_ok-next.next) items i c.item-item.result below c.item-item.is
-    c.loop-item.invariant.0 c.in_ok-next.ensures.table,
-    λ ms path s l h. fold-turn (e.with_item (e.size c.args.depth ms) (given_of m c.args.above.now path (counts_of c.args.base)) m) seen_item (nothing_known c.args.base)
-    (known c.loop-item.names c.loop-item.next) (known c.add_item.new.names c.in_ok-next.next) items i c.item-item.result below c.item-item.is
-    (c.loop-item.invariant.1 ms path s l h) (c.in_ok-next.ensures.module ms m path (counts_of c.args.base) s l h))
+    let below : i < length items = omega arith in (
+      fold-turn (with_item (size_of c.args.sizes.now c.args.depth) (overrides_of c.args.above.now) (kinds_by (facts_of c.args.roles.now) c.args.above.now)) seen_item (nothing_known c.args.base)
+          (known c.loop-item.names c.loop-item.next) (known c.add_item.new.names c.in_ok-next.next) items i c.item-item.result below c.item-item.is
+          c.loop-item.invariant.0 c.in_ok-next.ensures.table,
+      λ ms path s l h. fold-turn (e.with_item (e.size c.args.depth ms) (given_of m c.args.above.now path (counts_of c.args.base)) m) seen_item (nothing_known c.args.base)
+          (known c.loop-item.names c.loop-item.next) (known c.add_item.new.names c.in_ok-next.next) items i c.item-item.result below c.item-item.is
+          (c.loop-item.invariant.1 ms path s l h) (c.in_ok-next.ensures.module ms m path (counts_of c.args.base) s l h),
+    )
 
 pub returns-clause-table : goal.returns-clause-table
 returns-clause-table c =

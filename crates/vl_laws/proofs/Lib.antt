@@ -1,7 +1,5 @@
-pub mod Bodies
 pub mod Declared
 pub mod Depth
-pub mod Forms
 pub mod Functions
 pub mod Lists
 pub mod Numbers

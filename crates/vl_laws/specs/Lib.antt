@@ -1,4 +1,3 @@
 pub mod Apart
 pub mod Instances
 pub mod Levels
-pub mod Naming

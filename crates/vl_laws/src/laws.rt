@@ -1,46 +1,25 @@
 //! What the readers of flat designs may count on. Each function does nothing; its contract is the law.
 
-ghost use Rattle.std.specs.Prelude.{◌≡◌, ℕ, suc, ◌+◌, ◌<◌, ◌≤◌, List, length, flat_map, slice_get, All, Some, Ok};
+ghost use Rattle.std.specs.Prelude.{◌≡◌, ℕ, ◌<◌, ◌≤◌, List, length, flat_map, slice_get, All, Some, Ok};
 ghost use Rattle.vl_grammar.specs.declared.tree.Identifier.{Identifier};
 ghost use Rattle.vl_source.specs.declared.tree.Source.{Source};
 ghost use Rattle.vl_scope.specs.declared.fault.Fault.{Fault};
 ghost use Rattle.vl_scope.specs.Faults.{In};
 ghost use Rattle.vl_scope.specs.DeclarationFaults.{IsDeclarationFault};
 ghost use Rattle.vl_design.specs.declared.design.Form.{Form};
-ghost use Rattle.vl_design.specs.Width as width;
-ghost use Rattle.vl_design.specs.Width.{names_in};
 ghost use Rattle.vl_flat.specs.declared.binding.Binding.TheVariants.{Signal, Function};
 ghost use Rattle.vl_flat.specs.declared.binding.Shape.{Shape};
-ghost use Rattle.vl_flat.specs.Surface.{Ex};
 ghost use Rattle.vl_flat.specs.Items as items;
 ghost use Rattle.vl_design.specs.Placed as placed;
 ghost use Rattle.vl_flat.specs.Declarations.{modules};
-ghost use Rattle.vl_flat.specs.Scopes.{Env, Scope, plainly};
 ghost use Rattle.vl_flat.specs.Environments.{Counts, Given, module_named, size, environment};
-ghost use Rattle.vl_flat.specs.Functions.{function, function_scope, signal};
+ghost use Rattle.vl_flat.specs.Functions.{function, signal};
 ghost use Rattle.vl_flat.specs.Processes.{Here};
 ghost use Rattle.vl_flat.specs.Flat as flat;
 ghost use Rattle.vl_flat.specs.Outcome.{flattened};
-ghost use Rattle.vl_flat.specs.Expressions as expressions;
-ghost use Rattle.vl_design.specs.Plainly as plain;
 ghost use Rattle.vl_laws.specs.Apart.{AreApart};
 ghost use Rattle.vl_laws.specs.Instances.{IsInstance};
 ghost use Rattle.vl_laws.specs.Levels.{AreSpelt, parts_at};
-ghost use Rattle.vl_laws.specs.Naming.{StandsIn, IsResolved};
-
-/// An expression has in the design the width and the sign by which it is judged.
-pub fn an_expression_has_the_width_by_which_it_is_judged()
-    ensures { (scope : Scope) (design : width.Names) → StandsIn scope design → (e : Ex) → IsResolved scope e →
-        width.form design (plain.exp (expressions.exp scope e)) ≡ expressions.form scope e }
-{}
-
-/// Where the names of a module stand in a design for what they are, so do those of a function's body, behind whose signals
-/// its locals come: also where it calls another function.
-pub fn a_function_stands_in_the_design_as_its_module_does()
-    ensures { (design : width.Names) (env : Env) (path : List ℕ) (a : items.Function) → design.rows ≡ design.signals
-        → StandsIn (plainly env) design
-        → StandsIn (function_scope (length design.signals) env a) (names_in design (plain.fun (function (length design.signals) env path a))) }
-{}
 
 /// Where declarations have no fault, no parameter and no function has a signal's name.
 pub fn signals_have_names_of_their_own()

@@ -27,8 +27,8 @@ use Rattle.vl_flat.specs.Scopes.{Scope, form_of, range_of, number_of}
 use Rattle.vl_flat.specs.Constants as constants
 use Rattle.vl_flat.specs.Expressions as e
 use Rattle.vl_flat.specs.ExpressionFaults as ef
-use Rattle.vl_laws.specs.Naming.{StandsIn, IsValue, IsCalled, IsResolved, AreResolved, AreResolvedSelects, AreResolvedArgs}
-use Rattle.vl_laws.proofs.Forms.{form-same}
+use Rattle.vl_sound.specs.Naming.{StandsIn, IsValue, IsCalled, IsResolved, AreResolved, AreResolvedSelects, AreResolvedArgs}
+use Rattle.vl_sound.proofs.Forms.{form-same}
 use Rattle.vl_used.specs.Used as u
 use Rattle.vl_used.specs.Agreeing.{StandsAs, Agrees, StandsFor}
 use Rattle.vl_sound.specs.Widths.{HasWidth, HaveWidths}

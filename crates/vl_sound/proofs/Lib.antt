@@ -1,6 +1,7 @@
 mod Parts
 mod Connected
 mod Widths
+mod Forms
 mod Expressions
 mod Targets
 mod Tasks
@@ -9,4 +10,4 @@ mod Functions
 mod Items
 mod Instances
 mod Declared
-mod Whole
+pub mod Whole

@@ -17,7 +17,7 @@ use Rattle.vl_design.specs.Plainly as plain
 use Rattle.vl_flat.specs.Scopes.{Scope, form_of, shape_form, range_of, number_of}
 use Rattle.vl_flat.specs.Constants.{count_of}
 use Rattle.vl_flat.specs.Expressions as e
-use Rattle.vl_laws.specs.Naming.{StandsIn, IsValue, IsCalled, IsResolved, AreResolved, AreResolvedArgs}
+use Rattle.vl_sound.specs.Naming.{StandsIn, IsValue, IsCalled, IsResolved, AreResolved, AreResolvedArgs}
 
 module _ (scope : Scope) (design : w.Names) (stands : StandsIn scope design) where
   -- the form of a placed expression in the design

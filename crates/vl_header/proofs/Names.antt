@@ -39,19 +39,16 @@ of-named P (Some r) h = (tt, h.1)
 pub signal-named : (names : Names) (k : ℕ) → IsSignal names k → IsNamed names k
 signal-named names k h = of-named HasValue (slice_get names.rows k) h
 
--- a loop variable is there, and has a width
-pub loop-named : (rows : List Row) (j : ℕ) → is_loop rows j ≡ true → IsWidth (signal_form rows j).width → IsNamed (plain_scope rows).names j
-loop-named rows j h w = go (slice_get rows j) h w
+-- a loop variable is there
+loop-within : (rows : List Row) (j : ℕ) → is_loop rows j ≡ true → j < length rows
+loop-within rows j h = go (slice_get rows j) refl h
   where
-    go : (r : Option Row) → is_loop_row r ≡ true → IsWidth (row_form r).width → IsOf (λ kind. ⊤) r
-    go None h w = let z : ⊥ = cc in absurd z
-    go (Some r) h w = (tt, w)
+    go : (r : Option Row) → slice_get rows j ≡ r → is_loop_row r ≡ true → j < length rows
+    go None e h = let z : ⊥ = cc in absurd z
+    go (Some r) e h = slice_get_within rows j r e
 
 pub loop-there : (rows : List Row) (numbers : List ℕ) (j : ℕ) → AreNumbers rows numbers → is_loop rows j ≡ true → j < length numbers
-loop-there rows numbers j n h = let i = named-there (plain_scope rows).names j (loop-named rows j h (n.widths j h)) in omega (arith, n.many)
-
-pub loop-is : (rows : List Row) (numbers : List ℕ) (j : ℕ) → AreNumbers rows numbers → is_loop rows j ≡ true → IsNamed (plain_scope rows).names j
-loop-is rows numbers j n h = loop-named rows j h (n.widths j h)
+loop-there rows numbers j n h = let i : j < length rows = loop-within rows j h in omega (arith, n.many)
 
 -- the number of a signal, in the values of numbers
 pub value-is : (numbers : List ℕ) (j : ℕ) → value_of (values_of numbers) j ≡ slice_index numbers j
@@ -68,4 +65,4 @@ pub ruleset form_rules = (joined-width, named-width, signal-named, named-there)
 
 pub ruleset kinds = (named-width, named-there)
 
-pub ruleset numbers = (loop-is, loop-there, value-is)
+pub ruleset numbers = (loop-there, value-is, named-width)

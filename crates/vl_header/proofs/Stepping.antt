@@ -90,7 +90,6 @@ head-source scope j at (p.Several q ts) x h = absurd h
 pub numbers-set : (rows : List d.Row) (ns : List ℕ) (j v : ℕ) → AreNumbers rows ns → v < 2 ^ (signal_form rows j).width → AreNumbers rows (slice_set ns j v)
 numbers-set rows ns j v n below = record {
   many = length-set ns j v ∙ n.many;
-  widths = n.widths;
   fits = λ i m. at i m (cases_eq i j);
 }
   where

@@ -7,7 +7,6 @@ use Rattle.vl_design.specs.Value.{Sample}
 use Rattle.vl_design.specs.State.{State, sample}
 use Rattle.vl_design.specs.Functions.{fresh}
 use Rattle.vl_design.specs.Plain.{plain_scope}
-use Rattle.vl_design.specs.Sound.{IsWidth}
 use Rattle.vl_turns.specs.Unroll.{is_loop}
 use Rattle.vl_header.specs.declared.room.Room.{Room}
 
@@ -31,8 +30,7 @@ state_of numbers = fresh (values_of numbers)
 abbrev pub sample_of : List ℕ → Sample
 sample_of numbers = sample (state_of numbers)
 
--- a number for each signal; that of a loop variable is below 2 to its width, which is from 1 to 128
+-- a number for each signal; that of a loop variable is below 2 to its width
 pub record AreNumbers (rows : List Row) (numbers : List ℕ) : Type 0 where
   pub many : length numbers ≡ length rows
-  pub widths : (j : ℕ) → is_loop rows j ≡ true → IsWidth (signal_form rows j).width
   pub fits : (j : ℕ) → is_loop rows j ≡ true → slice_index numbers j < 2 ^ (signal_form rows j).width

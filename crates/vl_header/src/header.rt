@@ -5,7 +5,7 @@ ghost use Rattle.vl_design.specs.Exec.{exec, goes_on, most_turns};
 ghost use Rattle.vl_design.specs.Plainly.{stm};
 ghost use Rattle.vl_design.specs.Seen.{stm_of};
 ghost use Rattle.vl_design.specs.Trees.{exp_of};
-ghost use Rattle.vl_design.specs.Sound.{IsSoundExp};
+ghost use Rattle.vl_design.specs.Sound.{IsSoundExp, IsNamed};
 ghost use Rattle.vl_design.specs.Value as d;
 ghost use Rattle.vl_design.specs.Width as w;
 ghost use Rattle.vl_turns.specs.Unroll.{is_loop};
@@ -35,6 +35,7 @@ pub(crate) fn holds(room: &Room<'_>, numbers: &[u128], test: &Expr) -> bool
 /// The number that is assigned to a loop variable.
 #[tactic(auto, using(crate::proofs::Names::numbers))]
 fn number_assigned(room: &Room<'_>, numbers: &[u128], variable: u32, source: &Expr) -> u128
+    requires named { IsNamed (names_of room.now) variable }
     requires loops { is_loop (rows_of room.now) variable ≡ true }
     requires sound { IsSoundExp (names_of room.now) (exp_of source.now) }
     requires constant { IsConstant (rows_of room.now) (exp_of source.now) }
@@ -49,6 +50,7 @@ fn number_assigned(room: &Room<'_>, numbers: &[u128], variable: u32, source: &Ex
 
 /// The number of a loop variable after an assignment of a header.
 fn number_after(room: &Room<'_>, numbers: &[u128], variable: u32, s: &Stmt) -> u128
+    requires named { IsNamed (names_of room.now) variable }
     requires loops { is_loop (rows_of room.now) variable ≡ true }
     requires head { IsHead (names_of room.now) variable (stm_of s.now) }
     requires numbers { AreNumbers (rows_of room.now) numbers.now }
@@ -64,6 +66,7 @@ fn number_after(room: &Room<'_>, numbers: &[u128], variable: u32, s: &Stmt) -> u
 /// Assigns to a loop variable.
 #[tactic(auto, using(crate::proofs::Stepping::steps))]
 fn assign(room: &Room<'_>, numbers: &mut [u128], variable: u32, s: &Stmt)
+    requires named { IsNamed (names_of room.now) variable }
     requires loops { is_loop (rows_of room.now) variable ≡ true }
     requires head { IsHead (names_of room.now) variable (stm_of s.now) }
     requires numbers { AreNumbers (rows_of room.now) numbers.old }
@@ -94,6 +97,7 @@ fn all_turns(
     test: &Expr,
     step: &Stmt,
 ) -> Result<Turns, AllocError>
+    requires named { IsNamed (names_of room.now) variable }
     requires loops { is_loop (rows_of room.now) variable ≡ true }
     requires sound { IsSoundExp (names_of room.now) (exp_of test.now) }
     requires constant { IsConstant (rows_of room.now) (exp_of test.now) }
@@ -131,6 +135,7 @@ pub fn turns_of(
     test: &Expr,
     step: &Stmt,
 ) -> Result<Turns, AllocError>
+    requires named { IsNamed (names_of room.now) variable }
     requires loops { is_loop (rows_of room.now) variable ≡ true }
     requires start { IsHead (names_of room.now) variable (stm_of start.now) }
     requires sound { IsSoundExp (names_of room.now) (exp_of test.now) }

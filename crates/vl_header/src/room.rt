@@ -73,6 +73,7 @@ pub fn signal_form(room: &Room<'_>, number: u32) -> Form
 /// The number that a loop variable has.
 #[tactic(auto, using(crate::proofs::Names::numbers))]
 pub fn number_of(room: &Room<'_>, numbers: &[u128], number: u32) -> Bits
+    requires named { IsNamed (names_of room.now) number }
     requires loops { spec_is_loop (rows_of room.now) number ≡ true }
     requires numbers { AreNumbers (rows_of room.now) numbers.now }
     ensures value { result.value ≡ value_of (values_of numbers.now) number }

@@ -10,7 +10,7 @@ use Rattle.vl_design.specs.Value.{Sample, value, side_by_side}
 use Rattle.vl_design.specs.Reads.{reads, some_reads, target_reads, targets_read, pieces_read, task_reads}
 use Rattle.vl_design.proofs.Unread.{or_false}
 use Rattle.vl_turns.specs.Unroll.{is_loop, signal_put, put, puts, put_target, put_targets, put_pieces, put_task}
-use Rattle.vl_turns.specs.Fits.{IsHeader, AreHeaders, stray, AreBound}
+use Rattle.vl_turns.specs.Fits.{IsHeader, stray, AreBound}
 
 not_stray : (a b : Bool) → a ≡ true → (a && not b) ≡ false → b ≡ true
 not_stray true true h k = refl
@@ -83,53 +83,43 @@ module _ (scope : Scope) (funs : List Fun) (files : List File) (call : ℕ → L
   abbrev pub next : Scope
   next = record scope { names = record (scope.names) { funs = funs }; files = files; call = call }
 
-  mutual
-    pub header_form : (e : Exp) → IsHeader scope.names.rows e → form next.names e ≡ form scope.names e
-    header_form (Num v w s) k = refl
-    header_form (Label v care w s) k = refl
-    header_form (Sig j) k = refl
-    header_form (Word m a) k = absurd k
-    header_form (Pick b i from w) k = refl
-    header_form (Slice b low w) k = refl
-    header_form (Un op a) k = rw (header_form a k) refl
-    header_form (Bin op a b) k = rw (header_form a k.0, header_form b k.1) refl
-    header_form (Cond u a b) k = rw (header_form a k.1, header_form b k.2) refl
-    header_form (Cat es) k = rw (header_width es k) refl
-    header_form (Rep n es) k = rw (header_width es k) refl
-    header_form (Cast s a) k = rw (header_form a k) refl
-    header_form (Call f es) k = absurd k
-    header_form Time k = absurd k
-    header_form LastAnswer k = absurd k
-
-    pub header_width : (es : Exps) → AreHeaders scope.names.rows es → total_width next.names es ≡ total_width scope.names es
-    header_width NoExps k = refl
-    header_width (MoreExps e es) k = rw (header_form e k.0, header_width es k.1) refl
+  pub header_form : (e : Exp) → IsHeader scope.names.rows e → form next.names e ≡ form scope.names e
+  header_form (Num v w s) k = refl
+  header_form (Label v care w s) k = refl
+  header_form (Sig j) k = refl
+  header_form (Word m a) k = absurd k
+  header_form (Pick b i from w) k = refl
+  header_form (Slice b low w) k = refl
+  header_form (Un op a) k = rw (header_form a k) refl
+  header_form (Bin op a b) k = rw (header_form a k.0, header_form b k.1) refl
+  header_form (Cond u a b) k = rw (header_form a k.1, header_form b k.2) refl
+  header_form (Cat es) k = absurd k
+  header_form (Rep n es) k = absurd k
+  header_form (Cast s a) k = rw (header_form a k) refl
+  header_form (Call f es) k = absurd k
+  header_form Time k = absurd k
+  header_form LastAnswer k = absurd k
 
   module _ (bound : ℕ → Bool) (s t : Sample) (same : AreBound scope.names.rows bound s.values t.values) where
-    mutual
-      pub header_closed : (e : Exp) → IsHeader scope.names.rows e → reads (stray scope.names.rows bound) e ≡ false → (c : Form) → value next t e c ≡ value scope s e c
-      header_closed (Num v w s) k h c = refl
-      header_closed (Label v care w s) k h c = refl
-      header_closed (Sig j) k h c = rw (same j k (not_stray (is_loop scope.names.rows j) (bound j) k h)) refl
-      header_closed (Word m a) k h c = absurd k
-      header_closed (Pick b i from w) k h c = let g = or_false (reads (stray scope.names.rows bound) b) _ h in
-          rw (header_form b k.0, header_form i k.1, header_closed b k.0 g.0 (form scope.names b), header_closed i k.1 g.1 (form scope.names i)) refl
-      header_closed (Slice b low w) k h c = rw (header_form b k, header_closed b k h (form scope.names b)) refl
-      header_closed (Un op a) k h c = rw (header_form a k, header_closed a k h _) refl
-      header_closed (Bin op a b) k h c = let g = or_false (reads (stray scope.names.rows bound) a) _ h in
-          rw (header_form a k.0, header_form b k.1, header_closed a k.0 g.0 _, header_closed b k.1 g.1 _) refl
-      header_closed (Cond u a b) k h c =
-          let g = or_false (reads (stray scope.names.rows bound) u) _ h in
-          let f = or_false (reads (stray scope.names.rows bound) a) _ g.1 in
-          rw (header_form u k.0, header_closed u k.0 g.0 (form scope.names u), header_closed a k.1 f.0 c, header_closed b k.2 f.1 c) refl
-      header_closed (Cat es) k h c = header_side es k h
-      header_closed (Rep n es) k h c = rw (header_width es k, header_side es k h) refl
-      header_closed (Cast signed a) k h c = rw (header_form a k, header_closed a k h (form scope.names a)) refl
-      header_closed (Call f es) k h c = absurd k
-      header_closed Time k h c = absurd k
-      header_closed LastAnswer k h c = absurd k
+    pub header_closed : (e : Exp) → IsHeader scope.names.rows e → reads (stray scope.names.rows bound) e ≡ false → (c : Form) → value next t e c ≡ value scope s e c
+    header_closed (Num v w s) k h c = refl
+    header_closed (Label v care w s) k h c = refl
+    header_closed (Sig j) k h c = rw (same j k (not_stray (is_loop scope.names.rows j) (bound j) k h)) refl
+    header_closed (Word m a) k h c = absurd k
+    header_closed (Pick b i from w) k h c = let g = or_false (reads (stray scope.names.rows bound) b) _ h in
+        rw (header_form b k.0, header_form i k.1, header_closed b k.0 g.0 (form scope.names b), header_closed i k.1 g.1 (form scope.names i)) refl
+    header_closed (Slice b low w) k h c = rw (header_form b k, header_closed b k h (form scope.names b)) refl
+    header_closed (Un op a) k h c = rw (header_form a k, header_closed a k h _) refl
+    header_closed (Bin op a b) k h c = let g = or_false (reads (stray scope.names.rows bound) a) _ h in
+        rw (header_form a k.0, header_form b k.1, header_closed a k.0 g.0 _, header_closed b k.1 g.1 _) refl
+    header_closed (Cond u a b) k h c =
+        let g = or_false (reads (stray scope.names.rows bound) u) _ h in
+        let f = or_false (reads (stray scope.names.rows bound) a) _ g.1 in
+        rw (header_form u k.0, header_closed u k.0 g.0 (form scope.names u), header_closed a k.1 f.0 c, header_closed b k.2 f.1 c) refl
+    header_closed (Cat es) k h c = absurd k
+    header_closed (Rep n es) k h c = absurd k
+    header_closed (Cast signed a) k h c = rw (header_form a k, header_closed a k h (form scope.names a)) refl
+    header_closed (Call f es) k h c = absurd k
+    header_closed Time k h c = absurd k
+    header_closed LastAnswer k h c = absurd k
 
-      header_side : (es : Exps) → AreHeaders scope.names.rows es → some_reads (stray scope.names.rows bound) es ≡ false → side_by_side next t es ≡ side_by_side scope s es
-      header_side NoExps k h = refl
-      header_side (MoreExps e es) k h = let g = or_false (reads (stray scope.names.rows bound) e) _ h in
-          rw (header_form e k.0, header_width es k.1, header_closed e k.0 g.0 (form scope.names e), header_side es k.1 g.1) refl

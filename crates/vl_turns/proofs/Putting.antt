@@ -10,7 +10,7 @@ use Rattle.vl_design.specs.Value.{Sample, value, side_by_side, arguments, words_
 use Rattle.vl_design.specs.Sound.{IsOf, IsMem, IsMemory, IsSoundExp, AreSound}
 use Rattle.vl_design.specs.Laws.{DifferIn}
 use Rattle.vl_turns.specs.Unroll.{is_loop, is_loop_kind, is_loop_row, signal_put, put, puts}
-use Rattle.vl_turns.specs.Fits.{IsHeader, AreHeaders}
+use Rattle.vl_turns.specs.Fits.{IsHeader}
 use Rattle.vl_turns.proofs.Funs.{with_funs, Alike}
 
 -- a memory is no loop variable
@@ -32,32 +32,22 @@ memory_no_loop scope m h = row_of_memory (slice_get scope.names.rows m) h
 -- ---- constants and loop variables alone
 
 module _ (scope : Scope) (s t : Sample) (same : (j : ℕ) → is_loop scope.names.rows j ≡ true → words_of s.values j ≡ words_of t.values j) where
-  mutual
-    pub header_value : (e : Exp) → IsHeader scope.names.rows e → (c : Form) → value scope s e c ≡ value scope t e c
-    header_value (Num v w signed) h c = refl
-    header_value (Label v care w signed) h c = refl
-    header_value (Sig j) h c = rw (same j h) refl
-    header_value (Word m a) h c = absurd h
-    header_value (Pick b i from w) h c = rw (header_value b h.0 (form scope.names b), header_value i h.1 (form scope.names i)) refl
-    header_value (Slice b low w) h c = rw (header_value b h (form scope.names b)) refl
-    header_value (Un op a) h c = rw (header_value a h _) refl
-    header_value (Bin op a b) h c = rw (header_value a h.0 _, header_value b h.1 _) refl
-    header_value (Cond u a b) h c = rw (header_value u h.0 (form scope.names u), header_value a h.1 c, header_value b h.2 c) refl
-    header_value (Cat es) h c = header_side es h
-    header_value (Rep n es) h c = rw (header_side es h) refl
-    header_value (Cast signed a) h c = rw (header_value a h (form scope.names a)) refl
-    header_value (Call f es) h c = absurd h
-    header_value Time h c = absurd h
-    header_value LastAnswer h c = absurd h
-
-    header_side : (es : Exps) → AreHeaders scope.names.rows es → side_by_side scope s es ≡ side_by_side scope t es
-    header_side NoExps h = refl
-    header_side (MoreExps e es) h = rw (header_value e h.0 (form scope.names e), header_side es h.1) refl
-
-    header_arguments : (es : Exps) → AreHeaders scope.names.rows es → (ws : List ℕ) → arguments scope s es ws ≡ arguments scope t es ws
-    header_arguments NoExps h ws = refl
-    header_arguments (MoreExps e es) h [] = refl
-    header_arguments (MoreExps e es) h (w ∷ ws) = rw (header_value e h.0 _, header_arguments es h.1 ws) refl
+  pub header_value : (e : Exp) → IsHeader scope.names.rows e → (c : Form) → value scope s e c ≡ value scope t e c
+  header_value (Num v w signed) h c = refl
+  header_value (Label v care w signed) h c = refl
+  header_value (Sig j) h c = rw (same j h) refl
+  header_value (Word m a) h c = absurd h
+  header_value (Pick b i from w) h c = rw (header_value b h.0 (form scope.names b), header_value i h.1 (form scope.names i)) refl
+  header_value (Slice b low w) h c = rw (header_value b h (form scope.names b)) refl
+  header_value (Un op a) h c = rw (header_value a h _) refl
+  header_value (Bin op a b) h c = rw (header_value a h.0 _, header_value b h.1 _) refl
+  header_value (Cond u a b) h c = rw (header_value u h.0 (form scope.names u), header_value a h.1 c, header_value b h.2 c) refl
+  header_value (Cat es) h c = absurd h
+  header_value (Rep n es) h c = absurd h
+  header_value (Cast signed a) h c = rw (header_value a h (form scope.names a)) refl
+  header_value (Call f es) h c = absurd h
+  header_value Time h c = absurd h
+  header_value LastAnswer h c = absurd h
 
 -- ---- numbers put in
 

@@ -8,8 +8,8 @@ use Rattle.vl_design.specs.Value.{Sample, value, side_by_side}
 use Rattle.vl_design.specs.State.{State, sample}
 use Rattle.vl_design.specs.Exec.{exec, goes_on, most_turns}
 use Rattle.vl_turns.specs.Unroll.{unrolled, unrolled_items, in_turns, so_many}
-use Rattle.vl_turns.specs.Fits.{IsHeader, AreHeaders, Assigns, HasLoops, HaveLoops}
-use Rattle.vl_turns.proofs.Closing.{next, header_form, header_width}
+use Rattle.vl_turns.specs.Fits.{IsHeader, Assigns, HasLoops, HaveLoops}
+use Rattle.vl_turns.proofs.Closing.{next, header_form}
 
 turns_alike : {S : Type 0} (n : ℕ) (p q : S → Bool) (u v : S → S) (f g : S → Stm) → ((x : S) → p x ≡ q x) → ((x : S) → u x ≡ v x) → ((x : S) → f x ≡ g x) → (x : S) → in_turns n p u f x ≡ in_turns n q v g x
 turns_alike zero p q u v f g a b c x = refl
@@ -27,27 +27,22 @@ module _ (scope : Scope) (funs : List Fun) (files : List File) (call : ℕ → L
   new = next scope funs files call
 
   module _ (s : Sample) where
-    mutual
-      across : (e : Exp) → IsHeader scope.names.rows e → (c : Form) → value new s e c ≡ value scope s e c
-      across (Num v w signed) k c = refl
-      across (Label v care w signed) k c = refl
-      across (Sig j) k c = refl
-      across (Word m a) k c = absurd k
-      across (Pick b i from w) k c = rw (header_form scope funs files call b k.0, header_form scope funs files call i k.1, across b k.0 (form scope.names b), across i k.1 (form scope.names i)) refl
-      across (Slice b low w) k c = rw (header_form scope funs files call b k, across b k (form scope.names b)) refl
-      across (Un op a) k c = rw (header_form scope funs files call a k, across a k _) refl
-      across (Bin op a b) k c = rw (header_form scope funs files call a k.0, header_form scope funs files call b k.1, across a k.0 _, across b k.1 _) refl
-      across (Cond u a b) k c = rw (header_form scope funs files call u k.0, across u k.0 (form scope.names u), across a k.1 c, across b k.2 c) refl
-      across (Cat es) k c = side_across es k
-      across (Rep n es) k c = rw (header_width scope funs files call es k, side_across es k) refl
-      across (Cast signed a) k c = rw (header_form scope funs files call a k, across a k (form scope.names a)) refl
-      across (Call f es) k c = absurd k
-      across Time k c = absurd k
-      across LastAnswer k c = absurd k
-
-      side_across : (es : Exps) → AreHeaders scope.names.rows es → side_by_side new s es ≡ side_by_side scope s es
-      side_across NoExps k = refl
-      side_across (MoreExps e es) k = rw (header_form scope funs files call e k.0, header_width scope funs files call es k.1, across e k.0 (form scope.names e), side_across es k.1) refl
+    across : (e : Exp) → IsHeader scope.names.rows e → (c : Form) → value new s e c ≡ value scope s e c
+    across (Num v w signed) k c = refl
+    across (Label v care w signed) k c = refl
+    across (Sig j) k c = refl
+    across (Word m a) k c = absurd k
+    across (Pick b i from w) k c = rw (header_form scope funs files call b k.0, header_form scope funs files call i k.1, across b k.0 (form scope.names b), across i k.1 (form scope.names i)) refl
+    across (Slice b low w) k c = rw (header_form scope funs files call b k, across b k (form scope.names b)) refl
+    across (Un op a) k c = rw (header_form scope funs files call a k, across a k _) refl
+    across (Bin op a b) k c = rw (header_form scope funs files call a k.0, header_form scope funs files call b k.1, across a k.0 _, across b k.1 _) refl
+    across (Cond u a b) k c = rw (header_form scope funs files call u k.0, across u k.0 (form scope.names u), across a k.1 c, across b k.2 c) refl
+    across (Cat es) k c = absurd k
+    across (Rep n es) k c = absurd k
+    across (Cast signed a) k c = rw (header_form scope funs files call a k, across a k (form scope.names a)) refl
+    across (Call f es) k c = absurd k
+    across Time k c = absurd k
+    across LastAnswer k c = absurd k
 
   test_across : (e : Exp) → IsHeader scope.names.rows e → (x : State) → goes_on new e x ≡ goes_on scope e x
   test_across e k x = rw (header_form scope funs files call e k, across (sample x) e k (form scope.names e)) refl

@@ -1,7 +1,7 @@
 -- What unrolling takes for granted of loops (construct 21 refuses all else; IEEE 1364-2005, clause 9.6), and how the states
 -- of both runs belong together.
 use Rattle.std.specs.Prelude.{◌≡◌, ℕ, Bool, true, false, not, ◌||◌, ◌&&◌, ◌==◌, List, [], ◌∷◌, ◌++◌, length, map, All, ⊤}
-use Rattle.vl_design.specs.Syntax.{Exp, Num, Label, Sig, Word, Pick, Slice, Un, Bin, Cond, Cat, Rep, Cast, Call, Time, LastAnswer, Exps, NoExps, MoreExps, Whole, Stm, Nop, Then, If, Case, For, Repeat, Set, Later, Sys, Items, NoItems, Labelled, Default, Row, Fun, Proc, Flat}
+use Rattle.vl_design.specs.Syntax.{Exp, Num, Label, Sig, Word, Pick, Slice, Un, Bin, Cond, Cat, Rep, Cast, Call, Time, LastAnswer, Whole, Stm, Nop, Then, If, Case, For, Repeat, Set, Later, Sys, Items, NoItems, Labelled, Default, Row, Fun, Proc, Flat}
 use Rattle.vl_design.specs.Width.{names_of}
 use Rattle.vl_design.specs.Value.{words_of}
 use Rattle.vl_design.specs.State.{State}
@@ -13,28 +13,23 @@ use Rattle.vl_design.specs.Alone.{Origin}
 use Rattle.vl_turns.specs.Unroll.{is_loop, unrolled, unrolled_proc, unrolled_flat, still}
 
 -- expressions of loop variables and constants alone
-abbrev mutual
-  pub IsHeader : List Row → Exp → Type 0
-  IsHeader rows (Num v w s) = ⊤
-  IsHeader rows (Label v care w s) = ⊤
-  IsHeader rows (Sig j) = is_loop rows j ≡ true
-  IsHeader rows (Word m a) = ⊥
-  IsHeader rows (Pick b i from w) = IsHeader rows b × IsHeader rows i
-  IsHeader rows (Slice b low w) = IsHeader rows b
-  IsHeader rows (Un op a) = IsHeader rows a
-  IsHeader rows (Bin op a b) = IsHeader rows a × IsHeader rows b
-  IsHeader rows (Cond t a b) = IsHeader rows t × IsHeader rows a × IsHeader rows b
-  IsHeader rows (Cat es) = AreHeaders rows es
-  IsHeader rows (Rep n es) = AreHeaders rows es
-  IsHeader rows (Cast s a) = IsHeader rows a
-  -- a call of a function in a header is refused, as a system call is
-  IsHeader rows (Call f es) = ⊥
-  IsHeader rows Time = ⊥
-  IsHeader rows LastAnswer = ⊥
-
-  pub AreHeaders : List Row → Exps → Type 0
-  AreHeaders rows NoExps = ⊤
-  AreHeaders rows (MoreExps e es) = IsHeader rows e × AreHeaders rows es
+abbrev pub IsHeader : List Row → Exp → Type 0
+IsHeader rows (Num v w s) = ⊤
+IsHeader rows (Label v care w s) = ⊤
+IsHeader rows (Sig j) = is_loop rows j ≡ true
+IsHeader rows (Word m a) = ⊥
+IsHeader rows (Pick b i from w) = IsHeader rows b × IsHeader rows i
+IsHeader rows (Slice b low w) = IsHeader rows b
+IsHeader rows (Un op a) = IsHeader rows a
+IsHeader rows (Bin op a b) = IsHeader rows a × IsHeader rows b
+IsHeader rows (Cond t a b) = IsHeader rows t × IsHeader rows a × IsHeader rows b
+-- a concatenation in a header is refused, as a call of a function and a system call are
+IsHeader rows (Cat es) = ⊥
+IsHeader rows (Rep n es) = ⊥
+IsHeader rows (Cast s a) = IsHeader rows a
+IsHeader rows (Call f es) = ⊥
+IsHeader rows Time = ⊥
+IsHeader rows LastAnswer = ⊥
 
 -- an assignment of such an expression to the loop variable j
 pub record Assigns (rows : List Row) (j : ℕ) (a : Stm) : Type 0 where

@@ -5,7 +5,8 @@ ghost use Rattle.vl_design.specs.Placed as p;
 ghost use Rattle.vl_design.specs.Seen.{exp_of, arg};
 ghost use Rattle.vl_turns.specs.Placed.{exp_put, args_put, number_at};
 ghost use Rattle.vl_turns.specs.Unroll.{is_loop as spec_is_loop};
-ghost use Rattle.vl_header.specs.Rooms.{rows_of, values_of, AreNumbers};
+ghost use Rattle.vl_header.specs.Rooms.{rows_of, values_of};
+ghost use Rattle.vl_unroll.specs.Heads.{AreReady};
 ghost use Rattle.vl_unroll.specs.Listed.{put_of, args_with};
 
 use std::alloc::{AllocError, Global};
@@ -22,9 +23,9 @@ fn copied(alloc: Global, text: &Text) -> Result<Text, AllocError>
 }
 
 /// A signal, or the number of a loop variable.
-#[tactic(auto, using(vl_header::proofs::Names::numbers))]
+#[tactic(auto, using(crate::proofs::Names::names))]
 fn named(room: &Room<'_>, numbers: &[u128], place: Place, number: u32) -> Expr
-    requires { AreNumbers (rows_of room.now) numbers.now }
+    requires { AreReady (rows_of room.now) numbers.now }
     ensures { exp_of result ≡ number_at (rows_of room.now) (values_of numbers.now) (spec_is_loop (rows_of room.now) number) place number }
 {
     if is_loop(room, number) {
@@ -49,7 +50,7 @@ fn puts(
     numbers: &[u128],
     es: &[Expr],
 ) -> Result<Vec<Expr>, AllocError>
-    requires { AreNumbers (rows_of room.now) numbers.now }
+    requires { AreReady (rows_of room.now) numbers.now }
     ensures { IfOk result (λ v. map exp_of v.items ≡ map (put_of (rows_of room.now) (values_of numbers.now)) es.now) }
 {
     let mut all = Vec::new(alloc);
@@ -67,7 +68,7 @@ fn put_arg(
     numbers: &[u128],
     one: &SysArg,
 ) -> Result<SysArg, AllocError>
-    requires { AreNumbers (rows_of room.now) numbers.now }
+    requires { AreReady (rows_of room.now) numbers.now }
     ensures { IfOk result (λ x. (others : p.Args) → arg x (args_put (rows_of room.now) (values_of numbers.now) others) ≡ args_put (rows_of room.now) (values_of numbers.now) (arg one.now others)) }
 {
     match one {
@@ -85,7 +86,7 @@ fn put_args(
     numbers: &[u128],
     given: &[SysArg],
 ) -> Result<Vec<SysArg>, AllocError>
-    requires { AreNumbers (rows_of room.now) numbers.now }
+    requires { AreReady (rows_of room.now) numbers.now }
     ensures { IfOk result (λ v. (others : p.Args) → args_with v.items (args_put (rows_of room.now) (values_of numbers.now) others) ≡ args_put (rows_of room.now) (values_of numbers.now) (args_with given.now others)) }
 {
     let mut all = Vec::new(alloc);
@@ -98,7 +99,7 @@ fn put_args(
 /// The expression with the numbers of the loop variables put in, its places kept.
 #[cycle(put)]
 pub fn put(alloc: Global, room: &Room<'_>, numbers: &[u128], e: &Expr) -> Result<Expr, AllocError>
-    requires { AreNumbers (rows_of room.now) numbers.now }
+    requires { AreReady (rows_of room.now) numbers.now }
     ensures { IfOk result (λ x. exp_of x ≡ exp_put (rows_of room.now) (values_of numbers.now) (exp_of e.now)) }
 {
     let place = e.place;

@@ -42,10 +42,10 @@ pub record Meets (rows : List d.Row) (x s : State) : Type 0 where
 
 module _ (rows signals : List d.Row) (funs : List d.Fun) (files : List File) (call : ℕ → List ℕ → ℕ) where
   -- a scope of these signals, and the one without functions
-  abbrev full : Scope
+  abbrev pub full : Scope
   full = next (plain_scope rows) signals funs files call
 
-  abbrev bare : Scope
+  abbrev pub bare : Scope
   bare = plain_scope rows
 
   pub goes_same_bare : (e : d.Exp) → IsHeader rows e → (x s : State) → Meets rows x s → goes_on full e x ≡ goes_on bare e s

@@ -1,7 +1,7 @@
 -- What unrolling reads of a scope and a state: the signals and the loop variables alone.
-use Rattle.std.proofs.Common.{◌≡◌, ℕ, zero, suc, Bool, true, false, List, [], refl, sym, ap, ◌∙◌, subst}
+use Rattle.std.proofs.Common.{◌≡◌, ℕ, zero, suc, Bool, true, false, List, [], refl, sym, ap}
 use Rattle.vl_base.specs.declared.files.File.{File}
-use Rattle.vl_design.specs.Syntax.{Exp, Stm, Row, Fun}
+use Rattle.vl_design.specs.Syntax.{Row, Fun}
 use Rattle.vl_design.specs.Width.{Scope}
 use Rattle.vl_design.specs.Value.{words_of}
 use Rattle.vl_design.specs.State.{State}
@@ -10,14 +10,9 @@ use Rattle.vl_design.specs.Plain.{plain_scope}
 use Rattle.vl_design.specs.Placed as p
 use Rattle.vl_design.specs.Plainly as plain
 use Rattle.vl_turns.specs.Unroll.{is_loop}
-use Rattle.vl_turns.specs.Fits.{IsHeader, Assigns, Holds}
 use Rattle.vl_turns.specs.Placed.{number_at, exp_put, exps_put, args_put, target_put, targets_put, turn_list, copies, stm_unrolled, stms_unrolled, items_unrolled}
-use Rattle.vl_turns.proofs.Heading.{goes_same, header_alive, header_holds}
-use Rattle.vl_turns.proofs.Closing.{next}
-use Rattle.vl_turns.proofs.Texts.{test_across, step_across}
-use Rattle.vl_header.specs.Heads.{IsHead}
-use Rattle.vl_header.proofs.Stepping.{head-plain, head-source}
-use Rattle.vl_unroll.specs.Heads.{HasHeads, HaveHeads, ItemsHaveHeads}
+use Rattle.vl_header.specs.Loops.{HasHeads, HaveHeads, ItemsHaveHeads}
+use Rattle.vl_header.proofs.Loops.{Meets, full, goes_same_bare, step_meets_bare, head_assigns}
 
 -- ---- numbers put in
 
@@ -82,60 +77,33 @@ list_same R t t' u u' f f' a b c (suc n) x s r = at (t x) (t' s) (a x s r) (list
 
 -- ---- statements
 
--- an assignment of a header
-pub head_assigns : (rows : List Row) (j : ℕ) (a : p.Stm) → IsHead (plain_scope rows).names j a → Assigns rows j (plain.stm [] a)
-head_assigns rows j (p.Set q t x) h = record { source = plain.exp x; whole = head-plain (plain_scope rows) j q t x h; header = (head-source (plain_scope rows) j q t x h).0 }
-head_assigns rows j (p.Nop q) h = absurd h
-head_assigns rows j (p.Seq q as') h = absurd h
-head_assigns rows j (p.If q t a b) h = absurd h
-head_assigns rows j (p.Case q x is wild) h = absurd h
-head_assigns rows j (p.For q k start test step a) h = absurd h
-head_assigns rows j (p.Repeat q n a) h = absurd h
-head_assigns rows j (p.Later q t x) h = absurd h
-head_assigns rows j (p.Task q name given) h = absurd h
-
--- the loop variables of x have their values in s, and no run has finished
-pub record Meets (rows : List Row) (x s : State) : Type 0 where
-  pub holds : Holds rows x s
-  pub alive : s.finished ≡ false
-
 module _ (rows signals : List Row) (funs : List Fun) (files : List File) (call : ℕ → List ℕ → ℕ) where
-  -- a scope of these signals, and the one without functions
-  abbrev full : Scope
-  full = next (plain_scope rows) signals funs files call
+  abbrev whole : Scope
+  whole = full rows signals funs files call
 
-  abbrev bare : Scope
-  bare = plain_scope rows
-
-  pub goes_same_bare : (e : Exp) → IsHeader rows e → (x s : State) → Meets rows x s → goes_on full e x ≡ goes_on bare e s
-  goes_same_bare e k x s m = test_across bare signals funs files call e k x ∙ sym (goes_same bare x s m.holds m.alive e k)
-
-  pub step_meets_bare : (j : ℕ) (a : Stm) → Assigns rows j a → (x s : State) → Meets rows x s → Meets rows (exec full a x) (exec bare a s)
-  step_meets_bare j a k x s m = record {
-    holds = subst (λ z. Holds rows z (exec bare a s)) (sym (step_across bare signals funs files call j a k x)) (header_holds bare j a k x s m.alive m.holds);
-    alive = header_alive bare j a k s m.alive;
-  }
+  abbrev single : Scope
+  single = plain_scope rows
 
   mutual
-    pub stm_same : (a : p.Stm) → HasHeads rows a → (x s : State) → Meets rows x s → stm_unrolled full a x ≡ stm_unrolled bare a s
+    pub stm_same : (a : p.Stm) → HasHeads rows a → (x s : State) → Meets rows x s → stm_unrolled whole a x ≡ stm_unrolled single a s
     stm_same (p.Nop q) h x s m = refl
     stm_same (p.Seq q as') h x s m = ap (p.Seq q) (stms_same as' h x s m)
     stm_same (p.If q t a b) h x s m = rw (exp_same rows x.values s.values (λ j k. sym (m.holds.loops j k)) t, stm_same a h.0 x s m, stm_same b h.1 x s m) refl
     stm_same (p.Case q e is wild) h x s m = rw (exp_same rows x.values s.values (λ j k. sym (m.holds.loops j k)) e, items_same is h x s m) refl
     stm_same (p.For q j start test step a) h x s m =
         let l = h.0 in
-        ap (p.Seq q) (list_same (Meets rows) (goes_on full (plain.exp test)) (goes_on bare (plain.exp test)) (exec full (plain.stm [] step)) (exec bare (plain.stm [] step)) (stm_unrolled full a) (stm_unrolled bare a)
-            (goes_same_bare (plain.exp test) l.constant) (step_meets_bare j (plain.stm [] step) (head_assigns rows j step l.steps)) (stm_same a h.1)
-            most_turns (exec full (plain.stm [] start) x) (exec bare (plain.stm [] start) s) (step_meets_bare j (plain.stm [] start) (head_assigns rows j start l.starts) x s m))
+        ap (p.Seq q) (list_same (Meets rows) (goes_on whole (plain.exp test)) (goes_on single (plain.exp test)) (exec whole (plain.stm [] step)) (exec single (plain.stm [] step)) (stm_unrolled whole a) (stm_unrolled single a)
+            (goes_same_bare rows signals funs files call (plain.exp test) l.constant) (step_meets_bare rows signals funs files call j (plain.stm [] step) (head_assigns rows j step l.steps)) (stm_same a h.1)
+            most_turns (exec whole (plain.stm [] start) x) (exec single (plain.stm [] start) s) (step_meets_bare rows signals funs files call j (plain.stm [] start) (head_assigns rows j start l.starts) x s m))
     stm_same (p.Repeat q n a) h x s m = ap (λ b. p.Seq q (copies n b)) (stm_same a h x s m)
     stm_same (p.Set q t e) h x s m = let k = λ (j : ℕ) (l : is_loop rows j ≡ true). sym (m.holds.loops j l) in rw (target_same rows x.values s.values k t, exp_same rows x.values s.values k e) refl
     stm_same (p.Later q t e) h x s m = let k = λ (j : ℕ) (l : is_loop rows j ≡ true). sym (m.holds.loops j l) in rw (target_same rows x.values s.values k t, exp_same rows x.values s.values k e) refl
     stm_same (p.Task q name given) h x s m = ap (p.Task q name) (args_same rows x.values s.values (λ j k. sym (m.holds.loops j k)) given)
 
-    stms_same : (as' : p.Stms) → HaveHeads rows as' → (x s : State) → Meets rows x s → stms_unrolled full as' x ≡ stms_unrolled bare as' s
+    stms_same : (as' : p.Stms) → HaveHeads rows as' → (x s : State) → Meets rows x s → stms_unrolled whole as' x ≡ stms_unrolled single as' s
     stms_same p.NoStms h x s m = refl
     stms_same (p.MoreStms a as') h x s m = rw (stm_same a h.0 x s m, stms_same as' h.1 x s m) refl
 
-    items_same : (is : p.Items) → ItemsHaveHeads rows is → (x s : State) → Meets rows x s → items_unrolled full is x ≡ items_unrolled bare is s
+    items_same : (is : p.Items) → ItemsHaveHeads rows is → (x s : State) → Meets rows x s → items_unrolled whole is x ≡ items_unrolled single is s
     items_same p.NoItems h x s m = refl
     items_same (p.MoreItems es a others) h x s m = rw (exps_same rows x.values s.values (λ j k. sym (m.holds.loops j k)) es, stm_same a h.0 x s m, items_same others h.1 x s m) refl

@@ -9,7 +9,7 @@ use Rattle.vl_design.specs.declared.design.ExprNode as d
 use Rattle.vl_design.specs.declared.design.ExprNode.TheBlock as blk
 use Rattle.vl_design.specs.Syntax.{Row}
 use Rattle.vl_design.specs.Placed as p
-use Rattle.vl_design.specs.Seen.{exp_of, exps_of, arg, node_exp, row_exps, row_args}
+use Rattle.vl_design.specs.Seen.{exp_of, exps_of, arg, args_of, node_exp, row_exps, row_args}
 use Rattle.vl_turns.specs.Placed.{exps_put, args_put}
 use Rattle.vl_unroll.specs.Listed.{put_of, args_with}
 
@@ -55,3 +55,13 @@ args-append (z ∷ zs) y o = ap (arg z) (args-append zs y o)
 
 pub args-more : (xs : List SysArg) (i : ℕ) (y : SysArg) (o : p.Args) → i < length xs → y ≡ get_or xs i y → args_with (take (i + 1) xs) o ≡ args_with (take i xs) (arg y o)
 args-more xs i y o h is = ap (λ z. args_with z o) (take_more xs i y h) ∙ (args-append (take i xs) (get_or xs i y) o ∙ ap (λ z. args_with (take i xs) (arg z o)) (sym is))
+
+pub exps-put : (rows : List Row) (values : List (List ℕ)) (xs ys : List Expr) → map exp_of xs ≡ map (put_of rows values) ys → exps_of xs ≡ exps_put rows values (exps_of ys)
+exps-put rows values xs ys h = exps_listed xs ∙ (ap listed h ∙ sym (puts_listed rows values ys))
+
+args_of-with : (xs : List SysArg) → args_of xs ≡ args_with xs p.NoArgs
+args_of-with [] = refl
+args_of-with (x ∷ xs) = ap (arg x) (args_of-with xs)
+
+pub args-put : (rows : List Row) (values : List (List ℕ)) (xs ys : List SysArg) → ((others : p.Args) → args_with xs (args_put rows values others) ≡ args_put rows values (args_with ys others)) → args_of xs ≡ args_put rows values (args_of ys)
+args-put rows values xs ys h = args_of-with xs ∙ (h p.NoArgs ∙ ap (args_put rows values) (sym (args_of-with ys)))

@@ -1,4 +1,6 @@
-//! Designs with their loops unrolled: numbers of loop variables put into expressions.
+//! Designs with their loops unrolled.
 #![tactic(auto)]
 
 pub mod put;
+pub mod statements;
+pub mod targets;

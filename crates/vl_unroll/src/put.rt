@@ -16,7 +16,7 @@ use vl_design::design::{Expr, ExprNode, SysArg, SysCall};
 use vl_header::room::{Room, is_loop, number_of, signal_form};
 
 /// A copy of a text.
-fn copied(alloc: Global, text: &Text) -> Result<Text, AllocError>
+pub(crate) fn copied(alloc: Global, text: &Text) -> Result<Text, AllocError>
     ensures { IfOk result (λ t. t ≡ text.now) }
 {
     Ok(Items::from_vec(Vec::from_slice(alloc, text.as_slice())?))
@@ -44,7 +44,7 @@ fn named(room: &Room<'_>, numbers: &[u128], place: Place, number: u32) -> Expr
 
 /// Expressions one by one.
 #[cycle(put)]
-fn puts(
+pub(crate) fn puts(
     alloc: Global,
     room: &Room<'_>,
     numbers: &[u128],
@@ -80,7 +80,7 @@ fn put_arg(
 
 /// Arguments of a system call one by one.
 #[cycle(put)]
-fn put_args(
+pub(crate) fn put_args(
     alloc: Global,
     room: &Room<'_>,
     numbers: &[u128],

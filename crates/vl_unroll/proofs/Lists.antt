@@ -1,5 +1,6 @@
 -- Lists of statements, of items of `case` and of parts of targets, one by one.
-use Rattle.std.proofs.Common.{◌≡◌, ◌∙◌, ap, sym, refl, ℕ, zero, suc, Bool, true, false, List, [], ◌∷◌, map, replicate, subst}
+use Rattle.std.proofs.Common.{◌≡◌, ◌∙◌, ap, sym, refl, ℕ, zero, suc, ◌+◌, ◌<◌, Bool, true, false, List, [], ◌∷◌, ◌++◌, length, take, get_or, map, replicate, subst}
+use Rattle.std.proofs.lemmas.List.{take_more}
 use Rattle.std.specs.Prelude.{slice_set, All}
 use Rattle.std.specs.List.{AllByRecursion}
 use Rattle.std.proofs.lemmas.List.Elements.{All-from_recursion}
@@ -21,6 +22,7 @@ use Rattle.vl_design.specs.Placed as p
 use Rattle.vl_design.specs.Seen.{exps_of, target_of, node_target, row_targets, stm_of, stms_of, node_stm, row_stms, row_items}
 use Rattle.vl_design.proofs.TreeLemmas.{row_stms-items}
 use Rattle.vl_turns.specs.Placed.{exp_put, exps_put, targets_put, turn_list, copies, stm_unrolled, stms_unrolled, items_unrolled}
+use Rattle.vl_header.proofs.Turning.{map-push}
 use Rattle.vl_header.specs.Heads.{turn_states, AreTurns}
 use Rattle.vl_header.specs.Loops.{HasHeads, HaveHeads, ItemsHaveHeads}
 use Rattle.vl_header.specs.Rooms.{state_of}
@@ -152,3 +154,15 @@ module _ (rows : List Row) where
 
   pub case-heads : (v : Vec CaseItem Global) → ItemsHaveHeads rows (row_items (sb.hidden-the_row-CaseItem-1 v)) → All (λ x. HasHeads rows (stm_of x.body)) v.items
   case-heads v h = All-from_recursion (λ x. HasHeads rows (stm_of x.body)) v.items (items-heads v.items (subst (ItemsHaveHeads rows) (row_items-listed v) h))
+
+-- ---- one statement more
+
+pub map-more : (f : ℕ → p.Stm) (all more : List Stmt) (one : Stmt) (xs : List ℕ) (i : ℕ) → i < length xs → more ≡ all ++ one ∷ [] → map stm_of all ≡ map f (take i xs) → stm_of one ≡ f (get_or xs i 0) →
+    map stm_of more ≡ map f (take (i + 1) xs)
+map-more f all more one xs i lt m h k =
+    ap (map stm_of) m
+    ∙ (map-push stm_of all one
+    ∙ (ap (λ z. z ++ stm_of one ∷ []) h
+    ∙ (ap (λ z. map f (take i xs) ++ z ∷ []) k
+    ∙ (sym (map-push f (take i xs) (get_or xs i 0))
+    ∙ ap (map f) (sym (take_more xs i 0 lt))))))

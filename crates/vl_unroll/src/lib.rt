@@ -1,6 +1,8 @@
 //! Designs with their loops unrolled.
 #![tactic(auto)]
 
-pub mod put;
-pub mod statements;
-pub mod targets;
+mod copies;
+pub mod designs;
+mod put;
+mod statements;
+mod targets;

@@ -9,18 +9,11 @@ ghost use Rattle.vl_header.specs.Rooms.{rows_of, values_of};
 ghost use Rattle.vl_unroll.specs.Heads.{AreReady};
 ghost use Rattle.vl_unroll.specs.Listed.{put_of, args_with};
 
+use crate::copies::copied;
 use std::alloc::{AllocError, Global};
-use vl_base::items::{Items, Text};
 use vl_base::place::Place;
 use vl_design::design::{Expr, ExprNode, SysArg, SysCall};
 use vl_header::room::{Room, is_loop, number_of, signal_form};
-
-/// A copy of a text.
-pub(crate) fn copied(alloc: Global, text: &Text) -> Result<Text, AllocError>
-    ensures { IfOk result (λ t. t ≡ text.now) }
-{
-    Ok(Items::from_vec(Vec::from_slice(alloc, text.as_slice())?))
-}
 
 /// A signal, or the number of a loop variable.
 #[tactic(auto, using(crate::proofs::Names::names))]
@@ -98,7 +91,7 @@ pub(crate) fn put_args(
 
 /// The expression with the numbers of the loop variables put in, its places kept.
 #[cycle(put)]
-pub fn put(alloc: Global, room: &Room<'_>, numbers: &[u128], e: &Expr) -> Result<Expr, AllocError>
+pub(crate) fn put(alloc: Global, room: &Room<'_>, numbers: &[u128], e: &Expr) -> Result<Expr, AllocError>
     requires { AreReady (rows_of room.now) numbers.now }
     ensures { IfOk result (λ x. exp_of x ≡ exp_put (rows_of room.now) (values_of numbers.now) (exp_of e.now)) }
 {

@@ -10,7 +10,8 @@ ghost use Rattle.vl_header.specs.Loops.{HasHeads, IsLoop};
 ghost use Rattle.vl_unroll.specs.Heads.{AreReady};
 ghost use Rattle.vl_unroll.specs.Listed.{item_of, item_unrolled_of, stm_unrolled_of};
 
-use crate::put::{copied, put, put_args, puts};
+use crate::copies::copied;
+use crate::put::{put, put_args, puts};
 use crate::targets::put_target;
 use std::alloc::{AllocError, Global};
 use vl_base::place::Place;
@@ -213,10 +214,10 @@ fn loop_unrolled(
     numbers: &mut [u128],
     place: Place,
     variable: u32,
+    body: &Stmt,
     start: &Stmt,
     test: &Expr,
     step: &Stmt,
-    body: &Stmt,
 ) -> Result<Stmt, AllocError>
     requires ready { AreReady (rows_of room.now) numbers.old }
     requires header { IsLoop (rows_of room.now) variable (stm_of start.now) (exp_of test.now) (stm_of step.now) }
@@ -276,7 +277,7 @@ pub(crate) fn statement(
             })
         }
         StmtNode::For(variable, start, test, step, body) => loop_unrolled(
-            alloc, room, numbers, place, *variable, start, test, step, body,
+            alloc, room, numbers, place, *variable, body, start, test, step,
         ),
         StmtNode::Repeat(count, body) => {
             let list = copies(alloc, room, numbers, *count, body)?;

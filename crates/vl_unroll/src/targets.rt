@@ -32,7 +32,7 @@ fn put_targets(
 
 /// What an assignment writes, with the numbers of the loop variables put into its indices, its places kept.
 #[cycle(target)]
-pub fn put_target(
+pub(crate) fn put_target(
     alloc: Global,
     room: &Room<'_>,
     numbers: &[u128],

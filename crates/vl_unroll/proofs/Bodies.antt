@@ -125,3 +125,16 @@ module _ (design : Design) (can : CanUnroll (flat_of design)) (wide : All IsWide
       let all : List p.Process → p.Design = λ z. record (placed design) { funcs = map (func_unrolled scope) (map func_of design.funcs); processes = z } in
       ap some (f ∙ funcs-same design.funcs (recursion_from_All (λ (f : Func). IsBody (rows_with xs f.locals) (stm_of f.body)) design.funcs (funcs-are w)))
       ∙ ap all (g ∙ processes-same design.processes (recursion_from_All (λ (a : Process). IsBody (rows_with xs []) (stm_of a.body)) design.processes processes-are))
+
+-- the same of lists that are the design's
+pub funcs-at : (design : Design) → CanUnroll (flat_of design) → All IsWide design.signals → All (λ (f : Func). All IsWide f.locals) design.funcs → (names : List Signal) (fs : List Func) → names ≡ design.signals → fs ≡ design.funcs →
+    All (λ (f : Func). IsBody (rows_with names f.locals) (stm_of f.body)) fs
+funcs-at design can wide w names fs e g =
+    subst (λ (z : List Func). All (λ (f : Func). IsBody (rows_with names f.locals) (stm_of f.body)) z) (sym g)
+    (subst (λ (z : List Signal). All (λ (f : Func). IsBody (rows_with z f.locals) (stm_of f.body)) design.funcs) (sym e) (funcs-are design can wide w))
+
+pub processes-at : (design : Design) → CanUnroll (flat_of design) → All IsWide design.signals → (names : List Signal) (as' : List Process) → names ≡ design.signals → as' ≡ design.processes →
+    All (λ (a : Process). IsBody (rows_with names []) (stm_of a.body)) as'
+processes-at design can wide names as' e g =
+    subst (λ (z : List Process). All (λ (a : Process). IsBody (rows_with names []) (stm_of a.body)) z) (sym g)
+    (subst (λ (z : List Signal). All (λ (a : Process). IsBody (rows_with z []) (stm_of a.body)) design.processes) (sym e) (processes-are design can wide))

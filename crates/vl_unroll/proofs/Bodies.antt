@@ -1,6 +1,6 @@
 -- Bodies of functions and processes: read over the design, and over its signals alone.
-use Rattle.std.proofs.Common.{◌≡◌, ◌∙◌, refl, sym, ap, subst, ℕ, zero, suc, true, List, [], ◌∷◌, ◌++◌, map}
-use Rattle.std.specs.Prelude.{All, slice_get, Option, Some, None}
+use Rattle.std.proofs.Common.{◌≡◌, ◌∙◌, refl, sym, ap, subst, ℕ, zero, suc, true, List, [], ◌∷◌, map}
+use Rattle.std.specs.Prelude.{All}
 use Rattle.std.specs.List.{AllByRecursion}
 use Rattle.std.proofs.lemmas.List.Elements.{All-from_recursion, recursion_from_All}
 use Rattle.vl_design.specs.declared.design.Design.{Design}
@@ -21,11 +21,11 @@ use Rattle.vl_turns.specs.Unroll.{is_loop, still}
 use Rattle.vl_turns.specs.Fits.{CanUnroll, HasLoops, HasFunLoops}
 use Rattle.vl_turns.specs.Placed.{stm_unrolled, func_unrolled, process_unrolled, unrolled_placed}
 use Rattle.vl_header.specs.Loops.{HasHeads}
-use Rattle.vl_header.specs.Rooms.{state_of, AreNumbers}
+use Rattle.vl_header.specs.Rooms.{state_of}
 use Rattle.vl_header.proofs.Loops.{Meets, heads_of}
 use Rattle.vl_header.proofs.Zeros.{none, none-numbers, none-meets}
 use Rattle.vl_unroll.specs.Heads.{AreReady}
-use Rattle.vl_unroll.specs.Bodies.{IsBody, rows_with, body_unrolled, func_at, process_at}
+use Rattle.vl_unroll.specs.Bodies.{IsBody, rows_with, func_at, process_at}
 use Rattle.vl_unroll.proofs.Bridge.{stm_same}
 
 pub body-ready : (xs ys : List Signal) (a : p.Stm) → IsBody (rows_with xs ys) a → AreReady (rows_with xs ys) (none xs ys)
@@ -112,7 +112,7 @@ module _ (design : Design) (can : CanUnroll (flat_of design)) (wide : All IsWide
       let heads = subst (λ z. HasHeads z (stm_of a.body)) (rows-alone xs) b.heads in
       let with_body : p.Stm → p.Process = λ z. record (process_of a) { body = z } in
       ap with_body (ap (λ z. stm_unrolled (plain_scope z) (stm_of a.body) s) (rows-alone xs)
-          ∙ sym (stm_same flat.rows flat.rows flat.funs [] scope.call (stm_of a.body) heads (still scope) s meets))
+      ∙ sym (stm_same flat.rows flat.rows flat.funs [] scope.call (stm_of a.body) heads (still scope) s meets))
 
   processes-same : (as' : List Process) → AllByRecursion (λ (a : Process). IsBody (rows_with xs []) (stm_of a.body)) as' → map (process_at xs) as' ≡ map (process_unrolled scope) (map process_of as')
   processes-same [] h = refl

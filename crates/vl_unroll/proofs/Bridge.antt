@@ -93,8 +93,8 @@ module _ (rows signals : List Row) (funs : List Fun) (files : List File) (call :
     stm_same (p.For q j start test step a) h x s m =
         let l = h.0 in
         ap (p.Seq q) (list_same (Meets rows) (goes_on whole (plain.exp test)) (goes_on single (plain.exp test)) (exec whole (plain.stm [] step)) (exec single (plain.stm [] step)) (stm_unrolled whole a) (stm_unrolled single a)
-            (goes_same_bare rows signals funs files call (plain.exp test) l.constant) (step_meets_bare rows signals funs files call j (plain.stm [] step) (head_assigns rows j step l.steps)) (stm_same a h.1)
-            most_turns (exec whole (plain.stm [] start) x) (exec single (plain.stm [] start) s) (step_meets_bare rows signals funs files call j (plain.stm [] start) (head_assigns rows j start l.starts) x s m))
+        (goes_same_bare rows signals funs files call (plain.exp test) l.constant) (step_meets_bare rows signals funs files call j (plain.stm [] step) (head_assigns rows j step l.steps)) (stm_same a h.1)
+        most_turns (exec whole (plain.stm [] start) x) (exec single (plain.stm [] start) s) (step_meets_bare rows signals funs files call j (plain.stm [] start) (head_assigns rows j start l.starts) x s m))
     stm_same (p.Repeat q n a) h x s m = ap (λ b. p.Seq q (copies n b)) (stm_same a h x s m)
     stm_same (p.Set q t e) h x s m = let k = λ (j : ℕ) (l : is_loop rows j ≡ true). sym (m.holds.loops j l) in rw (target_same rows x.values s.values k t, exp_same rows x.values s.values k e) refl
     stm_same (p.Later q t e) h x s m = let k = λ (j : ℕ) (l : is_loop rows j ≡ true). sym (m.holds.loops j l) in rw (target_same rows x.values s.values k t, exp_same rows x.values s.values k e) refl

@@ -6,7 +6,6 @@ use Rattle.std.specs.List.{AllByRecursion}
 use Rattle.std.proofs.lemmas.List.Elements.{All-from_recursion}
 use Rattle.std.specs.declared.alloc.Global.{Global}
 use Rattle.std.specs.declared.vec.Vec.{Vec}
-use Rattle.vl_base.specs.declared.place.Place.{Place}
 use Rattle.vl_design.specs.declared.design.Stmt.{Stmt}
 use Rattle.vl_design.specs.declared.design.CaseItem.{CaseItem}
 use Rattle.vl_design.specs.declared.design.StmtNode as s
@@ -21,7 +20,7 @@ use Rattle.vl_design.specs.Exec.{exec, goes_on}
 use Rattle.vl_design.specs.Placed as p
 use Rattle.vl_design.specs.Seen.{exps_of, target_of, node_target, row_targets, stm_of, stms_of, node_stm, row_stms, row_items}
 use Rattle.vl_design.proofs.TreeLemmas.{row_stms-items}
-use Rattle.vl_turns.specs.Placed.{exp_put, exps_put, targets_put, turn_list, copies, stm_unrolled, stms_unrolled, items_unrolled}
+use Rattle.vl_turns.specs.Placed.{targets_put, turn_list, copies, stm_unrolled, stms_unrolled, items_unrolled}
 use Rattle.vl_header.proofs.Turning.{map-push}
 use Rattle.vl_header.specs.Heads.{turn_states, AreTurns}
 use Rattle.vl_header.specs.Loops.{HasHeads, HaveHeads, ItemsHaveHeads}

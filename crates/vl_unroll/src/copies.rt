@@ -48,10 +48,7 @@ fn copied_signal(alloc: Global, signal: &Signal) -> Result<Signal, AllocError>
 }
 
 /// A copy of signals.
-pub(crate) fn copied_signals(
-    alloc: Global,
-    signals: &[Signal],
-) -> Result<Items<Signal>, AllocError>
+pub(crate) fn copied_signals(alloc: Global, signals: &[Signal]) -> Result<Items<Signal>, AllocError>
     ensures { IfOk result (λ t. t ≡ signals.now) }
 {
     let mut all = Vec::new(alloc);

@@ -20,12 +20,7 @@ use vl_header::room::{Room, zeros};
 
 /// A body with its loops unrolled: around them no loop variable has a number.
 #[tactic(auto, using(crate::proofs::Bodies::bodies))]
-fn body(
-    alloc: Global,
-    signals: &[Signal],
-    locals: &[Signal],
-    s: &Stmt,
-) -> Result<Stmt, AllocError>
+fn body(alloc: Global, signals: &[Signal], locals: &[Signal], s: &Stmt) -> Result<Stmt, AllocError>
     requires { IsBody (rows_with signals.now locals.now) (stm_of s.now) }
     ensures { IfOk result (λ x. stm_of x ≡ body_unrolled signals.now locals.now (stm_of s.now)) }
 {

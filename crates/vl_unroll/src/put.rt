@@ -91,7 +91,12 @@ pub(crate) fn put_args(
 
 /// The expression with the numbers of the loop variables put in, its places kept.
 #[cycle(put)]
-pub(crate) fn put(alloc: Global, room: &Room<'_>, numbers: &[u128], e: &Expr) -> Result<Expr, AllocError>
+pub(crate) fn put(
+    alloc: Global,
+    room: &Room<'_>,
+    numbers: &[u128],
+    e: &Expr,
+) -> Result<Expr, AllocError>
     requires { AreReady (rows_of room.now) numbers.now }
     ensures { IfOk result (λ x. exp_of x ≡ exp_put (rows_of room.now) (values_of numbers.now) (exp_of e.now)) }
 {

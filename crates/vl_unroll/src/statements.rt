@@ -226,7 +226,14 @@ fn loop_unrolled(
     ensures kept { IfOk result (λ x. numbers.new ≡ numbers.old) }
 {
     let values = turns_of(alloc, room, numbers, variable, start, test, step)?;
-    let all = turns(alloc, room, numbers, variable, values.numbers.as_slice(), body)?;
+    let all = turns(
+        alloc,
+        room,
+        numbers,
+        variable,
+        values.numbers.as_slice(),
+        body,
+    )?;
     Ok(Stmt {
         place,
         node: StmtNode::Seq(all),

@@ -1,4 +1,4 @@
-use Rattle.std.proofs.Common.{◌≡◌, ap, ◌∙◌, sym, map, take}
+use Rattle.std.proofs.Common.{ap, ◌∙◌, sym, map}
 use Rattle.vl_design.specs.Placed as p
 use Rattle.vl_design.specs.Seen.{node_exp, row_args, arg}
 use Rattle.vl_design.specs.declared.design.ExprNode.TheBlock as blk

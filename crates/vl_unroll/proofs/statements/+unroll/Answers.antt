@@ -8,7 +8,7 @@ use Rattle.vl_design.specs.Placed as p
 use Rattle.vl_design.specs.Plainly as plain
 use Rattle.vl_design.specs.Seen.{exp_of, stm_of, node_stm, row_items}
 use Rattle.vl_design.specs.Exec.{exec, most_turns}
-use Rattle.vl_turns.specs.Placed.{exp_put, exps_put, stm_unrolled, items_unrolled}
+use Rattle.vl_turns.specs.Placed.{exp_put, stm_unrolled}
 use Rattle.vl_header.specs.Loops.{HasHeads}
 use Rattle.vl_header.specs.Rooms.{rows_of, scope_of, values_of, state_of}
 use Rattle.vl_header.proofs.Stepping.{set-twice}
@@ -36,12 +36,19 @@ loop_unrolled-turns-requires t c =
     let now = c.turns_of.new.numbers in
     let kept : now ≡ c.args.numbers.now = c.in_ok-values.ensures.kept in
     let vs = c.in_ok-values.values.numbers.items in
-    let fits = subst (λ (z : List ℕ). All (λ (v : ℕ). AreReady rows (slice_set z j v)) vs) (sym kept) (turns-ready rows c.args.numbers.now j vs c.requires.ready c.in_ok-values.ensures.fits) in
-    (search (rules, the_lemmas),
-    (c.requires.header.variable,
-    (subst (AreReady rows) (sym kept) c.requires.ready,
-    (subst (λ (z : List ℕ). All (λ (v : ℕ). AreReady rows (slice_set now j v)) z) (sym c.as_slice.ensures.value) fits,
-    c.requires.heads))))
+    let fits = subst (λ (z : List ℕ). All (λ (v : ℕ). AreReady rows (slice_set z j v)) vs) (sym kept) (turns-ready rows c.args.numbers.now j vs c.requires.ready c.in_ok-values.ensures.fits) in (
+      search (rules, the_lemmas),
+      (
+        c.requires.header.variable,
+        (
+          subst (AreReady rows) (sym kept) c.requires.ready,
+          (
+            subst (λ (z : List ℕ). All (λ (v : ℕ). AreReady rows (slice_set now j v)) z) (sym c.as_slice.ensures.value) fits,
+            c.requires.heads,
+          ),
+        ),
+      ),
+    )
 
 pub loop_unrolled-returns-clause-text : goal.loop_unrolled-returns-clause-text
 loop_unrolled-returns-clause-text t c =
@@ -52,26 +59,32 @@ loop_unrolled-returns-clause-text t c =
     let kept : c.turns_of.new.numbers ≡ old = c.in_ok-values.ensures.kept in
     let text = c.in_ok-all.ensures.text in
     ap (p.Seq c.args.place) (list-turns scope (plain.exp (exp_of c.args.test.now)) (plain.stm [] (stm_of c.args.step.now)) body most_turns
-        (exec scope (plain.stm [] (stm_of c.args.start.now)) (state_of old)) old j c.in_ok-values.values.numbers.items c.in_ok-values.values.endless c.in_ok-all.all c.in_ok-values.ensures.turns
-        (text
-        ∙ (ap (λ (z : List ℕ). map (λ (n : ℕ). stm_unrolled scope body (state_of (slice_set z j n))) c.as_slice.result.now) kept
-        ∙ ap (map (λ (n : ℕ). stm_unrolled scope body (state_of (slice_set old j n)))) c.as_slice.ensures.value)))
+    (exec scope (plain.stm [] (stm_of c.args.start.now)) (state_of old)) old j c.in_ok-values.values.numbers.items c.in_ok-values.values.endless c.in_ok-all.all c.in_ok-values.ensures.turns
+    (text
+    ∙ (ap (λ (z : List ℕ). map (λ (n : ℕ). stm_unrolled scope body (state_of (slice_set z j n))) c.as_slice.result.now) kept
+    ∙ ap (map (λ (n : ℕ). stm_unrolled scope body (state_of (slice_set old j n)))) c.as_slice.ensures.value)))
 
 pub statement-statements-requires : goal.statement-statements-requires
 statement-statements-requires t c =
     let rows = rows_of c.args.room.now in
-    let h = subst (λ n. HasHeads rows (node_stm c.args.s.now.place n)) c.in-Seq.is c.requires.heads in
-    (search (rules, the_lemmas),
-    (c.requires.ready,
-    subst (λ (z : List Stmt). All (λ (x : Stmt). HasHeads rows (stm_of x)) z) (sym c.as_slice.ensures.value) (list-heads rows c.in-Seq.list h)))
+    let h = subst (λ n. HasHeads rows (node_stm c.args.s.now.place n)) c.in-Seq.is c.requires.heads in (
+      search (rules, the_lemmas),
+      (
+        c.requires.ready,
+        subst (λ (z : List Stmt). All (λ (x : Stmt). HasHeads rows (stm_of x)) z) (sym c.as_slice.ensures.value) (list-heads rows c.in-Seq.list h),
+      ),
+    )
 
 pub statement-items-requires : goal.statement-items-requires
 statement-items-requires t c =
     let rows = rows_of c.args.room.now in
-    let h = subst (λ n. HasHeads rows (node_stm c.args.s.now.place n)) c.in-Case.is c.requires.heads in
-    (search (rules, the_lemmas),
-    (c.requires.ready,
-    subst (λ (z : List CaseItem). All (λ (x : CaseItem). HasHeads rows (stm_of x.body)) z) (sym c.as_slice-in-Case.ensures.value) (case-heads rows c.in-Case.list h)))
+    let h = subst (λ n. HasHeads rows (node_stm c.args.s.now.place n)) c.in-Case.is c.requires.heads in (
+      search (rules, the_lemmas),
+      (
+        c.requires.ready,
+        subst (λ (z : List CaseItem). All (λ (x : CaseItem). HasHeads rows (stm_of x.body)) z) (sym c.as_slice-in-Case.ensures.value) (case-heads rows c.in-Case.list h),
+      ),
+    )
 
 pub statement-returns-in_ok-list-in-Seq-clause-text : goal.statement-returns-in_ok-list-in-Seq-clause-text
 statement-returns-in_ok-list-in-Seq-clause-text t c =
@@ -102,10 +115,10 @@ statement-returns-in-For-clause-text t c =
     let k = c.in-For.variable in
     let test = exp_of c.in-For.test in
     let is =
-        ap (λ (z : Stmt). p.For at k (stm_of c.deref-in-For-2.result.now) test (stm_of c.deref-in-For-3.result.now) (stm_of z)) c.deref-in-For.ensures
-        ∙ (ap (λ (z : Stmt). p.For at k (stm_of z) test (stm_of c.deref-in-For-3.result.now) (stm_of c.in-For.body.value)) c.deref-in-For-2.ensures
-        ∙ (ap (λ (z : Stmt). p.For at k (stm_of c.in-For.start.value) test (stm_of z) (stm_of c.in-For.body.value)) c.deref-in-For-3.ensures
-        ∙ sym (ap (node_stm at) c.in-For.is))) in
+    ap (λ (z : Stmt). p.For at k (stm_of c.deref-in-For-2.result.now) test (stm_of c.deref-in-For-3.result.now) (stm_of z)) c.deref-in-For.ensures
+    ∙ (ap (λ (z : Stmt). p.For at k (stm_of z) test (stm_of c.deref-in-For-3.result.now) (stm_of c.in-For.body.value)) c.deref-in-For-2.ensures
+    ∙ (ap (λ (z : Stmt). p.For at k (stm_of c.in-For.start.value) test (stm_of z) (stm_of c.in-For.body.value)) c.deref-in-For-3.ensures
+    ∙ sym (ap (node_stm at) c.in-For.is))) in
     subst (λ (z : p.Stm). IfOk c.loop_unrolled.result (λ x. stm_of x ≡ stm_unrolled scope z e)) is c.loop_unrolled.ensures.text
 
 pub statement-returns-in_ok-list-in-Repeat-clause-text : goal.statement-returns-in_ok-list-in-Repeat-clause-text
@@ -115,7 +128,7 @@ statement-returns-in_ok-list-in-Repeat-clause-text t c =
     let at = c.args.s.now.place in
     let body = stm_unrolled scope (stm_of c.in-Repeat.body.value) e in
     ap (p.Seq at) (list-copies c.in-Repeat.count body c.in_ok-list-in-Repeat.list
-        (c.in_ok-list-in-Repeat.ensures.text ∙ ap (λ (z : Stmt). replicate c.in-Repeat.count (stm_unrolled scope (stm_of z) e)) c.deref-in-Repeat.ensures))
+    (c.in_ok-list-in-Repeat.ensures.text ∙ ap (λ (z : Stmt). replicate c.in-Repeat.count (stm_unrolled scope (stm_of z) e)) c.deref-in-Repeat.ensures))
     ∙ sym (ap (λ n. stm_unrolled scope (node_stm at n) e) c.in-Repeat.is)
 
 pub turns-loop-number-preserved : goal.turns-loop-number-preserved

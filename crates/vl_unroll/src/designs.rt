@@ -1,14 +1,12 @@
 //! Designs with their loops unrolled.
 
 ghost use Rattle.std.specs.Prelude.{◌≡◌, IfOk, All, map, []};
-ghost use Rattle.vl_design.specs.Placed as p;
 ghost use Rattle.vl_design.specs.Rows.{range_width};
 ghost use Rattle.vl_design.specs.Seen.{stm_of, func_of, process_of, placed};
 ghost use Rattle.vl_design.specs.Sound.{IsWidth};
 ghost use Rattle.vl_design.specs.Trees.{flat_of};
 ghost use Rattle.vl_turns.specs.Fits.{CanUnroll};
 ghost use Rattle.vl_turns.specs.Placed.{unrolled_placed};
-ghost use Rattle.vl_header.specs.Rooms.{rows_of};
 ghost use Rattle.vl_unroll.specs.Bodies.{IsBody, rows_with, body_unrolled, func_at, process_at};
 
 use crate::copies::{copied, copied_events, copied_numbers, copied_signals};

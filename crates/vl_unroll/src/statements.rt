@@ -1,6 +1,6 @@
 //! Statements with their loops unrolled.
 
-ghost use Rattle.std.specs.Prelude.{◌≡◌, ℕ, map, IfOk, All, slice_set, replicate, true};
+ghost use Rattle.std.specs.Prelude.{◌≡◌, map, IfOk, All, slice_set, replicate, true};
 ghost use Rattle.vl_design.specs.Seen.{stm_of, target_of, exp_of, args_of};
 ghost use Rattle.vl_design.specs.Placed as p;
 ghost use Rattle.vl_turns.specs.Placed.{exp_put, target_put, args_put, stm_unrolled};

@@ -27,6 +27,10 @@ values_of numbers = map (λ v. v ∷ []) numbers
 abbrev pub state_of : List ℕ → State
 state_of numbers = fresh (values_of numbers)
 
+-- a 0 for each signal and each local
+abbrev pub zeros_of : Room → List ℕ
+zeros_of r = map (λ x. 0) r.signals.now ++ map (λ y. 0) r.locals.now
+
 abbrev pub sample_of : List ℕ → Sample
 sample_of numbers = sample (state_of numbers)
 

@@ -1,13 +1,14 @@
 //! What the numbers in a header name, and the numbers of loop variables.
 
-ghost use Rattle.std.specs.Prelude.{◌≡◌, true, Some};
+ghost use Rattle.std.specs.Prelude.{◌≡◌, true, Some, map, IfOk};
 ghost use Rattle.vl_design.specs.Value.{value_of};
 ghost use Rattle.vl_design.specs.Rows.{row_of};
 ghost use Rattle.vl_design.specs.Sound.{IsNamed, IsWidth};
 ghost use Rattle.vl_design.specs.Width as w;
 ghost use Rattle.vl_turns.specs.Unroll.{is_loop as spec_is_loop, is_loop_kind};
-ghost use Rattle.vl_header.specs.Rooms.{names_of, rows_of, values_of, AreNumbers};
+ghost use Rattle.vl_header.specs.Rooms.{names_of, rows_of, values_of, zeros_of, AreNumbers};
 
+use std::alloc::{AllocError, Global};
 use vl_base::bits::Bits;
 use vl_design::design::{Form, SigKind, Signal};
 
@@ -84,4 +85,21 @@ pub fn number_of(room: &Room<'_>, numbers: &[u128], number: u32) -> Bits
         value: numbers[number as usize],
         width: form.width as u8,
     }
+}
+
+/// A 0 for each signal.
+fn zeros_for(alloc: Global, signals: &[Signal]) -> Result<Vec<u128>, AllocError>
+    ensures { IfOk result (λ v. v.items ≡ map (λ x. 0) signals.now) }
+{
+    signals.iter().map(|_signal| 0_u128).collect(alloc)
+}
+
+/// A 0 for each signal and each local: their numbers where no loop runs.
+pub fn zeros(alloc: Global, room: &Room<'_>) -> Result<Vec<u128>, AllocError>
+    ensures { IfOk result (λ v. v.items ≡ zeros_of room.now) }
+{
+    let mut all = zeros_for(alloc, room.signals)?;
+    let locals = zeros_for(alloc, room.locals)?;
+    all.extend_from_slice(&locals)?;
+    Ok(all)
 }

@@ -1,0 +1,6 @@
+//! Limits 8 and 9: how many turns a loop, and how many statements and nodes of expressions a design may have with its
+//! loops unrolled and the body of each function at each of its calls.
+#![tactic(auto)]
+
+mod expressions;
+mod sums;

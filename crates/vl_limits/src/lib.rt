@@ -2,5 +2,9 @@
 //! loops unrolled and the body of each function at each of its calls.
 #![tactic(auto)]
 
+mod displays;
 mod expressions;
+mod formats;
 mod sums;
+mod tasks;
+

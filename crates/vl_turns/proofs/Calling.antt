@@ -79,7 +79,7 @@ module _ (d : Flat) (can : CanUnroll d) (files : List File) where
       let scope = inner (scope_with d files call) f in
       let first = fresh (with_inputs f.inputs args (zeros scope.names.rows)) in
       let g = inputs_hold scope f.inputs args (zeros scope.names.rows) (fun_inputs d can i f k) in
-      let text = text_same (inner (scope_of d []) f) d.funs files call f.body (fun_loops d can i f k) (still scope) in
+      let text = text_same (inner (scope_of d []) f) d.rows d.funs files call f.body (fun_loops d can i f k) (still scope) in
       let r = exec_same scope e.funs call' (alike call call' scope.names.rows h) f.body (fun_sound d can i f k) (fun_loops d can i f k) (still scope) first (record { loops = g.0; size = g.1; alive = refl }) in
       ap (λ b. value_of (exec (with_funs scope e.funs call') b first).values f.result) (sym text) ∙ ap (λ (z : State). value_of z.values f.result) r
 
@@ -95,7 +95,7 @@ module _ (d : Flat) (can : CanUnroll d) (files : List File) where
   pub block_same : (b : Stm) → IsBlock d b → (s : State) → IsStill d.rows s → exec (scope_of e files) (block_put d b) s ≡ exec (scope_of d files) b s
   block_same b k s h =
       let z = still (scope_of d []) in
-      let text = text_same (scope_of d []) d.funs files (scope_of d files).call b k.loops z in
+      let text = text_same (scope_of d []) d.rows d.funs files (scope_of d files).call b k.loops z in
       ap (λ b. exec (scope_of e files) b s) (sym text)
       ∙ exec_same (scope_of d files) e.funs (scope_of e files).call all_alike b k.sound k.loops z s h
 
@@ -120,6 +120,6 @@ module _ (d : Flat) (can : CanUnroll d) (files : List File) where
         alive_e = refl;
         alive_t = refl;
       }) in
-      let text = text_same (scope_of d []) d.funs files (scope_of d files).call b k.loops x in
+      let text = text_same (scope_of d []) d.rows d.funs files (scope_of d files).call b k.loops x in
       ap (λ a. exec (scope_of e files) a s) (sym closed ∙ sym text)
       ∙ exec_same (scope_of d files) e.funs (scope_of e files).call all_alike b k.sound k.loops x s (record { loops = λ j m. refl; size = refl; alive = refl })

@@ -56,7 +56,7 @@ module _ (scope : Scope) where
   start_bound bound inner j a more m k h e t b =
       let f : reads (stray scope.names.rows bound) k.source ≡ false = ap (λ z. stm_reads (stray scope.names.rows bound) z) (sym k.whole) ∙ h in
       let c = assigned (target_width scope.names (Whole j)) (form scope.names k.source) in
-      let v : value scope (sample t) k.source c ≡ value scope (sample e) k.source c = header_closed scope scope.names.funs scope.files scope.call bound (sample e) (sample t) b.loops k.source k.header f c in
+      let v : value scope (sample t) k.source c ≡ value scope (sample e) k.source c = header_closed scope scope.names.signals scope.names.funs scope.files scope.call bound (sample e) (sample t) b.loops k.source k.header f c in
       let w = (signal_form scope.names.rows j).width in
       rw (k.whole, set_alive scope (Whole j) k.source e b.alive_e, set_alive scope (Whole j) k.source t b.alive_t, v)
       (put_in w (value scope (sample e) k.source c / 2 ^ 0 % 2 ^ w))
@@ -116,7 +116,7 @@ module _ (scope : Scope) where
         let inner = and_also bound j in
         turns_closed inner (goes_on scope test) (exec scope step) (unrolled scope a)
         (λ x y h. let f : x.finished ≡ false = h.alive_e in let g : y.finished ≡ false = h.alive_t in
-        rw (f, g, header_closed scope scope.names.funs scope.files scope.call inner (sample x) (sample y) h.loops test l.2 k.1 (form scope.names test)) refl)
+        rw (f, g, header_closed scope scope.names.signals scope.names.funs scope.files scope.call inner (sample x) (sample y) h.loops test l.2 k.1 (form scope.names test)) refl)
         (λ x y h. start_bound inner inner j step (λ i g d. g) l.0 l.3 k.2 x y h)
         (λ x y h. text_closed a l.4 inner k.3 x y h)
         most_turns (exec scope start e) (exec scope start t) (start_bound bound inner j start (bound_more bound j) l.0 l.1 k.0 e t b)

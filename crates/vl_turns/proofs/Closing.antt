@@ -79,9 +79,10 @@ module _ (rows : List Row) (bound : ℕ → Bool) (xs ys : List (List ℕ)) (sam
 
 -- ---- headers
 
-module _ (scope : Scope) (funs : List Fun) (files : List File) (call : ℕ → List ℕ → ℕ) where
+-- the scope with other functions and files, also seen from other functions
+module _ (scope : Scope) (signals : List Row) (funs : List Fun) (files : List File) (call : ℕ → List ℕ → ℕ) where
   abbrev pub next : Scope
-  next = record scope { names = record (scope.names) { funs = funs }; files = files; call = call }
+  next = record scope { names = record (scope.names) { signals = signals; funs = funs }; files = files; call = call }
 
   pub header_form : (e : Exp) → IsHeader scope.names.rows e → form next.names e ≡ form scope.names e
   header_form (Num v w s) k = refl

@@ -2,7 +2,7 @@
 use Rattle.std.proofs.Common.{◌≡◌, ℕ, zero, suc, Bool, true, false, List, refl, ap, ◌∙◌}
 use Rattle.vl_base.specs.declared.files.File.{File}
 use Rattle.vl_design.specs.declared.design.Form.{Form}
-use Rattle.vl_design.specs.Syntax.{Exp, Num, Label, Sig, Word, Pick, Slice, Un, Bin, Cond, Cat, Rep, Cast, Call, Time, LastAnswer, Exps, NoExps, MoreExps, Stm, Nop, Then, If, Case, For, Repeat, Set, Later, Sys, Items, NoItems, Labelled, Default, Fun}
+use Rattle.vl_design.specs.Syntax.{Exp, Num, Label, Sig, Word, Pick, Slice, Un, Bin, Cond, Cat, Rep, Cast, Call, Time, LastAnswer, Exps, NoExps, MoreExps, Stm, Nop, Then, If, Case, For, Repeat, Set, Later, Sys, Items, NoItems, Labelled, Default, Row, Fun}
 use Rattle.vl_design.specs.Width.{Scope, form}
 use Rattle.vl_design.specs.Value.{Sample, value, side_by_side}
 use Rattle.vl_design.specs.State.{State, sample}
@@ -22,9 +22,9 @@ turns_alike (suc n) p q u v f g a b c x = at (p x) (q x) (a x) (turns_alike n p 
     at true false z h = let y : ⊥ = cc in absurd y
     at false true z h = let y : ⊥ = cc in absurd y
 
-module _ (scope : Scope) (funs : List Fun) (files : List File) (call : ℕ → List ℕ → ℕ) where
+module _ (scope : Scope) (signals : List Row) (funs : List Fun) (files : List File) (call : ℕ → List ℕ → ℕ) where
   abbrev new : Scope
-  new = next scope funs files call
+  new = next scope signals funs files call
 
   module _ (s : Sample) where
     across : (e : Exp) → IsHeader scope.names.rows e → (c : Form) → value new s e c ≡ value scope s e c
@@ -32,23 +32,23 @@ module _ (scope : Scope) (funs : List Fun) (files : List File) (call : ℕ → L
     across (Label v care w signed) k c = refl
     across (Sig j) k c = refl
     across (Word m a) k c = absurd k
-    across (Pick b i from w) k c = rw (header_form scope funs files call b k.0, header_form scope funs files call i k.1, across b k.0 (form scope.names b), across i k.1 (form scope.names i)) refl
-    across (Slice b low w) k c = rw (header_form scope funs files call b k, across b k (form scope.names b)) refl
-    across (Un op a) k c = rw (header_form scope funs files call a k, across a k _) refl
-    across (Bin op a b) k c = rw (header_form scope funs files call a k.0, header_form scope funs files call b k.1, across a k.0 _, across b k.1 _) refl
-    across (Cond u a b) k c = rw (header_form scope funs files call u k.0, across u k.0 (form scope.names u), across a k.1 c, across b k.2 c) refl
+    across (Pick b i from w) k c = rw (header_form scope signals funs files call b k.0, header_form scope signals funs files call i k.1, across b k.0 (form scope.names b), across i k.1 (form scope.names i)) refl
+    across (Slice b low w) k c = rw (header_form scope signals funs files call b k, across b k (form scope.names b)) refl
+    across (Un op a) k c = rw (header_form scope signals funs files call a k, across a k _) refl
+    across (Bin op a b) k c = rw (header_form scope signals funs files call a k.0, header_form scope signals funs files call b k.1, across a k.0 _, across b k.1 _) refl
+    across (Cond u a b) k c = rw (header_form scope signals funs files call u k.0, across u k.0 (form scope.names u), across a k.1 c, across b k.2 c) refl
     across (Cat es) k c = absurd k
     across (Rep n es) k c = absurd k
-    across (Cast signed a) k c = rw (header_form scope funs files call a k, across a k (form scope.names a)) refl
+    across (Cast signed a) k c = rw (header_form scope signals funs files call a k, across a k (form scope.names a)) refl
     across (Call f es) k c = absurd k
     across Time k c = absurd k
     across LastAnswer k c = absurd k
 
-  test_across : (e : Exp) → IsHeader scope.names.rows e → (x : State) → goes_on new e x ≡ goes_on scope e x
-  test_across e k x = rw (header_form scope funs files call e k, across (sample x) e k (form scope.names e)) refl
+  pub test_across : (e : Exp) → IsHeader scope.names.rows e → (x : State) → goes_on new e x ≡ goes_on scope e x
+  test_across e k x = rw (header_form scope signals funs files call e k, across (sample x) e k (form scope.names e)) refl
 
-  step_across : (j : ℕ) (a : Stm) → Assigns scope.names.rows j a → (x : State) → exec new a x ≡ exec scope a x
-  step_across j a k x = rw (k.whole, header_form scope funs files call k.source k.header, across (sample x) k.source k.header _) refl
+  pub step_across : (j : ℕ) (a : Stm) → Assigns scope.names.rows j a → (x : State) → exec new a x ≡ exec scope a x
+  step_across j a k x = rw (k.whole, header_form scope signals funs files call k.source k.header, across (sample x) k.source k.header _) refl
 
   mutual
     pub text_same : (a : Stm) → HasLoops scope.names.rows a → (e : State) → unrolled new a e ≡ unrolled scope a e

@@ -79,7 +79,7 @@ module _ (d : Flat) (can : CanUnroll d) (files : List File) where
   wakes_same p k test h =
       let z = fresh (zeros d.rows) in
       bare_reads (scope_of e files) test (up p).body (bare (scope_of d []) p.body z) z
-      ∙ (ap (stm_reads test) (sym (text_same (scope_of d []) d.funs files (scope_of d files).call p.body k.loops z))
+      ∙ (ap (stm_reads test) (sym (text_same (scope_of d []) d.rows d.funs files (scope_of d files).call p.body k.loops z))
       ∙ reads_same (scope_of d files) test h p.body z)
 
   woken_put : (test : ℕ → Bool) → ((j : ℕ) → is_loop d.rows j ≡ true → test j ≡ false) → (ps : List Proc) → OurBlocks d ps → (bs : List Bool) → woken (scope_of e files) test (map up ps) bs ≡ woken (scope_of d files) test ps bs

@@ -3,3 +3,4 @@ pub mod Adding
 pub mod Pieces
 pub mod Showing
 pub mod Tasking
+pub mod Counting

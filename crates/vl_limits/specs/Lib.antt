@@ -1,3 +1,4 @@
 pub mod Tallies
 pub mod Displays
 pub mod Tasks
+pub mod Walks

@@ -5,6 +5,7 @@
 mod displays;
 mod expressions;
 mod formats;
+mod statements;
 mod sums;
 mod tasks;
 

@@ -1,6 +1,8 @@
 -- Sums that stop at a cap.
 use Rattle.std.proofs.Common.{◌≡◌, ◌+◌, ◌*◌, ◌≤◌, ◌<◌, ℕ, zero, suc, min, List, [], ◌∷◌, length, get_or, drop, sym, ap, ◌∙◌, arith}
+use Rattle.std.specs.Prelude.{sum_by}
 use Rattle.std.proofs.lemmas.List.{at_drop_more, at_drop_all}
+use Rattle.std.proofs.lemmas.List.Sums.{sum_by-drop_more}
 
 -- one after another
 pub two : (cap s m r a b : ℕ) → m ≡ min cap (s + a) → r ≡ min cap (m + b) → r ≡ min cap (s + (a + b))
@@ -30,3 +32,8 @@ step cap F f cons es i y a n r h is k inv =
 
 pub finish : {A : Type 0} (cap : ℕ) (F : List A → ℕ) → F [] ≡ 0 → (es : List A) (i a r : ℕ) → length es ≤ i → a ≤ cap → min cap (a + F (drop i es)) ≡ r → a ≡ r
 finish cap F none es i a r h k inv = end cap a r k (sym (ap (λ z. min cap (a + z)) (at_drop_all F es i h ∙ none)) ∙ inv)
+
+pub turn-step : (cap : ℕ) (f : ℕ → ℕ) (xs : List ℕ) (i a n r y : ℕ) → i < length xs → y ≡ f (get_or xs i 0) → n ≡ min cap (a + y) → min cap (a + sum_by f (drop i xs)) ≡ r → min cap (n + sum_by f (drop (i + 1) xs)) ≡ r
+turn-step cap f xs i a n r y h e k inv =
+    let m : sum_by f (drop i xs) ≡ f (get_or xs i 0) + sum_by f (drop (i + 1) xs) = sum_by-drop_more f xs i 0 h in
+    more cap a n r (f (get_or xs i 0)) (sum_by f (drop (i + 1) xs)) (k ∙ ap (λ z. min cap (a + z)) e) (sym (ap (λ z. min cap (a + z)) m) ∙ inv)

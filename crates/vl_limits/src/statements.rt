@@ -1,6 +1,6 @@
 //! What statements count, their loops turn by turn (IEEE 1364-2005, clauses 9.4 to 9.6).
 
-ghost use Rattle.std.specs.Prelude.{◌≡◌, ◌<◌, ◌+◌, min, if◌then◌else◌, nat_lt, length, slice_set, sum_by, All, IfOk, OnOk};
+ghost use Rattle.std.specs.Prelude.{◌≡◌, ◌<◌, ◌+◌, ◌*◌, min, if◌then◌else◌, nat_lt, length, slice_set, sum_by, All, IfOk, OnOk};
 ghost use Rattle.vl_design.specs.Exec.{most_turns};
 ghost use Rattle.vl_design.specs.Seen.{stm_of, stms_of};
 ghost use Rattle.vl_turns.specs.Limits.{else_count, items_count, stm_count, stms_count};
@@ -116,7 +116,7 @@ fn else_sum(
 ) -> Result<u32, AllocError>
     requires heads { HasHeads (rows_of room.now) (stm_of other.now) }
     requires numbers { AreNumbers (rows_of room.now) numbers.old }
-    ensures sum { IfOk result (λ r. r ≡ min tally.now.cap (sum + else_count at (stm_of other.now) (stm_count (counted_of tally.now) (scope_of room.now) (stm_of other.now) (state_of numbers.old)))) }
+    ensures sum { IfOk result (λ r. r ≡ min tally.now.cap (sum + else_count (counted_of tally.now) at (stm_of other.now) (stm_count (counted_of tally.now) (scope_of room.now) (stm_of other.now) (state_of numbers.old)))) }
     ensures kept { OnOk result (numbers.new ≡ numbers.old) }
 {
     if is_missing(at, other) {

@@ -31,7 +31,7 @@ invariant-turns_sum-loop-number l =
     record {
       small : l.all ≤ l.tally.cap;
       others : (v : ℕ) → slice_set l.numbers l.variable v ≡ slice_set l.initial.numbers l.variable v;
-      fits : All (λ v. AreNumbers (rows_of l.room) (slice_set l.initial.numbers l.variable v)) (drop l.number-index l.turns);
+      fits : All (λ v. AreNumbers (rows_of l.room) (slice_set l.initial.numbers l.variable v)) l.turns;
       rest : min l.tally.cap (l.all + sum_by (λ v. stm_count (counted_of l.tally) (scope_of l.room) (stm_of l.body) (state_of (slice_set l.initial.numbers l.variable v))) (drop l.number-index l.turns))
           ≡ min l.tally.cap (l.sum + sum_by (λ v. stm_count (counted_of l.tally) (scope_of l.room) (stm_of l.body) (state_of (slice_set l.initial.numbers l.variable v))) l.turns);
     }

@@ -3,3 +3,4 @@ pub mod Nears
 pub mod Widen
 pub mod Stepping
 pub mod Turning
+pub mod Loops

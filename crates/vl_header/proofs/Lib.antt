@@ -4,3 +4,4 @@ pub mod Widen
 pub mod Stepping
 pub mod Turning
 pub mod Loops
+pub mod Zeros

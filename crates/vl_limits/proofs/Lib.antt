@@ -4,3 +4,5 @@ pub mod Pieces
 pub mod Showing
 pub mod Tasking
 pub mod Counting
+pub mod Alike
+pub mod Rounds

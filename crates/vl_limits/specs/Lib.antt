@@ -2,3 +2,4 @@ pub mod Tallies
 pub mod Displays
 pub mod Tasks
 pub mod Walks
+pub mod Bodies

@@ -2,9 +2,11 @@
 //! loops unrolled and the body of each function at each of its calls.
 #![tactic(auto)]
 
+mod bodies;
 mod displays;
 mod expressions;
 mod formats;
+pub mod limits;
 mod statements;
 mod sums;
 mod tasks;

@@ -6,3 +6,4 @@ pub mod Tasking
 pub mod Counting
 pub mod Alike
 pub mod Rounds
+pub mod Passing

@@ -48,19 +48,19 @@ not-more a x h = grind (arith, nat_tests)
 few-if : (a x y : ℕ) → x ≤ a → (if nat_lt a x then 0 else y) ≡ y
 few-if a x y h = ap (λ b. if b then 0 else y) (not-more a x h)
 
-capped : (cap x y : ℕ) → x ≡ min cap y → Same cap y x
+pub capped : (cap x y : ℕ) → x ≡ min cap y → Same cap y x
 capped cap x y h = omega arith
 
 capped-few : (cap x y : ℕ) → x ≡ min (cap + 1) y → y ≤ cap → x ≤ cap
 capped-few cap x y h k = omega arith
 
-below : (cap x : ℕ) → x < cap + 1 → x ≤ cap
+pub below : (cap x : ℕ) → x < cap + 1 → x ≤ cap
 below cap x h = omega arith
 
-above : (cap x : ℕ) → x ≤ cap → x < cap + 1
+pub above : (cap x : ℕ) → x ≤ cap → x < cap + 1
 above cap x h = omega arith
 
-next-is : (x : ℕ) → x < suc x
+pub next-is : (x : ℕ) → x < suc x
 next-is x = omega arith
 
 module _ (design : Design) (n : ℕ) (few many : List ℕ) (are : AreBodies (placed design) n few many) where

@@ -31,14 +31,16 @@ pub(crate) fn times(cap: u32, n: u32, sum: u32) -> u32
     n.saturating_mul(sum).min(cap)
 }
 
+/// An entry of a table; 0 where it has none.
+pub(crate) fn entry(table: &[u32], index: usize) -> u32
+    ensures { result ≡ slice_index table.now index }
+{
+    if index < table.len() { table[index] } else { 0 }
+}
+
 /// What the body of a function counts.
 pub(crate) fn body_at(tally: &Tally<'_>, function: u32) -> u32
     ensures { result ≡ slice_index tally.now.bodies.now function }
 {
-    let function = function as usize;
-    if function < tally.bodies.len() {
-        tally.bodies[function]
-    } else {
-        0
-    }
+    entry(tally.bodies, function as usize)
 }

@@ -1,6 +1,6 @@
 -- Counts that are the same up to a cap, over bodies that count the same up to it: of bodies that a guard counts as too many
 -- nothing is asked, where the guard counts few enough.
-use Rattle.std.proofs.Common.{◌≡◌, refl, sym, ap, ◌∙◌, arith, ℕ, zero, suc, ◌+◌, ◌*◌, ◌≤◌, ◌<◌, min, Bool, true, false, List, [], ◌∷◌}
+use Rattle.std.proofs.Common.{◌≡◌, refl, sym, ap, ◌∙◌, arith, ℕ, zero, suc, ◌+◌, ◌*◌, ◌<◌, min, Bool, true, false, List, [], ◌∷◌}
 use Rattle.std.specs.Prelude.{if◌then◌else◌, nat_lt}
 use Rattle.vl_base.specs.declared.bits.UnOp.TheVariants.{LogNot}
 use Rattle.vl_base.specs.declared.files.File.{File}
@@ -173,8 +173,8 @@ module _ (cap m statement endless node : ℕ) (body body' : ℕ → ℕ) (g : Co
           let o = right-few g.statement _ m i in
           let r = right-few (whole_count g t) _ m o in
           both cap statement statement _ _ refl (both cap _ _ _ _ (whole_alike t (left-few _ (stm_count g full a x + else_count g at b (stm_count g full b x)) m o))
-            (both cap _ _ _ _ (stm_alike a l.0 x s h (left-few _ (else_count g at b (stm_count g full b x)) m r))
-            (else_alike at b (stm_count g full b x) _ _ (right-few (stm_count g full a x) _ m r) (stm_alike b l.1 x s h))))
+          (both cap _ _ _ _ (stm_alike a l.0 x s h (left-few _ (else_count g at b (stm_count g full b x)) m r))
+          (else_alike at b (stm_count g full b x) _ _ (right-few (stm_count g full a x) _ m r) (stm_alike b l.1 x s h))))
       stm_alike (p.Case at e is wild) l x s h i =
           let o = right-few g.statement _ m i in
           both cap statement statement _ _ refl (both cap _ _ _ _ (exp_alike (plain.exp e) (left-few _ (items_count g full is x) m o)) (items_alike is l x s h (right-few (exp_count g (plain.exp e)) _ m o)))
@@ -192,12 +192,12 @@ module _ (cap m statement endless node : ℕ) (body body' : ℕ → ℕ) (g : Co
           let o = right-few g.statement _ m i in
           let q = right-few (if t (turns most_turns t u y) then g.endless else 0) _ m o in
           both cap statement statement _ _ refl (both cap _ _ _ _
-            (endless_alike (t (turns most_turns t u y)) (t' (turns most_turns t' u' r)) (same (turns most_turns t u y) (turns most_turns t' u' r) (ends_alike t t' u u' same keeps most_turns y r b)))
-            (turns_alike t t' u u' same keeps (stm_count g full a) (stm_count c full a) (stm_count c' bare a) (stm_alike a l.1) most_turns y r b q))
+          (endless_alike (t (turns most_turns t u y)) (t' (turns most_turns t' u' r)) (same (turns most_turns t u y) (turns most_turns t' u' r) (ends_alike t t' u u' same keeps most_turns y r b)))
+          (turns_alike t t' u u' same keeps (stm_count g full a) (stm_count c full a) (stm_count c' bare a) (stm_alike a l.1) most_turns y r b q))
       stm_alike (p.Repeat at n a) l x s h i =
           let o = right-few g.statement _ m i in
           both cap statement statement _ _ refl (both cap (if nat_lt most_turns n then endless else 0) (if nat_lt most_turns n then endless else 0) _ _ refl
-            (repeat_alike n (stm_count g full a x) _ _ (right-few (if nat_lt most_turns n then g.endless else 0) _ m o) (stm_alike a l x s h)))
+          (repeat_alike n (stm_count g full a x) _ _ (right-few (if nat_lt most_turns n then g.endless else 0) _ m o) (stm_alike a l x s h)))
       stm_alike (p.Set at t e) l x s h i =
           let o = right-few g.statement _ m i in
           both cap statement statement _ _ refl (both cap _ _ _ _ (whole_alike e (left-few _ (target_count g (plain.target t)) m o)) (target_alike (plain.target t) (right-few (whole_count g e) _ m o)))
@@ -215,4 +215,4 @@ module _ (cap m statement endless node : ℕ) (body body' : ℕ → ℕ) (g : Co
       items_alike (p.MoreItems es a others) l x s h i =
           let o = right-few (exps_count g (plain.exps es)) _ m i in
           both cap _ _ _ _ (exps_alike (plain.exps es) (left-few _ (stm_count g full a x + items_count g full others x) m i))
-            (both cap _ _ _ _ (stm_alike a l.0 x s h (left-few _ (items_count g full others x) m o)) (items_alike others l.1 x s h (right-few (stm_count g full a x) _ m o)))
+          (both cap _ _ _ _ (stm_alike a l.0 x s h (left-few _ (items_count g full others x) m o)) (items_alike others l.1 x s h (right-few (stm_count g full a x) _ m o)))

@@ -1,5 +1,5 @@
 -- What statements count, part by part.
-use Rattle.std.proofs.Common.{◌≡◌, refl, sym, ap, ◌∙◌, arith, ℕ, zero, suc, ◌+◌, ◌*◌, ◌≤◌, ◌<◌, ◌⊎◌, inl, inr, min, Bool, true, false, List, [], ◌∷◌, map, length, slice_set}
+use Rattle.std.proofs.Common.{◌≡◌, refl, sym, ap, ◌∙◌, arith, ℕ, zero, suc, ◌+◌, ◌*◌, ◌≤◌, ◌<◌, ◌⊎◌, inl, inr, min, Bool, true, false, List, [], ◌∷◌, map, slice_set}
 use Rattle.std.specs.Prelude.{if◌then◌else◌, sum_by}
 use Rattle.std.proofs.lemmas.Bool.{cases_lt}
 use Rattle.std.proofs.lemmas.List.Sums.{sum_by-cons}
@@ -120,7 +120,7 @@ loop-sum c scope q j start test step body body' a ns ms numbers numbers' endless
     ∙ (ap (λ z. min cap (ended + sum_by (λ v. stm_count c scope body (state_of (slice_set z j v))) numbers')) m
     ∙ (ap (λ z. min cap (ended + sum_by (λ v. stm_count c scope body (state_of (slice_set ns j v))) z)) n
     ∙ (loop-arith cap sum c.statement own ended _ (if endless then c.endless else 0) (sum_by (λ v. stm_count c scope body (state_of (slice_set ns j v))) numbers) h k
-        (loop-count c scope (plain.exp test) (plain.stm [] step) f (exec scope (plain.stm [] start) (state_of ns)) (λ v. state_of (slice_set ns j v)) numbers endless t)
+    (loop-count c scope (plain.exp test) (plain.stm [] step) f (exec scope (plain.stm [] start) (state_of ns)) (λ v. state_of (slice_set ns j v)) numbers endless t)
     ∙ sym (ap (λ z. min cap (sum + stm_count c scope z (state_of ns))) e))))
 
 pub repeat-arith : (cap sum st own once x e n r : ℕ) → own ≡ min cap (sum + st) → once ≡ min cap (0 + x) → r ≡ min cap (own + (e + n * once)) → r ≡ min cap (sum + (st + (e + n * x)))

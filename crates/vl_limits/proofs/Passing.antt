@@ -1,5 +1,5 @@
 -- The first limit that is passed, from sums that stop at the limits.
-use Rattle.std.proofs.Common.{◌≡◌, refl, sym, ap, ◌∙◌, subst, arith, ℕ, zero, suc, ◌+◌, ◌≤◌, ◌<◌, min, List, [], ◌∷◌, ◌++◌, map, length, get_or}
+use Rattle.std.proofs.Common.{◌≡◌, refl, sym, ap, ◌∙◌, subst, arith, ℕ, suc, ◌+◌, ◌≤◌, ◌<◌, min, List, [], ◌∷◌, ◌++◌, map, length, get_or}
 use Rattle.std.specs.Prelude.{slice_index, All, Option}
 use Rattle.std.specs.List.{AllByRecursion}
 use Rattle.std.proofs.lemmas.List.{append-nil}
@@ -69,7 +69,7 @@ module _ (design : Design) (few many : List ℕ) (are : AreBodies (placed design
       let x = wide (statements deep) (rows ++ []) in
       sym (ap (λ z. min (most_statements + 1) z) (wide-is (statements deep)))
       ∙ stm_alike (most_statements + 1) (suc x) 1 (most_statements + 1) 0 deep (λ i. slice_index few i) (statements deep) (λ f q. capped (most_statements + 1) (slice_index few f) (deep f) (are.few_statements f))
-        (rows ++ []) rows scope.names.funs [] scope.call (stm_of a.body) h (fresh (zeros (rows ++ []))) _ (none-meets design.signals []) (next-is x)
+      (rows ++ []) rows scope.names.funs [] scope.call (stm_of a.body) h (fresh (zeros (rows ++ []))) _ (none-meets design.signals []) (next-is x)
 
   nodes-alike : process_count d statements (process_of a) ≤ most_statements → Same (most_nodes + 1) (process_count d nodes (process_of a)) (bare (nodes (λ i. slice_index many i)))
   nodes-alike k =
@@ -78,7 +78,7 @@ module _ (design : Design) (few many : List ℕ) (are : AreBodies (placed design
       let i : x ≤ most_statements = subst (λ z. z ≤ most_statements) (sym (wide-is (statements deep))) k in
       sym (ap (λ z. min (most_nodes + 1) z) (wide-is (nodes deep')))
       ∙ stm_alike (most_nodes + 1) (most_statements + 1) 0 0 1 deep' (λ i. slice_index many i) (statements deep) (λ f q. capped (most_nodes + 1) (slice_index many f) (deep' f) (are.few_nodes f (below most_statements (deep f) q)))
-        (rows ++ []) rows scope.names.funs [] scope.call (stm_of a.body) h (fresh (zeros (rows ++ []))) _ (none-meets design.signals []) (above most_statements x i)
+      (rows ++ []) rows scope.names.funs [] scope.call (stm_of a.body) h (fresh (zeros (rows ++ []))) _ (none-meets design.signals []) (above most_statements x i)
 
   -- what was counted of the process, behind a sum
   abbrev found : Counted → List Signal → ℕ
@@ -118,7 +118,7 @@ pub procs_heads : (design : Design) → CanUnroll (flat_of design) → All (λ a
 procs_heads design u =
     All-from_recursion (λ a. HasHeads (map row_of design.signals ++ []) (stm_of a.body)) design.processes
     (go design.processes (recursion_from_All (λ b. HasLoops (flat_of design).rows b.body) (map plain.proc (map process_of design.processes)) u.procs)
-        (recursion_from_All (IsSoundProc (names_of (flat_of design))) (map plain.proc (map process_of design.processes)) u.sound.procs))
+    (recursion_from_All (IsSoundProc (names_of (flat_of design))) (map plain.proc (map process_of design.processes)) u.sound.procs))
   where
     go : (as' : List Process) → AllByRecursion (λ b. HasLoops (flat_of design).rows b.body) (map plain.proc (map process_of as')) → AllByRecursion (IsSoundProc (names_of (flat_of design))) (map plain.proc (map process_of as')) →
         AllByRecursion (λ a. HasHeads (map row_of design.signals ++ []) (stm_of a.body)) as'

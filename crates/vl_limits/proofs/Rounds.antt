@@ -1,5 +1,5 @@
 -- Rounds over the bodies of functions: in each, calls nest one deeper.
-use Rattle.std.proofs.Common.{◌≡◌, refl, sym, ap, ◌∙◌, subst, arith, ℕ, zero, suc, ◌+◌, ◌-◌, ◌≤◌, ◌<◌, min, Bool, true, false, List, [], ◌∷◌, ◌++◌, map, length}
+use Rattle.std.proofs.Common.{◌≡◌, refl, sym, ap, ◌∙◌, subst, arith, ℕ, zero, suc, ◌+◌, ◌-◌, ◌≤◌, ◌<◌, min, false, List, [], ◌∷◌, map, length}
 use Rattle.std.specs.Prelude.{if◌then◌else◌, nat_lt, slice_index, slice_get, All}
 use Rattle.std.proofs.lemmas.Bool.Decides.{nat_tests}
 use Rattle.std.proofs.lemmas.List.{length-map}
@@ -8,7 +8,7 @@ use Rattle.std.proofs.lemmas.List.Elements.{recursion_from_All, All-from_recursi
 use Rattle.vl_design.specs.declared.design.Design.{Design}
 use Rattle.vl_design.specs.declared.design.Func.{Func}
 use Rattle.vl_design.specs.declared.design.Signal.{Signal}
-use Rattle.vl_design.specs.Functions.{scope_of, inner, zeros, fresh}
+use Rattle.vl_design.specs.Functions.{scope_of, inner}
 use Rattle.vl_design.specs.Placed as p
 use Rattle.vl_design.specs.Plainly as plain
 use Rattle.vl_design.specs.Rows.{row_of}
@@ -21,9 +21,9 @@ use Rattle.vl_turns.specs.Limits.{Counted, statements, nodes, most_statements, m
 use Rattle.vl_turns.specs.Unroll.{still}
 use Rattle.vl_header.specs.Loops.{HasHeads}
 use Rattle.vl_header.proofs.Loops.{heads_of}
-use Rattle.vl_header.proofs.Zeros.{none-numbers, none-meets}
-use Rattle.vl_limits.specs.Bodies.{zeros_in, func_rows, alone_count, next_statements, next_nodes, AreBodies}
-use Rattle.vl_limits.proofs.Alike.{Same, counted, stm_alike}
+use Rattle.vl_header.proofs.Zeros.{none-meets}
+use Rattle.vl_limits.specs.Bodies.{func_rows, alone_count, next_statements, next_nodes, AreBodies}
+use Rattle.vl_limits.proofs.Alike.{Same, stm_alike}
 
 -- ---- the headers of functions
 
@@ -82,7 +82,7 @@ module _ (design : Design) (n : ℕ) (few many : List ℕ) (are : AreBodies (pla
       let deep = body_within statements scope d.funcs n in
       let x = body_of (statements deep) g in
       sym (stm_alike (most_statements + 1) (suc x) 1 (most_statements + 1) 0 deep (λ i. slice_index few i) (statements deep) (λ f k. capped (most_statements + 1) (slice_index few f) (deep f) (are.few_statements f))
-        (func_rows design.signals g) (map row_of design.signals) scope.names.funs [] scope.call (stm_of g.body) h (still (within g)) _ (none-meets design.signals g.locals) (next-is x))
+      (func_rows design.signals g) (map row_of design.signals) scope.names.funs [] scope.call (stm_of g.body) h (still (within g)) _ (none-meets design.signals g.locals) (next-is x))
 
   nodes-one : (g : Func) → HasHeads (func_rows design.signals g) (stm_of g.body) → body_of (statements (body_within statements scope d.funcs n)) g ≤ most_statements →
       next_nodes design.signals few many g ≡ min (most_nodes + 1) (body_of (nodes (body_within nodes scope d.funcs n)) g)
@@ -91,7 +91,7 @@ module _ (design : Design) (n : ℕ) (few many : List ℕ) (are : AreBodies (pla
       let all = body_within nodes scope d.funcs n in
       few-if most_statements (next_statements design.signals few g) _ (capped-few most_statements (next_statements design.signals few g) (body_of (statements deep) g) (statements-one g h) k)
       ∙ sym (stm_alike (most_nodes + 1) (most_statements + 1) 0 0 1 all (λ i. slice_index many i) (statements deep) (λ f q. capped (most_nodes + 1) (slice_index many f) (all f) (are.few_nodes f (below most_statements (deep f) q)))
-        (func_rows design.signals g) (map row_of design.signals) scope.names.funs [] scope.call (stm_of g.body) h (still (within g)) _ (none-meets design.signals g.locals) (above most_statements _ k))
+      (func_rows design.signals g) (map row_of design.signals) scope.names.funs [] scope.call (stm_of g.body) h (still (within g)) _ (none-meets design.signals g.locals) (above most_statements _ k))
 
   statements-all : (gs : List Func) → AllByRecursion (λ g. HasHeads (func_rows design.signals g) (stm_of g.body)) gs → (f : ℕ) →
       slice_index (map (next_statements design.signals few) gs) f ≡ min (most_statements + 1) (func_count statements scope (body_within statements scope d.funcs n) (slice_get (map func_of gs) f))

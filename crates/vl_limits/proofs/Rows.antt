@@ -1,5 +1,5 @@
 -- Lists inside expressions and left sides.
-use Rattle.std.proofs.Common.{◌≡◌, refl, ap, ◌∙◌, ℕ, List}
+use Rattle.std.proofs.Common.{◌≡◌, refl, ap, ◌∙◌, ℕ}
 use Rattle.std.specs.declared.alloc.Global.{Global}
 use Rattle.std.specs.declared.vec.Vec.{Vec}
 use Rattle.vl_design.specs.declared.design.Expr.{Expr}

@@ -1,9 +1,9 @@
 -- What the pieces of a display count, argument by argument.
-use Rattle.std.proofs.Common.{◌≡◌, refl, sym, ap, ◌∙◌, arith, ℕ, zero, suc, ◌+◌, ◌*◌, ◌-◌, ◌≤◌, min, Bool, true, false, List, [], ◌∷◌, ◌++◌}
+use Rattle.std.proofs.Common.{◌≡◌, refl, sym, ap, ◌∙◌, arith, ℕ, zero, suc, ◌+◌, ◌*◌, ◌-◌, ◌≤◌, Bool, true, false, List, [], ◌∷◌, ◌++◌}
 use Rattle.std.specs.Prelude.{Option, Some, None, if◌then◌else◌, ◌==◌}
 use Rattle.vl_base.specs.Display.{Format, format_of, lower_case}
 use Rattle.vl_design.specs.Syntax.{Exp, Piece, Literal, Shown}
-use Rattle.vl_design.specs.Formats.{Arg, Null, Str, Value, FormatPosition, InText, Percent, PercentZero, operand, behind, with_text, behind_item, with_item, format_pieces, taken, pieces_from}
+use Rattle.vl_design.specs.Formats.{Arg, Null, Str, Value, FormatPosition, InText, Percent, PercentZero, operand, with_text, behind_item, with_item, format_pieces, taken, pieces_from}
 use Rattle.vl_turns.specs.Limits.{Counted, exp_count, pieces_count}
 use Rattle.vl_limits.specs.Displays.{items_in, operands_count, shown_count}
 use Rattle.vl_limits.proofs.Pieces.{taken-text}

@@ -2,8 +2,6 @@
 use Rattle.std.proofs.Common.{◌≡◌, refl, sym, ap, ◌∙◌, arith, ℕ, ◌+◌, ◌≤◌, min, Bool, true, false, List, [], ◌∷◌, map, length, get_or}
 use Rattle.std.specs.Prelude.{if◌then◌else◌, ◌||◌, ◌&&◌, codes}
 use Rattle.std.specs.Str.{bytes_eq}
-use Rattle.std.specs.declared.alloc.Global.{Global}
-use Rattle.std.specs.declared.vec.Vec.{Vec}
 use Rattle.vl_design.specs.declared.design.Expr.{Expr}
 use Rattle.vl_design.specs.declared.design.ExprNode as d
 use Rattle.vl_design.specs.declared.design.ExprNode.TheBlock as blk
@@ -19,8 +17,8 @@ use Rattle.vl_design.specs.Plainly as plain
 use Rattle.vl_design.specs.Trees.{arg_of}
 use Rattle.vl_design.proofs.TreeLemmas.{args-map}
 use Rattle.vl_design.specs.Seen as seen
-use Rattle.vl_design.specs.Syntax.{Exp, Sig, Num, Task, Print, Finish, Fgetc, Feof, Fclose}
-use Rattle.vl_turns.specs.Limits.{Counted, exp_count, exps_count, pieces_count, task_count, call_count}
+use Rattle.vl_design.specs.Syntax.{Exp, Sig, Task, Print, Finish, Fgetc, Feof, Fclose}
+use Rattle.vl_turns.specs.Limits.{Counted, exp_count, task_count, call_count}
 use Rattle.vl_limits.specs.declared.tasks.Kind.{Kind}
 use Rattle.vl_limits.specs.declared.tasks.Kind.TheVariants as k
 use Rattle.vl_limits.specs.Tasks.{is_signal, is_value, is_text, kind_by, kind_count}

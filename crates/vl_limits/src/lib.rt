@@ -10,4 +10,3 @@ pub mod limits;
 mod statements;
 mod sums;
 mod tasks;
-

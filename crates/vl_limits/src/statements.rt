@@ -85,7 +85,16 @@ pub(crate) fn stm_sum(
         StmtNode::For(variable, start, test, step, body) => {
             let all = turns_of(alloc, room, numbers, *variable, start, test, step)?;
             let ended = endless_sum(tally, own, all.endless);
-            turns_sum(alloc, tally, room, numbers, ended, *variable, &all.numbers, body)
+            turns_sum(
+                alloc,
+                tally,
+                room,
+                numbers,
+                ended,
+                *variable,
+                &all.numbers,
+                body,
+            )
         }
         StmtNode::Repeat(count, body) => {
             let once = stm_sum(alloc, tally, room, numbers, 0, body)?;

@@ -123,4 +123,3 @@ module _ (scope : Scope) (signals : List Row) (funs : List Fun) (files : List Fi
     header_closed (Call f es) k h c = absurd k
     header_closed Time k h c = absurd k
     header_closed LastAnswer k h c = absurd k
-

@@ -1,7 +1,5 @@
-use Rattle.std.proofs.Common.{◌≡◌, ◌+◌, ℕ, List, suc, sym, ap, ◌∙◌, length, map, arith}
-use Rattle.vl_design.specs.Seen.{placed, func_of}
-use Rattle.vl_design.specs.declared.design.Func.{Func}
-use Rattle.vl_design.specs.declared.design.Signal.{Signal}
+use Rattle.std.proofs.Common.{◌≡◌, ◌+◌, suc, sym, ◌∙◌, length, map, arith}
+use Rattle.vl_design.specs.Seen.{func_of}
 use Rattle.vl_limits.specs.Bodies.{next_statements, next_nodes}
 use Rattle.vl_limits.proofs.Rounds.{from-slices, slices-heads, more-rounds, round-is, stays-to}
 use Rattle.vl_limits.proofs.bodies.bodies_of.Goals as goal

@@ -1,4 +1,4 @@
-use Rattle.std.proofs.Common.{◌≡◌, ◌+◌, ◌*◌, min, map, drop, [], ap, arith}
+use Rattle.std.proofs.Common.{map, arith}
 use Rattle.std.proofs.lemmas.List.{at_drop_all}
 use Rattle.vl_design.specs.Trees.{arg_of}
 use Rattle.vl_limits.specs.Displays.{shown_count}

@@ -1,4 +1,4 @@
-use Rattle.std.proofs.Common.{◌≡◌, ◌≤◌, ◌<◌, ◌+◌, ◌*◌, ℕ, List, min, slice_set, length, drop, sym, ap, ◌∙◌, subst, get_or, arith, rules}
+use Rattle.std.proofs.Common.{◌≡◌, ◌<◌, ◌+◌, ℕ, List, min, slice_set, length, sym, ap, ◌∙◌, subst, get_or, arith, rules}
 use Rattle.std.specs.Prelude.{All, IfOk, if◌then◌else◌, nat_lt}
 use Rattle.vl_design.specs.declared.design.Stmt.{Stmt}
 use Rattle.vl_design.specs.declared.design.CaseItem.{CaseItem}
@@ -37,7 +37,7 @@ stm_sum-turns_sum-requires t c =
     let body = subst (λ (z : Stmt). HasHeads rows (stm_of z)) (sym c.deref-in-For-4.ensures) h.1 in
     let there = subst (λ (z : List ℕ). j < length z) kept (loop-there rows c.args.numbers.now j c.requires.numbers h.0.variable) in
     let fits = subst (λ (z : List ℕ). All (λ (v : ℕ). AreNumbers rows (slice_set z j v)) c.deref-in-For-3.result.now) kept
-        (subst (λ (z : List ℕ). All (λ (v : ℕ). AreNumbers rows (slice_set c.args.numbers.now j v)) z) (sym c.deref-in-For-3.ensures.value) c.in_ok-all-in-For.ensures.fits) in
+    (subst (λ (z : List ℕ). All (λ (v : ℕ). AreNumbers rows (slice_set c.args.numbers.now j v)) z) (sym c.deref-in-For-3.ensures.value) c.in_ok-all-in-For.ensures.fits) in
     (search (rules, the_lemmas), (body, (there, fits)))
 
 pub stm_sum-returns-in_ok-all-in-For-clause-sum : goal.stm_sum-returns-in_ok-all-in-For-clause-sum

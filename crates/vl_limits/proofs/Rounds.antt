@@ -123,9 +123,6 @@ rounds-stay design u few many h k (suc j) n a =
     let e : n + suc j ≡ suc n + j = omega arith in
     subst (λ z. AreBodies (placed design) z few many) (sym e) (rounds-stay design u few many h k j (suc n) (round-is design u n (suc n) few many few many a h k refl))
 
-pub no-round : (design : Design) (few many : List ℕ) → few ≡ [] → many ≡ [] → AreBodies (placed design) 0 few many
-no-round design few many h k = record { few_statements = λ f. ap (λ z. slice_index z f) h; few_nodes = λ f q. ap (λ z. slice_index z f) k }
-
 pub stays-to : (design : Design) → CanUnroll (flat_of design) → (n m : ℕ) (few many few' many' : List ℕ) → AreBodies (placed design) n few many → few' ≡ map (next_statements design.signals few) design.funcs → many' ≡ map (next_nodes design.signals few many) design.funcs →
     few' ≡ few → many' ≡ many → n ≤ m → AreBodies (placed design) m few' many'
 stays-to design u n m few many few' many' a h k e f i =

@@ -1,9 +1,9 @@
 -- What the pieces of a display count, argument by argument.
-use Rattle.std.proofs.Common.{◌≡◌, refl, sym, ap, ◌∙◌, arith, ℕ, zero, suc, ◌+◌, ◌*◌, ◌-◌, ◌≤◌, Bool, true, false, List, [], ◌∷◌, ◌++◌}
+use Rattle.std.proofs.Common.{◌≡◌, refl, sym, ap, ◌∙◌, arith, ℕ, zero, suc, ◌+◌, ◌*◌, Bool, true, false, List, [], ◌∷◌, ◌++◌}
 use Rattle.std.specs.Prelude.{Option, Some, None, if◌then◌else◌, ◌==◌}
 use Rattle.vl_base.specs.Display.{Format, format_of, lower_case}
 use Rattle.vl_design.specs.Syntax.{Exp, Piece, Literal, Shown}
-use Rattle.vl_design.specs.Formats.{Arg, Null, Str, Value, FormatPosition, InText, Percent, PercentZero, operand, with_text, behind_item, with_item, format_pieces, taken, pieces_from}
+use Rattle.vl_design.specs.Formats.{Arg, Str, FormatPosition, InText, Percent, PercentZero, operand, with_text, behind_item, with_item, format_pieces, taken, pieces_from}
 use Rattle.vl_turns.specs.Limits.{Counted, exp_count, pieces_count}
 use Rattle.vl_limits.specs.Displays.{items_in, operands_count, shown_count}
 use Rattle.vl_limits.proofs.Pieces.{taken-text}
@@ -66,9 +66,6 @@ module _ (c : Counted) where
 
   -- ---- one argument
 
-  pub shown-null : (args : List Arg) → shown_count c 0 (Null ∷ args) ≡ shown_count c 0 args
-  shown-null args = refl
-
   pub shown-text : (text : List ℕ) (args : List Arg) → shown_count c 0 (Str text ∷ args) ≡ shown_count c (items_in text) args
   shown-text text args =
       let h = format-shows InText text args in
@@ -77,13 +74,6 @@ module _ (c : Counted) where
       let i : pieces_count c (pieces_from [] (taken ps) args) ≡ pieces_count c (pieces_from [] (items_in text) args) = ap (λ n. pieces_count c (pieces_from [] n args)) h.takes in
       let j : pieces_count c ps ≡ operands_count c (items_in text) args = h.counts in
       omega (arith, k, i, j)
-
-  pub shown-value : (e : Exp) (args : List Arg) → shown_count c 0 (Value e ∷ args) ≡ exp_count c e + shown_count c 0 args
-  shown-value e args = omega arith
-
-  pub shown-taken : (n : ℕ) (a : Arg) (args : List Arg) → 1 ≤ n → shown_count c n (a ∷ args) ≡ exp_count c (operand (a ∷ args)) + shown_count c (n - 1) args
-  shown-taken zero a args h = absurd (omega arith)
-  shown-taken (suc n) a args h = let i : suc n - 1 ≡ n = omega arith in rw i (omega arith)
 
   pub shown-none : (n : ℕ) → shown_count c n [] ≡ n * c.node
   shown-none n = let h = missing n in let k = none n in omega (arith, h, k)

@@ -1,6 +1,6 @@
 -- What a system call counts, by its kind.
 use Rattle.std.proofs.Common.{◌≡◌, refl, sym, ap, ◌∙◌, arith, ℕ, ◌+◌, ◌≤◌, min, Bool, true, false, List, [], ◌∷◌, map, length, get_or}
-use Rattle.std.specs.Prelude.{if◌then◌else◌, ◌||◌, ◌&&◌, codes}
+use Rattle.std.specs.Prelude.{if◌then◌else◌, ◌||◌, codes}
 use Rattle.std.specs.Str.{bytes_eq}
 use Rattle.vl_design.specs.declared.design.Expr.{Expr}
 use Rattle.vl_design.specs.declared.design.ExprNode as d
@@ -21,7 +21,7 @@ use Rattle.vl_design.specs.Syntax.{Exp, Sig, Task, Print, Finish, Fgetc, Feof, F
 use Rattle.vl_turns.specs.Limits.{Counted, exp_count, task_count, call_count}
 use Rattle.vl_limits.specs.declared.tasks.Kind.{Kind}
 use Rattle.vl_limits.specs.declared.tasks.Kind.TheVariants as k
-use Rattle.vl_limits.specs.Tasks.{is_signal, is_value, is_text, kind_by, kind_count}
+use Rattle.vl_limits.specs.Tasks.{is_signal, is_value, kind_by, kind_count}
 
 -- ---- the tree of a call
 
@@ -83,30 +83,6 @@ module _ (c : Counted) where
   read-count Null b given h i = let z : ⊥ = cc in absurd z
   read-count (Str text) b given h i = let z : ⊥ = cc in absurd z
   read-count (Value e) b given h i = let z : ⊥ = cc in absurd z
-
-  pub read-none : (a b : Arg) (given : List Arg) → (is_signal a && is_value b) ≡ false → task_count c (fread_of (a ∷ b ∷ given)) ≡ 0
-  read-none (Value (Sig j)) (Value e) given h = let z : ⊥ = cc in absurd z
-  read-none (Value (Sig j)) Null given h = refl
-  read-none (Value (Sig j)) (Str text) given h = refl
-  read-none Null b given h = refl
-  read-none (Str text) b given h = refl
-  read-none (Value e) b given h = refl
-
-  pub load-count : (a b : Arg) (given : List Arg) → is_text a ≡ true → is_signal b ≡ true → task_count c (read_hex_of (a ∷ b ∷ given)) ≡ c.node
-  load-count (Str text) (Value (Sig j)) given h i = refl
-  load-count (Str text) Null given h i = let z : ⊥ = cc in absurd z
-  load-count (Str text) (Str t) given h i = let z : ⊥ = cc in absurd z
-  load-count (Str text) (Value e) given h i = let z : ⊥ = cc in absurd z
-  load-count Null b given h i = let z : ⊥ = cc in absurd z
-  load-count (Value e) b given h i = let z : ⊥ = cc in absurd z
-
-  pub load-none : (a b : Arg) (given : List Arg) → (is_text a && is_signal b) ≡ false → task_count c (read_hex_of (a ∷ b ∷ given)) ≡ 0
-  load-none (Str text) (Value (Sig j)) given h = let z : ⊥ = cc in absurd z
-  load-none (Str text) Null given h = refl
-  load-none (Str text) (Str t) given h = refl
-  load-none (Str text) (Value e) given h = refl
-  load-none Null b given h = refl
-  load-none (Value e) b given h = refl
 
 -- ---- calls
 

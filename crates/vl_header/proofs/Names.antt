@@ -1,14 +1,13 @@
 -- What numbers name.
-use Rattle.std.proofs.Common.{◌≡◌, ◌<◌, ◌≤◌, ◌-◌, ◌^◌, ℕ, zero, suc, true, false, Bool, List, [], ◌∷◌, length, map, ◌++◌, refl, sym, ap, ◌∙◌, arith, subst}
+use Rattle.std.proofs.Common.{◌≡◌, ◌<◌, ℕ, zero, suc, true, List, [], ◌∷◌, length, refl, arith}
 use Rattle.std.specs.Prelude.{slice_get, slice_index, Option, Some, None, ⊤}
 use Rattle.std.proofs.lemmas.Option.{slice_get_within}
 use Rattle.vl_design.specs.declared.design.Form.{Form}
 use Rattle.vl_design.specs.declared.design.SigKind.{SigKind}
 use Rattle.vl_design.specs.Syntax.{Row}
 use Rattle.vl_design.specs.Width.{Names, signal_form, row_form, joined}
-use Rattle.vl_design.specs.Plain.{plain_scope}
 use Rattle.vl_design.specs.Sound.{IsSignal, IsNamed, IsOf, HasValue, IsWidth}
-use Rattle.vl_turns.specs.Unroll.{is_loop, is_loop_row, is_loop_kind}
+use Rattle.vl_turns.specs.Unroll.{is_loop, is_loop_row}
 use Rattle.vl_header.specs.Rooms.{AreNumbers, values_of}
 use Rattle.vl_design.specs.Value.{value_of}
 

@@ -1,6 +1,6 @@
 -- What the assignments of a header do to the numbers of loop variables.
-use Rattle.std.proofs.Common.{◌≡◌, ◌≢◌, ◌⊎◌, inl, inr, ◌<◌, ◌≤◌, ◌+◌, ◌*◌, ◌/◌, ◌%◌, ◌^◌, pos, ℕ, zero, suc, Bool, true, false, List, [], ◌∷◌, ◌++◌, length, map, refl, sym, ap, ◌∙◌, subst, arith}
-use Rattle.std.specs.Prelude.{slice_get, slice_set, slice_index, min}
+use Rattle.std.proofs.Common.{◌≡◌, ◌≢◌, ◌⊎◌, inl, inr, ◌<◌, ◌+◌, ◌*◌, ◌/◌, ◌%◌, ◌^◌, pos, ℕ, zero, suc, true, List, [], ◌∷◌, length, refl, sym, ap, ◌∙◌, subst, arith}
+use Rattle.std.specs.Prelude.{slice_set, slice_index, min}
 use Rattle.std.proofs.lemmas.List.{length-set}
 use Rattle.std.proofs.Math.Nat.{mod-one, mul-add-mod_self_right, mod-eq_of_lt}
 use Rattle.std.proofs.lemmas.Bool.{cases_eq}
@@ -9,8 +9,7 @@ use Rattle.vl_base.specs.declared.bits.UnOp.TheVariants.{LogNot}
 use Rattle.vl_design.specs.Syntax as d
 use Rattle.vl_design.specs.Width.{Scope, form, assigned, signal_form}
 use Rattle.vl_design.specs.Value.{value, words_of}
-use Rattle.vl_design.specs.State.{State, sample}
-use Rattle.vl_design.specs.Exec.{exec, turns}
+use Rattle.vl_design.specs.Exec.{exec}
 use Rattle.vl_design.specs.Functions.{fresh}
 use Rattle.vl_design.specs.Plain.{plain_scope}
 use Rattle.vl_design.specs.Sound.{IsSoundExp}
@@ -18,7 +17,7 @@ use Rattle.vl_design.specs.Placed as p
 use Rattle.vl_design.specs.Plainly as plain
 use Rattle.vl_turns.specs.Unroll.{is_loop}
 use Rattle.vl_header.specs.Constants.{IsConstant}
-use Rattle.vl_header.specs.Heads.{IsHead, turn_states}
+use Rattle.vl_header.specs.Heads.{IsHead}
 use Rattle.vl_header.specs.Rooms.{values_of, state_of, sample_of, AreNumbers}
 pub use Rattle.vl_header.proofs.Names.{loop-there}
 

@@ -5,8 +5,8 @@ use Rattle.std.specs.Prelude.{◌&&◌, not}
 use Rattle.vl_base.specs.declared.files.File.{File}
 use Rattle.vl_design.specs.declared.design.Form.{Form}
 use Rattle.vl_design.specs.Syntax.{Exp, Num, Label, Sig, Word, Pick, Slice, Un, Bin, Cond, Cat, Rep, Cast, Call, Time, LastAnswer, Exps, NoExps, MoreExps, Target, Whole, WordAt, PickAt, SliceAt, Several, Targets, NoTargets, MoreTargets, Piece, Literal, Shown, Task, Print, Finish, Save, Fopen, Fread, Fgetc, Feof, Fclose, ReadHex, Row, Fun}
-use Rattle.vl_design.specs.Width.{Scope, form, total_width}
-use Rattle.vl_design.specs.Value.{Sample, value, side_by_side}
+use Rattle.vl_design.specs.Width.{Scope, form}
+use Rattle.vl_design.specs.Value.{Sample, value}
 use Rattle.vl_design.specs.Reads.{reads, some_reads, target_reads, targets_read, pieces_read, task_reads}
 use Rattle.vl_design.proofs.Unread.{or_false}
 use Rattle.vl_turns.specs.Unroll.{is_loop, signal_put, put, puts, put_target, put_targets, put_pieces, put_task}

@@ -2,9 +2,9 @@
 use Rattle.std.proofs.Common.{◌≡◌, ℕ, zero, suc, Bool, true, false, List, refl, ap, ◌∙◌}
 use Rattle.vl_base.specs.declared.files.File.{File}
 use Rattle.vl_design.specs.declared.design.Form.{Form}
-use Rattle.vl_design.specs.Syntax.{Exp, Num, Label, Sig, Word, Pick, Slice, Un, Bin, Cond, Cat, Rep, Cast, Call, Time, LastAnswer, Exps, NoExps, MoreExps, Stm, Nop, Then, If, Case, For, Repeat, Set, Later, Sys, Items, NoItems, Labelled, Default, Row, Fun}
+use Rattle.vl_design.specs.Syntax.{Exp, Num, Label, Sig, Word, Pick, Slice, Un, Bin, Cond, Cat, Rep, Cast, Call, Time, LastAnswer, Stm, Nop, Then, If, Case, For, Repeat, Set, Later, Sys, Items, NoItems, Labelled, Default, Row, Fun}
 use Rattle.vl_design.specs.Width.{Scope, form}
-use Rattle.vl_design.specs.Value.{Sample, value, side_by_side}
+use Rattle.vl_design.specs.Value.{Sample, value}
 use Rattle.vl_design.specs.State.{State, sample}
 use Rattle.vl_design.specs.Exec.{exec, goes_on, most_turns}
 use Rattle.vl_turns.specs.Unroll.{unrolled, unrolled_items, in_turns, so_many}

@@ -1,0 +1,8 @@
+use Rattle.std.proofs.Common.{◌+◌, min, ap, sym, ◌∙◌}
+use Rattle.vl_limits.specs.Tallies.{counted_of}
+use Rattle.vl_limits.proofs.Tasking.{call-sys}
+use Rattle.vl_limits.proofs.tasks.call_sum.Goals as goal
+
+pub returns-in-Sys : goal.returns-in-Sys
+returns-in-Sys c = c.task_sum.ensures
+    ∙ sym (ap (λ n. min c.args.tally.now.cap (c.args.sum + n)) (call-sys (counted_of c.args.tally.now) c.args.e.now c.in-Sys.call c.in-Sys.is))

@@ -15,7 +15,10 @@ use Rattle.vl_design.specs.Value.{Sample, value, value_of, words_of, word_at, lo
 use Rattle.std.specs.Prelude.{slice_index}
 use Rattle.std.proofs.Math.Nat.{mod-eq_of_lt}
 use Rattle.vl_eval.specs.Answers.{Reads, ReadsAll, answers_of, all_answers}
-use Rattle.vl_eval.specs.Rooms.{scope_at}
+use Rattle.std.proofs.Math.Nat.{mod-lt}
+use Rattle.std.proofs.lemmas.Nat.{pow_pos}
+use Rattle.vl_design.specs.Width.{Scope}
+use Rattle.vl_eval.specs.Rooms.{scope_at, Fit}
 
 module _ (names : Names) (s : Sample) (c : Form) (before : List ℕ) where
   pub reads-num : (v w : ℕ) (signed : Bool) → Reads names s (Num v w signed) c before (resized c.signed w c.width v) before
@@ -79,13 +82,19 @@ module _ (names : Names) (s : Sample) (c : Form) (before : List ℕ) where
   pub reads-cast : (signed : Bool) (a : Exp) (v : ℕ) (left : List ℕ) → Reads names s a (form names a) before v left → Reads names s (Cast signed a) c before (resized c.signed (form names a).width c.width v) left
   reads-cast signed a v left h = record { leads = λ files call rest fits e. let k = h.leads files call rest fits e in (rw (k.0) refl, k.1) }
 
+-- arguments are as assigned to inputs
+pub arguments-fit : (scope : Scope) (s : Sample) (es : Exps) (ws : List ℕ) → Fit (arguments scope s es ws) ws
+arguments-fit scope s NoExps ws = tt
+arguments-fit scope s (MoreExps e es) [] = tt
+arguments-fit scope s (MoreExps e es) (w ∷ ws) = (mod-lt _ (pow_pos w), arguments-fit scope s es ws)
+
 -- a call's answer comes first
 pub reads-call : (names : Names) (s : Sample) (c : Form) (f : ℕ) (es : Exps) (v : ℕ) (vs : List ℕ) → Reads names s (Call f es) c (v ∷ vs) (resized c.signed (result_form names f).width c.width (v % 2 ^ (result_form names f).width)) vs
 reads-call names s c f es v vs = record {
   leads = λ files call rest fits e.
       let p : v ≡ call f (arguments (scope_at names files call) s es (input_widths names f)) = cc e in
       let q : vs ≡ rest = cc e in
-      let small : v < 2 ^ (result_form names f).width = rw p (fits f (arguments (scope_at names files call) s es (input_widths names f))) in
+      let small : v < 2 ^ (result_form names f).width = rw p (fits f (arguments (scope_at names files call) s es (input_widths names f)) (arguments-fit (scope_at names files call) s es (input_widths names f))) in
       (rw (mod-eq_of_lt small, p) refl, q);
 }
 

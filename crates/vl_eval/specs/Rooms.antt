@@ -1,8 +1,8 @@
 -- What the evaluator's names, values and contexts stand for (IEEE 1364-2005, clauses 5 and 10.4).
-use Rattle.std.specs.Prelude.{ℕ, ◌^◌, ◌<◌, List, ◌++◌, map}
+use Rattle.std.specs.Prelude.{ℕ, ◌^◌, ◌<◌, List, [], ◌∷◌, ◌++◌, map, ⊤}
 use Rattle.vl_base.specs.declared.files.File.{File}
 use Rattle.vl_design.specs.Trees.{row_of, fun_of}
-use Rattle.vl_design.specs.Width.{Names, Scope, result_form}
+use Rattle.vl_design.specs.Width.{Names, Scope, result_form, input_widths}
 use Rattle.vl_design.specs.Value as v
 use Rattle.vl_eval.specs.declared.room.Room.{Room}
 use Rattle.vl_eval.specs.declared.room.Sample.{Sample}
@@ -23,6 +23,12 @@ sample_of s = record { values = s.values.now; time = s.time; answer = s.answer }
 abbrev pub scope_at : Names → List File → (ℕ → List ℕ → ℕ) → Scope
 scope_at names files call = record { names = names; files = files; call = call }
 
--- what a call gives has the width of the function's result
+-- values, each below 2 to the width at its place
+abbrev pub Fit : List ℕ → List ℕ → Type 0
+Fit [] widths = ⊤
+Fit (v ∷ vs) [] = ⊥
+Fit (v ∷ vs) (w ∷ ws) = (v < 2 ^ w) × Fit vs ws
+
+-- what a call gives for arguments as assigned to the function's inputs has the width of its result
 abbrev pub GivesFitting : Names → (ℕ → List ℕ → ℕ) → Type 0
-GivesFitting names call = (f : ℕ) (args : List ℕ) → call f args < 2 ^ (result_form names f).width
+GivesFitting names call = (f : ℕ) (args : List ℕ) → Fit args (input_widths names f) → call f args < 2 ^ (result_form names f).width

@@ -269,7 +269,7 @@ fn word_of(room: &Room<'_>, s: &Sample<'_>, signal: u32, word: u64, c: Form) -> 
 }
 
 /// The signal of a number.
-fn signal_at<'a>(room: &Room<'a>, number: u32) -> &'a Signal
+pub fn signal_at<'a>(room: &Room<'a>, number: u32) -> &'a Signal
     requires { number < length (names_of room.now).rows }
     ensures { slice_get (names_of room.now).rows number ≡ Some (row_of result.now) }
 {

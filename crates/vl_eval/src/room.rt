@@ -41,6 +41,15 @@ impl Kept {
         })
     }
 
+    /// Others with the same words.
+    pub fn copy(&self) -> Result<Kept, AllocError>
+        ensures { IfOk result (λ k. k ≡ self.now) }
+    {
+        Ok(Kept {
+            words: self.words.clone()?,
+        })
+    }
+
     /// A word, from 0 on; 0 where there is none.
     pub fn word(&self, number: usize) -> u128
         ensures { result ≡ slice_index self.now number }

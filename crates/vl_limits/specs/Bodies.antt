@@ -10,15 +10,11 @@ use Rattle.vl_design.specs.Rows.{row_of}
 use Rattle.vl_design.specs.Seen.{stm_of}
 use Rattle.vl_design.specs.Syntax.{Row}
 use Rattle.vl_turns.specs.Limits.{Counted, statements, nodes, most_statements, most_nodes, stm_count, body_within, process_count}
-use Rattle.vl_header.specs.declared.room.Room.{Room}
 use Rattle.vl_header.specs.Rooms.{state_of}
 
 -- a 0 for each signal and each local
 abbrev pub zeros_in : List Signal → List Signal → List ℕ
 zeros_in signals locals = map (λ x. 0) signals ++ map (λ y. 0) locals
-
-abbrev pub zeros_of : Room → List ℕ
-zeros_of r = zeros_in r.signals.now r.locals.now
 
 -- the design's signals with a function's locals behind them
 abbrev pub func_rows : List Signal → Func → List Row

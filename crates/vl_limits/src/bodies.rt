@@ -7,15 +7,15 @@ ghost use Rattle.vl_design.specs.Trees.{flat_of};
 ghost use Rattle.vl_turns.specs.Fits.{CanUnroll};
 ghost use Rattle.vl_turns.specs.Limits.{stm_count, statements, nodes};
 ghost use Rattle.vl_header.specs.Loops.{HasHeads};
-ghost use Rattle.vl_header.specs.Rooms.{rows_of, scope_of, state_of};
-ghost use Rattle.vl_limits.specs.Bodies.{zeros_of, func_rows, alone_count, next_statements, next_nodes, AreBodies};
+ghost use Rattle.vl_header.specs.Rooms.{rows_of, scope_of, state_of, zeros_of};
+ghost use Rattle.vl_limits.specs.Bodies.{func_rows, alone_count, next_statements, next_nodes, AreBodies};
 ghost use Rattle.vl_limits.specs.Tallies.{counted_of};
 
 use crate::statements::stm_sum;
 use crate::sums::Tally;
 use std::alloc::{AllocError, Global};
 use vl_design::design::{Design, Func, Signal, Stmt};
-use vl_header::room::Room;
+use vl_header::room::{Room, zeros};
 
 /// What counts for limit 8.
 pub(crate) fn statements_tally<'a>(bodies: &'a [u32]) -> Tally<'a>
@@ -43,23 +43,6 @@ pub(crate) fn nodes_tally<'a>(bodies: &'a [u32]) -> Tally<'a>
         node: 1,
         bodies,
     }
-}
-
-/// A 0 for each signal.
-fn zeros_for(alloc: Global, signals: &[Signal]) -> Result<Vec<u128>, AllocError>
-    ensures { IfOk result (λ v. v.items ≡ map (λ x. 0) signals.now) }
-{
-    signals.iter().map(|_signal| 0_u128).collect(alloc)
-}
-
-/// A 0 for each signal and each local.
-fn zeros(alloc: Global, room: &Room<'_>) -> Result<Vec<u128>, AllocError>
-    ensures { IfOk result (λ v. v.items ≡ zeros_of room.now) }
-{
-    let mut all = zeros_for(alloc, room.signals)?;
-    let locals = zeros_for(alloc, room.locals)?;
-    all.extend_from_slice(&locals)?;
-    Ok(all)
 }
 
 /// A sum with what a body counts, in which no loop variable has a number yet.

@@ -94,7 +94,7 @@ fn processes(
 /// The design with its loops unrolled: each loop is a block, at its place, of its turns, in which its variable is a number
 /// (IEEE 1364-2005, clauses 9.6 and 9.8.1). Signals, the heads of functions and processes, and the places of all nodes stay.
 /// It takes memory in proportion to its result, so the limits on turns and statements are judged first.
-pub fn unrolled(alloc: Global, design: &Design) -> Result<Design, AllocError>
+pub(crate) fn unrolled(alloc: Global, design: &Design) -> Result<Design, AllocError>
     requires fit { CanUnroll (flat_of design.now) }
     requires signals { All (λ r. IsWidth (range_width r.left r.right)) design.now.signals }
     requires locals { All (λ f. All (λ r. IsWidth (range_width r.left r.right)) f.locals) design.now.funcs }

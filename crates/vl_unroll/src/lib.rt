@@ -2,7 +2,8 @@
 #![tactic(auto)]
 
 mod copies;
-pub mod designs;
+mod designs;
 mod put;
 mod statements;
 mod targets;
+pub mod unroll;

@@ -15,13 +15,13 @@ returns-in-Ok c =
     let tree = c.args.tree.now in
     ok_weaker (λ a. (text : List ℕ) (s : Source) → IsTreeOf text s → IsElaboration s (Ok (placed c.in-Ok.design)) → IsAnswer text c.args.ticks a)
     (λ a. (text : List ℕ) → IsTreeOf text tree → IsAnswer text c.args.ticks a)
-    (λ a h text is. h text tree is c.in-Ok.ensures)
+    (λ a h text is. h text tree is c.in-Ok.ensures.elaborated)
     c.answer_to_design.result c.answer_to_design.ensures
 
 pub returns-in_ok-construct-in-Err-Construct : goal.returns-in_ok-construct-in-Err-Construct
 returns-in_ok-construct-in-Err-Construct c = λ text is.
-    misbuilt is.read is.parsed (rw c.in-Err-Construct.field-0-is at c.in-Err-Construct.ensures) c.in_ok-construct-in-Err-Construct.ensures
+    misbuilt is.read is.parsed (rw c.in-Err-Construct.field-0-is at c.in-Err-Construct.ensures.elaborated) c.in_ok-construct-in-Err-Construct.ensures
 
 pub returns-in_ok-limit-in-Err-Limit : goal.returns-in_ok-limit-in-Err-Limit
 returns-in_ok-limit-in-Err-Limit c = λ text is.
-    outgrown is.read is.parsed (rw c.in-Err-Limit.field-0-is at c.in-Err-Limit.ensures) c.in_ok-limit-in-Err-Limit.ensures
+    outgrown is.read is.parsed (rw c.in-Err-Limit.field-0-is at c.in-Err-Limit.ensures.elaborated) c.in_ok-limit-in-Err-Limit.ensures

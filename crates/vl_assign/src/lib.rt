@@ -1,0 +1,5 @@
+//! Spots and updates of signals.
+#![tactic(auto)]
+
+pub mod spot;
+pub mod update;

@@ -1,0 +1,11 @@
+pub mod Assigning
+pub mod Bodies
+pub mod Calling
+pub mod Designs
+pub mod Casing
+pub mod Doing
+pub mod Fresh
+pub mod Inputs
+pub mod Reading
+pub mod Spotting
+pub mod Statements

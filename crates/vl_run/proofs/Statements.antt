@@ -1,0 +1,92 @@
+-- Statements without system calls, part by part.
+use Rattle.std.proofs.Common.{◌≡◌, ◌<◌, ◌+◌, ℕ, List, length, drop, get_or, refl, sym, ap, ◌∙◌}
+use Rattle.std.proofs.lemmas.List.{at_drop_more}
+use Rattle.std.specs.declared.alloc.Global.{Global}
+use Rattle.std.specs.declared.boxed.Box.{Box}
+use Rattle.vl_base.specs.declared.bits.UnOp.TheVariants.{LogNot}
+use Rattle.vl_design.specs.declared.design.Expr.{Expr}
+use Rattle.vl_design.specs.declared.design.Target.{Target as TargetCode}
+use Rattle.vl_design.specs.declared.design.Stmt.{Stmt}
+use Rattle.vl_design.specs.declared.design.StmtNode as s
+use Rattle.vl_design.specs.Syntax.{Stm, If, For, Repeat, Set, Later}
+use Rattle.vl_design.specs.Placed as p
+use Rattle.vl_design.specs.Plainly as plain
+use Rattle.vl_design.specs.Plainly.{called_first}
+use Rattle.vl_design.specs.Seen as seen
+use Rattle.vl_design.specs.Sound.{IsSoundExp, IsSoundTarget, IsSoundStm, IsNamed}
+use Rattle.vl_design.specs.Trees.{exp_of, stm_of, target_of}
+use Rattle.vl_design.specs.Width.{Names}
+use Rattle.vl_run.specs.Quiet.{IsAnswerless, IsQuietStm, IsForNode}
+
+pub called-none : (path : List ℕ) (x : p.Exp) (a : Stm) → IsAnswerless x → called_first path x a ≡ a
+called-none path (p.Sys at name given) a h = absurd h
+called-none path (p.Un at LogNot (p.Sys q name given)) a h = absurd h
+called-none path x a h = refl
+
+pub stms-more : (xs : List Stmt) (i : ℕ) (x : Stmt) → i < length xs → x ≡ get_or xs i x → seen.stms_of (drop i xs) ≡ p.MoreStms (seen.stm_of x) (seen.stms_of (drop (i + 1) xs))
+stms-more xs i x h e = at_drop_more seen.stms_of xs i x h ∙ ap (λ y. p.MoreStms (seen.stm_of y) (seen.stms_of (drop (i + 1) xs))) (sym e)
+
+module _ (path : List ℕ) (x : Stmt) (q : IsQuietStm (seen.stm_of x)) where
+  pub if-of : (t : Expr) (a b : Box Stmt Global) → x.node ≡ s.If t a b → stm_of path x ≡ If (exp_of t) (stm_of path a.value) (stm_of path b.value)
+  if-of t a b h = let k = rw h at q in ap (λ n. plain.stm path (seen.node_stm x.place n)) h ∙ called-none path (seen.exp_of t) _ k.0
+
+  pub set-of : (t : TargetCode) (e : Expr) → x.node ≡ s.Set t e → stm_of path x ≡ Set (target_of t) (exp_of e)
+  set-of t e h = let k = rw h at q in ap (λ n. plain.stm path (seen.node_stm x.place n)) h ∙ called-none path (seen.exp_of e) _ k
+
+  pub later-of : (t : TargetCode) (e : Expr) → x.node ≡ s.Later t e → stm_of path x ≡ Later (target_of t) (exp_of e)
+  later-of t e h = let k = rw h at q in ap (λ n. plain.stm path (seen.node_stm x.place n)) h ∙ called-none path (seen.exp_of e) _ k
+
+  module _ (names : Names) (sound : IsSoundStm names (stm_of path x)) where
+    pub if-sound : (t : Expr) (a b : Box Stmt Global) → x.node ≡ s.If t a b → IsSoundStm names (If (exp_of t) (stm_of path a.value) (stm_of path b.value))
+    if-sound t a b h = rw (if-of t a b h) at sound
+
+    pub if-test : (t : Expr) (a b : Box Stmt Global) → x.node ≡ s.If t a b → IsSoundExp names (exp_of t)
+    if-test t a b h = (if-sound t a b h).0
+
+    pub if-first : (t : Expr) (a b : Box Stmt Global) → x.node ≡ s.If t a b → IsSoundStm names (stm_of path a.value)
+    if-first t a b h = (if-sound t a b h).1
+
+    pub if-second : (t : Expr) (a b : Box Stmt Global) → x.node ≡ s.If t a b → IsSoundStm names (stm_of path b.value)
+    if-second t a b h = (if-sound t a b h).2
+
+    pub set-target : (t : TargetCode) (e : Expr) → x.node ≡ s.Set t e → IsSoundTarget names (target_of t)
+    set-target t e h = let k = rw (set-of t e h) at sound in k.0
+
+    pub set-source : (t : TargetCode) (e : Expr) → x.node ≡ s.Set t e → IsSoundExp names (exp_of e)
+    set-source t e h = let k = rw (set-of t e h) at sound in k.1
+
+    pub later-target : (t : TargetCode) (e : Expr) → x.node ≡ s.Later t e → IsSoundTarget names (target_of t)
+    later-target t e h = let k = rw (later-of t e h) at sound in k.0
+
+    pub later-source : (t : TargetCode) (e : Expr) → x.node ≡ s.Later t e → IsSoundExp names (exp_of e)
+    later-source t e h = let k = rw (later-of t e h) at sound in k.1
+
+pub for-of : (path : List ℕ) (x : Stmt) (k : ℕ) (start : Box Stmt Global) (test : Expr) (step a : Box Stmt Global) → x.node ≡ s.For k start test step a
+    → stm_of path x ≡ For k (stm_of path start.value) (exp_of test) (stm_of path step.value) (stm_of path a.value)
+for-of path x k start test step a h = ap (λ n. plain.stm path (seen.node_stm x.place n)) h
+
+pub for-node : (x : Stmt) (k : ℕ) (start : Box Stmt Global) (test : Expr) (step a : Box Stmt Global) → x.node ≡ s.For k start test step a → IsForNode x.node
+for-node x k start test step a h = rw h tt
+
+module _ (names : Names) (path : List ℕ) (x : Stmt) (k : ℕ) (start : Box Stmt Global) (test : Expr) (step a : Box Stmt Global) (h : x.node ≡ s.For k start test step a) (sound : IsSoundStm names (stm_of path x)) where
+  for-sound : IsSoundStm names (For k (stm_of path start.value) (exp_of test) (stm_of path step.value) (stm_of path a.value))
+  for-sound = rw (for-of path x k start test step a h) at sound
+
+  pub for-start : IsSoundStm names (stm_of path start.value)
+  for-start = for-sound.1
+
+  pub for-test : IsSoundExp names (exp_of test)
+  for-test = for-sound.2
+
+  pub for-step : IsSoundStm names (stm_of path step.value)
+  for-step = for-sound.3
+
+  pub for-body : IsSoundStm names (stm_of path a.value)
+  for-body = for-sound.4
+
+pub repeat-of : (path : List ℕ) (x : Stmt) (n : ℕ) (a : Box Stmt Global) → x.node ≡ s.Repeat n a → stm_of path x ≡ Repeat n (stm_of path a.value)
+repeat-of path x n a h = ap (λ k. plain.stm path (seen.node_stm x.place k)) h
+
+pub ruleset parts = (if-test, if-first, if-second, set-target, set-source, later-target, later-source, for-node)
+
+pub ruleset loops = (for-start, for-test, for-step, for-body)

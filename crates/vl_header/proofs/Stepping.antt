@@ -16,7 +16,7 @@ use Rattle.vl_design.specs.Sound.{IsSoundExp}
 use Rattle.vl_design.specs.Placed as p
 use Rattle.vl_design.specs.Plainly as plain
 use Rattle.vl_turns.specs.Unroll.{is_loop}
-use Rattle.vl_header.specs.Constants.{IsConstant}
+use Rattle.vl_turns.specs.Fits.{IsHeader}
 use Rattle.vl_header.specs.Heads.{IsHead}
 use Rattle.vl_header.specs.Rooms.{values_of, state_of, sample_of, AreNumbers}
 pub use Rattle.vl_header.proofs.Names.{loop-there}
@@ -61,7 +61,7 @@ set-number scope ns j v x there e below =
 
 -- ---- the plain tree of a header's assignment
 
-source-plain : (q : List ℕ) (x : p.Exp) (rows : List d.Row) (b : d.Stm) → IsConstant rows (plain.exp x) → plain.called_first q x b ≡ b
+source-plain : (q : List ℕ) (x : p.Exp) (rows : List d.Row) (b : d.Stm) → IsHeader rows (plain.exp x) → plain.called_first q x b ≡ b
 source-plain q (p.Sys at name given) rows b h = absurd h
 source-plain q (p.Un o LogNot (p.Sys at name given)) rows b h = absurd h
 source-plain q x rows b h = refl
@@ -77,7 +77,7 @@ head-plain scope j at (p.PickAt q b i from w) x h = absurd h
 head-plain scope j at (p.SliceAt q b low w) x h = absurd h
 head-plain scope j at (p.Several q ts) x h = absurd h
 
-pub head-source : (scope : Scope) (j : ℕ) (at : _) (t : p.Target) (x : p.Exp) → IsHead scope.names j (p.Set at t x) → IsConstant scope.names.rows (plain.exp x) × IsSoundExp scope.names (plain.exp x)
+pub head-source : (scope : Scope) (j : ℕ) (at : _) (t : p.Target) (x : p.Exp) → IsHead scope.names j (p.Set at t x) → IsHeader scope.names.rows (plain.exp x) × IsSoundExp scope.names (plain.exp x)
 head-source scope j at (p.Whole q k) x h = (h.1, h.2)
 head-source scope j at (p.WordAt q m a) x h = absurd h
 head-source scope j at (p.PickAt q b i from w) x h = absurd h

@@ -8,11 +8,11 @@ use Rattle.vl_design.specs.Exec.{exec, goes_on, turns}
 use Rattle.vl_design.specs.Syntax.{Exp, Stm}
 use Rattle.vl_design.specs.Placed as p
 use Rattle.vl_design.specs.Plainly.{exp}
-use Rattle.vl_header.specs.Constants.{IsConstant}
+use Rattle.vl_turns.specs.Fits.{IsHeader}
 
 -- an assignment of a constant to the loop variable j
 abbrev pub IsHead : Names → ℕ → p.Stm → Type 0
-IsHead names j (p.Set at (p.Whole q k) x) = (k ≡ j) × IsConstant names.rows (exp x) × IsSoundExp names (exp x)
+IsHead names j (p.Set at (p.Whole q k) x) = (k ≡ j) × IsHeader names.rows (exp x) × IsSoundExp names (exp x)
 IsHead names j a = ⊥
 
 -- the states before the turns of a loop, at most so many

@@ -1,5 +1,4 @@
 pub mod Rooms
 pub mod Near
-pub mod Constants
 pub mod Heads
 pub mod Loops

@@ -4,7 +4,7 @@ ghost use Rattle.std.specs.Prelude.{◌≡◌};
 ghost use Rattle.vl_design.specs.Trees.{exp_of};
 ghost use Rattle.vl_design.specs.Sound.{IsSoundExp, IsWidth};
 ghost use Rattle.vl_design.specs.Width as w;
-ghost use Rattle.vl_header.specs.Constants.{IsConstant};
+ghost use Rattle.vl_turns.specs.Fits.{IsHeader};
 ghost use Rattle.vl_header.specs.Rooms.{names_of, rows_of};
 
 use crate::room::{Room, signal_form};
@@ -15,7 +15,7 @@ use vl_form::form::{binary_form, joined, unary_form, unsigned};
 #[tactic(auto, using(crate::proofs::Names::form_rules))]
 pub(crate) fn form_of(room: &Room<'_>, e: &Expr) -> Form
     requires sound { IsSoundExp (names_of room.now) (exp_of e.now) }
-    requires constant { IsConstant (rows_of room.now) (exp_of e.now) }
+    requires constant { IsHeader (rows_of room.now) (exp_of e.now) }
     ensures value { result ≡ w.form (names_of room.now) (exp_of e.now) }
     ensures width { IsWidth result.width }
 {

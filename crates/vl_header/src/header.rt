@@ -9,7 +9,7 @@ ghost use Rattle.vl_design.specs.Sound.{IsSoundExp, IsNamed};
 ghost use Rattle.vl_design.specs.Value as d;
 ghost use Rattle.vl_design.specs.Width as w;
 ghost use Rattle.vl_turns.specs.Unroll.{is_loop};
-ghost use Rattle.vl_header.specs.Constants.{IsConstant};
+ghost use Rattle.vl_turns.specs.Fits.{IsHeader};
 ghost use Rattle.vl_header.specs.Heads.{IsHead, AreTurns};
 ghost use Rattle.vl_header.specs.Rooms.{names_of, rows_of, scope_of, state_of, sample_of, AreNumbers};
 
@@ -25,7 +25,7 @@ use vl_form::form::assigned;
 #[tactic(auto, using(crate::proofs::Widen::contexts))]
 pub(crate) fn holds(room: &Room<'_>, numbers: &[u128], test: &Expr) -> bool
     requires sound { IsSoundExp (names_of room.now) (exp_of test.now) }
-    requires constant { IsConstant (rows_of room.now) (exp_of test.now) }
+    requires constant { IsHeader (rows_of room.now) (exp_of test.now) }
     requires numbers { AreNumbers (rows_of room.now) numbers.now }
     ensures { result ≡ goes_on (scope_of room.now) (exp_of test.now) (state_of numbers.now) }
 {
@@ -38,7 +38,7 @@ fn number_assigned(room: &Room<'_>, numbers: &[u128], variable: u32, source: &Ex
     requires named { IsNamed (names_of room.now) variable }
     requires loops { is_loop (rows_of room.now) variable ≡ true }
     requires sound { IsSoundExp (names_of room.now) (exp_of source.now) }
-    requires constant { IsConstant (rows_of room.now) (exp_of source.now) }
+    requires constant { IsHeader (rows_of room.now) (exp_of source.now) }
     requires numbers { AreNumbers (rows_of room.now) numbers.now }
     ensures value { result ≡ d.value (scope_of room.now) (sample_of numbers.now) (exp_of source.now) (w.assigned (w.signal_form (rows_of room.now) variable).width (w.form (names_of room.now) (exp_of source.now))) % 2 ^ (w.signal_form (rows_of room.now) variable).width }
     ensures fits { result < 2 ^ (w.signal_form (rows_of room.now) variable).width }
@@ -100,7 +100,7 @@ fn all_turns(
     requires named { IsNamed (names_of room.now) variable }
     requires loops { is_loop (rows_of room.now) variable ≡ true }
     requires sound { IsSoundExp (names_of room.now) (exp_of test.now) }
-    requires constant { IsConstant (rows_of room.now) (exp_of test.now) }
+    requires constant { IsHeader (rows_of room.now) (exp_of test.now) }
     requires head { IsHead (names_of room.now) variable (stm_of step.now) }
     requires numbers { AreNumbers (rows_of room.now) numbers.old }
     ensures turns { IfOk result (λ t. AreTurns (scope_of room.now) (exp_of test.now) (stm [] (stm_of step.now)) most_turns (state_of numbers.old) (map (λ v. state_of (slice_set numbers.old variable v)) t.numbers.items) t.endless) }
@@ -139,7 +139,7 @@ pub fn turns_of(
     requires loops { is_loop (rows_of room.now) variable ≡ true }
     requires start { IsHead (names_of room.now) variable (stm_of start.now) }
     requires sound { IsSoundExp (names_of room.now) (exp_of test.now) }
-    requires constant { IsConstant (rows_of room.now) (exp_of test.now) }
+    requires constant { IsHeader (rows_of room.now) (exp_of test.now) }
     requires step { IsHead (names_of room.now) variable (stm_of step.now) }
     requires numbers { AreNumbers (rows_of room.now) numbers.old }
     ensures turns { IfOk result (λ t. AreTurns (scope_of room.now) (exp_of test.now) (stm [] (stm_of step.now)) most_turns (exec (scope_of room.now) (stm [] (stm_of start.now)) (state_of numbers.old)) (map (λ v. state_of (slice_set numbers.old variable v)) t.numbers.items) t.endless) }

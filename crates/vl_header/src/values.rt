@@ -8,7 +8,7 @@ ghost use Rattle.vl_design.specs.Trees.{exp_of};
 ghost use Rattle.vl_design.specs.Sound.{IsSoundExp, IsWidth};
 ghost use Rattle.vl_design.specs.Width as w;
 ghost use Rattle.vl_design.specs.Value as d;
-ghost use Rattle.vl_header.specs.Constants.{IsConstant};
+ghost use Rattle.vl_turns.specs.Fits.{IsHeader};
 ghost use Rattle.vl_header.specs.Rooms.{names_of, rows_of, scope_of, sample_of, AreNumbers};
 
 use crate::forms::form_of;
@@ -66,8 +66,8 @@ struct Contexts {
 fn contexts_of(room: &Room<'_>, op: BinOp, a: &Expr, b: &Expr, c: Form) -> Contexts
     requires left { IsSoundExp (names_of room.now) (exp_of a.now) }
     requires right { IsSoundExp (names_of room.now) (exp_of b.now) }
-    requires left_constant { IsConstant (rows_of room.now) (exp_of a.now) }
-    requires right_constant { IsConstant (rows_of room.now) (exp_of b.now) }
+    requires left_constant { IsHeader (rows_of room.now) (exp_of a.now) }
+    requires right_constant { IsHeader (rows_of room.now) (exp_of b.now) }
     requires wide { (w.binary_form op (w.form (names_of room.now) (exp_of a.now)) (w.form (names_of room.now) (exp_of b.now))).width ≤ c.width }
     requires positive { 1 ≤ c.width }
     requires narrow { c.width ≤ 128 }
@@ -106,7 +106,7 @@ fn combined(op: BinOp, signed: bool, x: Bits, y: Bits, width: u32) -> Bits
 #[tactic(auto, using(crate::proofs::Widen::contexts))]
 fn own(room: &Room<'_>, numbers: &[u128], e: &Expr) -> Bits
     requires sound { IsSoundExp (names_of room.now) (exp_of e.now) }
-    requires constant { IsConstant (rows_of room.now) (exp_of e.now) }
+    requires constant { IsHeader (rows_of room.now) (exp_of e.now) }
     requires numbers { AreNumbers (rows_of room.now) numbers.now }
     ensures value { result.value ≡ d.own_value (scope_of room.now) (sample_of numbers.now) (exp_of e.now) }
     ensures width { result.width ≡ (w.form (names_of room.now) (exp_of e.now)).width }
@@ -119,7 +119,7 @@ fn own(room: &Room<'_>, numbers: &[u128], e: &Expr) -> Bits
 #[tactic(auto, using(crate::proofs::Widen::contexts))]
 fn unary_value(room: &Room<'_>, numbers: &[u128], op: UnOp, a: &Expr, c: Form) -> Bits
     requires sound { IsSoundExp (names_of room.now) (exp_of a.now) }
-    requires constant { IsConstant (rows_of room.now) (exp_of a.now) }
+    requires constant { IsHeader (rows_of room.now) (exp_of a.now) }
     requires numbers { AreNumbers (rows_of room.now) numbers.now }
     requires wide { (w.unary_form op (w.form (names_of room.now) (exp_of a.now))).width ≤ c.width }
     requires positive { 1 ≤ c.width }
@@ -136,7 +136,7 @@ fn unary_value(room: &Room<'_>, numbers: &[u128], op: UnOp, a: &Expr, c: Form) -
 #[tactic(auto, using(crate::proofs::Widen::contexts))]
 pub(crate) fn value(room: &Room<'_>, numbers: &[u128], e: &Expr, c: Form) -> Bits
     requires sound { IsSoundExp (names_of room.now) (exp_of e.now) }
-    requires constant { IsConstant (rows_of room.now) (exp_of e.now) }
+    requires constant { IsHeader (rows_of room.now) (exp_of e.now) }
     requires numbers { AreNumbers (rows_of room.now) numbers.now }
     requires wide { (w.form (names_of room.now) (exp_of e.now)).width ≤ c.width }
     requires positive { 1 ≤ c.width }

@@ -1,14 +1,14 @@
 //! What statements do.
 #![tactic(auto)]
 
-pub mod assign;
-pub mod begin;
-pub mod branch;
-pub mod call;
-pub mod exec;
+mod assign;
+mod begin;
+mod branch;
+mod call;
+mod exec;
 pub mod machine;
-pub mod outer;
+mod outer;
 pub mod process;
-pub mod read;
-pub mod scope;
-pub mod target;
+mod read;
+mod scope;
+mod target;

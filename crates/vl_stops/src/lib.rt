@@ -1,0 +1,4 @@
+//! Faults of a design, and which comes first.
+#![tactic(auto)]
+
+pub mod stops;

@@ -1,11 +1,11 @@
 -- What processes wait for: refused construct 16, and of 15 the edges (own; IEEE 1364-2005, clause 9.7).
-use Rattle.std.specs.Prelude.{ℕ, Bool, true, false, not, ◌&&◌, ◌||◌, ◌==◌, nat_lt, List, ◌++◌, length}
+use Rattle.std.specs.Prelude.{ℕ, Bool, true, not, ◌&&◌, ◌||◌, ◌==◌, false, nat_lt, List, [], ◌∷◌, ◌++◌, length}
 use Rattle.std.specs.List.{list_any}
 use Rattle.vl_design.specs.declared.design.Event.{Event}
 use Rattle.vl_design.specs.declared.design.Signal.{Signal}
 use Rattle.vl_design.specs.declared.design.SigKind.{SigKind}
 use Rattle.vl_design.specs.declared.stop.Stop.{Stop}
-use Rattle.vl_design.specs.Placed.{Process, Design}
+use Rattle.vl_design.specs.Placed.{Process}
 use Rattle.vl_design.specs.Stops.{construct_if}
 use Rattle.vl_sites.specs.Sites.{Site, sites}
 use Rattle.vl_check.specs.Bodies.{kind_is}
@@ -24,7 +24,8 @@ is_mixed es = list_any is_edge es && nat_lt 1 (length es)
 
 -- a list of plain names
 abbrev pub is_list : List Event → Bool
-is_list es = nat_lt 0 (length es) && not (list_any is_edge es)
+is_list [] = false
+is_list (e ∷ es) = not (list_any is_edge (e ∷ es))
 
 -- anything but a loop variable
 abbrev pub has_value : SigKind → Bool
@@ -40,7 +41,7 @@ is_missing signals a k =
 abbrev pub lacks_some : List Signal → Process → Bool
 lacks_some signals a = is_list a.events && list_any (λ s. reads (is_missing signals a) s.what) (sites a.body)
 
-abbrev pub trigger_faults : Design → Process → List Stop
-trigger_faults d a =
-    construct_if (list_any (is_misplaced d.signals) a.events) a.place 15
-    ++ construct_if (is_mixed a.events || lacks_some d.signals a) a.place 16
+abbrev pub trigger_faults : List Signal → Process → List Stop
+trigger_faults signals a =
+    construct_if (list_any (is_misplaced signals) a.events) a.place 15
+    ++ construct_if (is_mixed a.events || lacks_some signals a) a.place 16

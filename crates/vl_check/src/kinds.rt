@@ -1,8 +1,9 @@
 //! Kinds of signals.
 
-ghost use Rattle.std.specs.Prelude.{◌≡◌, ◌++◌};
+ghost use Rattle.std.specs.Prelude.{◌≡◌, ◌<◌, ◌++◌, length, true};
 ghost use Rattle.vl_check.specs.Bodies.{kind_is};
 ghost use Rattle.vl_check.specs.Rules as r;
+ghost use Rattle.vl_check.specs.Triggers.{has_value};
 
 use vl_design::design::{SigKind, Signal};
 
@@ -23,6 +24,17 @@ pub(crate) fn is_derived(signals: &[Signal], number: u32) -> bool
     match signals.get(number as usize) {
         None => false,
         Some(signal) => matches!(signal.kind, SigKind::Net | SigKind::Comb),
+    }
+}
+
+/// Anything but a loop variable.
+pub(crate) fn has_value(signals: &[Signal], number: u32) -> bool
+    ensures value { result ≡ kind_is has_value signals.now number }
+    ensures there { result ≡ true → number < length signals.now }
+{
+    match signals.get(number as usize) {
+        None => false,
+        Some(signal) => !matches!(signal.kind, SigKind::Loop),
     }
 }
 

@@ -6,5 +6,7 @@ mod bodies;
 mod headers;
 mod kinds;
 mod loops;
+mod marks;
 mod place;
 mod rules;
+mod triggers;

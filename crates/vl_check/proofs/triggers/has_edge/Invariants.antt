@@ -1,0 +1,7 @@
+use Rattle.std.proofs.Common.{◌≡◌, drop}
+use Rattle.std.specs.List.{list_any}
+use Rattle.vl_check.specs.Triggers.{is_edge, is_misplaced}
+use Rattle.vl_check.proofs.triggers.has_edge.Given as goal
+
+abbrev pub invariant-loop-event : goal.invariant-loop-event
+invariant-loop-event l = list_any is_edge (drop l.event-index l.events) ≡ list_any is_edge l.events

@@ -5,3 +5,4 @@ pub mod Headers
 pub mod Triggers
 pub mod Writers
 pub mod Standing
+pub mod Told

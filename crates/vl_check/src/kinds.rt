@@ -4,6 +4,7 @@ ghost use Rattle.std.specs.Prelude.{◌≡◌, ◌<◌, ◌++◌, length, true};
 ghost use Rattle.vl_check.specs.Bodies.{kind_is};
 ghost use Rattle.vl_check.specs.Rules as r;
 ghost use Rattle.vl_check.specs.Triggers.{has_value};
+ghost use Rattle.vl_check.specs.Writers.{is_store};
 
 use vl_design::design::{SigKind, Signal};
 
@@ -24,6 +25,17 @@ pub(crate) fn is_derived(signals: &[Signal], number: u32) -> bool
     match signals.get(number as usize) {
         None => false,
         Some(signal) => matches!(signal.kind, SigKind::Net | SigKind::Comb),
+    }
+}
+
+/// A variable or a memory.
+pub(crate) fn is_store(signals: &[Signal], number: u32) -> bool
+    ensures value { result ≡ kind_is is_store signals.now number }
+    ensures there { result ≡ true → number < length signals.now }
+{
+    match signals.get(number as usize) {
+        None => false,
+        Some(signal) => matches!(signal.kind, SigKind::Var | SigKind::Comb | SigKind::Mem),
     }
 }
 

@@ -10,3 +10,4 @@ mod marks;
 mod place;
 mod rules;
 mod triggers;
+mod writers;

@@ -1,3 +1,4 @@
 pub mod Joined
 pub mod Marking
 pub mod Rivals
+pub mod Following

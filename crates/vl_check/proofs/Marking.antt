@@ -37,7 +37,7 @@ pub ruleset steps = (mark-step)
 
 -- ---- lists that lack a signal
 
-there : (test : SigKind → Bool) (signals : List Signal) (k : ℕ) → kind_is test signals k ≡ true → k < length signals
+pub there : (test : SigKind → Bool) (signals : List Signal) (k : ℕ) → kind_is test signals k ≡ true → k < length signals
 there test [] k h = let z : ⊥ = cc in absurd z
 there test (x ∷ xs) zero h = omega arith
 there test (x ∷ xs) (suc k) h = let l = there test xs k h in omega arith

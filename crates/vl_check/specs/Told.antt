@@ -1,12 +1,16 @@
 -- What the marks of writers tell of the processes before.
-use Rattle.std.specs.Prelude.{◌≡◌, ℕ, ◌<◌, Bool, true, false, ◌&&◌, ◌||◌, if◌then◌else◌, List, length, get_or}
+use Rattle.std.specs.Prelude.{◌≡◌, ℕ, ◌<◌, Bool, true, false, ◌&&◌, ◌||◌, if◌then◌else◌, List, ◌++◌, length, get_or}
 use Rattle.std.specs.List.{list_any}
 use Rattle.vl_design.specs.declared.design.ProcKind.{ProcKind}
 use Rattle.vl_design.specs.declared.design.Signal.{Signal}
-use Rattle.vl_design.specs.Placed.{Process}
-use Rattle.vl_sites.specs.Sites.{What, Reads, Sets, Heads, Site}
+use Rattle.vl_design.specs.declared.stop.Stop.{Stop}
+use Rattle.vl_design.specs.Placed.{Process, Design}
+use Rattle.vl_design.specs.Stops.{construct_if}
+use Rattle.vl_sites.specs.Sites.{What, Sets, Heads, Site, sites}
 use Rattle.vl_check.specs.declared.writers.Writers.{Writers}
-use Rattle.vl_check.specs.Bodies.{kind_is}
+use Rattle.vl_check.specs.Bodies.{kind_is, of_process}
+use Rattle.vl_check.specs.Standing.{body_faults}
+use Rattle.vl_check.specs.Triggers.{trigger_faults}
 use Rattle.vl_check.specs.Writers.{writes, assigns, is_always, is_combinational, is_store}
 
 -- a mark for each of so many signals
@@ -38,3 +42,10 @@ pub record AreTold (n : ℕ) (before : List Process) (w : Writers) : Type 0 wher
   pub any : (k : ℕ) → k < n → get_or w.any.items k false ≡ list_any (writes k) before
   pub always : (k : ℕ) → k < n → get_or w.always.items k false ≡ list_any (λ b. is_always b.kind && writes k b) before
   pub combinational : (k : ℕ) → k < n → get_or w.combinational.items k false ≡ list_any (λ b. is_combinational b.kind && writes k b) before
+
+-- the faults of a process by the marks
+abbrev pub process_by : Writers → Design → Process → List Stop
+process_by w d a =
+    body_faults (of_process d a) a.body
+    ++ (trigger_faults d.signals a
+    ++ construct_if (list_any (λ s. taken_by w d.signals a.kind s.what) (sites a.body)) a.place 14)

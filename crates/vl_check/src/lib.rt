@@ -8,6 +8,7 @@ mod kinds;
 mod loops;
 mod marks;
 mod place;
+mod processes;
 mod rules;
 mod triggers;
 mod writers;

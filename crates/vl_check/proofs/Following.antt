@@ -15,7 +15,7 @@ use Rattle.vl_sites.specs.Sites.{What, Reads, Sets, Heads, Calls, Delays, Tasks,
 use Rattle.vl_stops.proofs.Earliest.{over, chain-three}
 use Rattle.vl_check.specs.declared.place.Role.{Role}
 use Rattle.vl_check.specs.declared.writers.Writers.{Writers}
-use Rattle.vl_check.specs.Bodies.{Setting, role_of, of_process, kind_is}
+use Rattle.vl_check.specs.Bodies.{role_of, of_process, kind_is}
 use Rattle.vl_check.specs.Standing.{body_faults, process_faults, processes_faults}
 use Rattle.vl_check.specs.Told.{taken_by, process_by, Notes, AreTold}
 use Rattle.vl_check.specs.Triggers.{trigger_faults}

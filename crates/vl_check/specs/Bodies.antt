@@ -1,6 +1,6 @@
 -- The bodies of processes and functions: what each is for, and what numbers name in it (IEEE 1364-2005, clauses 6, 9.9 and
 -- 10.4).
-use Rattle.std.specs.Prelude.{ℕ, Bool, true, false, List, [], slice_get, Option, Some, None}
+use Rattle.std.specs.Prelude.{ℕ, Bool, false, List, [], slice_get, Option, Some, None}
 use Rattle.vl_design.specs.declared.design.ProcKind.{ProcKind}
 use Rattle.vl_design.specs.declared.design.ProcKind.TheVariants as k
 use Rattle.vl_design.specs.declared.design.Signal.{Signal}

@@ -4,7 +4,7 @@ use Rattle.std.specs.List.{list_any}
 use Rattle.vl_design.specs.declared.stop.Stop.{Stop}
 use Rattle.vl_design.specs.Stops.{construct_if}
 use Rattle.vl_design.specs.Placed.{Exp, Num, Label, Sig, Un, Bin, Cond, Whole, Stm, Nop, Seq, If, Case, For, Repeat, Set, Later, Task, Stms, NoStms, MoreStms, Items, NoItems, MoreItems}
-use Rattle.vl_sites.specs.Sites.{Site, sites}
+use Rattle.vl_sites.specs.Sites.{sites}
 use Rattle.vl_check.specs.Bodies.{Setting, kind_is}
 use Rattle.vl_check.specs.Rules.{is_loop, sets}
 

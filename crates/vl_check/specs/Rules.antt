@@ -1,13 +1,13 @@
 -- What may not stand in the body of a process or a function: refused constructs 15, 17, 18, 20, 22 and 23, and of 21 what a
 -- loop variable may not be (own; IEEE 1364-2005, clauses 6.1, 9.2, 9.6, 9.7, 10.4 and 17).
-use Rattle.std.specs.Prelude.{ℕ, Bool, true, false, not, ◌&&◌, ◌||◌, nat_lt, List, [], ◌∷◌, ◌++◌, length, flat_map}
+use Rattle.std.specs.Prelude.{ℕ, Bool, true, false, not, ◌&&◌, nat_lt, List, ◌++◌, length, flat_map}
 use Rattle.vl_design.specs.declared.design.Signal.{Signal}
 use Rattle.vl_design.specs.declared.design.SigKind.{SigKind}
 use Rattle.vl_design.specs.declared.design.SigKind.TheVariants as k
 use Rattle.vl_design.specs.declared.stop.Stop.{Stop}
 use Rattle.vl_design.specs.Stops.{construct_if}
 use Rattle.vl_design.specs.Placed.{Stm}
-use Rattle.vl_sites.specs.Sites.{What, Reads, Sets, Heads, Calls, Delays, Tasks, Site, sites, is_load}
+use Rattle.vl_sites.specs.Sites.{What, Reads, Sets, Heads, Delays, Tasks, Site, sites, is_load}
 use Rattle.vl_check.specs.declared.place.Role.{Role}
 use Rattle.vl_check.specs.declared.place.Role.TheVariants.{Initial, Clocked, Combinational, Function}
 use Rattle.vl_check.specs.Bodies.{Setting, kind_is}

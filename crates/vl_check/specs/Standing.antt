@@ -25,3 +25,7 @@ processes_faults d before (a ∷ as') = process_faults d before a ++ processes_f
 
 abbrev pub functions_faults : Design → List Func → List Stop
 functions_faults d fs = flat_map (λ f. body_faults (of_function d f) f.body) fs
+
+-- all of them in a design: constructs 15 to 18 and 20 to 23, but for recursion, and of variables 14
+abbrev pub standing_faults : Design → List Stop
+standing_faults d = processes_faults d [] d.processes ++ functions_faults d d.funcs

@@ -1,5 +1,5 @@
 -- What processes wait for: refused construct 16, and of 15 the edges (own; IEEE 1364-2005, clause 9.7).
-use Rattle.std.specs.Prelude.{ℕ, Bool, true, not, ◌&&◌, ◌||◌, ◌==◌, false, nat_lt, List, [], ◌∷◌, ◌++◌, length}
+use Rattle.std.specs.Prelude.{ℕ, Bool, not, ◌&&◌, ◌||◌, ◌==◌, false, nat_lt, List, [], ◌∷◌, ◌++◌, length}
 use Rattle.std.specs.List.{list_any}
 use Rattle.vl_design.specs.declared.design.Event.{Event}
 use Rattle.vl_design.specs.declared.design.Signal.{Signal}
@@ -7,7 +7,7 @@ use Rattle.vl_design.specs.declared.design.SigKind.{SigKind}
 use Rattle.vl_design.specs.declared.stop.Stop.{Stop}
 use Rattle.vl_design.specs.Placed.{Process}
 use Rattle.vl_design.specs.Stops.{construct_if}
-use Rattle.vl_sites.specs.Sites.{Site, sites}
+use Rattle.vl_sites.specs.Sites.{sites}
 use Rattle.vl_check.specs.Bodies.{kind_is}
 use Rattle.vl_check.specs.Rules.{is_clock, is_loop, reads, sets}
 

@@ -1,5 +1,5 @@
 -- Who writes what: refused construct 14 (own; IEEE 1364-2005, clauses 4.6, 6.1 and 9.2).
-use Rattle.std.specs.Prelude.{◌≡◌, ℕ, ◌<◌, Bool, true, false, not, ◌&&◌, ◌||◌, ◌==◌, ◌⊎◌, List, [], ◌∷◌, ◌++◌, map, take, flat_map}
+use Rattle.std.specs.Prelude.{ℕ, Bool, true, false, ◌&&◌, ◌||◌, ◌==◌, List, [], ◌∷◌, ◌++◌}
 use Rattle.std.specs.List.{list_any}
 use Rattle.vl_design.specs.declared.design.ProcKind.{ProcKind}
 use Rattle.vl_design.specs.declared.design.ProcKind.TheVariants as p
@@ -7,9 +7,9 @@ use Rattle.vl_design.specs.declared.design.Signal.{Signal}
 use Rattle.vl_design.specs.declared.design.SigKind.{SigKind}
 use Rattle.vl_design.specs.declared.design.SigKind.TheVariants as k
 use Rattle.vl_design.specs.declared.stop.Stop.{Stop}
-use Rattle.vl_design.specs.Placed.{Process, Design}
+use Rattle.vl_design.specs.Placed.{Process}
 use Rattle.vl_design.specs.Stops.{construct_if}
-use Rattle.vl_sites.specs.Sites.{What, Reads, Sets, Heads, Site, sites}
+use Rattle.vl_sites.specs.Sites.{What, Sets, Heads, sites}
 use Rattle.vl_check.specs.Bodies.{kind_is}
 
 -- an `always` block

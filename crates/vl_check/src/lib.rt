@@ -10,5 +10,6 @@ mod marks;
 mod place;
 mod processes;
 mod rules;
+pub mod standing;
 mod triggers;
 mod writers;

@@ -68,7 +68,7 @@ fn function_fault(
 }
 
 /// The first of a fault so far and those of functions.
-fn functions_fault(
+pub(crate) fn functions_fault(
     alloc: Global,
     design: &Design,
     best: Option<Stop>,
@@ -84,7 +84,7 @@ fn functions_fault(
 }
 
 /// The first of the faults of the processes.
-fn processes_fault(
+pub(crate) fn processes_fault(
     alloc: Global,
     design: &Design,
     marks: &mut Vec<bool>,

@@ -1,6 +1,6 @@
 -- Lists inside expressions, left sides and statements, and lists of sites one after another.
-use Rattle.std.proofs.Common.{◌≡◌, refl, sym, ap, ◌∙◌, append_assoc, ℕ, Bool, List, [], ◌∷◌}
-use Rattle.std.specs.Prelude.{◌++◌, map}
+use Rattle.std.proofs.Common.{◌≡◌, refl, sym, ap, ◌∙◌, append_assoc, ℕ, Bool, List}
+use Rattle.std.specs.Prelude.{◌++◌}
 use Rattle.std.specs.declared.alloc.Global.{Global}
 use Rattle.std.specs.declared.vec.Vec.{Vec}
 use Rattle.vl_design.specs.declared.design.CaseItem.{CaseItem}
@@ -10,7 +10,6 @@ use Rattle.vl_design.specs.declared.design.ExprNode.TheBlock as blk
 use Rattle.vl_design.specs.declared.design.Stmt.{Stmt}
 use Rattle.vl_design.specs.declared.design.StmtNode as s
 use Rattle.vl_design.specs.declared.design.StmtNode.TheBlock as sb
-use Rattle.vl_design.specs.declared.design.SysArg.{SysArg}
 use Rattle.vl_design.specs.declared.design.SysCall.{SysCall}
 use Rattle.vl_design.specs.declared.design.Target.{Target}
 use Rattle.vl_design.specs.declared.design.TargetNode as t

@@ -1,4 +1,4 @@
-use Rattle.std.proofs.Common.{◌≡◌, map, rules}
+use Rattle.std.proofs.Common.{map, rules}
 use Rattle.vl_design.specs.Seen as seen
 use Rattle.vl_sites.specs.Seen.{site_of}
 use Rattle.vl_check.proofs.Following.{process-stop}

@@ -1,4 +1,4 @@
-use Rattle.std.proofs.Common.{◌≡◌, ◌<◌, sym, subst, List, length, get_or}
+use Rattle.std.proofs.Common.{◌≡◌, ◌<◌, subst, List, length, get_or}
 use Rattle.vl_design.specs.declared.design.Process.{Process}
 use Rattle.vl_design.specs.Seen.{placed}
 use Rattle.vl_check.proofs.Following.{told-next, faults-next}

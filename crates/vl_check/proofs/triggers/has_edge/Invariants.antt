@@ -1,6 +1,6 @@
 use Rattle.std.proofs.Common.{◌≡◌, drop}
 use Rattle.std.specs.List.{list_any}
-use Rattle.vl_check.specs.Triggers.{is_edge, is_misplaced}
+use Rattle.vl_check.specs.Triggers.{is_edge}
 use Rattle.vl_check.proofs.triggers.has_edge.Given as goal
 
 abbrev pub invariant-loop-event : goal.invariant-loop-event

@@ -1,4 +1,4 @@
-use Rattle.std.proofs.Common.{◌≡◌, ◌∙◌, map, subst, length, get_or, ◌<◌, ℕ, Bool, false, List, sym, rules}
+use Rattle.std.proofs.Common.{◌≡◌, ◌∙◌, map, subst, get_or, ◌<◌, Bool, false, List, sym, rules}
 use Rattle.std.specs.Prelude.{◌&&◌, not}
 use Rattle.std.specs.List.{list_any}
 use Rattle.vl_design.specs.Seen as seen

@@ -1,4 +1,4 @@
-use Rattle.std.proofs.Common.{◌≡◌, map, ◌++◌, List, OnOk, subst}
+use Rattle.std.proofs.Common.{◌≡◌, map, List, OnOk, subst}
 use Rattle.vl_sites.specs.Seen.{site_of}
 use Rattle.vl_sites.specs.Sites.{Site}
 use Rattle.vl_sites.proofs.Rows.{case-adds}

@@ -6,7 +6,7 @@ ghost use Rattle.vl_design.specs.Trees.{exp_of, exps_of};
 ghost use Rattle.vl_paths.specs.Bits as bits;
 ghost use Rattle.vl_index.specs.Seen.{names_seen};
 ghost use Rattle.vl_index.specs.Constants.{near};
-ghost use Rattle.vl_masks.specs.Masks.{in_part, Looks};
+ghost use Rattle.vl_masks.specs.Masks.{in_part, AreOf, Looks};
 
 use crate::parts::{Part, add, unknown};
 use crate::widths::{near_place, select, whole};
@@ -34,7 +34,8 @@ fn selected(m: &Meanings<'_>, base: &Expr, low: Option<i64>, width: u8) -> Optio
 /// The bits of the part that aren't known are read.
 fn look_at(known: &Vec<u128>, read: &mut Vec<Part>, part: Part) -> Result<(), AllocError>
     requires { part.signal < length known.now.items }
-    ensures { OnOk result (Looks known.now.items read.old.items read.new.items (in_part part)) }
+    ensures bits { OnOk result (Looks known.now.items read.old.items read.new.items (in_part part)) }
+    ensures within { OnOk result (AreOf (length known.now.items) read.old.items → AreOf (length known.now.items) read.new.items) }
 {
     add(read, unknown(known, part))
 }
@@ -49,7 +50,8 @@ pub fn look(
 ) -> Result<(), AllocError>
     requires sound { IsSoundExp (names_seen m.now) (exp_of e.now) }
     requires long { length known.now.items ≡ length (names_seen m.now).rows }
-    ensures { OnOk result (Looks known.now.items read.old.items read.new.items (λ b. bits.bit_read (names_seen m.now) b (exp_of e.now))) }
+    ensures bits { OnOk result (Looks known.now.items read.old.items read.new.items (λ b. bits.bit_read (names_seen m.now) b (exp_of e.now))) }
+    ensures within { OnOk result (AreOf (length known.now.items) read.old.items → AreOf (length known.now.items) read.new.items) }
 {
     match &e.node {
         ExprNode::Num(_, _) | ExprNode::Label(_) | ExprNode::Time | ExprNode::Sys(_) => Ok(()),
@@ -98,7 +100,8 @@ pub fn looks(
 ) -> Result<(), AllocError>
     requires sound { AreSound (names_seen m.now) (exps_of es.now) }
     requires long { length known.now.items ≡ length (names_seen m.now).rows }
-    ensures { OnOk result (Looks known.now.items read.old.items read.new.items (λ b. bits.some_bit_read (names_seen m.now) b (exps_of es.now))) }
+    ensures bits { OnOk result (Looks known.now.items read.old.items read.new.items (λ b. bits.some_bit_read (names_seen m.now) b (exps_of es.now))) }
+    ensures within { OnOk result (AreOf (length known.now.items) read.old.items → AreOf (length known.now.items) read.new.items) }
 {
     for e in es {
         look(m, known, read, e)?;

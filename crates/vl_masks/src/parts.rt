@@ -63,7 +63,7 @@ pub fn unknown(known: &Vec<u128>, part: Part) -> Part
 
 /// The part's bits that are in the masks.
 #[tactic(auto, using(crate::proofs::Lists::parts))]
-fn known_of(known: &Vec<u128>, part: Part) -> Part
+pub fn known_of(known: &Vec<u128>, part: Part) -> Part
     requires { part.signal < length known.now.items }
     ensures bits { (b : Bit) → in_part result b ≡ (in_part part b && in_masks known.now.items b) }
     ensures signal { result.signal ≡ part.signal }
@@ -99,7 +99,7 @@ fn hide_part(known: &mut Vec<u128>, part: Part)
 }
 
 /// The parts are put into the masks.
-fn show(known: &mut Vec<u128>, parts: &[Part])
+pub fn show(known: &mut Vec<u128>, parts: &[Part])
     requires { AreOf (length known.old.items) parts.now }
     ensures long { length known.new.items ≡ length known.old.items }
     ensures bits { (b : Bit) → in_masks known.new.items b ≡ (in_masks known.old.items b || in_parts parts.now b) }

@@ -86,7 +86,8 @@ pub fn look_target(
 ) -> Result<(), AllocError>
     requires sound { IsSoundTarget (names_seen m.now) (target_of target.now) }
     requires long { length known.now.items ≡ length (names_seen m.now).rows }
-    ensures { OnOk result (Looks known.now.items read.old.items read.new.items (λ b. bits.index_reads (names_seen m.now) b (target_of target.now))) }
+    ensures bits { OnOk result (Looks known.now.items read.old.items read.new.items (λ b. bits.index_reads (names_seen m.now) b (target_of target.now))) }
+    ensures within { OnOk result (AreOf (length known.now.items) read.old.items → AreOf (length known.now.items) read.new.items) }
 {
     match &target.node {
         TargetNode::Sig(_) => Ok(()),

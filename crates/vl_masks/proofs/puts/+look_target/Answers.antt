@@ -1,6 +1,7 @@
 use Rattle.std.proofs.Common.{◌≡◌, ◌+◌, refl, sym, ap, ◌∙◌, drop}
 use Rattle.std.specs.Prelude.{◌||◌, ◌&&◌, not}
 use Rattle.std.proofs.lemmas.List.{drop_all}
+use Rattle.std.proofs.lemmas.Result.{on_ok_weaker}
 use Rattle.vl_design.specs.Syntax.{Several}
 use Rattle.vl_design.specs.Sound.{IsSoundTarget}
 use Rattle.vl_design.specs.Trees.{target_of}
@@ -20,6 +21,7 @@ loop-item-init t c =
     record {
       sound = s.1;
       read = λ b. ap (λ z. in_parts c.args.read.now.items b || (not (in_masks c.args.known.now.items b) && index_reads names b z)) (sym e);
+      within = λ h. h;
     }
 
 pub loop-item-preserved : goal.loop-item-preserved
@@ -33,17 +35,21 @@ loop-item-preserved t c =
     record {
       sound = (rw e at c.loop-item.invariant.sound).1;
       read = λ b.
-          ap (λ x. x || (not (in_masks ks b) && some_index_reads names b (listed (drop (i + 1) xs)))) (c.in_ok-look_target-in-List.ensures b)
+          ap (λ x. x || (not (in_masks ks b) && some_index_reads names b (listed (drop (i + 1) xs)))) (c.in_ok-look_target-in-List.ensures.bits b)
           ∙ looked (in_parts r b) (not (in_masks ks b)) (index_reads names b (target_of c.item-item.result)) (some_index_reads names b (listed (drop (i + 1) xs)))
           ∙ ap (λ z. in_parts r b || (not (in_masks ks b) && some_index_reads names b z)) (sym e)
           ∙ c.loop-item.invariant.read b;
+      within = λ h. c.in_ok-look_target-in-List.ensures.within (c.loop-item.invariant.within h);
     }
 
-pub returns-after-loop-item : goal.returns-after-loop-item
-returns-after-loop-item t c b =
+pub returns-after-loop-item-clause-bits : goal.returns-after-loop-item-clause-bits
+returns-after-loop-item-clause-bits t c b =
     let names = names_seen c.args.m.now in
     let k = not (in_masks c.args.known.now.items b) in
     let r = in_parts c.loop-item.read.items b in
     looked_none r k
     ∙ ap (λ ts. r || (k && some_index_reads names b (listed ts))) (sym (drop_all c.loop-item.item-index c.deref-item-items.result.now c.loop-item-test.false))
     ∙ c.loop-item.invariant.read b
+
+pub returns-in_ok-look_target-in-Pick-clause-within : goal.returns-in_ok-look_target-in-Pick-clause-within
+returns-in_ok-look_target-in-Pick-clause-within t c = on_ok_weaker c.look-in-Pick.result (λ f h. f (c.in_ok-look_target-in-Pick.ensures.within h)) c.look-in-Pick.ensures.within

@@ -1,10 +1,10 @@
-use Rattle.std.proofs.Common.{◌≡◌, drop}
+use Rattle.std.proofs.Common.{◌≡◌, drop, length}
 use Rattle.std.specs.Prelude.{◌||◌, ◌&&◌, not}
 use Rattle.vl_design.specs.Sound.{AreSoundTargets}
 use Rattle.vl_design.specs.Trees.{target_of}
 use Rattle.vl_paths.specs.Bits.{Bit, index_reads, some_index_reads}
 use Rattle.vl_index.specs.Seen.{names_seen}
-use Rattle.vl_masks.specs.Masks.{in_masks, in_parts}
+use Rattle.vl_masks.specs.Masks.{in_masks, in_parts, AreOf}
 use Rattle.vl_masks.proofs.Targets.{listed}
 use Rattle.vl_masks.proofs.puts.+look_target.Given as goal
 
@@ -13,4 +13,5 @@ invariant-loop-item l = record {
   sound : AreSoundTargets (names_seen l.m) (listed (drop l.item-index l.item-items));
   read : (b : Bit) → (in_parts l.read.items b || (not (in_masks l.known.items b) && some_index_reads (names_seen l.m) b (listed (drop l.item-index l.item-items))))
       ≡ (in_parts l.fn.read.items b || (not (in_masks l.known.items b) && index_reads (names_seen l.m) b (target_of l.target)));
+  within : AreOf (length l.known.items) l.fn.read.items → AreOf (length l.known.items) l.read.items;
 }

@@ -1,0 +1,4 @@
+pub mod Steps
+pub mod Casing
+pub mod Statements
+pub mod Whole

@@ -7,3 +7,5 @@ pub mod levels;
 pub mod nets;
 mod orders;
 mod tables;
+#[cfg(test)]
+mod tests;

@@ -1,0 +1,4 @@
+pub mod Cycles
+pub mod Nets
+pub mod Tables
+pub mod Walks

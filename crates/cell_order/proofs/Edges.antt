@@ -1,6 +1,6 @@
 -- Edges of nets, from what the tables say.
-use Rattle.std.proofs.Common.{◌≡◌, ◌≢◌, ℕ, zero, suc, ◌+◌, ◌<◌, ◌≤◌, ◌^◌, Bool, true, false, not, List, [], ◌∷◌, ◌++◌, length, drop, get_or, refl, sym, ap, ◌∙◌, subst, arith, bit_and}
-use Rattle.std.specs.Prelude.{◌||◌, ◌&&◌, ◌==◌, ◌⊎◌, nat_eq, nat_lt, slice_get, Option, Some, None, IfSome, is_some}
+use Rattle.std.proofs.Common.{◌≡◌, ℕ, zero, suc, ◌+◌, ◌<◌, ◌≤◌, ◌^◌, Bool, true, false, not, List, [], ◌∷◌, length, drop, get_or, refl, sym, ap, ◌∙◌, arith, bit_and}
+use Rattle.std.specs.Prelude.{◌&&◌, ◌==◌, ◌⊎◌, nat_eq, nat_lt, slice_get, Option, Some, None, IfSome, is_some}
 use Rattle.std.proofs.lemmas.Bool.{eqb-true, eqb-false, eq-eqb, and_parts, and_from, and_right, or_cases, or_left, or_right, true≢false, not-true, not-false, false_from_ne_true, cases_lt, lt-ltb}
 use Rattle.std.proofs.lemmas.Nat.{and_le_l}
 use Rattle.std.specs.declared.alloc.Global.{Global}

@@ -1,12 +1,25 @@
 -- A search for a way back, step by step.
-use Rattle.std.proofs.Common.{◌≡◌, ◌≢◌, ℕ, ◌+◌, ◌<◌, ◌≤◌, Bool, true, false, List, [], ◌∷◌, ◌++◌, refl, sym, ap, ◌∙◌, subst, arith}
-use Rattle.std.specs.Prelude.{◌||◌, ◌==◌, ◌⊎◌, cond}
+use Rattle.std.proofs.Common.{◌≡◌, ◌≢◌, ℕ, ◌≤◌, Bool, true, false, List, [], ◌∷◌, ◌++◌, refl, sym, ap, ◌∙◌, subst, arith}
+use Rattle.std.specs.Prelude.{◌||◌, ◌==◌, ◌⊎◌}
 use Rattle.std.proofs.lemmas.Bool.{or_left, or_right, or_cases, or_from, eqb-true, eq-eqb, ne_eqb}
 use mathlib.Core.Logic.{inl, inr}
 use Rattle.cell_order.specs.Cycles.{times, Leads, IsOnCycle, IsCycle}
-use Rattle.cell_order.specs.Walks.{one_if, on, Marks, Linked, IsWay, IsClosed, Begins, Searching}
+use Rattle.cell_order.specs.Walks.{one_if, on, Marks, IsWay}
 use Rattle.cell_order.proofs.Marking.{either, one_same, one_other, one_on, one_off, one_at_most, marked_same, marked_other, marked_kept, times_same, times_other}
 use Rattle.cell_order.proofs.Ways.{outside_is_off, way_shorter, way_longer, way_round}
+
+-- the first of these, if there is one, is this
+abbrev pub Begins : ℕ → List ℕ → Type 0
+Begins start [] = Unit {0}
+Begins start (a ∷ rest) = a ≡ start
+
+-- a search from `start` for a way back to it: the stack is the way, and who was come to and isn't on it has been left, with
+-- all that it is related to come to
+pub record Searching (E : ℕ → ℕ → Type 0) (start : ℕ) (seen : List Bool) (stack : List ℕ) : Type 0 where
+  pub begins : Begins start stack
+  pub way : IsWay E stack
+  pub once : (x : ℕ) → times x stack ≤ one_if (on seen x || x == start)
+  pub shut : (x y : ℕ) → E x y → (on seen x || x == start) ≡ true → times x stack ≡ 0 → on seen y ≡ true
 
 begins_shorter : (start : ℕ) (xs : List ℕ) (b : ℕ) → Begins start (xs ++ b ∷ []) → Begins start xs
 begins_shorter start [] b h = tt

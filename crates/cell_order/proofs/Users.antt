@@ -1,19 +1,17 @@
 -- Tables of the nets that use bits of signals.
-use Rattle.std.proofs.Common.{◌≡◌, ◌≢◌, ℕ, zero, suc, ◌+◌, ◌<◌, ◌≤◌, ◌^◌, Bool, true, false, List, [], ◌∷◌, ◌++◌, length, drop, get_or, set, refl, sym, ap, ◌∙◌, subst, arith, bit_and}
-use Rattle.std.specs.Prelude.{◌||◌, ◌&&◌, ◌==◌, ◌⊎◌, nat_lt, slice_get, Option, Some, None}
+use Rattle.std.proofs.Common.{◌≡◌, ◌≢◌, ℕ, zero, suc, ◌+◌, ◌<◌, ◌≤◌, ◌^◌, Bool, true, false, List, [], ◌∷◌, ◌++◌, length, drop, get_or, set, refl, sym, ap, ◌∙◌, arith}
+use Rattle.std.specs.Prelude.{◌||◌, ◌&&◌, ◌==◌, ◌⊎◌, nat_lt, slice_get, Some, None}
 use Rattle.std.specs.Int.{bit_at, trailing_zeros, w128}
-use Rattle.std.proofs.lemmas.Bool.{eqb-true, eq-eqb, ne_eqb, and_parts, and_from, or_cases, or_left, or_right, true≢false}
+use Rattle.std.proofs.lemmas.Bool.{eq-eqb, ne_eqb, and_from, or_left, or_right}
 use Rattle.std.proofs.lemmas.Nat.Bits.{bit_at-trailing_zeros}
 use Rattle.std.specs.declared.alloc.Global.{Global}
 use Rattle.std.specs.declared.vec.Vec.{Vec}
 use mathlib.Core.Logic.{inl, inr}
 use Rattle.vl_paths.specs.Bits.{Bit}
 use Rattle.vl_masks.specs.declared.parts.Part.{Part}
-use Rattle.vl_masks.specs.Masks.{has, in_part, in_parts}
+use Rattle.vl_masks.specs.Masks.{has, in_part}
 use Rattle.vl_masks.proofs.Lists.{or_assoc, or_none}
 use Rattle.cell_order.specs.declared.tables.User.{User}
-use Rattle.cell_order.specs.declared.nets.Net.{Net}
-use Rattle.cell_order.specs.Nets as spec
 use Rattle.cell_order.specs.Tables.{in_users, users_of, listed}
 use Rattle.cell_order.proofs.Marking.{either}
 

@@ -1,13 +1,13 @@
 -- A walk back through all numbers, step by step.
 use Rattle.std.proofs.Common.{◌≡◌, ◌≢◌, ℕ, zero, suc, ◌+◌, ◌<◌, ◌≤◌, Bool, true, false, List, [], ◌∷◌, ◌++◌, length, get_or, refl, sym, ap, ◌∙◌, subst, arith}
-use Rattle.std.specs.Prelude.{◌||◌, ◌==◌, ◌⊎◌, cond, nat_lt}
+use Rattle.std.specs.Prelude.{◌==◌, ◌⊎◌, cond, nat_lt}
 use Rattle.std.proofs.lemmas.Bool.{true≢false, lt-ltb, le-ltb, cases_lt}
 use Rattle.std.proofs.lemmas.List.{get_or_past}
 use Rattle.std.proofs.lemmas.List.Sums.{sum_by-cons}
 use mathlib.Core.Logic.{inl, inr}
-use Rattle.cell_order.specs.Cycles.{times, Leads, IsOnCycle}
+use Rattle.cell_order.specs.Cycles.{times, IsOnCycle}
 use Rattle.cell_order.specs.Walks.{one_if, on, Marks, IsWay, InOrder, NoneLeads, Back, Walking}
-use Rattle.cell_order.proofs.Marking.{either, one_same, one_other, one_on, one_off, one_at_most, is_on, is_off, marked_same, marked_other, marked_kept, times_same, times_other}
+use Rattle.cell_order.proofs.Marking.{either, one_same, one_on, one_off, one_at_most, is_on, is_off, marked_same, marked_other, marked_kept, times_same, times_other}
 use Rattle.cell_order.proofs.Ways.{behind_is_off, back_round}
 
 there : (xs : List ℕ) (k d : ℕ) → k < length xs → 0 < times (get_or xs k d) xs

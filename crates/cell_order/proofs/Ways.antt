@@ -1,19 +1,23 @@
 -- Ways along a relation, and who lies on no cycle.
-use Rattle.std.proofs.Common.{◌≡◌, ◌≢◌, ℕ, ◌+◌, ◌<◌, ◌≤◌, Bool, true, false, List, [], ◌∷◌, ◌++◌, refl, sym, ap, ◌∙◌, subst, arith}
+use Rattle.std.proofs.Common.{◌≡◌, ◌≢◌, ℕ, ◌<◌, Bool, true, false, List, [], ◌∷◌, ◌++◌, sym, subst, arith}
 use Rattle.std.specs.Prelude.{◌==◌, ◌⊎◌, cond}
 use Rattle.std.proofs.lemmas.List.Sums.{sum_by-cons}
 use mathlib.Core.Logic.{inl, inr}
 use Rattle.cell_order.specs.Cycles.{times, Leads, IsOnCycle}
-use Rattle.cell_order.specs.Walks.{one_if, Linked, IsWay, IsClosed, Back}
-use Rattle.cell_order.proofs.Marking.{either, one_same, one_other}
+use Rattle.cell_order.specs.Walks.{Linked, IsWay, Back}
+use Rattle.cell_order.proofs.Marking.{either, one_other}
 
 module _ (E : ℕ → ℕ → Type 0) where
-  carried : (test : ℕ → Bool) → IsClosed E test → (p : ℕ) (others : List ℕ) (z : ℕ) → Leads E p others z → test p ≡ true → test z ≡ true
+  -- none that passes the test is related to one that doesn't
+  abbrev pub IsClosed : (ℕ → Bool) → Type 0
+  IsClosed test = (x y : ℕ) → E x y → test x ≡ true → test y ≡ true
+
+  carried : (test : ℕ → Bool) → IsClosed test → (p : ℕ) (others : List ℕ) (z : ℕ) → Leads E p others z → test p ≡ true → test z ≡ true
   carried test on p [] z w h = on p z w h
   carried test on p (q ∷ qs) z w h = carried test on q qs z w.1 (on p q w.0 h)
 
   -- who isn't among a closed set, which has all that it is related to
-  pub outside_is_off : (test : ℕ → Bool) → IsClosed E test → (p : ℕ) → ((q : ℕ) → E p q → test q ≡ true) → test p ≡ false → IsOnCycle E p → ⊥
+  pub outside_is_off : (test : ℕ → Bool) → IsClosed test → (p : ℕ) → ((q : ℕ) → E p q → test q ≡ true) → test p ≡ false → IsOnCycle E p → ⊥
   outside_is_off test on p starts off c = go c.0 c.1
     where
       go : (others : List ℕ) → Leads E p others p → ⊥

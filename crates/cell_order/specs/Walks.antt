@@ -1,22 +1,17 @@
--- Searches along a relation of numbers, with flags for those that were come to.
-use Rattle.std.specs.Prelude.{◌≡◌, ◌≢◌, ℕ, ◌+◌, ◌≤◌, Bool, true, false, ◌||◌, ◌==◌, cond, List, [], ◌∷◌, length, ⊤, slice_index_or}
+-- Walks back along a relation of numbers, with flags for those that were come to and those that were left.
+use Rattle.std.specs.Prelude.{◌≡◌, ℕ, ◌+◌, Bool, true, false, ◌||◌, ◌==◌, cond, List, [], ◌∷◌, length, ⊤, slice_index_or}
 use Rattle.cell_order.specs.Cycles.{times, IsOnCycle}
 
 -- the flag of this number is on
 abbrev pub on : List Bool → ℕ → Bool
 on flags x = slice_index_or flags x false
 
--- a flag is on that wasn't
+-- the flag of y is on from now on, and the others are as before
 abbrev pub Marks : List Bool → ℕ → List Bool → Type 0
 Marks old y new = (x : ℕ) → on new x ≡ (on old x || x == y)
 
 abbrev pub one_if : Bool → ℕ
 one_if b = cond b 1 0
-
--- the first of these, if there is one, is this
-abbrev pub Begins : ℕ → List ℕ → Type 0
-Begins start [] = ⊤
-Begins start (a ∷ rest) = a ≡ start
 
 module _ (E : ℕ → ℕ → Type 0) where
   -- a and these are each related to the next
@@ -24,13 +19,10 @@ module _ (E : ℕ → ℕ → Type 0) where
   Linked a [] = ⊤
   Linked a (b ∷ bs) = E a b × Linked b bs
 
+  -- these are each related to the next
   abbrev pub IsWay : List ℕ → Type 0
   IsWay [] = ⊤
   IsWay (a ∷ rest) = Linked a rest
-
-  -- none of them is related to one that is not
-  abbrev pub IsClosed : (ℕ → Bool) → Type 0
-  IsClosed test = (x y : ℕ) → E x y → test x ≡ true → test y ≡ true
 
   -- none of these is related to q
   abbrev pub NoneLeads : List ℕ → ℕ → Type 0
@@ -42,16 +34,8 @@ module _ (E : ℕ → ℕ → Type 0) where
   InOrder [] = ⊤
   InOrder (p ∷ ps) = NoneLeads (p ∷ ps) p × InOrder ps
 
-  -- a search from `start` for a way back to it: the stack is the way, and who was come to and isn't on it has been left
-  -- behind, with all that it is related to come to
-  pub record Searching (start : ℕ) (seen : List Bool) (stack : List ℕ) : Type 0 where
-    pub begins : Begins start stack
-    pub way : IsWay stack
-    pub once : (x : ℕ) → times x stack ≤ one_if (on seen x || x == start)
-    pub shut : (x y : ℕ) → E x y → (on seen x || x == start) ≡ true → times x stack ≡ 0 → on seen y ≡ true
-
-  -- a walk back through all of the n numbers: the stack is a way back, and who was left behind stands in the order; until a
-  -- cycle is seen it stands behind all that are related to it
+  -- a walk back through n numbers: who was come to is on the stack, or was left and stands in the order. Until a cycle is
+  -- seen, it stands behind all that are related to it
   pub record Walking (n : ℕ) (seen done : List Bool) (order stack : List ℕ) (cyclic : Bool) : Type 0 where
     pub long : length seen ≡ n
     pub done_long : length done ≡ n

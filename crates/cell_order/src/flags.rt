@@ -1,7 +1,7 @@
 //! A flag for each net.
 
 ghost use Rattle.std.specs.Prelude.{◌≡◌, ◌<◌, ◌+◌, ◌||◌, ◌==◌, not, ℕ, true, false, length, IfOk, count_by};
-ghost use Rattle.cell_order.specs.Walks.{on};
+ghost use Rattle.cell_order.specs.Walks.{on, Marks};
 
 use std::alloc::{AllocError, Global};
 
@@ -25,7 +25,7 @@ pub fn is_on(flags: &Vec<bool>, net: u32) -> bool
 pub fn mark(flags: &mut Vec<bool>, net: u32)
     requires { net < length flags.old.items }
     ensures long { length flags.new.items ≡ length flags.old.items }
-    ensures marked { (x : ℕ) → on flags.new.items x ≡ (on flags.old.items x || x == net) }
+    ensures marked { Marks flags.old.items net flags.new.items }
     ensures fewer { on flags.old.items net ≡ false → count_by not flags.new.items + 1 ≡ count_by not flags.old.items }
 {
     flags[net as usize] = true;

@@ -1,5 +1,5 @@
-use Rattle.std.proofs.Common.{◌≡◌, ◌≢◌, ℕ, Bool, true, false, sym, ap, ◌∙◌, subst}
-use Rattle.std.specs.Prelude.{◌||◌, ◌==◌, ◌⊎◌, not}
+use Rattle.std.proofs.Common.{◌≡◌, true, sym, ap, ◌∙◌, subst}
+use Rattle.std.specs.Prelude.{◌==◌, ◌⊎◌, not}
 use Rattle.std.proofs.lemmas.Bool.{or_cases, or_left, eqb-true}
 use mathlib.Core.Logic.{inl, inr}
 use Rattle.cell_order.specs.Cycles.{IsOnCycle}

@@ -1,8 +1,7 @@
-use Rattle.std.proofs.Common.{◌≡◌, ℕ, List, [], ◌∷◌, ◌++◌, refl, sym, ap, ◌∙◌, subst}
+use Rattle.std.proofs.Common.{◌≡◌, [], ◌∷◌, ◌++◌, sym, ap, ◌∙◌, subst}
 use Rattle.cell_order.specs.Cycles.{IsCycle}
 use Rattle.cell_order.specs.Nets as spec
-use Rattle.cell_order.specs.Walks.{Searching}
-use Rattle.cell_order.proofs.Search.{left, further, kept, came_back}
+use Rattle.cell_order.proofs.Search.{Searching, left, further, kept, came_back}
 use Rattle.cell_order.proofs.cycles.search.Goals as goal
 
 pub returns-then-next-start-clause-found : goal.returns-then-next-start-clause-found

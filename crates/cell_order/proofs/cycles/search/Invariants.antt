@@ -1,7 +1,8 @@
-use Rattle.std.proofs.Common.{◌≡◌, ◌+◌, ◌*◌, ℕ, not, length}
+use Rattle.std.proofs.Common.{◌≡◌, ◌+◌, ◌*◌, not, length}
 use Rattle.std.specs.List.{count_by}
 use Rattle.cell_order.specs.Nets as spec
-use Rattle.cell_order.specs.Walks.{on, Searching}
+use Rattle.cell_order.specs.Walks.{on}
+use Rattle.cell_order.proofs.Search.{Searching}
 use Rattle.cell_order.proofs.cycles.search.Given as goal
 
 abbrev pub invariant-search : goal.invariant-search

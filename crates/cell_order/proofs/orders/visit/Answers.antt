@@ -1,4 +1,4 @@
-use Rattle.std.proofs.Common.{◌≡◌, ℕ, List, [], ◌∷◌, ◌++◌, length, sym, ap, ◌∙◌, subst}
+use Rattle.std.proofs.Common.{◌≡◌, [], ◌∷◌, ◌++◌, length, sym, ap, ◌∙◌, subst}
 use Rattle.cell_order.specs.Nets as spec
 use Rattle.cell_order.specs.Walks.{on, IsWay, Back, Walking}
 use Rattle.cell_order.proofs.Marking.{marked_kept}

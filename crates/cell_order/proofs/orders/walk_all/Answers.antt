@@ -1,4 +1,4 @@
-use Rattle.std.proofs.Common.{◌≡◌, ℕ, ◌<◌, length, sym, ap, ◌∙◌, subst, arith}
+use Rattle.std.proofs.Common.{◌<◌, length, arith}
 use Rattle.cell_order.specs.Nets as spec
 use Rattle.cell_order.proofs.Walk.{each_left, all_done, left_below}
 use Rattle.cell_order.proofs.Edges.{levelled, on_cycle_below}

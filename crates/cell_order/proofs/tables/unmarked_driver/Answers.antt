@@ -1,4 +1,4 @@
-use Rattle.std.proofs.Common.{◌≡◌, ℕ, ◌<◌, true, false, length, sym, ap, ◌∙◌, subst}
+use Rattle.std.proofs.Common.{◌≡◌, ◌<◌, true, false, length, sym, ap, ◌∙◌, subst}
 use Rattle.vl_paths.specs.Bits.{Bit}
 use Rattle.vl_masks.specs.Masks.{in_parts, AreOf}
 use Rattle.cell_order.specs.declared.nets.Net.{Net}

@@ -1,8 +1,8 @@
-use Rattle.std.proofs.Common.{◌≡◌, ℕ, get_or, refl, sym, ap, ◌∙◌}
+use Rattle.std.proofs.Common.{◌≡◌, ℕ, get_or, refl, ap, ◌∙◌}
 use Rattle.std.specs.Prelude.{slice_get}
 use Rattle.vl_paths.specs.Bits.{Bit}
 use Rattle.vl_masks.specs.declared.parts.Part.{Part}
-use Rattle.cell_order.specs.Tables.{in_users, users_of, listed}
+use Rattle.cell_order.specs.Tables.{in_users, users_of}
 use Rattle.cell_order.proofs.Edges.{at_users, among_parts, passed}
 use Rattle.cell_order.proofs.tables.unmarked_user.Goals as goal
 

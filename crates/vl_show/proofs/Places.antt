@@ -1,8 +1,8 @@
 -- Digits in a base.
-use Rattle.std.proofs.Common.{◌≡◌, ◌<◌, ◌≤◌, ◌^◌, ◌*◌, ◌+◌, ◌-◌, ◌/◌, ◌%◌, ◌∙◌, ap, refl, sym, ℕ, zero, suc, List, [], ◌∷◌, ◌++◌, append_assoc, length, drop, get_or, Bool, true, false, arith}
+use Rattle.std.proofs.Common.{◌≡◌, ◌<◌, ◌≤◌, ◌^◌, ◌*◌, ◌+◌, ◌-◌, ◌/◌, ◌%◌, refl, ℕ, zero, suc, List, [], ◌∷◌, ◌++◌, append_assoc, length, drop, get_or, Bool, true, false, arith}
 use Rattle.std.specs.Prelude.{All, if◌then◌else◌, ◌==◌}
 use Rattle.std.specs.List.{AllByRecursion}
-use Rattle.std.proofs.Common.{mod-lt, rules}
+use Rattle.std.proofs.Common.{mod-lt}
 use Rattle.std.proofs.Math.Pow.{pow_mono, pow_pos}
 use Rattle.std.proofs.lemmas.Bool.Decides.{nat_tests}
 use Rattle.std.proofs.lemmas.Grind.{common_steps}

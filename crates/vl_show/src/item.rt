@@ -93,12 +93,7 @@ fn push_decimal(
 
 /// Adds the lowest digits of a number in a base, the highest first.
 #[tactic(auto, using(crate::proofs::Places::digits))]
-fn push_places(
-    base: u128,
-    count: u32,
-    value: u128,
-    digits: &mut Vec<u8>,
-) -> Result<(), AllocError>
+fn push_places(base: u128, count: u32, value: u128, digits: &mut Vec<u8>) -> Result<(), AllocError>
     requires low { 0 < base }
     requires high { base ≤ 256 }
     ensures digits { OnOk result (digits.new.items ≡ digits.old.items ++ d.places base count value) }

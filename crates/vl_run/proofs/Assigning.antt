@@ -1,27 +1,25 @@
 -- Assignments, and what they do to machines.
-use Rattle.std.proofs.Common.{◌≡◌, ◌<◌, ◌≤◌, refl, ap, sym, ◌∙◌, ℕ, List, [], ◌∷◌, ◌++◌, Bool, true, false, map, length, arith}
-use Rattle.std.specs.Prelude.{All}
+use Rattle.std.proofs.Common.{◌≡◌, refl, ap, ◌∙◌, ℕ, List, [], ◌++◌, true, false, map}
 use Rattle.std.specs.declared.alloc.Global.{Global}
 use Rattle.std.specs.declared.vec.Vec.{Vec}
 use Rattle.vl_design.specs.Syntax.{Exp, Target, Whole, WordAt, PickAt, SliceAt, Several, Set, Later}
 use Rattle.vl_design.specs.Width.{Names, Scope, form, assigned}
 use Rattle.vl_design.specs.Value.{Sample, value}
 use Rattle.vl_design.specs.State.{all_updated}
-use Rattle.vl_design.specs.Sound.{IsSoundTarget, IsWidth, IsNamed}
+use Rattle.vl_design.specs.Sound.{IsSoundTarget, IsWidth}
 use Rattle.vl_design.specs.Laws.{IsFine}
 use Rattle.vl_design.specs.Targets.{spots, spots_width, target_width, updates_at, assignment}
 use Rattle.vl_design.proofs.Ranging.{updates_in_range}
 use Rattle.vl_design.proofs.Shaping.{all_shape, shape_on}
-use Rattle.vl_eval.specs.Rooms.{names_of}
 use Rattle.vl_eval.proofs.Names.{named-width, signal-named, memory-named}
 use Rattle.vl_eval.proofs.Widths.{form-width}
 use Rattle.vl_assign.specs.declared.spot.Spot.{Spot}
 use Rattle.vl_assign.specs.declared.update.Update.{Update}
-use Rattle.vl_assign.specs.Spots.{spot_of, IsSoundSpot}
+use Rattle.vl_assign.specs.Spots.{spot_of}
 use Rattle.vl_assign.specs.Updates.{update_of}
 use Rattle.vl_run.specs.declared.machine.Machine.{Machine}
 use Rattle.vl_run.specs.Lists.{Spotted}
-use Rattle.vl_run.specs.Machines.{sample_in, state_of, IsMachine, Leads, Does}
+use Rattle.vl_run.specs.Machines.{sample_in, Does}
 
 pub target-width : (names : Names) (t : Target) → IsSoundTarget names t → IsWidth (target_width names t)
 target-width names (Whole k) h = named-width names k (signal-named names k h)

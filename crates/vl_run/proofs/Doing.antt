@@ -1,11 +1,11 @@
 -- What leads from one machine to another.
 use Rattle.std.proofs.Common.{◌≡◌, ℕ, zero, suc, ◌+◌, Bool, true, false, List, refl, sym, ap, ◌∙◌, subst, arith}
-use Rattle.std.specs.Prelude.{if◌then◌else◌, not, ◌&&◌, slice_set, ◌==◌}
+use Rattle.std.specs.Prelude.{if◌then◌else◌, slice_set, ◌==◌}
 use Rattle.std.proofs.lemmas.Bool.Decides.{nat_tests}
 use Rattle.std.specs.declared.alloc.Global.{Global}
 use Rattle.std.specs.declared.vec.Vec.{Vec}
-use Rattle.vl_design.specs.Syntax.{Exp, Stm, Nop, Then, If, Case, For, Repeat, Items}
-use Rattle.vl_design.specs.Width.{Names, Scope}
+use Rattle.vl_design.specs.Syntax.{Exp, Stm, Nop, Then, If, Case, For, Items}
+use Rattle.vl_design.specs.Width.{Scope}
 use Rattle.vl_design.specs.Value.{own_value, words_of}
 use Rattle.vl_design.specs.State.{State, counted}
 use Rattle.vl_design.specs.Exec.{exec, is_true, goes_on, most_turns, turns, times, restored}

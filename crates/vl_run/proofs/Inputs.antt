@@ -1,6 +1,6 @@
 -- Functions and their inputs.
-use Rattle.std.proofs.Common.{◌≡◌, ◌<◌, ◌≤◌, ℕ, List, length, map, refl, ap, sym, ◌∙◌, get_or, subst}
-use Rattle.std.specs.Prelude.{slice_get, All, Some, None, Option, option_map}
+use Rattle.std.proofs.Common.{◌≡◌, ◌<◌, ◌≤◌, ℕ, List, length, map, ap, sym, ◌∙◌, get_or, subst}
+use Rattle.std.specs.Prelude.{slice_get, All, Some, None, option_map}
 use Rattle.std.proofs.lemmas.Option.{slice_get-map, slice_get-get_or, slice_get_within, slice_get_past, get_or_from_slice_get}
 use Rattle.vl_design.specs.declared.design.Func.{Func}
 use Rattle.vl_design.specs.Syntax.{Fun}

@@ -6,6 +6,9 @@ pub mod Casing
 pub mod Doing
 pub mod Fresh
 pub mod Inputs
+pub mod Operands
+pub mod Pieces
 pub mod Reading
 pub mod Spotting
 pub mod Statements
+pub mod Tasking

@@ -1,5 +1,5 @@
 -- Calls in expressions, one by one.
-use Rattle.std.proofs.Common.{◌≡◌, ◌<◌, ◌≤◌, ◌%◌, ◌^◌, ◌+◌, refl, ap, sym, ◌∙◌, ℕ, zero, suc, List, [], ◌∷◌, ◌++◌, append_assoc, append-nil, arith, length, get_or, drop, map}
+use Rattle.std.proofs.Common.{◌≡◌, ◌<◌, ◌≤◌, ◌%◌, ◌^◌, ◌+◌, refl, ap, sym, ◌∙◌, ℕ, zero, suc, List, [], ◌∷◌, ◌++◌, append_assoc, append-nil, arith, length, drop, map}
 use Rattle.std.specs.Prelude.{slice_get, Some, None, ◌⊎◌}
 use Rattle.std.proofs.Common.{inl, inr}
 use Rattle.std.proofs.lemmas.List.{at_drop_more, drop_all, length-append, length-map}
@@ -8,7 +8,7 @@ use Rattle.std.specs.declared.alloc.Global.{Global}
 use Rattle.std.specs.declared.vec.Vec.{Vec}
 use Rattle.vl_design.specs.declared.design.Expr.{Expr}
 use Rattle.vl_design.specs.declared.design.ExprNode as d
-use Rattle.vl_design.specs.Syntax.{Exp, Call, Exps, NoExps, MoreExps}
+use Rattle.vl_design.specs.Syntax.{Exp, Exps, NoExps, MoreExps}
 use Rattle.vl_design.specs.Trees.{exp_of, exps_of, fun_of}
 use Rattle.std.specs.declared.boxed.Box.{Box}
 use Rattle.vl_base.specs.declared.bits.BinOp.{BinOp}

@@ -1,4 +1,4 @@
--- Statements without system calls, part by part.
+-- Statements part by part.
 use Rattle.std.proofs.Common.{◌≡◌, ◌<◌, ◌+◌, ℕ, List, length, drop, get_or, refl, sym, ap, ◌∙◌}
 use Rattle.std.proofs.lemmas.List.{at_drop_more}
 use Rattle.std.specs.declared.alloc.Global.{Global}
@@ -7,15 +7,17 @@ use Rattle.vl_base.specs.declared.bits.UnOp.TheVariants.{LogNot}
 use Rattle.vl_design.specs.declared.design.Expr.{Expr}
 use Rattle.vl_design.specs.declared.design.Target.{Target as TargetCode}
 use Rattle.vl_design.specs.declared.design.Stmt.{Stmt}
+use Rattle.vl_design.specs.declared.design.SysCall.{SysCall}
 use Rattle.vl_design.specs.declared.design.StmtNode as s
-use Rattle.vl_design.specs.Syntax.{Stm, If, For, Repeat, Set, Later}
+use Rattle.vl_design.specs.Syntax.{Stm, If, For, Repeat, Set, Later, Sys}
 use Rattle.vl_design.specs.Placed as p
 use Rattle.vl_design.specs.Plainly as plain
 use Rattle.vl_design.specs.Plainly.{called_first}
 use Rattle.vl_design.specs.Seen as seen
-use Rattle.vl_design.specs.Sound.{IsSoundExp, IsSoundTarget, IsSoundStm, IsNamed}
-use Rattle.vl_design.specs.Trees.{exp_of, stm_of, target_of}
+use Rattle.vl_design.specs.Sound.{IsSoundExp, IsSoundTarget, IsSoundStm, IsSoundTask}
+use Rattle.vl_design.specs.Trees.{exp_of, stm_of, target_of, task_of}
 use Rattle.vl_design.specs.Width.{Names}
+use Rattle.vl_run.specs.Displays.{IsQuietTask}
 use Rattle.vl_run.specs.Quiet.{IsAnswerless, IsQuietStm, IsForNode}
 
 pub called-none : (path : List ℕ) (x : p.Exp) (a : Stm) → IsAnswerless x → called_first path x a ≡ a
@@ -26,7 +28,16 @@ called-none path x a h = refl
 pub stms-more : (xs : List Stmt) (i : ℕ) (x : Stmt) → i < length xs → x ≡ get_or xs i x → seen.stms_of (drop i xs) ≡ p.MoreStms (seen.stm_of x) (seen.stms_of (drop (i + 1) xs))
 stms-more xs i x h e = at_drop_more seen.stms_of xs i x h ∙ ap (λ y. p.MoreStms (seen.stm_of y) (seen.stms_of (drop (i + 1) xs))) (sym e)
 
+pub task-of : (path : List ℕ) (x : Stmt) (call : SysCall) → x.node ≡ s.Sys call → stm_of path x ≡ Sys (task_of path call.name (plain.args (seen.args_of call.args.items)))
+task-of path x call h = ap (λ n. plain.stm path (seen.node_stm x.place n)) h
+
+pub task-sound : (names : Names) (path : List ℕ) (x : Stmt) (call : SysCall) → x.node ≡ s.Sys call → IsSoundStm names (stm_of path x) → IsSoundTask names (task_of path call.name (plain.args (seen.args_of call.args.items)))
+task-sound names path x call h sound = rw (task-of path x call h) at sound
+
 module _ (path : List ℕ) (x : Stmt) (q : IsQuietStm (seen.stm_of x)) where
+  pub task-quiet : (call : SysCall) → x.node ≡ s.Sys call → IsQuietTask call.name
+  task-quiet call h = rw h at q
+
   pub if-of : (t : Expr) (a b : Box Stmt Global) → x.node ≡ s.If t a b → stm_of path x ≡ If (exp_of t) (stm_of path a.value) (stm_of path b.value)
   if-of t a b h = let k = rw h at q in ap (λ n. plain.stm path (seen.node_stm x.place n)) h ∙ called-none path (seen.exp_of t) _ k.0
 
@@ -87,6 +98,6 @@ module _ (names : Names) (path : List ℕ) (x : Stmt) (k : ℕ) (start : Box Stm
 pub repeat-of : (path : List ℕ) (x : Stmt) (n : ℕ) (a : Box Stmt Global) → x.node ≡ s.Repeat n a → stm_of path x ≡ Repeat n (stm_of path a.value)
 repeat-of path x n a h = ap (λ k. plain.stm path (seen.node_stm x.place k)) h
 
-pub ruleset parts = (if-test, if-first, if-second, set-target, set-source, later-target, later-source, for-node)
+pub ruleset parts = (if-test, if-first, if-second, set-target, set-source, later-target, later-source, for-node, task-sound, task-quiet)
 
 pub ruleset loops = (for-start, for-test, for-step, for-body)

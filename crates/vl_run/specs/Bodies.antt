@@ -1,4 +1,4 @@
--- Functions whose bodies have no system calls (IEEE 1364-2005, clauses 10.4 and 17).
+-- Functions whose bodies have no system functions, `$save` or tasks on files (IEEE 1364-2005, clauses 10.4 and 17).
 use Rattle.std.specs.Prelude.{List, All}
 use Rattle.vl_design.specs.declared.design.Func.{Func}
 use Rattle.vl_design.specs.Seen as seen

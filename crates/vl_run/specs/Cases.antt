@@ -1,7 +1,6 @@
 -- Cases by the program's items (IEEE 1364-2005, clause 9.5).
 use Rattle.std.specs.Prelude.{ℕ, ◌≤◌, List, [], ◌∷◌, ⊤, Option, Some, None, slice_get}
 use Rattle.vl_design.specs.declared.design.CaseItem.{CaseItem}
-use Rattle.vl_design.specs.Acts.{default_body}
 use Rattle.vl_design.specs.Plainly as plain
 use Rattle.vl_design.specs.Seen as seen
 use Rattle.vl_design.specs.Sound.{AreSound}
@@ -44,7 +43,7 @@ abbrev pub AreLabelsWithin : Names → ℕ → List CaseItem → Type 0
 AreLabelsWithin names w [] = ⊤
 AreLabelsWithin names w (a ∷ as') = AreWithin names w (exps_of a.labels.items) × AreLabelsWithin names w as'
 
--- bodies of items without system calls
+-- bodies of items without system functions, `$save` and tasks on files
 abbrev pub AreQuietBodies : List CaseItem → Type 0
 AreQuietBodies [] = ⊤
 AreQuietBodies (a ∷ as') = IsQuietStm (seen.stm_of a.body) × AreQuietBodies as'

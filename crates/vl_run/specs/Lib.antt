@@ -1,5 +1,7 @@
 pub mod Bodies
 pub mod Cases
+pub mod Displays
+pub mod Kinds
 pub mod Lists
 pub mod Machines
 pub mod Quiet

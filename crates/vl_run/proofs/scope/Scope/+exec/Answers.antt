@@ -11,7 +11,7 @@ use Rattle.vl_run.specs.Cases.{items_of}
 use Rattle.vl_run.specs.Scopes.{scope_of}
 use Rattle.vl_run.proofs.Doing.{leads-as, does-nop, does-then, does-first, does-second, does-case, does-for, does-fine, turns-over, turns-more, turns-none, times-more, times-none}
 use Rattle.vl_run.proofs.Casing.{case-of, body-is}
-use Rattle.vl_run.proofs.Statements.{stms-more, if-of, set-of, later-of, for-of, repeat-of}
+use Rattle.vl_run.proofs.Statements.{stms-more, if-of, set-of, later-of, for-of, repeat-of, task-of}
 use Rattle.vl_run.proofs.scope.Scope.+exec.Goals as goal
 
 pub exec-loop-item-init : goal.exec-loop-item-init
@@ -82,6 +82,11 @@ exec-returns-in-Repeat-clause-does g t c =
     let e = repeat-of c.args.path.now c.args.s.now c.in-Repeat.count c.in-Repeat.body c.in-Repeat.is in
     let done = rw c.deref-in-Repeat.ensures at c.run_repeat.ensures.does in
     rw e done
+
+pub exec-returns-in-Sys-clause-does : goal.exec-returns-in-Sys-clause-does
+exec-returns-in-Sys-clause-does g t c =
+    let e = task-of c.args.path.now c.args.s.now c.in-Sys.call c.in-Sys.is in
+    rw e c.task.ensures.does
 
 pub run_repeat-loop-time-init : goal.run_repeat-loop-time-init
 run_repeat-loop-time-init g t c =

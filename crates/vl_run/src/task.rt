@@ -1,0 +1,130 @@
+//! System tasks (IEEE 1364-2005, clause 17).
+
+ghost use Rattle.std.specs.Prelude.{◌≡◌, All, OnOk, map, false};
+ghost use Rattle.std.specs.Str.{bytes_eq};
+ghost use Rattle.vl_design.specs.Formats as f;
+ghost use Rattle.vl_design.specs.Plainly as plain;
+ghost use Rattle.vl_design.specs.Seen as seen;
+ghost use Rattle.vl_design.specs.Sound.{IsSoundPiece, IsSoundTask};
+ghost use Rattle.vl_design.specs.Syntax as y;
+ghost use Rattle.vl_design.specs.Trees.{arg_of, task_of};
+ghost use Rattle.vl_eval.specs.Rooms.{names_of};
+ghost use Rattle.vl_run.specs.Displays.{IsQuietTask};
+ghost use Rattle.vl_run.specs.Kinds.{kind_by, task_by};
+ghost use Rattle.vl_run.specs.Machines.{IsMachine, Does};
+ghost use Rattle.vl_run.specs.Scopes.{scope_of, Calls};
+
+use crate::machine::Machine;
+use crate::scope::Scope;
+use std::alloc::AllocError;
+use vl_design::design::{SysArg, SysCall};
+use vl_eval::room::Sample;
+
+/// What a task does.
+#[derive(Clone, Copy)]
+enum Kind {
+    /// It prints its arguments and a newline.
+    Display,
+    /// It prints its arguments.
+    Write,
+    /// It finishes the run.
+    Finish,
+    /// Nothing.
+    Other,
+}
+
+/// The name is this one.
+fn is_word(name: &[u8], word: &[u8]) -> bool
+    ensures { result ≡ bytes_eq name.now word.now }
+{
+    name == word
+}
+
+/// What a task of this name does, but for `$save` and the tasks on files.
+fn kind_of(name: &[u8]) -> Kind
+    ensures { result ≡ kind_by name.now }
+{
+    if is_word(name, b"$display".as_slice()) {
+        Kind::Display
+    } else if is_word(name, b"$write".as_slice()) {
+        Kind::Write
+    } else if is_word(name, b"$finish".as_slice()) {
+        Kind::Finish
+    } else {
+        Kind::Other
+    }
+}
+
+impl<F: Fn(u32, Vec<u128>) -> Result<u128, AllocError>> Scope<'_, F> {
+    /// Prints arguments, with a newline behind them or without.
+    #[tactic(auto, using(crate::proofs::Tasking::printing))]
+    fn print(
+        &self,
+        path: &[u8],
+        args: &[SysArg],
+        newline: bool,
+        m: &mut Machine,
+    ) -> Result<(), AllocError>
+        requires sound { All (IsSoundPiece (names_of self.now.room)) (f.pieces_from path.now 0 (map arg_of args.now)) }
+        requires machine { IsMachine (names_of self.now.room) m.old }
+        requires calls { Calls (scope_of self.now) (F.pre self.now.call) (F.post self.now.call) }
+        requires goes_on { m.old.finished ≡ false }
+        ensures does { OnOk result (Does (scope_of self.now) (y.Sys (y.Print (f.pieces_from path.now 0 (map arg_of args.now)) newline)) m.old m.new) }
+        ensures machine { OnOk result (IsMachine (names_of self.now.room) m.new) }
+    {
+        let s = Sample {
+            values: &m.values,
+            time: m.ticks,
+            answer: m.answer,
+        };
+        self.push_arguments(&s, path, args, &mut m.printed)?;
+        if newline {
+            m.printed.push(b'\n')?;
+        }
+        Ok(())
+    }
+
+    /// Does a task of this kind.
+    #[tactic(auto, using(crate::proofs::Tasking::kinds))]
+    fn run_kind(
+        &self,
+        path: &[u8],
+        kind: Kind,
+        args: &[SysArg],
+        m: &mut Machine,
+    ) -> Result<(), AllocError>
+        requires sound { IsSoundTask (names_of self.now.room) (task_by kind path.now (map arg_of args.now)) }
+        requires machine { IsMachine (names_of self.now.room) m.old }
+        requires calls { Calls (scope_of self.now) (F.pre self.now.call) (F.post self.now.call) }
+        requires goes_on { m.old.finished ≡ false }
+        ensures does { OnOk result (Does (scope_of self.now) (y.Sys (task_by kind path.now (map arg_of args.now))) m.old m.new) }
+        ensures machine { OnOk result (IsMachine (names_of self.now.room) m.new) }
+    {
+        match kind {
+            Kind::Display => self.print(path, args, true, m),
+            Kind::Write => self.print(path, args, false, m),
+            Kind::Finish => {
+                m.finished = true;
+                Ok(())
+            }
+            Kind::Other => Ok(()),
+        }
+    }
+
+    /// Does a system task, but for `$save` and the tasks on files. A task of an unknown name prints nothing.
+    #[tactic(auto, using(crate::proofs::Tasking::over))]
+    pub fn task(&self, path: &[u8], call: &SysCall, m: &mut Machine) -> Result<(), AllocError>
+        requires sound { IsSoundTask (names_of self.now.room) (task_of path.now call.now.name (plain.args (seen.args_of call.now.args.items))) }
+        requires quiet { IsQuietTask call.now.name }
+        requires machine { IsMachine (names_of self.now.room) m.old }
+        requires calls { Calls (scope_of self.now) (F.pre self.now.call) (F.post self.now.call) }
+        ensures does { OnOk result (Does (scope_of self.now) (y.Sys (task_of path.now call.now.name (plain.args (seen.args_of call.now.args.items)))) m.old m.new) }
+        ensures machine { OnOk result (IsMachine (names_of self.now.room) m.new) }
+    {
+        if m.finished {
+            return Ok(());
+        }
+        let kind = kind_of(call.name.as_slice());
+        self.run_kind(path, kind, call.args.as_slice(), m)
+    }
+}

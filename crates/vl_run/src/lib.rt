@@ -7,7 +7,7 @@ mod branch;
 mod call;
 mod exec;
 pub mod machine;
-mod outer;
+pub mod outer;
 pub mod process;
 mod read;
 mod scope;

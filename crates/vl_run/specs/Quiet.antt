@@ -3,6 +3,7 @@ use Rattle.std.specs.Prelude.{⊤}
 use Rattle.vl_base.specs.declared.bits.UnOp.TheVariants.{LogNot}
 use Rattle.vl_design.specs.declared.design.StmtNode as s
 use Rattle.vl_design.specs.Placed as p
+use Rattle.vl_run.specs.Displays.{IsQuietTask}
 
 -- no system function is called before its value is read
 abbrev pub IsAnswerless : p.Exp → Type 0
@@ -20,7 +21,7 @@ abbrev mutual
   IsQuietStm (p.Repeat at n a) = IsQuietStm a
   IsQuietStm (p.Set at t e) = IsAnswerless e
   IsQuietStm (p.Later at t e) = IsAnswerless e
-  IsQuietStm (p.Task at name given) = ⊥
+  IsQuietStm (p.Task at name given) = IsQuietTask name
 
   pub AreQuietStms : p.Stms → Type 0
   AreQuietStms p.NoStms = ⊤

@@ -164,7 +164,7 @@ impl<F: Fn(u32, Vec<u128>) -> Result<u128, AllocError>> Scope<'_, F> {
             StmtNode::Later(target, source) => self.assign_later(target, source, m),
             StmtNode::Case(subject, items, _) => self.run_case(path, items, subject, m),
             StmtNode::For(_, _, _, _, _) => self.run_for(path, s, m),
-            StmtNode::Sys(_) => unreachable!(),
+            StmtNode::Sys(_) => Err(AllocError),
         }
     }
 }

@@ -122,12 +122,7 @@ fn rise(m: &mut Machine)
 }
 
 /// Lets the clock rise.
-fn tick(
-    alloc: Global,
-    design: &Design,
-    files: &FileSet,
-    m: &mut Machine,
-) -> Result<(), AllocError>
+fn tick(alloc: Global, design: &Design, files: &FileSet, m: &mut Machine) -> Result<(), AllocError>
     requires plain { IsPlain (placed design.now) }
     requires sound { IsSound (flat_of design.now) }
     requires machine { IsMachine (w.names_of (flat_of design.now)) m.old }

@@ -1,4 +1,4 @@
-"""Makes the input and the wanted output of crates/host_rows from the table tools/host_rows.txt."""
+"""Makes the input and the wanted output of crates/host_rows from the tables tools/host_rows.txt and tools/width_rows.txt."""
 
 import pathlib
 import re
@@ -97,8 +97,8 @@ def large():
     yield "refused notbuilt", leaf + top.replace("MORE", "a = 7;")
 
 
-table = (TOOLS / "host_rows.txt").read_text()
-rows = [row for case in [*cases(table), *large()] for row in rows_of(*case)]
+tables = [case for name in ("host_rows.txt", "width_rows.txt") for case in cases((TOOLS / name).read_text())]
+rows = [row for case in [*tables, *large()] for row in rows_of(*case)]
 shown = ["\n".join(head + [f"= {line}" for line in wanted]) + "\n" + source for head, wanted, source in rows]
 (FOLDER / "stdin").write_text("\n".join(shown) + "\n")
 (FOLDER / "stdout").write_text("ok\n" * len(shown))

@@ -4,6 +4,8 @@ ghost use Rattle.std.specs.Prelude.{◌≡◌, ℕ, List, IfOk, Ok};
 ghost use Rattle.vl_tree.specs.Faults.{IsRead};
 ghost use Rattle.vl_source.specs.declared.tree.Source.{Source as Tree};
 ghost use Rattle.vl_design.specs.Seen.{placed};
+ghost use Rattle.vl_design.specs.Sound.{IsSound};
+ghost use Rattle.vl_design.specs.Trees.{flat_of};
 ghost use Rattle.vl_flatten.specs.Meeting.{IsElaboration};
 ghost use Rattle.host_run.specs.Due.{end_of as end_of_lem};
 ghost use Rattle.host_run.specs.Answers.{IsAnswer, IsTreeOf};
@@ -33,9 +35,11 @@ pub enum Answer {
 
 /// The answer to the flat design of a source.
 fn answer_to_design(alloc: Global, design: &Design, ticks: u64) -> Result<Answer, AllocError>
+    requires sound { IsSound (flat_of design.now) }
     ensures { IfOk result (λ a. (text : List ℕ) (tree : Tree) → IsTreeOf text tree → IsElaboration tree (Ok (placed design.now)) → IsAnswer text ticks a) }
 {
-    if !runs(design) {
+    let is_running = runs(alloc, design)?;
+    if !is_running {
         return Ok(Answer::Refusal(report::notbuilt(alloc)?));
     }
     let outcome = run(alloc, design, ticks)?;

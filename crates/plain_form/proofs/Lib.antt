@@ -1,6 +1,4 @@
-pub mod Counting
-pub mod Numbers
 pub mod Plain
-pub mod Sound
+pub mod Rows
 pub mod Tasks
-pub mod Walking
+pub mod Unrolling

@@ -1,13 +1,11 @@
--- A design that runs is one that the runner takes.
-use Rattle.std.proofs.Common.{◌≡◌, ℕ, Bool, true, List, [], ◌∷◌, refl, get_or, codes}
-use Rattle.std.specs.Prelude.{◌&&◌, All}
-use Rattle.std.specs.List.{list_all}
+-- A design of the forms that run is one that the runner takes.
+use Rattle.std.proofs.Common.{◌≡◌, ℕ, Bool, true, false, List, [], ◌∷◌, refl, get_or, codes}
+use Rattle.std.specs.Prelude.{◌||◌, ◌&&◌, ◌==◌, All}
+use Rattle.std.specs.List.{list_all, count_by}
 use Rattle.std.specs.Str.{bytes_eq}
-use Rattle.std.proofs.lemmas.Bool.{and_parts}
+use Rattle.std.proofs.lemmas.Bool.{and_parts, or_parts, or_from, not-true}
 use Rattle.std.proofs.lemmas.List.Sums.{AllPass-from_list_all}
 use Rattle.std.proofs.lemmas.Slice.Eq.{bytes_eq-Decides}
-use Rattle.vl_base.specs.declared.bits.BinOp.{BinOp}
-use Rattle.vl_base.specs.declared.bits.BinOp.TheVariants.{Add, Eq}
 use Rattle.vl_design.specs.declared.design.SigKind.{SigKind}
 use Rattle.vl_design.specs.declared.design.SigKind.TheVariants as k
 use Rattle.vl_design.specs.declared.design.ProcKind.{ProcKind}
@@ -15,72 +13,134 @@ use Rattle.vl_design.specs.declared.design.ProcKind.TheVariants.{Init, Rise}
 use Rattle.vl_design.specs.declared.design.Signal.{Signal}
 use Rattle.vl_design.specs.declared.design.Event.{Event}
 use Rattle.vl_design.specs.Syntax as d
-use Rattle.vl_design.specs.Rows.{range_width, has_width}
+use Rattle.vl_design.specs.Nodes.{has, some_have}
 use Rattle.vl_design.specs.Sound.{HasValue}
-use Rattle.vl_design.specs.Queue.{is_init}
+use Rattle.vl_design.specs.Queue.{is_rise}
 use Rattle.vl_design.specs.Placed as p
 use Rattle.vl_design.specs.Plainly as plain
-use Rattle.plain_run.specs.Plain.{IsPlainExp, IsPlainOp, IsPlainTarget, IsPlainProcKind, IsPlainTask, IsPlainStm, ArePlainStms, IsPlainProc, IsPlain}
+use Rattle.plain_run.specs.Plain.{is_beyond, IsPlainExp, IsPlainLabel, ArePlainLabels, IsPlainTarget, ArePlainTargets, IsPlainProcKind, IsPlainTask, IsPlainStm, ArePlainStms, ArePlainItems, IsPlainProc, IsPlain}
 use Rattle.plain_form.specs.Running as r
 
 -- ---- expressions
 
-op-plain : (op : BinOp) → r.is_operator op ≡ true → IsPlainOp op
-op-plain Add h = tt
-op-plain Eq h = tt
-op-plain op h = let z : ⊥ = cc in absurd z
+-- where no node passes one test, none passes another that holds at fewer nodes
+module _ (t u : d.Exp → Bool) (fewer : (e : d.Exp) → t e ≡ false → u e ≡ false) where
+  one : (e : d.Exp) (a b : Bool) → (a ≡ false → b ≡ false) → (t e || a) ≡ false → (u e || b) ≡ false
+  one e a b f h = let (here, below) = or_parts (t e) a h in or_from (u e) b (fewer e here) (f below)
 
-exp-plain : (reads : ℕ → Bool) (x : d.Exp) → r.is_exp reads x ≡ true → IsPlainExp x
-exp-plain reads (d.Num n w signed) h = tt
-exp-plain reads (d.Sig n) h = tt
-exp-plain reads (d.Bin op x y) h =
-    let (operator, operands) = and_parts (r.is_operator op) (r.is_exp reads x && r.is_exp reads y) h in
-    let (left, right) = and_parts (r.is_exp reads x) (r.is_exp reads y) operands in
-    (op-plain op operator, exp-plain reads x left, exp-plain reads y right)
-exp-plain reads x h = let z : ⊥ = cc in absurd z
+  two : (a b c e : Bool) → (a ≡ false → c ≡ false) → (b ≡ false → e ≡ false) → (a || b) ≡ false → (c || e) ≡ false
+  two a b c e f g h = let (x, y) = or_parts a b h in or_from c e (f x) (g y)
 
-name-plain : (reads : ℕ → Bool) (x : d.Exp) → r.is_name reads x ≡ true → IsPlainExp x
-name-plain reads (d.Num n w signed) h = tt
-name-plain reads (d.Sig n) h = tt
-name-plain reads x h = let z : ⊥ = cc in absurd z
+  mutual
+    has-fewer : (e : d.Exp) → has t e ≡ false → has u e ≡ false
+    has-fewer (d.Num v w s) h = fewer _ h
+    has-fewer (d.Label v care w s) h = fewer _ h
+    has-fewer (d.Sig n) h = fewer _ h
+    has-fewer (d.Word m a) h = one _ _ _ (has-fewer a) h
+    has-fewer (d.Pick b i from w) h = one _ _ _ (two _ _ _ _ (has-fewer b) (has-fewer i)) h
+    has-fewer (d.Slice b low w) h = one _ _ _ (has-fewer b) h
+    has-fewer (d.Un op a) h = one _ _ _ (has-fewer a) h
+    has-fewer (d.Bin op a b) h = one _ _ _ (two _ _ _ _ (has-fewer a) (has-fewer b)) h
+    has-fewer (d.Cond c a b) h = one _ _ _ (two _ _ _ _ (has-fewer c) (two _ _ _ _ (has-fewer a) (has-fewer b))) h
+    has-fewer (d.Cat es) h = one _ _ _ (some-fewer es) h
+    has-fewer (d.Rep n es) h = one _ _ _ (some-fewer es) h
+    has-fewer (d.Cast s a) h = one _ _ _ (has-fewer a) h
+    has-fewer (d.Call f es) h = one _ _ _ (some-fewer es) h
+    has-fewer d.Time h = fewer _ h
+    has-fewer d.LastAnswer h = fewer _ h
+
+    some-fewer : (es : d.Exps) → some_have t es ≡ false → some_have u es ≡ false
+    some-fewer d.NoExps h = refl
+    some-fewer (d.MoreExps e es) h = two _ _ _ _ (has-fewer e) (some-fewer es) h
+
+beyond-other : (reads : ℕ → Bool) (e : d.Exp) → r.is_other reads e ≡ false → is_beyond e ≡ false
+beyond-other reads (d.Label v care w s) h = h
+beyond-other reads (d.Word m a) h = h
+beyond-other reads (d.Call f es) h = h
+beyond-other reads d.Time h = h
+beyond-other reads d.LastAnswer h = h
+beyond-other reads e h = refl
+
+module _ (reads : ℕ → Bool) where
+  exp-plain : (x : d.Exp) → r.is_exp reads x ≡ true → IsPlainExp x
+  exp-plain x h = has-fewer (r.is_other reads) is_beyond (beyond-other reads) x (not-true (has (r.is_other reads) x) h)
+
+  label-plain : (x : d.Exp) → r.is_label reads x ≡ true → IsPlainLabel x
+  label-plain (d.Label v care w s) h = tt
+  label-plain x h = exp-plain x h
+
+  labels-plain : (es : d.Exps) → r.are_labels reads es ≡ true → ArePlainLabels es
+  labels-plain d.NoExps h = tt
+  labels-plain (d.MoreExps e es) h =
+      let (first, others) = and_parts (r.is_label reads e) (r.are_labels reads es) h in
+      (label-plain e first, labels-plain es others)
+
+  name-plain : (x : d.Exp) → r.is_name reads x ≡ true → IsPlainExp x
+  name-plain (d.Num n w s) h = refl
+  name-plain (d.Sig n) h = refl
+  name-plain x h = let z : ⊥ = cc in absurd z
+
+  task-plain : (name : List ℕ) (given : p.Args) → r.is_task reads name given ≡ true → IsPlainTask name given
+  task-plain name (p.TextArg text (p.ValueArg e p.NoArgs)) h =
+      let (display, rest) = and_parts (bytes_eq name (codes "$display")) _ h in
+      let (decimal, is) = and_parts (bytes_eq text (codes "%0d")) (r.is_name reads (plain.exp e)) rest in
+      ((bytes_eq-Decides name (codes "$display")).0 display, (bytes_eq-Decides text (codes "%0d")).0 decimal, name-plain (plain.exp e) is)
+  task-plain name p.NoArgs h = (bytes_eq-Decides name (codes "$finish")).0 h
+  task-plain name given h = let z : ⊥ = cc in absurd z
 
 -- ---- statements
 
-task-plain : (reads : ℕ → Bool) (name : List ℕ) (given : p.Args) → r.is_task reads name given ≡ true → IsPlainTask name given
-task-plain reads name (p.TextArg text (p.ValueArg e p.NoArgs)) h =
-    let (display, rest) = and_parts (bytes_eq name (codes "$display")) _ h in
-    let (decimal, is) = and_parts (bytes_eq text (codes "%0d")) (r.is_name reads (plain.exp e)) rest in
-    ((bytes_eq-Decides name (codes "$display")).0 display, (bytes_eq-Decides text (codes "%0d")).0 decimal, name-plain reads (plain.exp e) is)
-task-plain reads name p.NoArgs h = (bytes_eq-Decides name (codes "$finish")).0 h
-task-plain reads name given h = let z : ⊥ = cc in absurd z
+module _ (signals : List Signal) (kind : ProcKind) where
+  mutual
+    target-plain : (t : d.Target) → r.is_target signals kind t ≡ true → IsPlainTarget t
+    target-plain (d.Whole n) h = tt
+    target-plain (d.WordAt m a) h = let z : ⊥ = cc in absurd z
+    target-plain (d.PickAt b i from w) h =
+        let (base, index) = and_parts (r.is_target signals kind b) (r.is_exp (r.reads signals kind) i) h in
+        (target-plain b base, exp-plain (r.reads signals kind) i index)
+    target-plain (d.SliceAt b low w) h = target-plain b h
+    target-plain (d.Several ts) h = targets-plain ts h
 
-target-plain : (signals : List Signal) (t : p.Target) → r.is_target signals t ≡ true → IsPlainTarget (plain.target t)
-target-plain signals (p.Whole at n) h = tt
-target-plain signals t h = let z : ⊥ = cc in absurd z
+    targets-plain : (ts : d.Targets) → r.are_targets signals kind ts ≡ true → ArePlainTargets ts
+    targets-plain d.NoTargets h = tt
+    targets-plain (d.MoreTargets t ts) h =
+        let (first, others) = and_parts (r.is_target signals kind t) (r.are_targets signals kind ts) h in
+        (target-plain t first, targets-plain ts others)
 
-assignment-plain : (signals : List Signal) (kind : ProcKind) (t : p.Target) (e : p.Exp) → (r.is_target signals t && r.is_exp (r.reads signals kind) (plain.exp e)) ≡ true → IsPlainTarget (plain.target t) × IsPlainExp (plain.exp e)
-assignment-plain signals kind t e h =
-    let (target, source) = and_parts (r.is_target signals t) (r.is_exp (r.reads signals kind) (plain.exp e)) h in
-    (target-plain signals t target, exp-plain (r.reads signals kind) (plain.exp e) source)
+  assignment-plain : (t : p.Target) (e : p.Exp) → (r.is_target signals kind (plain.target t) && r.is_exp (r.reads signals kind) (plain.exp e)) ≡ true → IsPlainTarget (plain.target t) × IsPlainExp (plain.exp e)
+  assignment-plain t e h =
+      let (target, source) = and_parts (r.is_target signals kind (plain.target t)) (r.is_exp (r.reads signals kind) (plain.exp e)) h in
+      (target-plain (plain.target t) target, exp-plain (r.reads signals kind) (plain.exp e) source)
 
-mutual
-  stm-plain : (signals : List Signal) (kind : ProcKind) (a : p.Stm) → r.is_stm signals kind a ≡ true → IsPlainStm a
-  stm-plain signals kind (p.Nop at) h = tt
-  stm-plain signals kind (p.Seq at as') h = stms-plain signals kind as' h
-  stm-plain signals kind (p.If at t a b) h =
-      let (test, branches) = and_parts (r.is_exp (r.reads signals kind) (plain.exp t)) (r.is_stm signals kind a && r.is_stm signals kind b) h in
-      let (first, second) = and_parts (r.is_stm signals kind a) (r.is_stm signals kind b) branches in
-      (exp-plain (r.reads signals kind) (plain.exp t) test, stm-plain signals kind a first, stm-plain signals kind b second)
-  stm-plain signals kind (p.Set at t e) h = assignment-plain signals kind t e (and_parts (is_init kind) _ h).1
-  stm-plain signals kind (p.Later at t e) h = assignment-plain signals kind t e h
-  stm-plain signals kind (p.Task at name given) h = task-plain (r.reads signals kind) name given h
-  stm-plain signals kind a h = let z : ⊥ = cc in absurd z
+  mutual
+    stm-plain : (a : p.Stm) → r.is_stm signals kind a ≡ true → IsPlainStm a
+    stm-plain (p.Nop at) h = tt
+    stm-plain (p.Seq at as') h = stms-plain as' h
+    stm-plain (p.If at t a b) h =
+        let (test, branches) = and_parts (r.is_exp (r.reads signals kind) (plain.exp t)) (r.is_stm signals kind a && r.is_stm signals kind b) h in
+        let (first, second) = and_parts (r.is_stm signals kind a) (r.is_stm signals kind b) branches in
+        (exp-plain (r.reads signals kind) (plain.exp t) test, stm-plain a first, stm-plain b second)
+    stm-plain (p.Case at x is wild) h =
+        let (subject, items) = and_parts (r.is_exp (r.reads signals kind) (plain.exp x)) (r.are_items signals kind is) h in
+        (exp-plain (r.reads signals kind) (plain.exp x) subject, items-plain is items)
+    stm-plain (p.For at n start test step a) h = let z : ⊥ = cc in absurd z
+    stm-plain (p.Repeat at n a) h = stm-plain a h
+    stm-plain (p.Set at t e) h = assignment-plain t e h
+    stm-plain (p.Later at t e) h = assignment-plain t e h
+    stm-plain (p.Task at name given) h = task-plain (r.reads signals kind) name given h
 
-  stms-plain : (signals : List Signal) (kind : ProcKind) (as' : p.Stms) → r.are_stms signals kind as' ≡ true → ArePlainStms as'
-  stms-plain signals kind p.NoStms h = tt
-  stms-plain signals kind (p.MoreStms a as') h =
-      let (one, others) = and_parts (r.is_stm signals kind a) (r.are_stms signals kind as') h in
-      (stm-plain signals kind a one, stms-plain signals kind as' others)
+    stms-plain : (as' : p.Stms) → r.are_stms signals kind as' ≡ true → ArePlainStms as'
+    stms-plain p.NoStms h = tt
+    stms-plain (p.MoreStms a as') h =
+        let (first, others) = and_parts (r.is_stm signals kind a) (r.are_stms signals kind as') h in
+        (stm-plain a first, stms-plain as' others)
+
+    items-plain : (is : p.Items) → r.are_items signals kind is ≡ true → ArePlainItems is
+    items-plain p.NoItems h = tt
+    items-plain (p.MoreItems es a others) h =
+        let (labels, rest) = and_parts (r.are_labels (r.reads signals kind) (plain.exps es)) (r.is_stm signals kind a && r.are_items signals kind others) h in
+        let (body, more) = and_parts (r.is_stm signals kind a) (r.are_items signals kind others) rest in
+        (labels-plain (r.reads signals kind) (plain.exps es) labels, stm-plain a body, items-plain others more)
 
 -- ---- designs
 
@@ -98,24 +158,32 @@ word-valued : (kind : SigKind) → r.is_word kind ≡ true → HasValue kind
 word-valued k.Mem h = let z : ⊥ = cc in absurd z
 word-valued kind h = tt
 
-signal-plain : (x : Signal) → r.is_signal x ≡ true → HasValue x.kind
-signal-plain x h = word-valued x.kind (and_parts (r.is_word x.kind) (has_width (range_width x.left x.right)) h).0
-
 -- what passes a test has what follows from it
-all-passing : {A : Type 0} (test : A → Bool) (P : A → Type 0) → ((x : A) → test x ≡ true → P x) → (xs : List A) → list_all test xs ≡ true → All P xs
+pub all-passing : {A : Type 0} (test : A → Bool) (P : A → Type 0) → ((x : A) → test x ≡ true → P x) → (xs : List A) → list_all test xs ≡ true → All P xs
 all-passing test P f xs h = λ n x there. f (get_or xs n x) (AllPass-from_list_all test xs h n x there)
 
-none-of : (fs : List p.Func) → r.is_none fs ≡ true → fs ≡ []
+pub none-of : (fs : List p.Func) → r.is_empty fs ≡ true → fs ≡ []
 none-of [] h = refl
 none-of (f ∷ fs) h = let z : ⊥ = cc in absurd z
 
-pub running-plain : (x : p.Design) → r.is_running x ≡ true → IsPlain x
-running-plain x h =
-    let (no_funcs, rest) = and_parts (r.is_none x.funcs) _ h in
-    let (signals, others) = and_parts (list_all r.is_signal x.signals) _ rest in
-    let (processes, counts) = and_parts (list_all (r.is_process x.signals) x.processes) _ others in
+-- the parts of the forms of a design
+pub record Forms (x : p.Design) : Type 0 where
+  pub funcs : x.funcs ≡ []
+  pub signals : list_all (λ s. r.is_word s.kind) x.signals ≡ true
+  pub processes : list_all (r.is_process x.signals) x.processes ≡ true
+
+pub forms-of : (x : p.Design) → r.has_forms x ≡ true → Forms x
+forms-of x h =
+    let (no_funcs, rest) = and_parts (r.is_empty x.funcs) _ h in
+    let (signals, others) = and_parts (list_all (λ s. r.is_word s.kind) x.signals) _ rest in
+    let (processes, count) = and_parts (list_all (r.is_process x.signals) x.processes) (count_by (λ a. is_rise a.kind) x.processes == 1) others in
+    record { funcs = none-of x.funcs no_funcs; signals = signals; processes = processes }
+
+pub forms-plain : (x : p.Design) → r.has_forms x ≡ true → IsPlain x
+forms-plain x h =
+    let f = forms-of x h in
     record {
-      signals = all-passing r.is_signal (λ s. HasValue s.kind) signal-plain x.signals signals;
-      funcs = none-of x.funcs no_funcs;
-      processes = all-passing (r.is_process x.signals) IsPlainProc (process-plain x.signals) x.processes processes;
+      signals = all-passing (λ (s : Signal). r.is_word s.kind) (λ s. HasValue s.kind) (λ s. word-valued s.kind) x.signals f.signals;
+      funcs = f.funcs;
+      processes = all-passing (r.is_process x.signals) IsPlainProc (process-plain x.signals) x.processes f.processes;
     }

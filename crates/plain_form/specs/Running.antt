@@ -1,33 +1,27 @@
--- The designs that run: initial blocks, and one block that a clock's rise begins, of few kinds of statements over
--- variables and nets of 1 to 128 bits (IEEE 1364-2005, clauses 4, 5.1, 9 and 17).
-use Rattle.std.specs.Prelude.{ℕ, ◌+◌, ◌^◌, nat_le, nat_lt, ◌==◌, Bool, true, false, ◌&&◌, if◌then◌else◌, codes, List, [], ◌∷◌, option_map, slice_get, Option, Some}
-use Rattle.std.specs.List.{list_all, sum_by, count_by}
+-- The designs that run: initial blocks, and one block that a clock's rise begins, over variables and nets of one word,
+-- without functions and `for` (IEEE 1364-2005, clauses 4, 5, 9 and 17).
+use Rattle.std.specs.Prelude.{ℕ, ◌==◌, Bool, true, false, not, ◌&&◌, codes, List, [], ◌∷◌, option_map, slice_get, Option, Some, is_none}
+use Rattle.std.specs.List.{list_all, count_by}
 use Rattle.std.specs.Str.{bytes_eq}
-use Rattle.vl_base.specs.declared.place.Place.{Place}
-use Rattle.vl_base.specs.declared.bits.BinOp.{BinOp}
-use Rattle.vl_base.specs.declared.bits.BinOp.TheVariants.{Add, Eq}
 use Rattle.vl_design.specs.declared.design.SigKind.{SigKind}
 use Rattle.vl_design.specs.declared.design.SigKind.TheVariants.{Net, Var, Mem, Clock}
 use Rattle.vl_design.specs.declared.design.ProcKind.{ProcKind}
 use Rattle.vl_design.specs.declared.design.ProcKind.TheVariants.{Init, Rise}
 use Rattle.vl_design.specs.declared.design.Signal.{Signal}
 use Rattle.vl_design.specs.declared.design.Event.{Event}
-use Rattle.vl_design.specs.Syntax.{Exp, Num, Sig, Bin}
-use Rattle.vl_design.specs.Rows.{range_width, has_width}
-use Rattle.vl_design.specs.Queue.{is_init, is_rise}
-use Rattle.vl_base.specs.Places.{same_place}
+use Rattle.vl_design.specs.Syntax.{Exp, Num, Label, Sig, Word, Call, Time, LastAnswer, Exps, NoExps, MoreExps, Target, Whole, WordAt, PickAt, SliceAt, Several, Targets, NoTargets, MoreTargets}
+use Rattle.vl_design.specs.Nodes.{has}
+use Rattle.vl_design.specs.Queue.{is_rise}
 use Rattle.vl_design.specs.Placed as p
-use Rattle.vl_design.specs.Plainly.{exp}
+use Rattle.vl_design.specs.Plainly.{exp, exps, target}
+use Rattle.vl_turns.specs.Limits.{first_limit}
 
 -- ---- signals (clauses 4.2 and 4.3)
 
+-- no memory
 abbrev pub is_word : SigKind → Bool
 is_word Mem = false
 is_word kind = true
-
--- no memory, and from 1 to 128 bits
-abbrev pub is_signal : Signal → Bool
-is_signal s = is_word s.kind && has_width (range_width s.left s.right)
 
 -- the kind of the signal of a number
 abbrev pub kind_of : List Signal → ℕ → Option SigKind
@@ -47,68 +41,90 @@ is_readable kind (Some Var) = true
 is_readable kind (Some Net) = is_rise kind
 is_readable kind other = false
 
--- ---- expressions (clause 5)
-
--- a value of 1 to 128 bits
-abbrev pub is_number : ℕ → ℕ → Bool
-is_number v w = has_width w && nat_lt v (2 ^ w)
-
-abbrev pub is_operator : BinOp → Bool
-is_operator Add = true
-is_operator Eq = true
-is_operator op = false
-
--- sums and comparisons for equality of numbers and of signals that may be read
-abbrev pub is_exp : (ℕ → Bool) → Exp → Bool
-is_exp reads (Num v w signed) = is_number v w
-is_exp reads (Sig k) = reads k
-is_exp reads (Bin op a b) = is_operator op && (is_exp reads a && is_exp reads b)
-is_exp reads e = false
-
--- ---- statements (clause 9)
-
--- a name: a parameter's is a number
-abbrev pub is_name : (ℕ → Bool) → Exp → Bool
-is_name reads (Num v w signed) = is_number v w
-is_name reads (Sig k) = reads k
-is_name reads e = false
-
--- `$display("%0d", NAME)` and `$finish` (clauses 17.1 and 17.4.1), by their names and arguments
-abbrev pub is_task : (ℕ → Bool) → List ℕ → p.Args → Bool
-is_task reads name (p.TextArg text (p.ValueArg e p.NoArgs)) = bytes_eq name (codes "$display") && (bytes_eq text (codes "%0d") && is_name reads (exp e))
-is_task reads name p.NoArgs = bytes_eq name (codes "$finish")
-is_task reads name given = false
-
--- a whole variable
-abbrev pub is_target : List Signal → p.Target → Bool
-is_target signals (p.Whole at k) = is_variable (kind_of signals k)
-is_target signals t = false
-
 -- what a process of a kind may read
 abbrev pub reads : List Signal → ProcKind → ℕ → Bool
 reads signals kind k = is_readable kind (kind_of signals k)
 
-abbrev mutual
-  -- a statement of a process of this kind
-  pub is_stm : List Signal → ProcKind → p.Stm → Bool
-  is_stm signals kind (p.Nop at) = true
-  is_stm signals kind (p.Seq at as') = are_stms signals kind as'
-  is_stm signals kind (p.If at t a b) = is_exp (reads signals kind) (exp t) && (is_stm signals kind a && is_stm signals kind b)
-  -- in initial processes alone
-  is_stm signals kind (p.Set at t e) = is_init kind && (is_target signals t && is_exp (reads signals kind) (exp e))
-  is_stm signals kind (p.Later at t e) = is_target signals t && is_exp (reads signals kind) (exp e)
-  is_stm signals kind (p.Task at name given) = is_task (reads signals kind) name given
-  is_stm signals kind a = false
+-- ---- expressions (clause 5)
 
-  pub are_stms : List Signal → ProcKind → p.Stms → Bool
-  are_stms signals kind p.NoStms = true
-  are_stms signals kind (p.MoreStms a as') = is_stm signals kind a && are_stms signals kind as'
+module _ (reads : ℕ → Bool) where
+  -- a node of no form that runs: a word of a memory, a call, a label outside its case, or a signal that may not be read
+  abbrev pub is_other : Exp → Bool
+  is_other (Label v care w signed) = true
+  is_other (Sig k) = not (reads k)
+  is_other (Word m a) = true
+  is_other (Call f es) = true
+  is_other Time = true
+  is_other LastAnswer = true
+  is_other e = false
 
-abbrev pub is_none : {A : Type 0} → List A → Bool
-is_none [] = true
-is_none (x ∷ xs) = false
+  -- all nodes are of the forms that run
+  abbrev pub is_exp : Exp → Bool
+  is_exp e = not (has is_other e)
+
+  -- a label of a case (clause 9.5)
+  abbrev pub is_label : Exp → Bool
+  is_label (Label v care w signed) = true
+  is_label e = is_exp e
+
+  abbrev pub are_labels : Exps → Bool
+  are_labels NoExps = true
+  are_labels (MoreExps e es) = is_label e && are_labels es
+
+  -- a name: a parameter's is a number
+  abbrev pub is_name : Exp → Bool
+  is_name (Num v w signed) = true
+  is_name (Sig k) = reads k
+  is_name e = false
+
+  -- `$display("%0d", NAME)` and `$finish` (clauses 17.1 and 17.4.1), by their names and arguments
+  abbrev pub is_task : List ℕ → p.Args → Bool
+  is_task name (p.TextArg text (p.ValueArg e p.NoArgs)) = bytes_eq name (codes "$display") && (bytes_eq text (codes "%0d") && is_name (exp e))
+  is_task name p.NoArgs = bytes_eq name (codes "$finish")
+  is_task name given = false
+
+-- ---- statements (clause 9)
+
+-- a process of this kind, over these signals
+module _ (signals : List Signal) (kind : ProcKind) where
+  abbrev mutual
+    -- a whole variable, bits of one, or several of these side by side (clause 9.2)
+    pub is_target : Target → Bool
+    is_target (Whole k) = is_variable (kind_of signals k)
+    is_target (WordAt m a) = false
+    is_target (PickAt b i from w) = is_target b && is_exp (reads signals kind) i
+    is_target (SliceAt b low w) = is_target b
+    is_target (Several ts) = are_targets ts
+
+    pub are_targets : Targets → Bool
+    are_targets NoTargets = true
+    are_targets (MoreTargets t ts) = is_target t && are_targets ts
+
+  abbrev mutual
+    pub is_stm : p.Stm → Bool
+    is_stm (p.Nop at) = true
+    is_stm (p.Seq at as') = are_stms as'
+    is_stm (p.If at t a b) = is_exp (reads signals kind) (exp t) && (is_stm a && is_stm b)
+    is_stm (p.Case at x is wild) = is_exp (reads signals kind) (exp x) && are_items is
+    is_stm (p.For at k start test step a) = false
+    is_stm (p.Repeat at n a) = is_stm a
+    is_stm (p.Set at t e) = is_target (target t) && is_exp (reads signals kind) (exp e)
+    is_stm (p.Later at t e) = is_target (target t) && is_exp (reads signals kind) (exp e)
+    is_stm (p.Task at name given) = is_task (reads signals kind) name given
+
+    pub are_stms : p.Stms → Bool
+    are_stms p.NoStms = true
+    are_stms (p.MoreStms a as') = is_stm a && are_stms as'
+
+    pub are_items : p.Items → Bool
+    are_items p.NoItems = true
+    are_items (p.MoreItems es a others) = are_labels (reads signals kind) (exps es) && (is_stm a && are_items others)
 
 -- ---- processes (clauses 9.7 and 9.9)
+
+abbrev pub is_empty : {A : Type 0} → List A → Bool
+is_empty [] = true
+is_empty (x ∷ xs) = false
 
 -- `@(posedge NAME)` of one clock
 abbrev pub is_posedge : List Signal → List Event → Bool
@@ -117,69 +133,21 @@ is_posedge signals events = false
 
 -- an initial process, which waits for no event, or one that a clock's rise begins
 abbrev pub is_begun : List Signal → ProcKind → List Event → Bool
-is_begun signals Init events = is_none events
+is_begun signals Init events = is_empty events
 is_begun signals Rise events = is_posedge signals events
 is_begun signals kind events = false
 
 abbrev pub is_process : List Signal → p.Process → Bool
 is_process signals a = is_begun signals a.kind a.events && is_stm signals a.kind a.body
 
--- ---- limits
-
--- a null statement at the place of its `if` stands for an `else` that isn't there
-abbrev pub is_missing : Place → p.Stm → Bool
-is_missing at (p.Nop q) = same_place at q
-is_missing at a = false
-
-abbrev mutual
-  -- the statements in a statement, itself included
-  pub statements : p.Stm → ℕ
-  statements (p.Seq at as') = 1 + all_statements as'
-  statements (p.If at t a b) = 1 + statements a + (if is_missing at b then 0 else statements b)
-  statements a = 1
-
-  pub all_statements : p.Stms → ℕ
-  all_statements p.NoStms = 0
-  all_statements (p.MoreStms a as') = statements a + all_statements as'
-
--- the nodes of an expression
-abbrev pub nodes : Exp → ℕ
-nodes (Bin op a b) = 1 + nodes a + nodes b
-nodes e = 1
-
--- those of the arguments of a call: a format has none
-abbrev pub args_nodes : p.Args → ℕ
-args_nodes p.NoArgs = 0
-args_nodes (p.NullArg others) = args_nodes others
-args_nodes (p.TextArg text others) = args_nodes others
-args_nodes (p.ValueArg e others) = nodes (exp e) + args_nodes others
-
-abbrev mutual
-  -- the nodes of the expressions in a statement
-  pub stm_nodes : p.Stm → ℕ
-  stm_nodes (p.Seq at as') = all_nodes as'
-  stm_nodes (p.If at t a b) = nodes (exp t) + stm_nodes a + stm_nodes b
-  stm_nodes (p.Set at t e) = nodes (exp e)
-  stm_nodes (p.Later at t e) = nodes (exp e)
-  stm_nodes (p.Task at name given) = args_nodes given
-  stm_nodes a = 0
-
-  pub all_nodes : p.Stms → ℕ
-  all_nodes p.NoStms = 0
-  all_nodes (p.MoreStms a as') = stm_nodes a + all_nodes as'
-
-abbrev pub most_statements : ℕ
-most_statements = 100000
-
-abbrev pub most_nodes : ℕ
-most_nodes = 1000000
-
 -- ---- designs
 
--- the design is of the forms that run: one process is clocked, each other one is initial, and neither limit 8 nor 9 is passed
+-- no function and no memory, one process is clocked, and each other one is initial
+abbrev pub has_forms : p.Design → Bool
+has_forms d =
+    is_empty d.funcs && (list_all (λ s. is_word s.kind) d.signals && (list_all (is_process d.signals) d.processes
+    && (count_by (λ a. is_rise a.kind) d.processes == 1)))
+
+-- a design of these forms that passes neither limit 8 nor limit 9
 abbrev pub is_running : p.Design → Bool
-is_running d =
-    is_none d.funcs && (list_all is_signal d.signals && (list_all (is_process d.signals) d.processes
-    && ((count_by (λ a. is_rise a.kind) d.processes == 1)
-    && (nat_le (sum_by (λ a. statements a.body) d.processes) most_statements
-    && nat_le (sum_by (λ a. stm_nodes a.body) d.processes) most_nodes))))
+is_running d = has_forms d && is_none (first_limit d)

@@ -1,39 +1,32 @@
 //! Whether a design runs.
 
-ghost use Rattle.std.specs.Prelude.{◌≡◌, ◌&&◌, ◌==◌, ◌≤◌, ◌+◌, min, map, true, nat_le, ℕ, cond};
-ghost use Rattle.std.specs.List.{list_all, sum_by, count_by};
+ghost use Rattle.std.specs.Prelude.{◌≡◌, ◌==◌, ◌≤◌, ◌+◌, min, map, ℕ, cond, is_none, IfOk, IsTrue};
+ghost use Rattle.std.specs.List.{list_all, count_by};
 ghost use Rattle.vl_design.specs.Queue.{is_rise};
+ghost use Rattle.vl_design.specs.Seen.{process_of, placed};
 ghost use Rattle.vl_design.specs.Sound.{IsSound};
 ghost use Rattle.vl_design.specs.Trees.{flat_of};
-ghost use Rattle.vl_design.specs.Seen.{process_of, placed};
+ghost use Rattle.vl_turns.specs.Fits.{CanUnroll};
+ghost use Rattle.vl_turns.specs.Limits as limits;
 ghost use Rattle.plain_run.specs.Plain.{IsPlain};
 ghost use Rattle.plain_form.specs.Running as r;
 
-use crate::counts::{with_nodes, with_statements};
 use crate::names::is_clock;
 use crate::statements::is_stm;
+use std::alloc::{AllocError, Global};
 use vl_design::design::{Design, Event, ProcKind, Process, SigKind, Signal};
+use vl_limits::limits::first_limit;
 
-/// Whether a signal is no memory, and has from 1 to 128 bits.
-fn is_signal(signal: &Signal) -> bool
-    ensures { result ≡ r.is_signal signal.now }
+/// Whether no signal is a memory.
+fn are_words(signals: &[Signal]) -> bool
+    ensures { result ≡ list_all (λ s. r.is_word s.kind) signals.now }
 {
-    let narrow = signal.left.abs_diff(signal.right) < 128;
-    match signal.kind {
-        SigKind::Mem => false,
-        _ => narrow,
-    }
-}
-
-/// Whether all signals are such.
-fn are_signals(signals: &[Signal]) -> bool
-    ensures { result ≡ list_all r.is_signal signals.now }
-{
-    let mut all = true;
     for signal in signals {
-        all &= is_signal(signal);
+        if matches!(signal.kind, SigKind::Mem) {
+            return false;
+        }
     }
-    all
+    true
 }
 
 /// Whether the events are the rise of one clock.
@@ -73,11 +66,12 @@ fn is_process(signals: &[Signal], process: &Process) -> bool
 fn are_processes(signals: &[Signal], processes: &[Process]) -> bool
     ensures { result ≡ list_all (r.is_process signals.now) (map process_of processes.now) }
 {
-    let mut all = true;
     for process in processes {
-        all &= is_process(signals, process);
+        if !is_process(signals, process) {
+            return false;
+        }
     }
-    all
+    true
 }
 
 /// One more than so many where a process is clocked, kept within 2.
@@ -104,30 +98,6 @@ fn clocked(processes: &[Process]) -> u32
     count
 }
 
-/// How many statements there are, kept within one past the limit.
-fn statements_in(processes: &[Process]) -> u32
-    ensures { result ≡ min 100001 (sum_by (λ a. r.statements a.body) (map process_of processes.now)) }
-{
-    let mut count = 0;
-    for process in processes {
-        let next = with_statements(count, &process.body);
-        count = next;
-    }
-    count
-}
-
-/// How many nodes of expressions there are, kept within one past the limit.
-fn nodes_in(processes: &[Process]) -> u32
-    ensures { result ≡ min 1000001 (sum_by (λ a. r.stm_nodes a.body) (map process_of processes.now)) }
-{
-    let mut count = 0;
-    for process in processes {
-        let next = with_nodes(count, &process.body);
-        count = next;
-    }
-    count
-}
-
 /// Whether one process is clocked.
 fn has_one_clocked(processes: &[Process]) -> bool
     ensures { result ≡ (count_by (λ a. is_rise a.kind) (map process_of processes.now) == 1) }
@@ -135,39 +105,37 @@ fn has_one_clocked(processes: &[Process]) -> bool
     clocked(processes) == 1
 }
 
-/// Whether the statements are within their limit.
-fn has_few_statements(processes: &[Process]) -> bool
-    ensures { result ≡ nat_le (sum_by (λ a. r.statements a.body) (map process_of processes.now)) r.most_statements }
-{
-    statements_in(processes) <= 100_000
-}
-
-/// Whether the nodes of expressions are within their limit.
-fn has_few_nodes(processes: &[Process]) -> bool
-    ensures { result ≡ nat_le (sum_by (λ a. r.stm_nodes a.body) (map process_of processes.now)) r.most_nodes }
-{
-    nodes_in(processes) <= 1_000_000
-}
-
-/// Whether a design is of the forms that run.
-fn is_running(design: &Design) -> bool
-    ensures { result ≡ r.is_running (placed design.now) }
+/// Whether a design is of the forms that run, whatever its limits: it has no function and no memory, one process is clocked
+/// by a rise and each other one is initial, and all expressions, left sides and statements are of those forms.
+fn has_forms(design: &Design) -> bool
+    ensures same { result ≡ r.has_forms (placed design.now) }
 {
     let signals = design.signals.as_slice();
     let processes = design.processes.as_slice();
     let no_functions = design.funcs.as_slice().is_empty();
-    let few = has_few_statements(processes) & has_few_nodes(processes);
-    let forms = are_signals(signals) & are_processes(signals, processes);
-    no_functions & forms & has_one_clocked(processes) & few
+    let forms = are_words(signals) & are_processes(signals, processes);
+    no_functions & forms & has_one_clocked(processes)
 }
 
-/// Whether a design is of the forms that run: it has no function and no memory, each signal has from 1 to 128 bits, one
-/// process is clocked by a rise and each other one is initial, the statements are of the few kinds of those forms, and there
-/// are at most 100,000 statements and 1,000,000 nodes of expressions.
-pub fn runs(design: &Design) -> bool
-    ensures same { result ≡ r.is_running (placed design.now) }
-    ensures plain { result ≡ true → IsPlain (placed design.now) }
-    ensures sound { result ≡ true → IsSound (flat_of design.now) }
+/// Whether a design passes no limit.
+fn is_within(alloc: Global, design: &Design) -> Result<bool, AllocError>
+    requires { CanUnroll (flat_of design.now) }
+    ensures { IfOk result (λ b. b ≡ is_none (limits.first_limit (placed design.now))) }
 {
-    is_running(design)
+    let limit = first_limit(alloc, design)?;
+    Ok(limit.is_none())
+}
+
+/// Whether a sound design runs: it is of the forms that run, and with each `repeat` written out it has no more turns,
+/// statements and nodes of expressions than limits 8 and 9 allow.
+pub fn runs(alloc: Global, design: &Design) -> Result<bool, AllocError>
+    requires sound { IsSound (flat_of design.now) }
+    ensures same { IfOk result (λ b. b ≡ r.is_running (placed design.now)) }
+    ensures plain { IfOk result (λ b. IsTrue b → IsPlain (placed design.now)) }
+{
+    if has_forms(design) {
+        is_within(alloc, design)
+    } else {
+        Ok(false)
+    }
 }

@@ -1,8 +1,9 @@
 //! The forms that run, among flat designs.
 #![tactic(auto)]
 
-mod counts;
+mod expressions;
 pub mod form;
 pub mod laws;
 mod names;
 mod statements;
+mod targets;

@@ -1,12 +1,13 @@
-//! Statements of the forms that run.
+//! Statements of the forms that run (IEEE 1364-2005, clause 9).
 
 ghost use Rattle.std.specs.Prelude.{◌≡◌};
-ghost use Rattle.vl_design.specs.Queue as q;
-ghost use Rattle.vl_design.specs.Seen.{args_of, stm_of};
+ghost use Rattle.vl_design.specs.Seen.{args_of, stm_of, stms_of};
+ghost use Rattle.plain_form.specs.Lists.{items_of};
 ghost use Rattle.plain_form.specs.Running as r;
 
-use crate::names::{is_exp, is_name, is_target};
-use vl_design::design::{ProcKind, Signal, Stmt, StmtNode, SysArg, SysCall};
+use crate::expressions::{are_labels, is_exp, is_name};
+use crate::targets::is_target;
+use vl_design::design::{CaseItem, ProcKind, Signal, Stmt, StmtNode, SysArg, SysCall};
 
 /// Whether a call of a system task is `$display("%0d", NAME)` or `$finish`.
 #[tactic(auto, using(crate::proofs::Tasks::task_rules))]
@@ -25,42 +26,55 @@ fn is_task(signals: &[Signal], kind: ProcKind, call: &SysCall) -> bool
     }
 }
 
-/// Whether a process of a kind is an initial one.
-fn is_init(kind: ProcKind) -> bool
-    ensures { result ≡ q.is_init kind }
-{
-    matches!(kind, ProcKind::Init)
-}
-
 /// Whether a statement of a process of a kind is of the forms that run.
-pub fn is_stm(signals: &[Signal], kind: ProcKind, s: &Stmt) -> bool
+#[cycle(statements)]
+#[tactic(auto, using(crate::proofs::Rows::rows))]
+pub(crate) fn is_stm(signals: &[Signal], kind: ProcKind, s: &Stmt) -> bool
     ensures { result ≡ r.is_stm signals.now kind (stm_of s.now) }
 {
     match &s.node {
         StmtNode::Nop => true,
-        StmtNode::Seq(list) => {
-            let mut all = true;
-            for item in list {
-                all &= is_stm(signals, kind, item);
-            }
-            all
+        StmtNode::Seq(parts) => are_stms(signals, kind, parts.as_slice()),
+        StmtNode::If(test, a, b) => {
+            is_exp(signals, kind, test) && (is_stm(signals, kind, a) && is_stm(signals, kind, b))
         }
-        StmtNode::If(test, first, second) => {
-            let a = is_stm(signals, kind, first);
-            let b = is_stm(signals, kind, second);
-            is_exp(signals, kind, test) & a & b
+        StmtNode::Case(subject, items, _) => {
+            is_exp(signals, kind, subject) && are_items(signals, kind, items.as_slice())
         }
-        StmtNode::Set(target, e) => {
-            let at = is_target(signals, target);
-            let of = is_exp(signals, kind, e);
-            is_init(kind) & at & of
-        }
-        StmtNode::Later(target, e) => {
-            let at = is_target(signals, target);
-            let of = is_exp(signals, kind, e);
-            at & of
+        StmtNode::For(_, _, _, _, _) => false,
+        StmtNode::Repeat(_, a) => is_stm(signals, kind, a),
+        StmtNode::Set(t, e) | StmtNode::Later(t, e) => {
+            is_target(signals, kind, t) && is_exp(signals, kind, e)
         }
         StmtNode::Sys(call) => is_task(signals, kind, call),
-        _ => false,
     }
+}
+
+/// Whether all statements are such.
+#[cycle(statements)]
+#[tactic(auto, using(crate::proofs::Rows::rows))]
+fn are_stms(signals: &[Signal], kind: ProcKind, parts: &[Stmt]) -> bool
+    ensures { result ≡ r.are_stms signals.now kind (stms_of parts.now) }
+{
+    for a in parts {
+        if !is_stm(signals, kind, a) {
+            return false;
+        }
+    }
+    true
+}
+
+/// Whether the items of a case are of the forms that run.
+#[cycle(statements)]
+#[tactic(auto, using(crate::proofs::Rows::rows))]
+fn are_items(signals: &[Signal], kind: ProcKind, items: &[CaseItem]) -> bool
+    ensures { result ≡ r.are_items signals.now kind (items_of items.now) }
+{
+    for one in items {
+        let labels = are_labels(signals, kind, one.labels.as_slice());
+        if !(labels && is_stm(signals, kind, &one.body)) {
+            return false;
+        }
+    }
+    true
 }

@@ -1,9 +1,3 @@
-pub mod Doing
-pub mod Listed
-pub mod Sampling
-pub mod Shows
-pub mod Uncalled
-pub mod Updates
-pub mod Values
+pub mod Bodies
+pub mod Quiet
 pub mod Waves
-pub mod Zeros

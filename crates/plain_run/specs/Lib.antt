@@ -1,4 +1,2 @@
-pub mod Machines
 pub mod Plain
-pub mod Reading
 pub mod Runs

@@ -1,37 +1,48 @@
 -- Designs of the plain forms that the runner takes (IEEE 1364-2005): one clock whose rises run blocks, signals of one
--- word, and few statements.
-use Rattle.std.specs.Prelude.{◌≡◌, ℕ, List, [], ⊤, All, codes}
-use Rattle.vl_base.specs.declared.bits.BinOp.{BinOp}
-use Rattle.vl_base.specs.declared.bits.BinOp.TheVariants.{Add, Eq}
+-- word, and no function, loop variable or file.
+use Rattle.std.specs.Prelude.{◌≡◌, ℕ, Bool, true, false, List, [], ⊤, All, codes, IsFalse}
 use Rattle.vl_design.specs.declared.design.ProcKind.{ProcKind}
 use Rattle.vl_design.specs.declared.design.ProcKind.TheVariants.{Init, Rise}
-use Rattle.vl_design.specs.Syntax.{Exp, Num, Sig, Bin, Target, Whole, Row}
-use Rattle.vl_design.specs.Width.{Names}
+use Rattle.vl_design.specs.Syntax.{Exp, Label, Word, Call, Time, LastAnswer, Exps, NoExps, MoreExps, Target, Whole, WordAt, PickAt, SliceAt, Several, Targets, NoTargets, MoreTargets}
+use Rattle.vl_design.specs.Nodes.{has}
 use Rattle.vl_design.specs.Sound.{HasValue}
 use Rattle.vl_design.specs.Placed as p
 use Rattle.vl_design.specs.Plainly as plain
 
--- the names of a design without functions
-abbrev pub plain_names : List Row → Names
-plain_names rows = record { rows = rows; signals = rows; funs = [] }
+-- a word of a memory, a call, or a label, which stands in a case alone
+abbrev pub is_beyond : Exp → Bool
+is_beyond (Label v care w signed) = true
+is_beyond (Word m a) = true
+is_beyond (Call f es) = true
+is_beyond Time = true
+is_beyond LastAnswer = true
+is_beyond e = false
 
--- sums and comparisons for equality
-abbrev pub IsPlainOp : BinOp → Type 0
-IsPlainOp Add = ⊤
-IsPlainOp Eq = ⊤
-IsPlainOp op = ⊥
-
--- numbers, signals, sums and comparisons (clause 5)
+-- numbers, signals, selects and operators (clause 5)
 abbrev pub IsPlainExp : Exp → Type 0
-IsPlainExp (Num v w signed) = ⊤
-IsPlainExp (Sig k) = ⊤
-IsPlainExp (Bin op a b) = IsPlainOp op × IsPlainExp a × IsPlainExp b
-IsPlainExp e = ⊥
+IsPlainExp e = IsFalse (has is_beyond e)
 
--- whole variables
-abbrev pub IsPlainTarget : Target → Type 0
-IsPlainTarget (Whole k) = ⊤
-IsPlainTarget t = ⊥
+-- labels of a case too (clause 9.5)
+abbrev pub IsPlainLabel : Exp → Type 0
+IsPlainLabel (Label v care w signed) = ⊤
+IsPlainLabel e = IsPlainExp e
+
+abbrev pub ArePlainLabels : Exps → Type 0
+ArePlainLabels NoExps = ⊤
+ArePlainLabels (MoreExps e es) = IsPlainLabel e × ArePlainLabels es
+
+abbrev mutual
+  -- variables, bits of them, and several of these side by side (clause 9.2)
+  pub IsPlainTarget : Target → Type 0
+  IsPlainTarget (Whole k) = ⊤
+  IsPlainTarget (WordAt m a) = ⊥
+  IsPlainTarget (PickAt b i from w) = IsPlainTarget b × IsPlainExp i
+  IsPlainTarget (SliceAt b low w) = IsPlainTarget b
+  IsPlainTarget (Several ts) = ArePlainTargets ts
+
+  pub ArePlainTargets : Targets → Type 0
+  ArePlainTargets NoTargets = ⊤
+  ArePlainTargets (MoreTargets t ts) = IsPlainTarget t × ArePlainTargets ts
 
 -- `$display("%0d", x)` and `$finish` (clauses 17.1 and 17.4.1), by their names and arguments
 abbrev pub IsPlainTask : List ℕ → p.Args → Type 0
@@ -40,19 +51,25 @@ IsPlainTask name p.NoArgs = name ≡ codes "$finish"
 IsPlainTask name given = ⊥
 
 abbrev mutual
-  -- sequences, choices, assignments of whole variables, and those tasks (clause 9)
+  -- all statements but `for`, with those tasks (clause 9)
   pub IsPlainStm : p.Stm → Type 0
   IsPlainStm (p.Nop at) = ⊤
   IsPlainStm (p.Seq at as') = ArePlainStms as'
   IsPlainStm (p.If at t a b) = IsPlainExp (plain.exp t) × IsPlainStm a × IsPlainStm b
+  IsPlainStm (p.Case at x is wild) = IsPlainExp (plain.exp x) × ArePlainItems is
+  IsPlainStm (p.For at k start test step a) = ⊥
+  IsPlainStm (p.Repeat at n a) = IsPlainStm a
   IsPlainStm (p.Set at t e) = IsPlainTarget (plain.target t) × IsPlainExp (plain.exp e)
   IsPlainStm (p.Later at t e) = IsPlainTarget (plain.target t) × IsPlainExp (plain.exp e)
   IsPlainStm (p.Task at name given) = IsPlainTask name given
-  IsPlainStm a = ⊥
 
   pub ArePlainStms : p.Stms → Type 0
   ArePlainStms p.NoStms = ⊤
   ArePlainStms (p.MoreStms a as') = IsPlainStm a × ArePlainStms as'
+
+  pub ArePlainItems : p.Items → Type 0
+  ArePlainItems p.NoItems = ⊤
+  ArePlainItems (p.MoreItems es a others) = ArePlainLabels (plain.exps es) × IsPlainStm a × ArePlainItems others
 
 -- initial blocks, and those that wait for the clock's rise (clause 9.9)
 abbrev pub IsPlainProcKind : ProcKind → Type 0

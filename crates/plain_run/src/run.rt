@@ -1,21 +1,25 @@
-//! Ticks, and whole runs.
+//! Ticks, and whole runs (IEEE 1364-2005, clause 11).
 
-ghost use Rattle.std.specs.Prelude.{◌≡◌, ◌<◌, ◌≤◌, ◌+◌, ◌^◌, suc, [], map, length, OnOk, IfOk, true, false, ℕ, All};
-ghost use Rattle.vl_design.specs.Trees.{row_of, flat_of};
+ghost use Rattle.std.specs.Prelude.{◌≡◌, ◌<◌, ◌+◌, ◌^◌, suc, [], OnOk, IfOk, false, ℕ};
+ghost use Rattle.vl_design.specs.Trees.{flat_of};
 ghost use Rattle.vl_design.specs.Seen.{placed};
 ghost use Rattle.vl_design.specs.Sound.{IsSound};
-ghost use Rattle.vl_design.specs.Queue.{Queue, Wave, with_updates};
-ghost use Rattle.vl_design.specs.Alone.{Ends, start, Boundary};
+ghost use Rattle.vl_design.specs.Queue.{Queue, with_updates};
+ghost use Rattle.vl_design.specs.Alone.{Ends};
 ghost use Rattle.vl_design.specs.Plain.{alone};
+ghost use Rattle.vl_design.specs.Width as w;
+ghost use Rattle.vl_run.specs.Machines.{state_of, IsMachine};
 ghost use Rattle.plain_run.specs.Plain.{IsPlain};
-ghost use Rattle.plain_run.specs.Machines.{state_of, IsMachine, written};
-ghost use Rattle.plain_run.specs.Runs.{queue_of, is_of, wave_of, RunsWave, SettlesAs, StandsAt};
+ghost use Rattle.plain_run.specs.Runs.{is_of, over, wave_of, RunsWave, SettlesAs, StandsAt};
 
-use crate::exec::exec;
-use crate::machine::{Machine, Update};
 use std::alloc::{AllocError, Global};
+use vl_assign::update::write_all;
+use vl_base::files::FileSet;
 use vl_base::items::Bytes;
 use vl_design::design::{Design, End, ProcKind};
+use vl_run::machine::Machine;
+use vl_run::outer::room_of;
+use vl_run::process::{begin_run, exec_process};
 
 /// What a run printed, and how it ended.
 #[derive(Drop)]
@@ -28,25 +32,15 @@ pub struct Outcome {
     pub printed: Bytes,
 }
 
-/// Writes updates of whole variables, in order.
-fn write_all(values: &mut Vec<u128>, later: &[Update])
-    requires { All (λ u. u.signal < length values.old.items) later.now }
-    ensures { values.new.items ≡ written values.old.items later.now }
-{
-    for update in later {
-        values[update.signal as usize] = update.value;
-    }
-}
-
 /// Makes all pending updates, in order.
 fn update(design: &Design, m: &mut Machine)
-    requires { IsMachine (map row_of design.now.signals) m.old }
-    ensures state { (c : ℕ) → with_updates (map row_of design.now.signals) (state_of (map row_of design.now.signals) m.old c)
-        ≡ state_of (map row_of design.now.signals) m.new c }
-    ensures machine { IsMachine (map row_of design.now.signals) m.new }
+    requires { IsMachine (w.names_of (flat_of design.now)) m.old }
+    ensures state { (c : ℕ) → with_updates (flat_of design.now).rows (state_of m.old c) ≡ state_of m.new c }
+    ensures machine { IsMachine (w.names_of (flat_of design.now)) m.new }
     ensures ticks { m.new.ticks ≡ m.old.ticks }
 {
-    write_all(&mut m.values, &m.later);
+    let room = room_of(design);
+    write_all(&room, &mut m.values, &m.later);
     m.later.clear();
 }
 
@@ -65,24 +59,26 @@ fn belongs(wave: ProcKind, kind: ProcKind) -> bool
 fn run_wave(
     alloc: Global,
     design: &Design,
+    files: &FileSet,
     wave: ProcKind,
     m: &mut Machine,
 ) -> Result<(), AllocError>
     requires plain { IsPlain (placed design.now) }
     requires sound { IsSound (flat_of design.now) }
-    requires machine { IsMachine (map row_of design.now.signals) m.old }
-    ensures machine { OnOk result (IsMachine (map row_of design.now.signals) m.new) }
+    requires machine { IsMachine (w.names_of (flat_of design.now)) m.old }
+    ensures machine { OnOk result (IsMachine (w.names_of (flat_of design.now)) m.new) }
     ensures ticks { OnOk result (m.new.ticks ≡ m.old.ticks) }
-    ensures runs { OnOk result (RunsWave (flat_of design.now) (wave_of (flat_of design.now) wave) m.old m.new) }
+    ensures runs { OnOk result (RunsWave (flat_of design.now) files.now (wave_of (flat_of design.now) wave) m.old m.new) }
 {
     for process in design.processes.as_slice() {
         if m.finished {
             return Ok(());
         }
         if belongs(wave, process.kind) {
-            exec(
+            exec_process(
                 alloc,
-                design.signals.as_slice(),
+                design,
+                files,
                 process.path.as_slice(),
                 &process.body,
                 m,
@@ -93,68 +89,70 @@ fn run_wave(
 }
 
 /// Runs the blocks of a wave, and then makes all nonblocking updates.
-fn settle(alloc: Global, design: &Design, wave: ProcKind, m: &mut Machine) -> Result<(), AllocError>
+fn settle(
+    alloc: Global,
+    design: &Design,
+    files: &FileSet,
+    wave: ProcKind,
+    m: &mut Machine,
+) -> Result<(), AllocError>
     requires plain { IsPlain (placed design.now) }
     requires sound { IsSound (flat_of design.now) }
-    requires machine { IsMachine (map row_of design.now.signals) m.old }
-    ensures machine { OnOk result (IsMachine (map row_of design.now.signals) m.new) }
+    requires machine { IsMachine (w.names_of (flat_of design.now)) m.old }
+    ensures machine { OnOk result (IsMachine (w.names_of (flat_of design.now)) m.new) }
     ensures ticks { OnOk result (m.new.ticks ≡ m.old.ticks) }
-    ensures settles { OnOk result (SettlesAs (flat_of design.now) (wave_of (flat_of design.now) wave) m.old m.new) }
+    ensures settles { OnOk result (SettlesAs (flat_of design.now) files.now (wave_of (flat_of design.now) wave) m.old m.new) }
 {
-    run_wave(alloc, design, wave, m)?;
+    run_wave(alloc, design, files, wave, m)?;
     if !m.finished {
         update(design, m);
     }
     Ok(())
 }
 
-/// The machine before time zero, whose values are all 0.
-fn begin(alloc: Global, design: &Design) -> Result<Machine, AllocError>
-    requires { IsPlain (placed design.now) }
-    ensures machine { IfOk result (IsMachine (map row_of design.now.signals)) }
-    ensures ticks { IfOk result (λ m. m.ticks ≡ 0) }
-    ensures start { IfOk result (λ m. start (flat_of design.now)
-        ≡ queue_of (flat_of design.now) (Wave (wave_of (flat_of design.now) ProcKind.Init)) m 0) }
+/// One more tick begins, in which no snapshot is asked for yet.
+fn rise(m: &mut Machine)
+    requires { m.old.ticks + 1 < 2 ^ 64 }
+    ensures state { (c : ℕ) → state_of m.new c ≡ record (state_of m.old c) { ticks = m.old.ticks + 1; saves = [] } }
+    ensures values { m.new.values ≡ m.old.values }
+    ensures later { m.new.later ≡ m.old.later }
 {
-    let signals = design.signals.as_slice().len();
-    Ok(Machine {
-        values: vec![in alloc; 0; signals]?,
-        later: Vec::new(alloc),
-        printed: Vec::new(alloc),
-        ticks: 0,
-        finished: false,
-    })
+    m.saves.clear();
+    m.ticks += 1;
 }
 
 /// Lets the clock rise.
-fn tick(alloc: Global, design: &Design, m: &mut Machine) -> Result<(), AllocError>
+fn tick(alloc: Global, design: &Design, files: &FileSet, m: &mut Machine) -> Result<(), AllocError>
     requires plain { IsPlain (placed design.now) }
     requires sound { IsSound (flat_of design.now) }
-    requires machine { IsMachine (map row_of design.now.signals) m.old }
+    requires machine { IsMachine (w.names_of (flat_of design.now)) m.old }
     requires going { m.old.finished ≡ false }
     requires room { m.old.ticks + 1 < 2 ^ 64 }
-    ensures machine { OnOk result (IsMachine (map row_of design.now.signals) m.new) }
-    ensures boundary { OnOk result ((budget k : ℕ) → StandsAt (flat_of design.now) budget k m.old
-        → StandsAt (flat_of design.now) budget (suc k) m.new) }
+    ensures machine { OnOk result (IsMachine (w.names_of (flat_of design.now)) m.new) }
+    ensures boundary { OnOk result ((budget k : ℕ) → StandsAt (flat_of design.now) files.now budget k m.old
+        → StandsAt (flat_of design.now) files.now budget (suc k) m.new) }
     ensures ticks { OnOk result (m.new.ticks ≡ m.old.ticks + 1) }
 {
-    m.ticks += 1;
-    settle(alloc, design, ProcKind::Rise, m)
+    rise(m);
+    settle(alloc, design, files, ProcKind::Rise, m)
 }
 
-/// Runs a design of the plain forms alone, from time zero and without files, for at most a budget of ticks. Its blocks
-/// are initial ones and those that wait for the clock's rise (IEEE 1364-2005, clause 9.9); they choose, assign to whole
-/// variables, show one value by `%0d` and finish, over sums and comparisons. An `Err` is want of memory alone.
-pub fn run(alloc: Global, design: &Design, budget: u64) -> Result<Outcome, AllocError>
+/// Runs a design of the plain forms over these files.
+fn run_over(
+    alloc: Global,
+    design: &Design,
+    files: &FileSet,
+    budget: u64,
+) -> Result<Outcome, AllocError>
     requires plain { IsPlain (placed design.now) }
     requires sound { IsSound (flat_of design.now) }
-    ensures { IfOk result (λ o. (q : Queue) × Ends (alone (flat_of design.now) budget) o.ticks o.end q
+    ensures { IfOk result (λ o. (q : Queue) × Ends (over (flat_of design.now) files.now budget) o.ticks o.end q
         × (q.state.ticks ≡ o.ticks) × (q.state.printed ≡ o.printed)) }
 {
-    let mut m = begin(alloc, design)?;
-    settle(alloc, design, ProcKind::Init, &mut m)?;
+    let mut m = begin_run(alloc, design)?;
+    settle(alloc, design, files, ProcKind::Init, &mut m)?;
     'ticks: while !m.finished && m.ticks < budget {
-        tick(alloc, design, &mut m)?;
+        tick(alloc, design, files, &mut m)?;
     }
     let end = if m.finished {
         End::Finished
@@ -166,4 +164,16 @@ pub fn run(alloc: Global, design: &Design, budget: u64) -> Result<Outcome, Alloc
         ticks: m.ticks,
         printed: Bytes::from_vec(m.printed),
     })
+}
+
+/// Runs a design of the plain forms alone, from time zero and without files, for at most a budget of ticks. Its blocks
+/// are initial ones and those that wait for the clock's rise (IEEE 1364-2005, clause 9.9). An `Err` is want of memory alone.
+pub fn run(alloc: Global, design: &Design, budget: u64) -> Result<Outcome, AllocError>
+    requires plain { IsPlain (placed design.now) }
+    requires sound { IsSound (flat_of design.now) }
+    ensures { IfOk result (λ o. (q : Queue) × Ends (alone (flat_of design.now) budget) o.ticks o.end q
+        × (q.state.ticks ≡ o.ticks) × (q.state.printed ≡ o.printed)) }
+{
+    let files = FileSet::new(alloc);
+    run_over(alloc, design, &files, budget)
 }

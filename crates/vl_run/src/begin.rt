@@ -26,7 +26,7 @@ fn push_zeros(alloc: Global, signals: &[Signal], values: &mut Vec<Kept>) -> Resu
 
 /// The words of the signals of a room, all 0.
 #[tactic(auto, using(crate::proofs::Calling::calling))]
-fn zero_values(alloc: Global, room: &Room<'_>) -> Result<Vec<Kept>, AllocError>
+pub fn zero_values(alloc: Global, room: &Room<'_>) -> Result<Vec<Kept>, AllocError>
     ensures { IfOk result (λ v. v.items ≡ zeros (names_of room.now).rows) }
 {
     let mut values = Vec::new(alloc);
@@ -68,7 +68,7 @@ fn put_inputs(
 }
 
 /// The machine that has these values, in which nothing else has happened.
-fn fresh_machine(alloc: Global, values: Vec<Kept>) -> Machine
+pub fn fresh_machine(alloc: Global, values: Vec<Kept>) -> Machine
     ensures state { state_of result 0 ≡ fresh values.items }
     ensures later { result.later.items ≡ [] }
 {

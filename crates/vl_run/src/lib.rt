@@ -8,7 +8,7 @@ mod call;
 mod display;
 mod exec;
 pub mod machine;
-mod outer;
+pub mod outer;
 pub mod process;
 mod read;
 mod scope;

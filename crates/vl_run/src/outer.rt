@@ -30,7 +30,7 @@ pub fn room_of<'a>(design: &'a Design) -> Room<'a>
 }
 
 /// The scope of the processes of a sound design over these files, with what calls its functions.
-pub fn outermost<'a, F: Fn(u32, Vec<u128>) -> Result<u128, AllocError>>(
+pub(crate) fn outermost<'a, F: Fn(u32, Vec<u128>) -> Result<u128, AllocError>>(
     alloc: Global,
     design: &'a Design,
     files: &'a FileSet,

@@ -2,21 +2,32 @@
 
 ghost use Rattle.std.specs.Prelude.{◌≡◌, IfOk, OnOk};
 ghost use Rattle.vl_design.specs.Functions as d;
+ghost use Rattle.vl_design.specs.Functions.{fresh, zeros};
 ghost use Rattle.vl_design.specs.Seen as seen;
 ghost use Rattle.vl_design.specs.Sound.{IsSound, IsSoundStm};
 ghost use Rattle.vl_design.specs.Trees.{flat_of, stm_of};
 ghost use Rattle.vl_design.specs.Width as w;
 ghost use Rattle.vl_eval.specs.Rooms.{Fit};
 ghost use Rattle.vl_run.specs.Bodies.{AreQuietFuns};
-ghost use Rattle.vl_run.specs.Machines.{IsMachine, Does};
+ghost use Rattle.vl_run.specs.Machines.{state_of, IsMachine, Does};
 ghost use Rattle.vl_run.specs.Quiet.{IsQuietStm};
 
+use crate::begin::{fresh_machine, zero_values};
 use crate::call::call;
 use crate::machine::Machine;
 use crate::outer::{outermost, room_of};
 use std::alloc::{AllocError, Global};
 use vl_base::files::FileSet;
 use vl_design::design::{Design, Stmt};
+
+/// The machine before time zero, whose values are all 0 and in which nothing has happened.
+pub fn begin_run(alloc: Global, design: &Design) -> Result<Machine, AllocError>
+    ensures state { IfOk result (λ m. state_of m 0 ≡ fresh (zeros (flat_of design.now).rows)) }
+    ensures machine { IfOk result (IsMachine (w.names_of (flat_of design.now))) }
+{
+    let values = zero_values(alloc, &room_of(design))?;
+    Ok(fresh_machine(alloc, values))
+}
 
 /// What a function of a sound design gives for the values of its arguments. An `Err` is want of memory.
 pub fn give(

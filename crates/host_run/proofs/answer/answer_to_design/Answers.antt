@@ -4,9 +4,9 @@ use Rattle.vl_design.specs.Seen.{placed}
 use Rattle.host_run.specs.Due.{unbuilt}
 use Rattle.host_run.proofs.answer.answer_to_design.Goals as goal
 
-pub returns-then-not-runs : goal.returns-then-not-runs
-returns-then-not-runs c = λ text tree is elaborated.
-    unbuilt is.read is.parsed elaborated (sym c.runs.ensures.same ∙ c.if-not-runs.true) c.in_ok-notbuilt.ensures
+pub returns-then-not-is_running : goal.returns-then-not-is_running
+returns-then-not-is_running c = λ text tree is elaborated.
+    unbuilt is.read is.parsed elaborated (sym c.in_ok-is_running.ensures.same ∙ c.if-not-is_running.true) c.in_ok-notbuilt.ensures
 
 pub returns : goal.returns
 returns c = λ text tree is elaborated.
@@ -21,7 +21,7 @@ returns c = λ text tree is elaborated.
         read = is.read;
         parsed = is.parsed;
         elaborated = elaborated;
-        running = sym c.runs.ensures.same ∙ c.if-not-runs.false;
+        running = sym c.in_ok-is_running.ensures.same ∙ c.if-not-is_running.false;
         is = refl;
       };
       tick = c.in_ok-outcome.outcome.ticks;

@@ -1,7 +1,8 @@
 use Rattle.std.proofs.Common.{◌≡◌, map, drop}
 use Rattle.vl_design.specs.Alone.{blocks}
 use Rattle.vl_design.specs.Trees.{proc_of, flat_of}
-use Rattle.plain_run.specs.Machines.{IsMachine}
+use Rattle.vl_design.specs.Width.{names_of}
+use Rattle.vl_run.specs.Machines.{IsMachine}
 use Rattle.plain_run.specs.Runs.{is_of, wave_of, Reaches}
 use Rattle.plain_run.proofs.run.run_wave.Given as goal
 
@@ -10,7 +11,7 @@ abbrev pub invariant-loop-process : goal.invariant-loop-process
 invariant-loop-process l =
     let d = flat_of l.design in
     record {
-      machine : IsMachine d.rows l.m;
+      machine : IsMachine (names_of d) l.m;
       ticks : l.m.ticks ≡ l.initial.m.ticks;
-      reaches : Reaches d (wave_of d l.wave) l.initial.m (blocks (is_of l.wave) (map proc_of (drop l.process-index l.process-items))) l.m;
+      reaches : Reaches d l.files (wave_of d l.wave) l.initial.m (blocks (is_of l.wave) (map proc_of (drop l.process-index l.process-items))) l.m;
     }

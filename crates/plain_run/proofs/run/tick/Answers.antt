@@ -1,16 +1,33 @@
-use Rattle.std.proofs.Common.{ℕ, ◌+◌, suc}
+use Rattle.std.proofs.Common.{◌≡◌, ℕ, ◌+◌, suc, ap, ◌∙◌}
 use Rattle.std.proofs.lemmas.Result.{on_ok_weaker}
 use Rattle.vl_design.specs.declared.design.ProcKind.TheVariants.{Rise}
 use Rattle.vl_design.specs.Trees.{flat_of}
 use Rattle.plain_run.specs.Runs.{wave_of, SettlesAs, StandsAt}
-use Rattle.plain_run.proofs.Waves.{clocked, ticked-once}
+use Rattle.plain_run.proofs.Waves.{begun-blocks, ticked-once}
 use Rattle.plain_run.proofs.run.tick.Goals as goal
+
+pub settle-requires-clause-machine : goal.settle-requires-clause-machine
+settle-requires-clause-machine c = record {
+  fine = rw c.rise.ensures.values c.requires.machine.fine;
+  later = rw c.rise.ensures.later c.requires.machine.later;
+}
 
 pub returns-clause-boundary : goal.returns-clause-boundary
 returns-clause-boundary c =
     let d = flat_of c.args.design.now in
+    let files = c.args.files.now in
     let m = c.args.m.now in
+    let r = c.rise.new.m in
     let n = c.settle.new.m in
-    let step : SettlesAs d (wave_of d Rise) (record m { ticks = m.ticks + 1 }) n → (budget k : ℕ) → StandsAt d budget k m → StandsAt d budget (suc k) n =
-    λ h budget k at. ticked-once d budget k m n (clocked c.args.design.now c.requires.plain) c.requires.going h at in
+    let step : SettlesAs d files (wave_of d Rise) r n → (budget k : ℕ) → StandsAt d files budget k m → StandsAt d files budget (suc k) n =
+    λ h budget k at. ticked-once d files budget k m r n (begun-blocks c.args.design.now c.requires.plain) c.requires.going c.rise.ensures.state h at in
     on_ok_weaker _ step c.settle.ensures.settles
+
+pub returns-clause-ticks : goal.returns-clause-ticks
+returns-clause-ticks c =
+    let m = c.args.m.now in
+    let r = c.rise.new.m in
+    let n = c.settle.new.m in
+    let up : r.ticks ≡ m.ticks + 1 = ap (λ s. s.ticks) (c.rise.ensures.state 0) in
+    let step : n.ticks ≡ r.ticks → n.ticks ≡ m.ticks + 1 = λ h. h ∙ up in
+    on_ok_weaker _ step c.settle.ensures.ticks

@@ -1,0 +1,5 @@
+//! How many names a design saves snapshots under: limit 10.
+#![tactic(auto)]
+
+mod calls;
+pub mod saves;

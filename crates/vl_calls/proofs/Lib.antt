@@ -1,0 +1,5 @@
+pub mod Lists
+pub mod Searching
+pub mod Cycling
+pub mod Tabling
+pub mod Freeing

@@ -1,0 +1,4 @@
+pub mod Recursion
+pub mod Tables
+pub mod Searches
+pub mod Nets

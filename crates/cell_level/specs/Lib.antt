@@ -1,0 +1,2 @@
+pub mod Levelling
+pub mod Netting

@@ -1,0 +1,4 @@
+//! The order in which the combinational processes of a design settle.
+#![tactic(auto)]
+
+pub mod level;

@@ -69,9 +69,9 @@ def large():
     # a leaf's 100 statements have 99,900 nodes, and 10 leaves with the top's two 1,000,000
     sum_of = "a = " + "+".join(["1"] * 500) + ";"
     leaf = "module leaf(input wire k);\n  reg [15:0] a;\n  initial begin\n" + "\n".join([sum_of] * 100) + "\n  end\nendmodule\n"
-    top = f"module m(input wire k);\n  reg [15:0] a;\n  leaf {numbered('u', 10, '{}(k)')};\n  initial begin {sum_of} a = 7; MORE end\n  always @(posedge k) ;\nendmodule"
-    yield "run 1 budget", "\n" + leaf + top.replace("MORE", "")
-    yield "refused notbuilt", leaf + top.replace("MORE", "a = 7;")
+    top = f"module m(input wire k);\n  reg [15:0] a;\n  leaf {numbered('u', 10, '{}(k)')};\n  MARKinitial begin {sum_of} a = 7; MORE end\n  always @(posedge k) ;\nendmodule"
+    yield "run 1 budget", "\n" + leaf + top.replace("MARK", "").replace("MORE", "")
+    yield "refused limit 9", leaf + top.replace("MARK", MARK).replace("MORE", "a = 7;")
 
 
 tables = [case for name in ("host_rows.txt", "width_rows.txt") for case in parted((TOOLS / name).read_text())]

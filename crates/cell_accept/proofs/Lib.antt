@@ -1,0 +1,4 @@
+pub mod Fitting
+pub mod Loops
+pub mod Once
+pub mod Telling

@@ -1,3 +1,4 @@
+pub mod Ends
 pub mod Fitting
 pub mod Loops
 pub mod Once

@@ -30,31 +30,13 @@ judges P (Some s) (Err (Construct at n)) h e = (s, h, e)
 judges P (Some s) (Err (Limit at n)) h e = (s, h, e)
 judges P (Some s) (Err (Loop at)) h e = (s, h, e)
 
--- ---- an unrolled design
-
-pub settles-path : {T : Type 0} (u : p.Design) (f : Fault) → Judges {T} (IsFirst (IsPathFault u)) (Err f) → Settles u (Err f)
-settles-path u Memory h = tt
-settles-path u (Construct at n) h = inl h
-settles-path u (Limit at n) h = inl h
-settles-path u (Loop at) h = inl h
-
-loop-or-memory : p.Design → Fault → Type 0
-loop-or-memory u Memory = ⊤
-loop-or-memory u f = IsLoop u f
-
-pub settles-loop : (u : p.Design) (f : Fault) → IsFirst (IsPathFault u) None → loop-or-memory u f → Settles u (Err f)
-settles-loop u Memory h k = tt
-settles-loop u (Construct at n) h k = inr (h, k)
-settles-loop u (Limit at n) h k = inr (h, k)
-settles-loop u (Loop at) h k = inr (h, k)
-
 -- ---- the whole
 
-pub accepts-uses : {T : Type 0} (d : p.Design) (f : Fault) → Judges {T} (IsFirst (IsUseFault d)) (Err f) → Accepts d (Err f)
-accepts-uses d Memory h = tt
-accepts-uses d (Construct at n) h = let (s, first, e) = h in misused first e
-accepts-uses d (Limit at n) h = let (s, first, e) = h in misused first e
-accepts-uses d (Loop at) h = let (s, first, e) = h in misused first e
+pub accepts-uses : (T : Type 0) (d : p.Design) (f : Fault) → Judges {T = T} (IsFirst (IsUseFault d)) (Err f) → Accepts d (Err f)
+accepts-uses T d Memory h = tt
+accepts-uses T d (Construct at n) h = let (s, first, e) = h in misused first e
+accepts-uses T d (Limit at n) h = let (s, first, e) = h in misused first e
+accepts-uses T d (Loop at) h = let (s, first, e) = h in misused first e
 
 pub accepts-limit : (d : p.Design) (s : Stop) (f : Fault) → IsFirst (IsUseFault d) None → Unrolls d (Err s) → f ≡ fault_of s → Accepts d (Err f)
 accepts-limit d stop.Memory f h k e = subst (λ z. Accepts d (Err z)) (sym e) tt

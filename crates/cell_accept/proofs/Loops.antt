@@ -39,18 +39,19 @@ procs-long : (d : Design) → length (flat_of d).procs ≡ length d.processes
 procs-long d = ap length (procs-map d.processes) ∙ length-map d.processes proc_of
 
 -- the first of a lowest cycle is the number of a process
-pub first-there : (d : Design) (cycle : List ℕ) → IsLowestCycle (g.Edge (flat_of d)) cycle → 0 < length cycle
-first-there d cycle h = let e = ap length h.is_cycle.begins in omega (arith, e)
+pub first-is : (E : ℕ → ℕ → Type 0) (cycle : List ℕ) (h : IsLowestCycle E cycle) → slice_index_or cycle 0 0 ≡ h.first
+first-is E cycle h = ap (λ c. slice_index_or c 0 0) h.is_cycle.begins
 
-pub first-is : (d : Design) (cycle : List ℕ) (n : ℕ) (h : IsLowestCycle (g.Edge (flat_of d)) cycle) → n ≡ get_or cycle 0 n → n ≡ h.first
-first-is d cycle n h e = e ∙ ap (λ c. get_or c 0 n) h.is_cycle.begins
+pub process-is : (d : Design) (cycle : List ℕ) (ps : List Process) → ps ≡ d.processes → IsLowestCycle (g.Edge (flat_of d)) cycle → slice_index_or cycle 0 0 < length ps
+process-is d cycle ps e h =
+    let l = leads-there (flat_of d) h.first h.is_cycle.others h.first h.is_cycle.closes in
+    let m = procs-long d in
+    let there : h.first < length d.processes = omega (arith, l, m) in
+    subst (λ (xs : List Process). slice_index_or cycle 0 0 < length xs) (sym e) (subst (λ n. n < length d.processes) (sym (first-is (g.Edge (flat_of d)) cycle h)) there)
 
-pub process-is : (d : Design) (cycle : List ℕ) (h : IsLowestCycle (g.Edge (flat_of d)) cycle) → h.first < length d.processes
-process-is d cycle h = let l = leads-there (flat_of d) h.first h.is_cycle.others h.first h.is_cycle.closes in let m = procs-long d in omega (arith, l, m)
-
-pub is-loop : (d : Design) (cycle : List ℕ) (n : ℕ) (a : Process) → IsLowestCycle (g.Edge (flat_of d)) cycle → n ≡ get_or cycle 0 n → n < length d.processes → a ≡ get_or d.processes n a → IsLoop (placed d) (Loop a.place)
+pub is-loop : (d : Design) (cycle : List ℕ) (n : ℕ) (a : Process) → IsLowestCycle (g.Edge (flat_of d)) cycle → n ≡ slice_index_or cycle 0 0 → n < length d.processes → a ≡ get_or d.processes n a → IsLoop (placed d) (Loop a.place)
 is-loop d cycle n a h e l i =
-    let same : h.first ≡ n = sym (first-is d cycle n h e) in
+    let same : h.first ≡ n = sym (e ∙ first-is (g.Edge (flat_of d)) cycle h) in
     record {
       number = n;
       process = process_of a;
@@ -61,3 +62,16 @@ is-loop d cycle n a h e l i =
       };
       place = refl;
     }
+
+-- an element whose place is in the list is there, whatever stands for one that isn't
+pub there-by : {X : Type 0} (xs : List X) (n : ℕ) (d e : X) → n < length xs → get_or xs n d ≡ get_or xs n e
+there-by [] n d e l = absurd (omega arith)
+there-by (x ∷ xs) zero d e l = refl
+there-by (x ∷ xs) (suc n) d e l = there-by xs n d e (omega (arith, l))
+
+pub is-loop-at : (d : Design) (cycle : List ℕ) (ps : List Process) (x : Process) → ps ≡ d.processes → IsLowestCycle (g.Edge (flat_of d)) cycle → IsLoop (placed d) (Loop (slice_index_or ps (slice_index_or cycle 0 0) x).place)
+is-loop-at d cycle ps x e h =
+    let n = slice_index_or cycle 0 0 in
+    let l : n < length d.processes = process-is d cycle d.processes refl h in
+    let a = slice_index_or d.processes n x in
+    subst (λ (xs : List Process). IsLoop (placed d) (Loop (slice_index_or xs n x).place)) (sym e) (is-loop d cycle n a h refl l (there-by d.processes n x a l))

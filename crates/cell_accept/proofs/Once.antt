@@ -26,8 +26,8 @@ use Rattle.cell_accept.proofs.Telling.{use-once}
 
 -- a fault of paths is construct 19 at its place
 path-is : (d : Design) (s : Stop) → IsPathFault d s → (at : Place) × (s ≡ Construct at 19)
-path-is d s (inl (i, a, there, e, kind, partly, is)) = (a.place, is)
-path-is d s (inr (i, f, there, e, partly, is)) = (f.place, is)
+path-is d s (inl (i, a, there, e, (kind, partly, is))) = (a.place, is)
+path-is d s (inr (i, f, there, e, (partly, is))) = (f.place, is)
 
 path-once : (d : Design) (a b : Stop) → IsFirst (IsPathFault d) (Some a) → IsFirst (IsPathFault d) (Some b) → a ≡ b
 path-once d a b h k =

@@ -1,7 +1,7 @@
 -- A fault of what a design uses is told by its place and its number: 10 is a limit, and any other a construct.
 use Rattle.std.proofs.Common.{◌≡◌, ℕ, Bool, true, false, List, [], ◌∷◌, refl, sym, ap, ◌∙◌, subst, inl, inr}
-use Rattle.std.specs.Prelude.{◌++◌, ◌&&◌, ◌==◌, ◌⊎◌, not, flat_map, Some, None}
-use Rattle.std.specs.List.{list_all}
+use Rattle.std.specs.Prelude.{◌++◌, ◌&&◌, ◌||◌, ◌==◌, ◌⊎◌, not, flat_map, Some, None}
+use Rattle.std.specs.List.{list_all, list_any}
 use Rattle.std.proofs.lemmas.Bool.{and_parts}
 use Rattle.std.proofs.lemmas.List.Folds.{list_all-append}
 use Rattle.vl_base.specs.declared.place.Place.{Place}
@@ -12,12 +12,13 @@ use Rattle.vl_design.specs.Placed as p
 use Rattle.vl_design.specs.Stops.{construct_if, limit_if, is_before, place_of, number_of}
 use Rattle.vl_stops.specs.First.{In, IsFirst}
 use Rattle.vl_sites.specs.Sites.{Site, sites}
-use Rattle.vl_check.specs.Bodies.{Setting, of_process, of_function}
+use Rattle.vl_check.specs.Bodies.{Setting, of_process, of_function, kind_is}
 use Rattle.vl_check.specs.Headers as h
-use Rattle.vl_check.specs.Rules.{site_faults}
+use Rattle.vl_check.specs.Rules.{site_faults, names, sets, is_clock, is_loop, is_pure, is_delay, is_task, is_foreign, writes_memory, is_untimely}
 use Rattle.vl_check.specs.Standing.{body_faults, process_faults, processes_faults, functions_faults, standing_faults}
-use Rattle.vl_check.specs.Triggers.{trigger_faults}
-use Rattle.vl_saves.specs.Saves.{Save, save_faults, saves, saves_faults}
+use Rattle.vl_check.specs.Triggers.{trigger_faults, is_misplaced, is_mixed, lacks_some}
+use Rattle.vl_check.specs.Writers.{is_rival}
+use Rattle.vl_saves.specs.Saves.{Save, is_past, with_firsts, save_faults, saves, saves_faults}
 use Rattle.vl_use_faults.specs.Uses.{IsUseFault}
 
 abbrev is_told : Stop → Bool
@@ -39,6 +40,9 @@ one : (t : Bool) (at : Place) (n : ℕ) → not (n == 10) ≡ true → Told (con
 one true at n h = and-both (not (n == 10)) true h refl
 one false at n h = refl
 
+more : (t : Bool) (at : Place) (n : ℕ) (fs : List Stop) → not (n == 10) ≡ true → Told fs → Told (construct_if t at n ++ fs)
+more t at n fs h k = both (construct_if t at n) fs (one t at n h) k
+
 past : (t : Bool) (at : Place) → Told (limit_if t at 10)
 past true at = refl
 past false at = refl
@@ -57,17 +61,14 @@ in-told f (x ∷ xs) h (inr w) = in-told f xs (and_parts (is_told x) (list_all i
 module _ (b : Setting) where
   site-told : (s : Site) → Told (site_faults b s)
   site-told s =
-      both (construct_if _ s.at 15) _ (one _ s.at 15 refl)
-      (both (construct_if _ s.at 17) _ (one _ s.at 17 refl)
-      (both (construct_if _ s.at 18) _ (one _ s.at 18 refl)
-      (both (construct_if _ s.at 20) _ (one _ s.at 20 refl)
-      (both (construct_if _ s.at 21) _ (one _ s.at 21 refl)
-      (both (construct_if _ s.at 22) _ (one _ s.at 22 refl) (one _ s.at 23 refl))))))
+      more (names (kind_is is_clock b.shared) s.what) s.at 15 _ refl (more (is_pure b.role && is_delay s.what) s.at 17 _ refl (more (is_pure b.role && is_task s.what) s.at 18 _ refl
+      (more (is_foreign b.role b.shared s.what) s.at 20 _ refl (more (sets (kind_is is_loop (b.shared ++ b.own)) s.what) s.at 21 _ refl
+      (more (writes_memory b.role s.what) s.at 22 _ refl (one (is_untimely b.role b.shared s.what) s.at 23 refl))))))
 
   mutual
     loop-told : (around : List ℕ) (a : p.Stm) → Told (h.loop_faults b around a)
     loop-told around (p.For at k start test step a) =
-        both (construct_if (h.is_wrong b around (p.For at k start test step a)) at 21) (h.loop_faults b (around ++ (k ∷ [])) a) (one _ at 21 refl) (loop-told (around ++ (k ∷ [])) a)
+        both (construct_if (h.is_wrong b around (p.For at k start test step a)) at 21) (h.loop_faults b (around ++ (k ∷ [])) a) (one (h.is_wrong b around (p.For at k start test step a)) at 21 refl) (loop-told (around ++ (k ∷ [])) a)
     loop-told around (p.Seq at as') = loops-told around as'
     loop-told around (p.If at t x y) = both (h.loop_faults b around x) (h.loop_faults b around y) (loop-told around x) (loop-told around y)
     loop-told around (p.Case at x is wild) = items-told around is
@@ -92,7 +93,9 @@ module _ (d : p.Design) where
   process-told : (before : List p.Process) (a : p.Process) → Told (process_faults d before a)
   process-told before a =
       both (body_faults (of_process d a) a.body) _ (body-told (of_process d a) a.body)
-      (both (trigger_faults d.signals a) _ (both (construct_if _ a.place 15) _ (one _ a.place 15 refl) (one _ a.place 16 refl)) (one _ a.place 14 refl))
+      (both (trigger_faults d.signals a) _
+      (more (list_any (is_misplaced d.signals) a.events) a.place 15 _ refl (one (is_mixed a.events || lacks_some d.signals a) a.place 16 refl))
+      (one (is_rival d.signals before a) a.place 14 refl))
 
   processes-told : (before as' : List p.Process) → Told (processes_faults d before as')
   processes-told before [] = refl
@@ -107,13 +110,13 @@ module _ (d : p.Design) where
 
 save-told : (before cs : List Save) → Told (save_faults before cs)
 save-told before [] = refl
-save-told before (c ∷ cs) = both (limit_if _ c.at 10) (save_faults (before ++ (c ∷ [])) cs) (past _ c.at) (save-told (before ++ (c ∷ [])) cs)
+save-told before (c ∷ cs) = both (limit_if (is_past (with_firsts [] before) c) c.at 10) (save_faults (before ++ (c ∷ [])) cs) (past (is_past (with_firsts [] before) c) c.at) (save-told (before ++ (c ∷ [])) cs)
 
 -- ---- all
 
 use-told : (d : p.Design) (f : Stop) → IsUseFault d f → is_told f ≡ true
 use-told d f (inl w) = in-told f (standing_faults d) (standing-told d) w
-use-told d f (inr (inl (before, a, after, e, second, is))) = ap is_told is
+use-told d f (inr (inl (before, a, after, e, (second, is)))) = ap is_told is
 use-told d f (inr (inr (inl (i, j, at, call, reaches, is)))) = ap is_told is
 use-told d f (inr (inr (inr w))) = in-told f (saves_faults d) (save-told [] (saves d)) w
 

@@ -27,16 +27,16 @@ no-part t (x ∷ left) right h = cc
 
 uses : IsFirst (IsUseFault counter_design) None
 uses f (inl w) = w
-uses f (inr (inl (before, a, after, e, (left, t, right, parts, again), is))) =
+uses f (inr (inl (before, a, after, e, ((left, t, right, parts, again), is)))) =
     let same = alone _ a before after e in
     no-part t left right (sym (ap driven_parts same) ∙ parts)
 uses f (inr (inr (inl (i, j, at, call, reaches, is)))) = call
 uses f (inr (inr (inr w))) = w
 
 paths : IsFirst (IsPathFault (unrolled_placed counter_design)) None
-paths s (inl (zero, a, there, e, kind, partly, is)) = let k : Comb ≡ _ = sym kind ∙ ap (λ (x : p.Process). x.kind) (sym e) in cc
-paths s (inl (suc i, a, there, e, kind, partly, is)) = omega arith
-paths s (inr (i, f, there, e, partly, is)) = omega arith
+paths s (inl (zero, a, there, e, (kind, partly, is))) = let k : Comb ≡ _ = sym kind ∙ ap (λ (x : p.Process). x.kind) (sym e) in cc
+paths s (inl (suc i, a, there, e, (kind, partly, is))) = omega arith
+paths s (inr (i, f, there, e, (partly, is))) = omega arith
 
 no-edge : (p q : ℕ) → Edge (flat (unrolled_placed counter_design)) p q → ⊥
 no-edge zero q (b, drives, reads) = let z : ⊥ = cc in z

@@ -123,7 +123,11 @@ module _ (signals : List Signal) (kind : ProcKind) where
     stm-plain (p.Case at x is wild) h =
         let (subject, items) = and_parts (r.is_exp (r.reads signals kind) (plain.exp x)) (r.are_items signals kind is) h in
         (exp-plain (r.reads signals kind) (plain.exp x) subject, items-plain is items)
-    stm-plain (p.For at n start test step a) h = let z : ⊥ = cc in absurd z
+    stm-plain (p.For at n start test step a) h =
+        let (first, turns) = and_parts (r.is_stm signals kind start) (r.is_exp (r.reads signals kind) (plain.exp test) && (r.is_stm signals kind step && r.is_stm signals kind a)) h in
+        let (condition, turn) = and_parts (r.is_exp (r.reads signals kind) (plain.exp test)) (r.is_stm signals kind step && r.is_stm signals kind a) turns in
+        let (next, body) = and_parts (r.is_stm signals kind step) (r.is_stm signals kind a) turn in
+        (stm-plain start first, exp-plain (r.reads signals kind) (plain.exp test) condition, stm-plain step next, stm-plain a body)
     stm-plain (p.Repeat at n a) h = stm-plain a h
     stm-plain (p.Set at t e) h = assignment-plain t e h
     stm-plain (p.Later at t e) h = assignment-plain t e h
@@ -159,31 +163,20 @@ word-valued k.Mem h = let z : ⊥ = cc in absurd z
 word-valued kind h = tt
 
 -- what passes a test has what follows from it
-pub all-passing : {A : Type 0} (test : A → Bool) (P : A → Type 0) → ((x : A) → test x ≡ true → P x) → (xs : List A) → list_all test xs ≡ true → All P xs
+all-passing : {A : Type 0} (test : A → Bool) (P : A → Type 0) → ((x : A) → test x ≡ true → P x) → (xs : List A) → list_all test xs ≡ true → All P xs
 all-passing test P f xs h = λ n x there. f (get_or xs n x) (AllPass-from_list_all test xs h n x there)
 
-pub none-of : (fs : List p.Func) → r.is_empty fs ≡ true → fs ≡ []
+none-of : (fs : List p.Func) → r.is_empty fs ≡ true → fs ≡ []
 none-of [] h = refl
 none-of (f ∷ fs) h = let z : ⊥ = cc in absurd z
 
--- the parts of the forms of a design
-pub record Forms (x : p.Design) : Type 0 where
-  pub funcs : x.funcs ≡ []
-  pub signals : list_all (λ s. r.is_word s.kind) x.signals ≡ true
-  pub processes : list_all (r.is_process x.signals) x.processes ≡ true
-
-pub forms-of : (x : p.Design) → r.has_forms x ≡ true → Forms x
-forms-of x h =
+pub running-plain : (x : p.Design) → r.is_running x ≡ true → IsPlain x
+running-plain x h =
     let (no_funcs, rest) = and_parts (r.is_empty x.funcs) _ h in
     let (signals, others) = and_parts (list_all (λ s. r.is_word s.kind) x.signals) _ rest in
     let (processes, count) = and_parts (list_all (r.is_process x.signals) x.processes) (count_by (λ a. is_rise a.kind) x.processes == 1) others in
-    record { funcs = none-of x.funcs no_funcs; signals = signals; processes = processes }
-
-pub forms-plain : (x : p.Design) → r.has_forms x ≡ true → IsPlain x
-forms-plain x h =
-    let f = forms-of x h in
     record {
-      signals = all-passing (λ (s : Signal). r.is_word s.kind) (λ s. HasValue s.kind) (λ s. word-valued s.kind) x.signals f.signals;
-      funcs = f.funcs;
-      processes = all-passing (r.is_process x.signals) IsPlainProc (process-plain x.signals) x.processes f.processes;
+      signals = all-passing (λ (s : Signal). r.is_word s.kind) (λ s. HasValue s.kind) (λ s. word-valued s.kind) x.signals signals;
+      funcs = none-of x.funcs no_funcs;
+      processes = all-passing (r.is_process x.signals) IsPlainProc (process-plain x.signals) x.processes processes;
     }

@@ -1,10 +1,10 @@
 -- The designs that run: initial blocks, and one block that a clock's rise begins, over variables and nets of one word,
--- without functions and `for` (IEEE 1364-2005, clauses 4, 5, 9 and 17).
-use Rattle.std.specs.Prelude.{ℕ, ◌==◌, Bool, true, false, not, ◌&&◌, codes, List, [], ◌∷◌, option_map, slice_get, Option, Some, is_none}
+-- without functions (IEEE 1364-2005, clauses 4, 5, 9 and 17).
+use Rattle.std.specs.Prelude.{ℕ, ◌==◌, Bool, true, false, not, ◌&&◌, codes, List, [], ◌∷◌, option_map, slice_get, Option, Some}
 use Rattle.std.specs.List.{list_all, count_by}
 use Rattle.std.specs.Str.{bytes_eq}
 use Rattle.vl_design.specs.declared.design.SigKind.{SigKind}
-use Rattle.vl_design.specs.declared.design.SigKind.TheVariants.{Net, Var, Mem, Clock}
+use Rattle.vl_design.specs.declared.design.SigKind.TheVariants.{Net, Var, Loop, Mem, Clock}
 use Rattle.vl_design.specs.declared.design.ProcKind.{ProcKind}
 use Rattle.vl_design.specs.declared.design.ProcKind.TheVariants.{Init, Rise}
 use Rattle.vl_design.specs.declared.design.Signal.{Signal}
@@ -14,7 +14,6 @@ use Rattle.vl_design.specs.Nodes.{has}
 use Rattle.vl_design.specs.Queue.{is_rise}
 use Rattle.vl_design.specs.Placed as p
 use Rattle.vl_design.specs.Plainly.{exp, exps, target}
-use Rattle.vl_turns.specs.Limits.{first_limit}
 
 -- ---- signals (clauses 4.2 and 4.3)
 
@@ -31,13 +30,16 @@ abbrev pub is_clock : Option SigKind → Bool
 is_clock (Some Clock) = true
 is_clock kind = false
 
+-- variables, loop variables among them
 abbrev pub is_variable : Option SigKind → Bool
 is_variable (Some Var) = true
+is_variable (Some Loop) = true
 is_variable kind = false
 
 -- a process may read variables, and nets where it is clocked
 abbrev pub is_readable : ProcKind → Option SigKind → Bool
 is_readable kind (Some Var) = true
+is_readable kind (Some Loop) = true
 is_readable kind (Some Net) = is_rise kind
 is_readable kind other = false
 
@@ -106,7 +108,7 @@ module _ (signals : List Signal) (kind : ProcKind) where
     is_stm (p.Seq at as') = are_stms as'
     is_stm (p.If at t a b) = is_exp (reads signals kind) (exp t) && (is_stm a && is_stm b)
     is_stm (p.Case at x is wild) = is_exp (reads signals kind) (exp x) && are_items is
-    is_stm (p.For at k start test step a) = false
+    is_stm (p.For at k start test step a) = is_stm start && (is_exp (reads signals kind) (exp test) && (is_stm step && is_stm a))
     is_stm (p.Repeat at n a) = is_stm a
     is_stm (p.Set at t e) = is_target (target t) && is_exp (reads signals kind) (exp e)
     is_stm (p.Later at t e) = is_target (target t) && is_exp (reads signals kind) (exp e)
@@ -143,11 +145,7 @@ is_process signals a = is_begun signals a.kind a.events && is_stm signals a.kind
 -- ---- designs
 
 -- no function and no memory, one process is clocked, and each other one is initial
-abbrev pub has_forms : p.Design → Bool
-has_forms d =
+abbrev pub is_running : p.Design → Bool
+is_running d =
     is_empty d.funcs && (list_all (λ s. is_word s.kind) d.signals && (list_all (is_process d.signals) d.processes
     && (count_by (λ a. is_rise a.kind) d.processes == 1)))
-
--- a design of these forms that passes neither limit 8 nor limit 9
-abbrev pub is_running : p.Design → Bool
-is_running d = has_forms d && is_none (first_limit d)

@@ -41,7 +41,11 @@ pub(crate) fn is_stm(signals: &[Signal], kind: ProcKind, s: &Stmt) -> bool
         StmtNode::Case(subject, items, _) => {
             is_exp(signals, kind, subject) && are_items(signals, kind, items.as_slice())
         }
-        StmtNode::For(_, _, _, _, _) => false,
+        StmtNode::For(_, start, test, step, a) => {
+            is_stm(signals, kind, start)
+                && (is_exp(signals, kind, test)
+                    && (is_stm(signals, kind, step) && is_stm(signals, kind, a)))
+        }
         StmtNode::Repeat(_, a) => is_stm(signals, kind, a),
         StmtNode::Set(t, e) | StmtNode::Later(t, e) => {
             is_target(signals, kind, t) && is_exp(signals, kind, e)

@@ -29,7 +29,7 @@ mutual
   stm-quiet (p.Seq at as') h = stms-quiet as' h
   stm-quiet (p.If at t a b) h = (answerless t h.0, stm-quiet a h.1, stm-quiet b h.2)
   stm-quiet (p.Case at x is wild) h = items-quiet is h.1
-  stm-quiet (p.For at k start test step a) h = absurd h
+  stm-quiet (p.For at k start test step a) h = (stm-quiet start h.0, stm-quiet step h.2, stm-quiet a h.3)
   stm-quiet (p.Repeat at n a) h = stm-quiet a h
   stm-quiet (p.Set at t e) h = answerless e h.1
   stm-quiet (p.Later at t e) h = answerless e h.1

@@ -1,5 +1,5 @@
 -- Designs of the plain forms that the runner takes (IEEE 1364-2005): one clock whose rises run blocks, signals of one
--- word, and no function, loop variable or file.
+-- word, and no function or file.
 use Rattle.std.specs.Prelude.{◌≡◌, ℕ, Bool, true, false, List, [], ⊤, All, codes, IsFalse}
 use Rattle.vl_design.specs.declared.design.ProcKind.{ProcKind}
 use Rattle.vl_design.specs.declared.design.ProcKind.TheVariants.{Init, Rise}
@@ -51,13 +51,13 @@ IsPlainTask name p.NoArgs = name ≡ codes "$finish"
 IsPlainTask name given = ⊥
 
 abbrev mutual
-  -- all statements but `for`, with those tasks (clause 9)
+  -- all statements, with those tasks (clause 9)
   pub IsPlainStm : p.Stm → Type 0
   IsPlainStm (p.Nop at) = ⊤
   IsPlainStm (p.Seq at as') = ArePlainStms as'
   IsPlainStm (p.If at t a b) = IsPlainExp (plain.exp t) × IsPlainStm a × IsPlainStm b
   IsPlainStm (p.Case at x is wild) = IsPlainExp (plain.exp x) × ArePlainItems is
-  IsPlainStm (p.For at k start test step a) = ⊥
+  IsPlainStm (p.For at k start test step a) = IsPlainStm start × IsPlainExp (plain.exp test) × IsPlainStm step × IsPlainStm a
   IsPlainStm (p.Repeat at n a) = IsPlainStm a
   IsPlainStm (p.Set at t e) = IsPlainTarget (plain.target t) × IsPlainExp (plain.exp e)
   IsPlainStm (p.Later at t e) = IsPlainTarget (plain.target t) × IsPlainExp (plain.exp e)

@@ -1,19 +1,20 @@
 -- The designs that run: initial blocks, and one block that a clock's rise begins, over variables and nets of one word,
 -- without functions (IEEE 1364-2005, clauses 4, 5, 9 and 17).
-use Rattle.std.specs.Prelude.{ℕ, ◌==◌, Bool, true, false, not, ◌&&◌, codes, List, [], ◌∷◌, option_map, slice_get, Option, Some}
+use Rattle.std.specs.Prelude.{ℕ, ◌==◌, Bool, true, false, not, ◌&&◌, List, [], ◌∷◌, option_map, slice_get, Option, Some}
 use Rattle.std.specs.List.{list_all, count_by}
-use Rattle.std.specs.Str.{bytes_eq}
 use Rattle.vl_design.specs.declared.design.SigKind.{SigKind}
 use Rattle.vl_design.specs.declared.design.SigKind.TheVariants.{Net, Var, Loop, Mem, Clock}
 use Rattle.vl_design.specs.declared.design.ProcKind.{ProcKind}
 use Rattle.vl_design.specs.declared.design.ProcKind.TheVariants.{Init, Rise}
 use Rattle.vl_design.specs.declared.design.Signal.{Signal}
 use Rattle.vl_design.specs.declared.design.Event.{Event}
-use Rattle.vl_design.specs.Syntax.{Exp, Num, Label, Sig, Word, Call, Time, LastAnswer, Exps, NoExps, MoreExps, Target, Whole, WordAt, PickAt, SliceAt, Several, Targets, NoTargets, MoreTargets}
+use Rattle.vl_design.specs.Formats.{Arg, Value}
+use Rattle.vl_design.specs.Syntax.{Exp, Label, Sig, Word, Call, Time, LastAnswer, Exps, NoExps, MoreExps, Target, Whole, WordAt, PickAt, SliceAt, Several, Targets, NoTargets, MoreTargets}
 use Rattle.vl_design.specs.Nodes.{has}
 use Rattle.vl_design.specs.Queue.{is_rise}
 use Rattle.vl_design.specs.Placed as p
-use Rattle.vl_design.specs.Plainly.{exp, exps, target}
+use Rattle.vl_design.specs.Plainly.{exp, exps, target, args}
+use Rattle.plain_run.specs.Plain.{is_plain_task}
 
 -- ---- signals (clauses 4.2 and 4.3)
 
@@ -73,17 +74,14 @@ module _ (reads : ℕ → Bool) where
   are_labels NoExps = true
   are_labels (MoreExps e es) = is_label e && are_labels es
 
-  -- a name: a parameter's is a number
-  abbrev pub is_name : Exp → Bool
-  is_name (Num v w signed) = true
-  is_name (Sig k) = reads k
-  is_name e = false
+  -- an argument of a task: none between two commas, a string, or an expression (clause 17.1)
+  abbrev pub is_argument : Arg → Bool
+  is_argument (Value e) = is_exp e
+  is_argument other = true
 
-  -- `$display("%0d", NAME)` and `$finish` (clauses 17.1 and 17.4.1), by their names and arguments
-  abbrev pub is_task : List ℕ → p.Args → Bool
-  is_task name (p.TextArg text (p.ValueArg e p.NoArgs)) = bytes_eq name (codes "$display") && (bytes_eq text (codes "%0d") && is_name (exp e))
-  is_task name p.NoArgs = bytes_eq name (codes "$finish")
-  is_task name given = false
+  -- `$display`, `$write` and `$finish` (clauses 17.1 and 17.4.1), by their names and arguments
+  abbrev pub is_task : List ℕ → List Arg → Bool
+  is_task name given = is_plain_task name && list_all is_argument given
 
 -- ---- statements (clause 9)
 
@@ -112,7 +110,7 @@ module _ (signals : List Signal) (kind : ProcKind) where
     is_stm (p.Repeat at n a) = is_stm a
     is_stm (p.Set at t e) = is_target (target t) && is_exp (reads signals kind) (exp e)
     is_stm (p.Later at t e) = is_target (target t) && is_exp (reads signals kind) (exp e)
-    is_stm (p.Task at name given) = is_task (reads signals kind) name given
+    is_stm (p.Task at name given) = is_task (reads signals kind) name (args given)
 
     pub are_stms : p.Stms → Bool
     are_stms p.NoStms = true

@@ -34,7 +34,7 @@ path-once d a b h k =
     let x = path-is d a h.0 in
     let y = path-is d b k.0 in
     let place : x.0 ≡ y.0 = comes_before-place x.0 19 y.0 19 (subst (λ z. is_before (Construct x.0 19) z ≡ false) y.1 (subst (λ z. is_before z b ≡ false) x.1 (k.1 a h.0)))
-        (subst (λ z. is_before (Construct y.0 19) z ≡ false) x.1 (subst (λ z. is_before z a ≡ false) y.1 (h.1 b k.0))) in
+    (subst (λ z. is_before (Construct y.0 19) z ≡ false) x.1 (subst (λ z. is_before z a ≡ false) y.1 (h.1 b k.0))) in
     x.1 ∙ (ap (λ z. Construct z 19) place ∙ sym y.1)
 
 -- ---- loops

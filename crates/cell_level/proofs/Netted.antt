@@ -32,7 +32,7 @@ module _ (names : Names) where
       AreNetsOf names (map proc_of (take i xs)) ns → IsNetOf names (proc_of x) n → AreNetsOf names (map proc_of (take (i + 1) xs)) (ns ++ n ∷ [])
   nets-next xs ns i x n l e h k =
       let all : map proc_of (take (i + 1) xs) ≡ map proc_of (take i xs) ++ proc_of x ∷ [] =
-          ap (map proc_of) (take_more xs i x l ∙ ap (λ z. take i xs ++ z ∷ []) (sym e)) ∙ map-append proc_of (take i xs) (x ∷ []) in
+      ap (map proc_of) (take_more xs i x l ∙ ap (λ z. take i xs ++ z ∷ []) (sym e)) ∙ map-append proc_of (take i xs) (x ∷ []) in
       subst (λ as'. AreNetsOf names as' (ns ++ n ∷ [])) (sym all) (nets-more (map proc_of (take i xs)) ns (proc_of x) n h k)
 
   pub nets-all : (xs : List Process) (ns : List Net) (i : ℕ) → length xs ≤ i → AreNetsOf names (map proc_of (take i xs)) ns → AreNetsOf names (map proc_of xs) ns

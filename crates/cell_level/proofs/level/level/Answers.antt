@@ -33,7 +33,7 @@ returns-clause-level c =
     let d = flat_of c.args.design.now in
     let ns = c.in_ok-nets.nets.items in
     let are : AreNetsOf (names_of d) d.procs ns =
-        subst (λ n. AreNetsOf n d.procs ns) c.meanings_of-m.ensures.names (subst (λ ps. AreNetsOf (names_seen c.meanings_of-m.result) ps ns) (sym (procs-map c.args.design.now.processes)) c.in_ok-nets.ensures) in
+    subst (λ n. AreNetsOf n d.procs ns) c.meanings_of-m.ensures.names (subst (λ ps. AreNetsOf (names_seen c.meanings_of-m.result) ps ns) (sym (procs-map c.args.design.now.processes)) c.in_ok-nets.ensures) in
     ok_weaker (net.IsAnswer ns) (IsLevel d) (is-level d ns are) c.levels.result
     (subst (λ xs. IfOk c.levels.result (net.IsAnswer xs)) c.as_slice.ensures.value c.levels.ensures.answer)
 
@@ -42,6 +42,6 @@ returns-clause-exact c =
     let d = flat_of c.args.design.now in
     let ns = c.in_ok-nets.nets.items in
     let are : AreNetsOf (names_of d) d.procs ns =
-        subst (λ n. AreNetsOf n d.procs ns) c.meanings_of-m.ensures.names (subst (λ ps. AreNetsOf (names_seen c.meanings_of-m.result) ps ns) (sym (procs-map c.args.design.now.processes)) c.in_ok-nets.ensures) in
+    subst (λ n. AreNetsOf n d.procs ns) c.meanings_of-m.ensures.names (subst (λ ps. AreNetsOf (names_seen c.meanings_of-m.result) ps ns) (sym (procs-map c.args.design.now.processes)) c.in_ok-nets.ensures) in
     ok_weaker (λ (l : Levels). (net.is_ordered l ≡ true) ↔ ((p : ℕ) → IsOnCycle (net.Edge ns) p → ⊥)) (λ l. (net.is_ordered l ≡ true) ↔ ((p : ℕ) → IsOnCycle (g.Edge d) p → ⊥)) (λ l. is-exact d ns are (net.is_ordered l)) c.levels.result
     (subst (λ xs. IfOk c.levels.result (λ (l : Levels). (net.is_ordered l ≡ true) ↔ ((p : ℕ) → IsOnCycle (net.Edge xs) p → ⊥))) c.as_slice.ensures.value c.levels.ensures.exact)

@@ -24,7 +24,7 @@ loop-a-preserved c = record {
   nets =
       let names = names_seen c.args.m.now in
       let all = nets-next names c.as_slice-processes.result.now c.loop-a.nets.items c.loop-a.a-index c.a-item.result c.in_ok-net.net c.loop-a-test.true c.a-item.is
-          (subst (λ ps. AreNetsOf names (map proc_of (take c.loop-a.a-index ps)) c.loop-a.nets.items) (sym c.as_slice-processes.ensures) c.loop-a.invariant.nets) c.in_ok-net.ensures.net in
+      (subst (λ ps. AreNetsOf names (map proc_of (take c.loop-a.a-index ps)) c.loop-a.nets.items) (sym c.as_slice-processes.ensures) c.loop-a.invariant.nets) c.in_ok-net.ensures.net in
       subst (λ ps. AreNetsOf names (map proc_of (take (c.loop-a.a-index + 1) ps)) c.push.new.self.items) c.as_slice-processes.ensures
       (subst (AreNetsOf names (map proc_of (take (c.loop-a.a-index + 1) c.as_slice-processes.result.now))) (sym c.in_ok-push.ensures.items) all);
 }

@@ -99,7 +99,7 @@ parsed_once ts end r q (long p h e) (long p' k f) = e ∙ ap Err (same_place ts 
 -- ---- the elaboration of a tree
 
 -- the line by which a design is refused
-line_of : Fault → List ℕ
+abbrev line_of : Fault → List ℕ
 line_of (accept.Construct p n) = refusal p (construct n)
 line_of (accept.Limit p n) = refusal p (limit n)
 line_of (accept.Loop p) = refusal p loop

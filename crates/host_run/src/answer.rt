@@ -54,7 +54,8 @@ fn answer_to_accepted(alloc: Global, design: &Design, ticks: u64) -> Result<Answ
     requires accepted { IsAccepted (placed design.now) }
     ensures { IfOk result (λ a. (text : List ℕ) (tree : Tree) → IsTreeOf text tree → IsElaboration tree (Ok (placed design.now)) → IsAnswer text ticks a) }
 {
-    if !runs(design) {
+    let is_running = runs(design);
+    if !is_running {
         return Ok(Answer::Refusal(report::notbuilt(alloc)?));
     }
     let outcome = run(alloc, design, ticks)?;

@@ -6,7 +6,7 @@ use Rattle.host_run.proofs.answer.answer_to_accepted.Goals as goal
 
 pub returns-then-not-is_running : goal.returns-then-not-is_running
 returns-then-not-is_running c = λ text tree is elaborated.
-    unbuilt is.read is.parsed elaborated c.requires.accepted (sym c.runs.ensures.same ∙ c.if-not-runs.true) c.in_ok-notbuilt.ensures
+    unbuilt is.read is.parsed elaborated c.requires.accepted (sym c.runs-is_running.ensures.same ∙ c.if-not-is_running.true) c.in_ok-notbuilt.ensures
 
 pub returns : goal.returns
 returns c = λ text tree is elaborated.
@@ -22,7 +22,7 @@ returns c = λ text tree is elaborated.
         parsed = is.parsed;
         elaborated = elaborated;
         accepted = c.requires.accepted;
-        running = sym c.runs.ensures.same ∙ c.if-not-runs.false;
+        running = sym c.runs-is_running.ensures.same ∙ c.if-not-is_running.false;
         is = refl;
       };
       tick = c.in_ok-outcome.outcome.ticks;

@@ -11,21 +11,31 @@ MARK = "«"
 
 
 def expanded(text):
-    """The text with each ¤C*N¤ as N bytes C."""
-    return re.sub(r"¤(.)\*(\d+)¤", lambda found: found[1] * int(found[2]), text)
+    """The text with each ¤TEXT*N¤ as N times TEXT."""
+    return re.sub(r"¤([^¤]+)\*(\d+)¤", lambda found: found[1] * int(found[2]), text)
+
+
+def text_of(text):
+    """The text that is written so: that of a file where it is `file PATH`."""
+    if text.startswith("file "):
+        return (TOP / text.split()[1]).read_text().rstrip("\n")
+    return expanded(text)
+
+
+def parted(text):
+    """The cases of a table: their first lines and the others."""
+    lines = [line for line in text.split("\n") if not line.startswith("#")]
+    for case in "\n".join(lines).split("\n---"):
+        case = case.strip("\n")
+        if case:
+            yield case.split("\n", 1)
 
 
 def cases(text):
-    """The cases of a table: what is wanted in its first line, the lines of a design, and the source."""
-    lines = [line for line in text.split("\n") if not line.startswith("#")]
-    for case in "\n".join(lines).split("\n---"):
-        case = expanded(case.strip("\n"))
-        if case:
-            wanted, rest = case.split("\n", 1)
-            design, source = rest.split("\n\n", 1) if wanted.startswith("fine ") else ("", rest)
-            if source.startswith("file "):
-                source = (TOP / source.split()[1]).read_text().rstrip("\n")
-            yield wanted, design, source
+    """The cases of a table of designs: what is wanted in its first line, the lines of a design, and the source."""
+    for wanted, rest in parted(text):
+        design, source = rest.split("\n\n", 1) if wanted.startswith("fine ") else ("", rest)
+        yield wanted, expanded(design), text_of(source)
 
 
 def column_of(line, token, count):
@@ -51,13 +61,19 @@ def placed(row, lines):
     return re.sub(r"(\S+) @(\d+)(?::([^\s#]+)(?:#(\d+))?)?", place, row)
 
 
-def fault(wanted, source):
-    """The wanted answer where a fault is marked, and the source without the mark."""
-    kind, number = wanted.split()
-    assert kind in ("construct", "limit") and source.count(MARK) == 1, source
+def marked(source):
+    """The line and the column of the mark in a source, and the source without it."""
+    assert source.count(MARK) == 1, source
     before = source[: source.index(MARK)]
     line, column = before.count("\n") + 1, len(before.split("\n")[-1].encode()) + 1
-    return [f"{kind} {number} at {line} {column}"], source.replace(MARK, "")
+    return line, column, source.replace(MARK, "")
+
+
+def fault(wanted, source):
+    """The wanted answer where a fault is marked, and the source without the mark."""
+    assert wanted.split()[0] in ("construct", "limit"), wanted
+    line, column, rest = marked(source)
+    return [f"{wanted} at {line} {column}"], rest
 
 
 def answer(wanted, design, source):
@@ -114,14 +130,24 @@ def large():
     yield "construct 24", signals + '\n  initial $display((«"12345678901234567"));\nendmodule'
 
 
-tables = [(TOOLS / name).read_text() for name in ("flat_rows.txt", "name_rows.txt")]
-rows = [answer(*case) for table in tables for case in cases(table)] + [fault(*case) for case in large()]
-shown = ["\n".join(f"= {line}" for line in lines) + "\n" + source for lines, source in rows]
-(FOLDER / "stdin").write_text("\n".join(shown) + "\n")
-(FOLDER / "stdout").write_text("ok\n" * len(shown))
+def write(folder, rows):
+    """Writes the input of a program that compares answers, and the output that is wanted of it."""
+    shown = ["\n".join(f"= {line}" for line in lines) + "\n" + source for lines, source in rows]
+    (folder / "stdin").write_text("\n".join(shown) + "\n")
+    (folder / "stdout").write_text("ok\n" * len(shown))
 
-designs = (TOP / "docs" / "DESIGNS.md").read_text()
-for lines, source in rows:
-    for example in ("lcg.v", "uart.v"):
-        if source == (TOP / "examples" / example).read_text().rstrip("\n"):
-            assert "\n".join(lines[1:]) in designs, "docs/DESIGNS.md differs from the table:\n" + "\n".join(lines[1:])
+
+def check_documents(rows):
+    """Looks that docs/DESIGNS.md has the designs of its two examples."""
+    designs = (TOP / "docs" / "DESIGNS.md").read_text()
+    for lines, source in rows:
+        for example in ("lcg.v", "uart.v"):
+            if source == (TOP / "examples" / example).read_text().rstrip("\n"):
+                assert "\n".join(lines[1:]) in designs, "docs/DESIGNS.md differs from the table:\n" + "\n".join(lines[1:])
+
+
+if __name__ == "__main__":
+    tables = [(TOOLS / name).read_text() for name in ("flat_rows.txt", "name_rows.txt")]
+    answers = [answer(*case) for table in tables for case in cases(table)] + [fault(*case) for case in large()]
+    write(FOLDER, answers)
+    check_documents(answers)

@@ -1,22 +1,15 @@
 """Makes the input and the wanted output of crates/host_rows from the tables tools/host_rows.txt and tools/width_rows.txt."""
 
-import pathlib
-import re
+import sys
 
-TOOLS = pathlib.Path(__file__).resolve().parent
-TOP = TOOLS.parent
+sys.dont_write_bytecode = True
+
+from flat_rows import MARK, TOOLS, TOP, marked, numbered, parted, text_of
+
 FOLDER = TOP / "crates" / "host_rows"
-MARK = "«"
 USAGE = "usage: fabhost run SOURCE TICKS"
 COUNTER = (TOP / "examples" / "counter.v").read_text().rstrip("\n")
 BLOCK = "module m(input wire k); reg [7:0] a; always @(posedge k) begin {} end endmodule"
-
-
-def expanded(text):
-    """The text with each ¤C*N¤ as N times C; that of a file where it is `file PATH`."""
-    if text.startswith("file "):
-        return (TOP / text.split()[1]).read_text().rstrip("\n")
-    return re.sub(r"¤([^¤]+)\*(\d+)¤", lambda found: found[1] * int(found[2]), text)
 
 
 def ran(ticks, end, printed):
@@ -31,10 +24,8 @@ def refused(kind, source):
     if kind == "notbuilt":
         assert MARK not in source, source
         return ["status 3", "refused main 0 0 notbuilt"], source
-    assert source.count(MARK) == 1, source
-    before = source[: source.index(MARK)]
-    line, column = before.count("\n") + 1, len(before.split("\n")[-1].encode()) + 1
-    return ["status 3", f"refused main {line} {column} {kind}"], source.replace(MARK, "")
+    line, column, rest = marked(source)
+    return ["status 3", f"refused main {line} {column} {kind}"], rest
 
 
 def rows_of(head, rest):
@@ -43,7 +34,7 @@ def rows_of(head, rest):
     if words[0] == "run":
         printed, source = ("\n" + rest).split("\n\n", 1)
         wanted = ran(words[1], " ".join(words[2:]), printed.split("\n")[1:])
-        return [([f"@ run m.v {words[1]}"], wanted, expanded(source))]
+        return [([f"@ run m.v {words[1]}"], wanted, text_of(source))]
     if words[0] == "usage":
         return [([f"@ {line}"], ["status 2", USAGE], COUNTER) for line in rest.split("\n")]
     if words[0] in ("calls", "bytes"):
@@ -52,28 +43,14 @@ def rows_of(head, rest):
         numbers = words[1:] if words[0] == "calls" else ["4096", "0", "0", str(int(words[1]) - len(COUNTER))]
         return [([f"@ {called}", f"! {' '.join(numbers)}"], wanted, COUNTER)]
     if words[0] == "refused":
-        sources = [expanded(rest)]
+        sources = [text_of(rest)]
     elif words[0] == "sources":
-        sources = [expanded(line) for line in rest.split("\n")]
+        sources = [text_of(line) for line in rest.split("\n")]
     else:
         assert words[0] == "blocks", head
-        sources = [BLOCK.format(expanded(line)) for line in rest.split("\n")]
+        sources = [BLOCK.format(text_of(line)) for line in rest.split("\n")]
     kind = " ".join(words[1:] if words[0] == "refused" else words[2:])
     return [(["@ run m.v 3"], *refused(kind, source)) for source in sources]
-
-
-def cases(text):
-    """The cases of the table: their first lines and the others."""
-    lines = [line for line in text.split("\n") if not line.startswith("#")]
-    for case in "\n".join(lines).split("\n---"):
-        case = case.strip("\n")
-        if case:
-            yield case.split("\n", 1)
-
-
-def numbered(name, count, form="{}"):
-    """So many items: names with their numbers, in a form."""
-    return ", ".join(form.format(f"{name}{i}") for i in range(count))
 
 
 def large():
@@ -92,12 +69,12 @@ def large():
     # a leaf's 100 statements have 99,900 nodes, and 10 leaves with the top's two 1,000,000
     sum_of = "a = " + "+".join(["1"] * 500) + ";"
     leaf = "module leaf(input wire k);\n  reg [15:0] a;\n  initial begin\n" + "\n".join([sum_of] * 100) + "\n  end\nendmodule\n"
-    top = f"module m(input wire k);\n  reg [15:0] a;\n  leaf {numbered('u', 10, '{}(k)')};\n  initial begin {sum_of} a = 7; MORE end\n  always @(posedge k) ;\nendmodule"
-    yield "run 1 budget", "\n" + leaf + top.replace("MORE", "")
-    yield "refused notbuilt", leaf + top.replace("MORE", "a = 7;")
+    top = f"module m(input wire k);\n  reg [15:0] a;\n  leaf {numbered('u', 10, '{}(k)')};\n  MARKinitial begin {sum_of} a = 7; MORE end\n  always @(posedge k) ;\nendmodule"
+    yield "run 1 budget", "\n" + leaf + top.replace("MARK", "").replace("MORE", "")
+    yield "refused limit 9", leaf + top.replace("MARK", MARK).replace("MORE", "a = 7;")
 
 
-tables = [case for name in ("host_rows.txt", "width_rows.txt") for case in cases((TOOLS / name).read_text())]
+tables = [case for name in ("host_rows.txt", "width_rows.txt") for case in parted((TOOLS / name).read_text())]
 rows = [row for case in [*tables, *large()] for row in rows_of(*case)]
 shown = ["\n".join(head + [f"= {line}" for line in wanted]) + "\n" + source for head, wanted, source in rows]
 (FOLDER / "stdin").write_text("\n".join(shown) + "\n")

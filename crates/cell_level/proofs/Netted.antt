@@ -24,6 +24,9 @@ module _ (names : Names) where
   nets-more (b ∷ as') [] a n h k = absurd h
   nets-more (b ∷ as') (m ∷ ns) a n h k = (h.0, nets-more as' ns a n h.1 k)
 
+  pub nets-none : (ns : List Net) → ns ≡ [] → AreNetsOf names [] ns
+  nets-none ns e = subst (AreNetsOf names []) (sym e) tt
+
   -- one process more of a list
   pub nets-next : (xs : List Process) (ns : List Net) (i : ℕ) (x : Process) (n : Net) → i < length xs → x ≡ get_or xs i x →
       AreNetsOf names (map proc_of (take i xs)) ns → IsNetOf names (proc_of x) n → AreNetsOf names (map proc_of (take (i + 1) xs)) (ns ++ n ∷ [])

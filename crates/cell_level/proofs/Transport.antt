@@ -1,6 +1,6 @@
 -- An order of the nets of processes, or a cycle, is one of the processes.
 use Rattle.std.proofs.Common.{◌≡◌, ℕ, ◌<◌, Bool, true, false, List, [], ◌∷◌, length, sym, ap, ◌∙◌, subst}
-use Rattle.std.specs.Prelude.{if◌then◌else◌, nat_lt}
+use Rattle.std.specs.Prelude.{◌↔◌, if◌then◌else◌, nat_lt}
 use Rattle.vl_design.specs.Syntax.{Flat}
 use Rattle.vl_design.specs.Width.{names_of}
 use Rattle.vl_paths.specs.Bits.{Bit}
@@ -64,3 +64,9 @@ module _ (d : Flat) (ns : List Net) (are : AreNetsOf (names_of d) d.procs ns) wh
     levelled = levelled v.items h.levelled;
   }
   is-level (Loop v) h = lowest-as (net.Edge ns) (g.Edge d) there back v.items h
+
+  pub is-exact : (o : Bool) → ((o ≡ true) ↔ ((p : ℕ) → IsOnCycle (net.Edge ns) p → ⊥)) → ((o ≡ true) ↔ ((p : ℕ) → IsOnCycle (g.Edge d) p → ⊥))
+  is-exact o h = (
+    λ e p c. h.0 e p (cycles-as (g.Edge d) (net.Edge ns) back p c),
+    λ f. h.1 (λ p c. f p (cycles-as (net.Edge ns) (g.Edge d) there p c)),
+  )

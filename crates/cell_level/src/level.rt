@@ -1,11 +1,14 @@
 //! The order of a design's processes, or a combinational loop.
 
-ghost use Rattle.std.specs.Prelude.{◌≡◌, ◌&&◌, ℕ, length, map, IfOk, OnOk};
+ghost use Rattle.std.specs.Prelude.{◌≡◌, ◌↔◌, ℕ, true, length, map, IfOk, OnOk};
 ghost use Rattle.vl_design.specs.Sound.{IsSound, IsSoundStm};
 ghost use Rattle.vl_design.specs.Trees.{flat_of, proc_of, stm_of};
 ghost use Rattle.vl_design.specs.Width.{names_of};
 ghost use Rattle.vl_index.specs.Seen.{names_seen};
+ghost use Rattle.vl_paths.specs.Graph.{Edge};
 ghost use Rattle.vl_walks.specs.Walks.{IsClear};
+ghost use Rattle.cell_order.specs.Cycles.{IsOnCycle};
+ghost use Rattle.cell_order.specs.Nets.{is_ordered};
 ghost use Rattle.cell_level.specs.Levelling.{IsLevel};
 ghost use Rattle.cell_level.specs.Netting.{IsNetOf, AreNetsOf};
 
@@ -69,8 +72,9 @@ fn nets_of(
     requires clear { IsClear known.old.items }
     ensures { IfOk result (λ v. AreNetsOf (names_seen m.now) (map proc_of design.now.processes) v.items) }
 {
+    let processes = design.processes.as_slice();
     let mut nets = Vec::new(alloc);
-    for a in design.processes.as_slice() {
+    for a in processes {
         let net = net_of(alloc, m, known, a)?;
         nets.push(net)?;
     }
@@ -82,6 +86,7 @@ fn nets_of(
 pub fn level(alloc: Global, design: &Design) -> Result<Levels, AllocError>
     requires sound { IsSound (flat_of design.now) }
     ensures level { IfOk result (IsLevel (flat_of design.now)) }
+    ensures exact { IfOk result (λ l. (is_ordered l ≡ true) ↔ ((p : ℕ) → IsOnCycle (Edge (flat_of design.now)) p → ⊥)) }
 {
     let signals = design.signals.as_slice().len();
     let mut known = vec![in alloc; 0; signals]?;

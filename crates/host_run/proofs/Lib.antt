@@ -1,3 +1,4 @@
+pub mod Counter
 pub mod OneAnswer
 pub mod Outcomes
 pub mod Takings

@@ -1,5 +1,5 @@
 -- A text has one answer at most: a design, or the line by which it is refused.
-use Rattle.std.proofs.Common.{◌≡◌, ℕ, ◌+◌, inl, inr, true, false, if◌then◌else◌, List, [], length, Result, Ok, Err, refl, sym, ap, ◌∙◌, subst, arith}
+use Rattle.std.proofs.Common.{◌≡◌, ℕ, ◌+◌, inl, inr, Bool, true, false, List, [], length, Result, Ok, Err, refl, sym, ap, ◌∙◌, subst, arith}
 use Rattle.vl_base.specs.declared.place.Place.{Place}
 use Rattle.vl_tree.specs.declared.token.Token.{Token}
 use Rattle.vl_tree.specs.Faults.{IsRead, IsFirstFault, IsFirstLimit}
@@ -26,9 +26,13 @@ use Rattle.vl_design.specs.Placed as p
 use Rattle.vl_design.specs.Plainly as plain
 use Rattle.vl_flatten.specs.Meeting.{IsElaboration}
 use Rattle.vl_flatten.proofs.Once.{elaborated_once}
+use Rattle.cell_accept.specs.declared.fault.Fault.{Fault}
+use Rattle.cell_accept.specs.declared.fault.Fault.TheVariants as accept
+use Rattle.cell_accept.specs.Accepted.{IsAccepted, IsRefused}
+use Rattle.cell_accept.proofs.Once.{accepted-or-refused, refused-once}
 use Rattle.plain_form.specs.Running.{is_running}
-use Rattle.host_run.specs.Report.{block, refusal, lexical, limit, syntax, construct, notbuilt}
-use Rattle.host_run.specs.Due.{end_of, StandsFor, Reports, Refuses, fault, passed, unparsed, too_deep, too_long, misbuilt, outgrown, unbuilt}
+use Rattle.host_run.specs.Report.{block, refusal, lexical, limit, syntax, construct, loop, notbuilt}
+use Rattle.host_run.specs.Due.{end_of, StandsFor, Reports, Refuses, fault, passed, unparsed, too_deep, too_long, misbuilt, outgrown, unfit, too_large, looped, unbuilt}
 
 -- ---- the tokens of a text
 
@@ -94,38 +98,47 @@ parsed_once ts end r q (long p h e) (long p' k f) = e ∙ ap Err (same_place ts 
 
 -- ---- the elaboration of a tree
 
--- the design that runs, or the line of the first fault or limit, or that the flat design isn't of the forms that run
+-- the line by which a design is refused
+line_of : Fault → List ℕ
+line_of (accept.Construct p n) = refusal p (construct n)
+line_of (accept.Limit p n) = refusal p (limit n)
+line_of (accept.Loop p) = refusal p loop
+line_of accept.Memory = []
+
+-- the design that runs, or the line of the first fault for which it isn't accepted, or that it isn't of the forms that run
+data Judged (d : p.Design) (r : Result Flat (List ℕ)) : Type 0 where
+  runs : IsAccepted d → is_running d ≡ true → r ≡ Ok (plain.flat d) → Judged d r
+  rests : IsAccepted d → is_running d ≡ false → r ≡ Err notbuilt → Judged d r
+  refused : (f : Fault) → IsRefused d f → r ≡ Err (line_of f) → Judged d r
+
+true-no-false : {X : Type 0} (b : Bool) → b ≡ true → b ≡ false → X
+true-no-false b h k = absurd cc
+
+judged_once : (d : p.Design) (r q : Result Flat (List ℕ)) → Judged d r → Judged d q → r ≡ q
+judged_once d r q (runs a t e) (runs b u f) = e ∙ sym f
+judged_once d r q (runs a t e) (rests b u f) = true-no-false (is_running d) t u
+judged_once d r q (runs a t e) (refused g k f) = absurd (accepted-or-refused d g a k)
+judged_once d r q (rests a t e) (runs b u f) = true-no-false (is_running d) u t
+judged_once d r q (rests a t e) (rests b u f) = e ∙ sym f
+judged_once d r q (rests a t e) (refused g k f) = absurd (accepted-or-refused d g a k)
+judged_once d r q (refused g h e) (runs b u f) = absurd (accepted-or-refused d g b h)
+judged_once d r q (refused g h e) (rests b u f) = absurd (accepted-or-refused d g b h)
+judged_once d r q (refused g h e) (refused i k f) = e ∙ (ap (λ z. Err (line_of z)) (refused-once d g i h k) ∙ sym f)
+
+-- what is judged of the flat design, or the line of the first fault or limit of the elaboration
 data Built (s : Source) (r : Result Flat (List ℕ)) : Type 0 where
-  runs : (d : p.Design) → IsElaboration s (Ok d) → is_running d ≡ true → r ≡ Ok (plain.flat d) → Built s r
-  rests : (d : p.Design) → IsElaboration s (Ok d) → is_running d ≡ false → r ≡ Err notbuilt → Built s r
+  flat : (d : p.Design) → IsElaboration s (Ok d) → Judged d r → Built s r
   faulty : (p : Place) (n : ℕ) → IsElaboration s (Err (stop.Construct p n)) → r ≡ Err (refusal p (construct n)) → Built s r
   large : (p : Place) (n : ℕ) → IsElaboration s (Err (stop.Limit p n)) → r ≡ Err (refusal p (limit n)) → Built s r
 
--- what follows from an elaboration
-abbrev outcome : Result p.Design Stop → Result Flat (List ℕ)
-outcome (Ok d) = if is_running d then Ok (plain.flat d) else Err notbuilt
-outcome (Err (stop.Construct p n)) = Err (refusal p (construct n))
-outcome (Err (stop.Limit p n)) = Err (refusal p (limit n))
-outcome (Err stop.Memory) = Err []
+same_construct : (p q : Place) (m n : ℕ) → stop.Construct p m ≡ stop.Construct q n → refusal p (construct m) ≡ refusal q (construct n)
+same_construct p q m n e = let place : p ≡ q = cc in let number : m ≡ n = cc in rw (place, number) refl
 
-built : (s : Source) (r : Result Flat (List ℕ)) → Built s r → (e : Result p.Design Stop) × IsElaboration s e × (r ≡ outcome e)
-built s r (runs d h t e) = (Ok d, h, rw t e)
-built s r (rests d h t e) = (Ok d, h, rw t e)
-built s r (faulty p n h e) = (Err (stop.Construct p n), h, e)
-built s r (large p n h e) = (Err (stop.Limit p n), h, e)
+same_stop : (p q : Place) (m n : ℕ) → stop.Limit p m ≡ stop.Limit q n → refusal p (limit m) ≡ refusal q (limit n)
+same_stop p q m n e = let place : p ≡ q = cc in let number : m ≡ n = cc in rw (place, number) refl
 
-built_once : (s : Source) (r q : Result Flat (List ℕ)) → Built s r → Built s q → r ≡ q
-built_once s r q h k =
-    let a = built s r h in
-    let b = built s q k in
-    a.2 ∙ (ap outcome (elaborated_once s a.0 b.0 a.1 b.1) ∙ sym b.2)
-
--- ---- the answer to a text
-
-data Answered (text : List ℕ) (r : Result Flat (List ℕ)) : Type 0 where
-  unread : (line : List ℕ) → Lexed text (Err line) → r ≡ Err line → Answered text r
-  untreed : (ts : List Token) (line : List ℕ) → Lexed text (Ok ts) → Parsed ts (end_of text) (Err line) → r ≡ Err line → Answered text r
-  judged : (ts : List Token) (s : Source) → Lexed text (Ok ts) → Parsed ts (end_of text) (Ok s) → Built s r → Answered text r
+no_stops : {X : Type 0} (p q : Place) (m n : ℕ) → stop.Construct p m ≡ stop.Limit q n → X
+no_stops p q m n e = absurd cc
 
 ok_same : {A B : Type 0} (a b : A) → ◌≡◌ {A = Result A B} (Ok a) (Ok b) → a ≡ b
 ok_same a b h = cc
@@ -136,22 +149,42 @@ err_same a b h = cc
 ok_no_err : {A B X : Type 0} (a : A) (b : B) → ◌≡◌ {A = Result A B} (Ok a) (Err b) → X
 ok_no_err a b h = absurd cc
 
+built_once : (s : Source) (r q : Result Flat (List ℕ)) → Built s r → Built s q → r ≡ q
+built_once s r q (flat d h j) (flat e k i) =
+    let same : d ≡ e = ok_same d e (elaborated_once s (Ok d) (Ok e) h k) in
+    judged_once e r q (subst (λ z. Judged z r) same j) i
+built_once s r q (flat d h j) (faulty p n k f) = ok_no_err d (stop.Construct p n) (elaborated_once s _ _ h k)
+built_once s r q (flat d h j) (large p n k f) = ok_no_err d (stop.Limit p n) (elaborated_once s _ _ h k)
+built_once s r q (faulty p n h e) (flat d k i) = ok_no_err d (stop.Construct p n) (elaborated_once s _ _ k h)
+built_once s r q (faulty p m h e) (faulty p' n k f) = e ∙ (ap Err (same_construct p p' m n (err_same _ _ (elaborated_once s _ _ h k))) ∙ sym f)
+built_once s r q (faulty p m h e) (large p' n k f) = no_stops p p' m n (err_same _ _ (elaborated_once s _ _ h k))
+built_once s r q (large p n h e) (flat d k i) = ok_no_err d (stop.Limit p n) (elaborated_once s _ _ k h)
+built_once s r q (large p m h e) (faulty p' n k f) = no_stops p' p n m (err_same _ _ (elaborated_once s _ _ k h))
+built_once s r q (large p m h e) (large p' n k f) = e ∙ (ap Err (same_stop p p' m n (err_same _ _ (elaborated_once s _ _ h k))) ∙ sym f)
+
+-- ---- the answer to a text
+
+data Answered (text : List ℕ) (r : Result Flat (List ℕ)) : Type 0 where
+  unread : (line : List ℕ) → Lexed text (Err line) → r ≡ Err line → Answered text r
+  untreed : (ts : List Token) (line : List ℕ) → Lexed text (Ok ts) → Parsed ts (end_of text) (Err line) → r ≡ Err line → Answered text r
+  built : (ts : List Token) (s : Source) → Lexed text (Ok ts) → Parsed ts (end_of text) (Ok s) → Built s r → Answered text r
+
 answered_once : (text : List ℕ) (r q : Result Flat (List ℕ)) → Answered text r → Answered text q → r ≡ q
 answered_once text r q (unread a h e) (unread b k f) = e ∙ (ap Err (err_same a b (lexed_once text (Err a) (Err b) h k)) ∙ sym f)
 answered_once text r q (unread a h e) (untreed ts b k l f) = ok_no_err ts a (lexed_once text (Ok ts) (Err a) k h)
-answered_once text r q (unread a h e) (judged ts s k l b) = ok_no_err ts a (lexed_once text (Ok ts) (Err a) k h)
+answered_once text r q (unread a h e) (built ts s k l b) = ok_no_err ts a (lexed_once text (Ok ts) (Err a) k h)
 answered_once text r q (untreed ts a h i e) (unread b k f) = ok_no_err ts b (lexed_once text (Ok ts) (Err b) h k)
 answered_once text r q (untreed ts a h i e) (untreed us b k l f) =
     let same : ts ≡ us = ok_same ts us (lexed_once text (Ok ts) (Ok us) h k) in
     e ∙ (ap Err (err_same a b (parsed_once us (end_of text) (Err a) (Err b) (subst (λ z. Parsed z (end_of text) (Err a)) same i) l)) ∙ sym f)
-answered_once text r q (untreed ts a h i e) (judged us s k l b) =
+answered_once text r q (untreed ts a h i e) (built us s k l b) =
     let same : ts ≡ us = ok_same ts us (lexed_once text (Ok ts) (Ok us) h k) in
     ok_no_err s a (parsed_once us (end_of text) (Ok s) (Err a) l (subst (λ z. Parsed z (end_of text) (Err a)) same i))
-answered_once text r q (judged ts s h i b) (unread c k f) = ok_no_err ts c (lexed_once text (Ok ts) (Err c) h k)
-answered_once text r q (judged ts s h i b) (untreed us c k l f) =
+answered_once text r q (built ts s h i b) (unread c k f) = ok_no_err ts c (lexed_once text (Ok ts) (Err c) h k)
+answered_once text r q (built ts s h i b) (untreed us c k l f) =
     let same : ts ≡ us = ok_same ts us (lexed_once text (Ok ts) (Ok us) h k) in
     ok_no_err s c (parsed_once us (end_of text) (Ok s) (Err c) (subst (λ z. Parsed z (end_of text) (Ok s)) same i) l)
-answered_once text r q (judged ts s h i b) (judged us t k l c) =
+answered_once text r q (built ts s h i b) (built us t k l c) =
     let same : ts ≡ us = ok_same ts us (lexed_once text (Ok ts) (Ok us) h k) in
     let tree : s ≡ t = ok_same s t (parsed_once us (end_of text) (Ok s) (Ok t) (subst (λ z. Parsed z (end_of text) (Ok s)) same i) l) in
     built_once t r q (subst (λ z. Built z r) tree b) c
@@ -159,7 +192,7 @@ answered_once text r q (judged ts s h i b) (judged us t k l c) =
 -- ---- of the definitions
 
 stands : (text : List ℕ) (d : Flat) → StandsFor text d → Answered text (Ok d)
-stands text d h = judged h.tokens h.tree (tokens h.tokens h.read refl) (tree h.tree h.parsed refl) (runs h.flat h.elaborated h.running (ap Ok h.is))
+stands text d h = built h.tokens h.tree (tokens h.tokens h.read refl) (tree h.tree h.parsed refl) (flat h.flat h.elaborated (runs h.accepted h.running (ap Ok h.is)))
 
 refuses : (text line : List ℕ) → Refuses text line → Answered text (Err line)
 refuses text line (fault {place} {cause} h e) = unread line (misspelt place cause h (ap Err e)) refl
@@ -167,9 +200,12 @@ refuses text line (passed {place} {number} h e) = unread line (past place number
 refuses text line (unparsed {tokens = ts} {place} h k e) = untreed ts line (tokens ts h refl) (misplaced place k (ap Err e)) refl
 refuses text line (too_deep {tokens = ts} {place} h k e) = untreed ts line (tokens ts h refl) (deep place k (ap Err e)) refl
 refuses text line (too_long {tokens = ts} {place} h k e) = untreed ts line (tokens ts h refl) (long place k (ap Err e)) refl
-refuses text line (misbuilt {tokens = ts} {tree = s} {place} {number} h k l e) = judged ts s (tokens ts h refl) (tree s k refl) (faulty place number l (ap Err e))
-refuses text line (outgrown {tokens = ts} {tree = s} {place} {number} h k l e) = judged ts s (tokens ts h refl) (tree s k refl) (large place number l (ap Err e))
-refuses text line (unbuilt {tokens = ts} {tree = s} {flat = d} h k l m e) = judged ts s (tokens ts h refl) (tree s k refl) (rests d l m (ap Err e))
+refuses text line (misbuilt {tokens = ts} {tree = s} {place} {number} h k l e) = built ts s (tokens ts h refl) (tree s k refl) (faulty place number l (ap Err e))
+refuses text line (outgrown {tokens = ts} {tree = s} {place} {number} h k l e) = built ts s (tokens ts h refl) (tree s k refl) (large place number l (ap Err e))
+refuses text line (unfit {tokens = ts} {tree = s} {flat = d} {place} {number} h k l m e) = built ts s (tokens ts h refl) (tree s k refl) (flat d l (refused (accept.Construct place number) m (ap Err e)))
+refuses text line (too_large {tokens = ts} {tree = s} {flat = d} {place} {number} h k l m e) = built ts s (tokens ts h refl) (tree s k refl) (flat d l (refused (accept.Limit place number) m (ap Err e)))
+refuses text line (looped {tokens = ts} {tree = s} {flat = d} {place} h k l m e) = built ts s (tokens ts h refl) (tree s k refl) (flat d l (refused (accept.Loop place) m (ap Err e)))
+refuses text line (unbuilt {tokens = ts} {tree = s} {flat = d} h k l a m e) = built ts s (tokens ts h refl) (tree s k refl) (flat d l (rests a m (ap Err e)))
 
 pub one_design : (text : List ℕ) (d e : Flat) → StandsFor text d → StandsFor text e → d ≡ e
 one_design text d e h k = ok_same d e (answered_once text (Ok d) (Ok e) (stands text d h) (stands text e k))

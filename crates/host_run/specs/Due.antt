@@ -20,10 +20,12 @@ use Rattle.vl_design.specs.declared.stop.Stop.TheVariants.{Construct, Limit}
 use Rattle.vl_design.specs.Placed as p
 use Rattle.vl_design.specs.Plainly as plain
 use Rattle.vl_flatten.specs.Meeting.{IsElaboration}
+use Rattle.cell_accept.specs.declared.fault.Fault.TheVariants as accept
+use Rattle.cell_accept.specs.Accepted.{IsAccepted, IsRefused}
 use Rattle.plain_form.specs.Running.{is_running}
 use Rattle.host_run.specs.Taking.{Takes}
 use Rattle.host_run.specs.Words.{command_of}
-use Rattle.host_run.specs.Report.{block, refusal, lexical, limit, syntax, construct, notbuilt, usage, unread}
+use Rattle.host_run.specs.Report.{block, refusal, lexical, limit, syntax, construct, loop, notbuilt, usage, unread}
 
 -- the most bytes that are read of a source
 abbrev pub most_source : ℕ
@@ -34,7 +36,7 @@ abbrev pub end_of : List ℕ → Place
 end_of text = place_after start text
 
 -- a source text stands for this design: its tokens are a source within the limits, the elaboration of its tree is a flat
--- design of the forms that run, and the design is that one without places
+-- design that is accepted and of the forms that run, and the design is that one without places
 pub record StandsFor (text : List ℕ) (design : Flat) : Type 0 where
   pub tokens : List Token
   pub tree : Source
@@ -42,6 +44,7 @@ pub record StandsFor (text : List ℕ) (design : Flat) : Type 0 where
   pub read : IsRead text tokens
   pub parsed : ReadsSource (limits 0) tree tokens []
   pub elaborated : IsElaboration tree (Ok flat)
+  pub accepted : IsAccepted flat
   pub running : is_running flat ≡ true
   pub is : design ≡ plain.flat flat
 
@@ -56,8 +59,8 @@ pub record Reports (text : List ℕ) (budget : ℕ) (report : List ℕ) : Type 0
   pub block : report ≡ block reason last.state.ticks last.state.printed
 
 -- the line by which a source is refused: its first lexical fault or limit; else the first syntax fault of its tokens, or
--- limit 3 or 4; else it has tokens and a tree, and the first fault of its elaboration; else it has a flat design, which is not
--- of the forms that run
+-- limit 3 or 4; else it has tokens and a tree, and the first fault of its elaboration; else it has a flat design, and the first
+-- fault for which that isn't accepted; else the flat design is not of the forms that run
 pub data Refuses (text line : List ℕ) : Type 0 where
   fault : {place : Place} {cause : ℕ} → IsFirstFault text place cause → line ≡ refusal place (lexical cause) → Refuses text line
   passed : {place : Place} {number : ℕ} → IsFirstLimit text place number → line ≡ refusal place (limit number) → Refuses text line
@@ -68,8 +71,14 @@ pub data Refuses (text line : List ℕ) : Type 0 where
       IsElaboration tree (Err (Construct place number)) → line ≡ refusal place (construct number) → Refuses text line
   outgrown : {tokens : List Token} {tree : Source} {place : Place} {number : ℕ} → IsRead text tokens → ReadsSource (limits 0) tree tokens [] →
       IsElaboration tree (Err (Limit place number)) → line ≡ refusal place (limit number) → Refuses text line
+  unfit : {tokens : List Token} {tree : Source} {flat : p.Design} {place : Place} {number : ℕ} → IsRead text tokens → ReadsSource (limits 0) tree tokens [] →
+      IsElaboration tree (Ok flat) → IsRefused flat (accept.Construct place number) → line ≡ refusal place (construct number) → Refuses text line
+  too_large : {tokens : List Token} {tree : Source} {flat : p.Design} {place : Place} {number : ℕ} → IsRead text tokens → ReadsSource (limits 0) tree tokens [] →
+      IsElaboration tree (Ok flat) → IsRefused flat (accept.Limit place number) → line ≡ refusal place (limit number) → Refuses text line
+  looped : {tokens : List Token} {tree : Source} {flat : p.Design} {place : Place} → IsRead text tokens → ReadsSource (limits 0) tree tokens [] →
+      IsElaboration tree (Ok flat) → IsRefused flat (accept.Loop place) → line ≡ refusal place loop → Refuses text line
   unbuilt : {tokens : List Token} {tree : Source} {flat : p.Design} → IsRead text tokens → ReadsSource (limits 0) tree tokens [] →
-      IsElaboration tree (Ok flat) → is_running flat ≡ false → line ≡ notbuilt → Refuses text line
+      IsElaboration tree (Ok flat) → IsAccepted flat → is_running flat ≡ false → line ≡ notbuilt → Refuses text line
 
 -- why a file was not read: the store's faults or absences rose, or the told file is absent or too long
 pub record Counts : Type 0 where

@@ -36,6 +36,10 @@ limit number = codes "limit " ++ decimal number
 abbrev pub construct : ℕ → List ℕ
 construct number = codes "construct " ++ decimal number
 
+-- a combinational loop
+abbrev pub loop : List ℕ
+loop = codes "loop"
+
 -- a source whose form isn't built yet
 abbrev pub notbuilt : List ℕ
 notbuilt = codes "refused main 0 0 notbuilt\n"

@@ -7,11 +7,15 @@ ghost use Rattle.vl_design.specs.Seen.{placed};
 ghost use Rattle.vl_design.specs.Sound.{IsSound};
 ghost use Rattle.vl_design.specs.Trees.{flat_of};
 ghost use Rattle.vl_flatten.specs.Meeting.{IsElaboration};
+ghost use Rattle.vl_checked.specs.Fit.{IsFit};
+ghost use Rattle.cell_accept.specs.Accepted.{IsAccepted};
 ghost use Rattle.host_run.specs.Due.{end_of as end_of_lem};
-ghost use Rattle.host_run.specs.Answers.{IsAnswer, IsTreeOf};
+ghost use Rattle.host_run.specs.Answers.{IsAnswer, IsTreeOf, IsVerdict};
 
 use crate::end::end_of;
 use crate::report;
+use cell_accept::accept::accept;
+use cell_accept::fault::Fault;
 use plain_form::form::runs;
 use plain_run::run::run;
 use std::alloc::{AllocError, Global};
@@ -33,13 +37,24 @@ pub enum Answer {
     Refusal(Vec<u8>),
 }
 
-/// The answer to the flat design of a source.
-fn answer_to_design(alloc: Global, design: &Design, ticks: u64) -> Result<Answer, AllocError>
+/// Whether a design is accepted: an error where it isn't.
+fn judge(alloc: Global, design: &Design) -> Result<(), Fault>
+    requires { IsFit (placed design.now) }
+    ensures { IsVerdict (placed design.now) result }
+{
+    match accept(alloc, design) {
+        Ok(_) => Ok(()),
+        Err(fault) => Err(fault),
+    }
+}
+
+/// The answer to an accepted design.
+fn answer_to_accepted(alloc: Global, design: &Design, ticks: u64) -> Result<Answer, AllocError>
     requires sound { IsSound (flat_of design.now) }
+    requires accepted { IsAccepted (placed design.now) }
     ensures { IfOk result (λ a. (text : List ℕ) (tree : Tree) → IsTreeOf text tree → IsElaboration tree (Ok (placed design.now)) → IsAnswer text ticks a) }
 {
-    let is_running = runs(alloc, design)?;
-    if !is_running {
+    if !runs(design) {
         return Ok(Answer::Refusal(report::notbuilt(alloc)?));
     }
     let outcome = run(alloc, design, ticks)?;
@@ -50,6 +65,24 @@ fn answer_to_design(alloc: Global, design: &Design, ticks: u64) -> Result<Answer
         outcome.printed.as_slice(),
     )?;
     Ok(Answer::Report(block))
+}
+
+/// The answer to the flat design of a source.
+fn answer_to_design(alloc: Global, design: &Design, ticks: u64) -> Result<Answer, AllocError>
+    requires { IsFit (placed design.now) }
+    ensures { IfOk result (λ a. (text : List ℕ) (tree : Tree) → IsTreeOf text tree → IsElaboration tree (Ok (placed design.now)) → IsAnswer text ticks a) }
+{
+    match judge(alloc, design) {
+        Ok(()) => answer_to_accepted(alloc, design, ticks),
+        Err(Fault::Construct(place, number)) => Ok(Answer::Refusal(report::construct(
+            alloc, place, number,
+        )?)),
+        Err(Fault::Limit(place, number)) => Ok(Answer::Refusal(report::limit(
+            alloc, place, number,
+        )?)),
+        Err(Fault::Loop(place)) => Ok(Answer::Refusal(report::looped(alloc, place)?)),
+        Err(Fault::Memory) => Err(AllocError),
+    }
 }
 
 /// The answer to the tree of a source.

@@ -104,6 +104,16 @@ pub fn construct(alloc: Global, place: Place, number: u8) -> Result<Vec<u8>, All
     Ok(text)
 }
 
+/// The line of a source with a combinational loop.
+pub fn looped(alloc: Global, place: Place) -> Result<Vec<u8>, AllocError>
+    ensures { IfOk result (λ text. text.items ≡ r.refusal place r.loop) }
+{
+    let mut text = Vec::new(alloc);
+    push_place(alloc, place, &mut text)?;
+    text.extend_from_slice(b"loop\n")?;
+    Ok(text)
+}
+
 /// The line of a source whose form isn't built yet.
 pub fn notbuilt(alloc: Global) -> Result<Vec<u8>, AllocError>
     ensures { IfOk result (λ text. text.items ≡ r.notbuilt) }

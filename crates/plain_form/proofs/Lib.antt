@@ -1,4 +1,2 @@
 pub mod Plain
 pub mod Rows
-pub mod Tasks
-pub mod Unrolling

@@ -1,25 +1,30 @@
 -- A design of the forms that run is one that the runner takes.
-use Rattle.std.proofs.Common.{◌≡◌, ℕ, Bool, true, false, List, [], ◌∷◌, refl, get_or, codes}
+use Rattle.std.proofs.Common.{◌≡◌, ℕ, Bool, true, false, List, [], ◌∷◌, refl, get_or}
 use Rattle.std.specs.Prelude.{◌||◌, ◌&&◌, ◌==◌, All}
 use Rattle.std.specs.List.{list_all, count_by}
-use Rattle.std.specs.Str.{bytes_eq}
 use Rattle.std.proofs.lemmas.Bool.{and_parts, or_parts, or_from, not-true}
 use Rattle.std.proofs.lemmas.List.Sums.{AllPass-from_list_all}
-use Rattle.std.proofs.lemmas.Slice.Eq.{bytes_eq-Decides}
 use Rattle.vl_design.specs.declared.design.SigKind.{SigKind}
 use Rattle.vl_design.specs.declared.design.SigKind.TheVariants as k
 use Rattle.vl_design.specs.declared.design.ProcKind.{ProcKind}
 use Rattle.vl_design.specs.declared.design.ProcKind.TheVariants.{Init, Rise}
 use Rattle.vl_design.specs.declared.design.Signal.{Signal}
 use Rattle.vl_design.specs.declared.design.Event.{Event}
+use Rattle.vl_design.specs.Formats.{Arg, Value}
 use Rattle.vl_design.specs.Syntax as d
 use Rattle.vl_design.specs.Nodes.{has, some_have}
 use Rattle.vl_design.specs.Sound.{HasValue}
 use Rattle.vl_design.specs.Queue.{is_rise}
 use Rattle.vl_design.specs.Placed as p
 use Rattle.vl_design.specs.Plainly as plain
-use Rattle.plain_run.specs.Plain.{is_beyond, IsPlainExp, IsPlainLabel, ArePlainLabels, IsPlainTarget, ArePlainTargets, IsPlainProcKind, IsPlainTask, IsPlainStm, ArePlainStms, ArePlainItems, IsPlainProc, IsPlain}
+use Rattle.plain_run.specs.Plain.{is_beyond, IsPlainExp, IsPlainLabel, ArePlainLabels, IsPlainTarget, ArePlainTargets, IsPlainProcKind, is_plain_task, IsPlainArgument, IsPlainStm, ArePlainStms, ArePlainItems, IsPlainProc, IsPlain}
 use Rattle.plain_form.specs.Running as r
+
+-- ---- lists
+
+-- what passes a test has what follows from it
+all-passing : {A : Type 0} (test : A → Bool) (P : A → Type 0) → ((x : A) → test x ≡ true → P x) → (xs : List A) → list_all test xs ≡ true → All P xs
+all-passing test P f xs h = λ n x there. f (get_or xs n x) (AllPass-from_list_all test xs h n x there)
 
 -- ---- expressions
 
@@ -75,18 +80,14 @@ module _ (reads : ℕ → Bool) where
       let (first, others) = and_parts (r.is_label reads e) (r.are_labels reads es) h in
       (label-plain e first, labels-plain es others)
 
-  name-plain : (x : d.Exp) → r.is_name reads x ≡ true → IsPlainExp x
-  name-plain (d.Num n w s) h = refl
-  name-plain (d.Sig n) h = refl
-  name-plain x h = let z : ⊥ = cc in absurd z
+  argument-plain : (x : Arg) → r.is_argument reads x ≡ true → IsPlainArgument x
+  argument-plain (Value e) h = exp-plain e h
+  argument-plain x h = tt
 
-  task-plain : (name : List ℕ) (given : p.Args) → r.is_task reads name given ≡ true → IsPlainTask name given
-  task-plain name (p.TextArg text (p.ValueArg e p.NoArgs)) h =
-      let (display, rest) = and_parts (bytes_eq name (codes "$display")) _ h in
-      let (decimal, is) = and_parts (bytes_eq text (codes "%0d")) (r.is_name reads (plain.exp e)) rest in
-      ((bytes_eq-Decides name (codes "$display")).0 display, (bytes_eq-Decides text (codes "%0d")).0 decimal, name-plain (plain.exp e) is)
-  task-plain name p.NoArgs h = (bytes_eq-Decides name (codes "$finish")).0 h
-  task-plain name given h = let z : ⊥ = cc in absurd z
+  task-plain : (name : List ℕ) (given : List Arg) → r.is_task reads name given ≡ true → (is_plain_task name ≡ true) × All IsPlainArgument given
+  task-plain name given h =
+      let (named, arguments) = and_parts (is_plain_task name) (list_all (r.is_argument reads) given) h in
+      (named, all-passing (r.is_argument reads) IsPlainArgument argument-plain given arguments)
 
 -- ---- statements
 
@@ -123,11 +124,15 @@ module _ (signals : List Signal) (kind : ProcKind) where
     stm-plain (p.Case at x is wild) h =
         let (subject, items) = and_parts (r.is_exp (r.reads signals kind) (plain.exp x)) (r.are_items signals kind is) h in
         (exp-plain (r.reads signals kind) (plain.exp x) subject, items-plain is items)
-    stm-plain (p.For at n start test step a) h = let z : ⊥ = cc in absurd z
+    stm-plain (p.For at n start test step a) h =
+        let (first, turns) = and_parts (r.is_stm signals kind start) (r.is_exp (r.reads signals kind) (plain.exp test) && (r.is_stm signals kind step && r.is_stm signals kind a)) h in
+        let (condition, turn) = and_parts (r.is_exp (r.reads signals kind) (plain.exp test)) (r.is_stm signals kind step && r.is_stm signals kind a) turns in
+        let (next, body) = and_parts (r.is_stm signals kind step) (r.is_stm signals kind a) turn in
+        (stm-plain start first, exp-plain (r.reads signals kind) (plain.exp test) condition, stm-plain step next, stm-plain a body)
     stm-plain (p.Repeat at n a) h = stm-plain a h
     stm-plain (p.Set at t e) h = assignment-plain t e h
     stm-plain (p.Later at t e) h = assignment-plain t e h
-    stm-plain (p.Task at name given) h = task-plain (r.reads signals kind) name given h
+    stm-plain (p.Task at name given) h = task-plain (r.reads signals kind) name (plain.args given) h
 
     stms-plain : (as' : p.Stms) → r.are_stms signals kind as' ≡ true → ArePlainStms as'
     stms-plain p.NoStms h = tt
@@ -158,32 +163,17 @@ word-valued : (kind : SigKind) → r.is_word kind ≡ true → HasValue kind
 word-valued k.Mem h = let z : ⊥ = cc in absurd z
 word-valued kind h = tt
 
--- what passes a test has what follows from it
-pub all-passing : {A : Type 0} (test : A → Bool) (P : A → Type 0) → ((x : A) → test x ≡ true → P x) → (xs : List A) → list_all test xs ≡ true → All P xs
-all-passing test P f xs h = λ n x there. f (get_or xs n x) (AllPass-from_list_all test xs h n x there)
-
-pub none-of : (fs : List p.Func) → r.is_empty fs ≡ true → fs ≡ []
+none-of : (fs : List p.Func) → r.is_empty fs ≡ true → fs ≡ []
 none-of [] h = refl
 none-of (f ∷ fs) h = let z : ⊥ = cc in absurd z
 
--- the parts of the forms of a design
-pub record Forms (x : p.Design) : Type 0 where
-  pub funcs : x.funcs ≡ []
-  pub signals : list_all (λ s. r.is_word s.kind) x.signals ≡ true
-  pub processes : list_all (r.is_process x.signals) x.processes ≡ true
-
-pub forms-of : (x : p.Design) → r.has_forms x ≡ true → Forms x
-forms-of x h =
+pub running-plain : (x : p.Design) → r.is_running x ≡ true → IsPlain x
+running-plain x h =
     let (no_funcs, rest) = and_parts (r.is_empty x.funcs) _ h in
     let (signals, others) = and_parts (list_all (λ s. r.is_word s.kind) x.signals) _ rest in
     let (processes, count) = and_parts (list_all (r.is_process x.signals) x.processes) (count_by (λ a. is_rise a.kind) x.processes == 1) others in
-    record { funcs = none-of x.funcs no_funcs; signals = signals; processes = processes }
-
-pub forms-plain : (x : p.Design) → r.has_forms x ≡ true → IsPlain x
-forms-plain x h =
-    let f = forms-of x h in
     record {
-      signals = all-passing (λ (s : Signal). r.is_word s.kind) (λ s. HasValue s.kind) (λ s. word-valued s.kind) x.signals f.signals;
-      funcs = f.funcs;
-      processes = all-passing (r.is_process x.signals) IsPlainProc (process-plain x.signals) x.processes f.processes;
+      signals = all-passing (λ (s : Signal). r.is_word s.kind) (λ s. HasValue s.kind) (λ s. word-valued s.kind) x.signals signals;
+      funcs = none-of x.funcs no_funcs;
+      processes = all-passing (r.is_process x.signals) IsPlainProc (process-plain x.signals) x.processes processes;
     }

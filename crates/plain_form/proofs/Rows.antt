@@ -1,4 +1,4 @@
--- Lists inside expressions, left sides and statements.
+-- Lists inside expressions, left sides, calls and statements.
 use Rattle.std.proofs.Common.{◌≡◌, refl, ap, ◌∙◌, ℕ, Bool}
 use Rattle.std.specs.declared.alloc.Global.{Global}
 use Rattle.std.specs.declared.vec.Vec.{Vec}
@@ -17,7 +17,7 @@ use Rattle.vl_design.specs.Placed as p
 use Rattle.vl_design.specs.Plainly as plain
 use Rattle.vl_design.specs.Seen as seen
 use Rattle.vl_design.specs.Trees.{exp_of, exps_of, target_of}
-use Rattle.vl_design.proofs.TreeLemmas.{placed-Seq}
+use Rattle.vl_design.proofs.TreeLemmas.{placed-Seq, args-map}
 use Rattle.plain_form.specs.Lists.{targets_of, items_of}
 
 row-items : {m : _} (k : node.Row_of-Expr m) → seen.row_exps k ≡ seen.exps_of (node.items-the_row-Expr m k)
@@ -55,3 +55,5 @@ case-of x e v wild h =
     ∙ ap (λ z. p.Case x.place (seen.exp_of e) z wild) (row_items-items (sb.hidden-the_row-CaseItem-1 v) ∙ ap items_of (s.items_hidden-the_row-CaseItem-1 v))
 
 pub ruleset rows = (cat-of, rep-of, list-of, case-of, placed-Seq)
+
+pub ruleset arguments = (args-map)

@@ -1,20 +1,20 @@
 -- The designs that run: initial blocks, and one block that a clock's rise begins, over variables and nets of one word,
--- without functions and `for` (IEEE 1364-2005, clauses 4, 5, 9 and 17).
-use Rattle.std.specs.Prelude.{ℕ, ◌==◌, Bool, true, false, not, ◌&&◌, codes, List, [], ◌∷◌, option_map, slice_get, Option, Some, is_none}
+-- without functions (IEEE 1364-2005, clauses 4, 5, 9 and 17).
+use Rattle.std.specs.Prelude.{ℕ, ◌==◌, Bool, true, false, not, ◌&&◌, List, [], ◌∷◌, option_map, slice_get, Option, Some}
 use Rattle.std.specs.List.{list_all, count_by}
-use Rattle.std.specs.Str.{bytes_eq}
 use Rattle.vl_design.specs.declared.design.SigKind.{SigKind}
-use Rattle.vl_design.specs.declared.design.SigKind.TheVariants.{Net, Var, Mem, Clock}
+use Rattle.vl_design.specs.declared.design.SigKind.TheVariants.{Net, Var, Loop, Mem, Clock}
 use Rattle.vl_design.specs.declared.design.ProcKind.{ProcKind}
 use Rattle.vl_design.specs.declared.design.ProcKind.TheVariants.{Init, Rise}
 use Rattle.vl_design.specs.declared.design.Signal.{Signal}
 use Rattle.vl_design.specs.declared.design.Event.{Event}
-use Rattle.vl_design.specs.Syntax.{Exp, Num, Label, Sig, Word, Call, Time, LastAnswer, Exps, NoExps, MoreExps, Target, Whole, WordAt, PickAt, SliceAt, Several, Targets, NoTargets, MoreTargets}
+use Rattle.vl_design.specs.Formats.{Arg, Value}
+use Rattle.vl_design.specs.Syntax.{Exp, Label, Sig, Word, Call, Time, LastAnswer, Exps, NoExps, MoreExps, Target, Whole, WordAt, PickAt, SliceAt, Several, Targets, NoTargets, MoreTargets}
 use Rattle.vl_design.specs.Nodes.{has}
 use Rattle.vl_design.specs.Queue.{is_rise}
 use Rattle.vl_design.specs.Placed as p
-use Rattle.vl_design.specs.Plainly.{exp, exps, target}
-use Rattle.vl_turns.specs.Limits.{first_limit}
+use Rattle.vl_design.specs.Plainly.{exp, exps, target, args}
+use Rattle.plain_run.specs.Plain.{is_plain_task}
 
 -- ---- signals (clauses 4.2 and 4.3)
 
@@ -31,13 +31,16 @@ abbrev pub is_clock : Option SigKind → Bool
 is_clock (Some Clock) = true
 is_clock kind = false
 
+-- variables, loop variables among them
 abbrev pub is_variable : Option SigKind → Bool
 is_variable (Some Var) = true
+is_variable (Some Loop) = true
 is_variable kind = false
 
 -- a process may read variables, and nets where it is clocked
 abbrev pub is_readable : ProcKind → Option SigKind → Bool
 is_readable kind (Some Var) = true
+is_readable kind (Some Loop) = true
 is_readable kind (Some Net) = is_rise kind
 is_readable kind other = false
 
@@ -71,17 +74,14 @@ module _ (reads : ℕ → Bool) where
   are_labels NoExps = true
   are_labels (MoreExps e es) = is_label e && are_labels es
 
-  -- a name: a parameter's is a number
-  abbrev pub is_name : Exp → Bool
-  is_name (Num v w signed) = true
-  is_name (Sig k) = reads k
-  is_name e = false
+  -- an argument of a task: none between two commas, a string, or an expression (clause 17.1)
+  abbrev pub is_argument : Arg → Bool
+  is_argument (Value e) = is_exp e
+  is_argument other = true
 
-  -- `$display("%0d", NAME)` and `$finish` (clauses 17.1 and 17.4.1), by their names and arguments
-  abbrev pub is_task : List ℕ → p.Args → Bool
-  is_task name (p.TextArg text (p.ValueArg e p.NoArgs)) = bytes_eq name (codes "$display") && (bytes_eq text (codes "%0d") && is_name (exp e))
-  is_task name p.NoArgs = bytes_eq name (codes "$finish")
-  is_task name given = false
+  -- `$display`, `$write` and `$finish` (clauses 17.1 and 17.4.1), by their names and arguments
+  abbrev pub is_task : List ℕ → List Arg → Bool
+  is_task name given = is_plain_task name && list_all is_argument given
 
 -- ---- statements (clause 9)
 
@@ -106,11 +106,11 @@ module _ (signals : List Signal) (kind : ProcKind) where
     is_stm (p.Seq at as') = are_stms as'
     is_stm (p.If at t a b) = is_exp (reads signals kind) (exp t) && (is_stm a && is_stm b)
     is_stm (p.Case at x is wild) = is_exp (reads signals kind) (exp x) && are_items is
-    is_stm (p.For at k start test step a) = false
+    is_stm (p.For at k start test step a) = is_stm start && (is_exp (reads signals kind) (exp test) && (is_stm step && is_stm a))
     is_stm (p.Repeat at n a) = is_stm a
     is_stm (p.Set at t e) = is_target (target t) && is_exp (reads signals kind) (exp e)
     is_stm (p.Later at t e) = is_target (target t) && is_exp (reads signals kind) (exp e)
-    is_stm (p.Task at name given) = is_task (reads signals kind) name given
+    is_stm (p.Task at name given) = is_task (reads signals kind) name (args given)
 
     pub are_stms : p.Stms → Bool
     are_stms p.NoStms = true
@@ -143,11 +143,7 @@ is_process signals a = is_begun signals a.kind a.events && is_stm signals a.kind
 -- ---- designs
 
 -- no function and no memory, one process is clocked, and each other one is initial
-abbrev pub has_forms : p.Design → Bool
-has_forms d =
+abbrev pub is_running : p.Design → Bool
+is_running d =
     is_empty d.funcs && (list_all (λ s. is_word s.kind) d.signals && (list_all (is_process d.signals) d.processes
     && (count_by (λ a. is_rise a.kind) d.processes == 1)))
-
--- a design of these forms that passes neither limit 8 nor limit 9
-abbrev pub is_running : p.Design → Bool
-is_running d = has_forms d && is_none (first_limit d)

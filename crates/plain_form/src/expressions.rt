@@ -79,14 +79,3 @@ pub(crate) fn are_labels(signals: &[Signal], kind: ProcKind, es: &[Expr]) -> boo
     }
     true
 }
-
-/// Whether an expression is one name.
-pub(crate) fn is_name(signals: &[Signal], kind: ProcKind, e: &Expr) -> bool
-    ensures { result ≡ r.is_name (r.reads signals.now kind) (exp_of e.now) }
-{
-    match &e.node {
-        ExprNode::Num(_, _) => true,
-        ExprNode::Sig(number) => reads(signals, kind, *number),
-        _ => false,
-    }
-}

@@ -1,21 +1,15 @@
-//! Whether a design runs.
+//! Whether a design is of the forms that run.
 
-ghost use Rattle.std.specs.Prelude.{◌≡◌, ◌==◌, ◌≤◌, ◌+◌, min, map, ℕ, cond, is_none, IfOk, IsTrue};
+ghost use Rattle.std.specs.Prelude.{◌≡◌, ◌==◌, ◌≤◌, ◌+◌, min, map, ℕ, cond, IsTrue};
 ghost use Rattle.std.specs.List.{list_all, count_by};
 ghost use Rattle.vl_design.specs.Queue.{is_rise};
 ghost use Rattle.vl_design.specs.Seen.{process_of, placed};
-ghost use Rattle.vl_design.specs.Sound.{IsSound};
-ghost use Rattle.vl_design.specs.Trees.{flat_of};
-ghost use Rattle.vl_turns.specs.Fits.{CanUnroll};
-ghost use Rattle.vl_turns.specs.Limits as limits;
 ghost use Rattle.plain_run.specs.Plain.{IsPlain};
 ghost use Rattle.plain_form.specs.Running as r;
 
 use crate::names::is_clock;
 use crate::statements::is_stm;
-use std::alloc::{AllocError, Global};
 use vl_design::design::{Design, Event, ProcKind, Process, SigKind, Signal};
-use vl_limits::limits::first_limit;
 
 /// Whether no signal is a memory.
 fn are_words(signals: &[Signal]) -> bool
@@ -105,10 +99,10 @@ fn has_one_clocked(processes: &[Process]) -> bool
     clocked(processes) == 1
 }
 
-/// Whether a design is of the forms that run, whatever its limits: it has no function and no memory, one process is clocked
-/// by a rise and each other one is initial, and all expressions, left sides and statements are of those forms.
+/// Whether a design has no function and no memory, one process is clocked by a rise and each other one is initial, and
+/// all expressions, left sides and statements are of the forms that run.
 fn has_forms(design: &Design) -> bool
-    ensures same { result ≡ r.has_forms (placed design.now) }
+    ensures { result ≡ r.is_running (placed design.now) }
 {
     let signals = design.signals.as_slice();
     let processes = design.processes.as_slice();
@@ -117,25 +111,10 @@ fn has_forms(design: &Design) -> bool
     no_functions & forms & has_one_clocked(processes)
 }
 
-/// Whether a design passes no limit.
-fn is_within(alloc: Global, design: &Design) -> Result<bool, AllocError>
-    requires { CanUnroll (flat_of design.now) }
-    ensures { IfOk result (λ b. b ≡ is_none (limits.first_limit (placed design.now))) }
+/// Whether a design is of the forms that run.
+pub fn runs(design: &Design) -> bool
+    ensures same { result ≡ r.is_running (placed design.now) }
+    ensures plain { IsTrue result → IsPlain (placed design.now) }
 {
-    let limit = first_limit(alloc, design)?;
-    Ok(limit.is_none())
-}
-
-/// Whether a sound design runs: it is of the forms that run, and with each `repeat` written out it has no more turns,
-/// statements and nodes of expressions than limits 8 and 9 allow.
-pub fn runs(alloc: Global, design: &Design) -> Result<bool, AllocError>
-    requires sound { IsSound (flat_of design.now) }
-    ensures same { IfOk result (λ b. b ≡ r.is_running (placed design.now)) }
-    ensures plain { IfOk result (λ b. IsTrue b → IsPlain (placed design.now)) }
-{
-    if has_forms(design) {
-        is_within(alloc, design)
-    } else {
-        Ok(false)
-    }
+    has_forms(design)
 }

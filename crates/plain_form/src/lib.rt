@@ -7,3 +7,4 @@ pub mod laws;
 mod names;
 mod statements;
 mod targets;
+mod tasks;

@@ -24,11 +24,11 @@ pub(crate) fn is_clock(signals: &[Signal], number: u32) -> bool
     matches!(kind_of(signals, number), Some(SigKind::Clock))
 }
 
-/// Whether a number names a variable.
+/// Whether a number names a variable, which may be a loop variable.
 pub(crate) fn is_variable(signals: &[Signal], number: u32) -> bool
     ensures { result ≡ r.is_variable (r.kind_of signals.now number) }
 {
-    matches!(kind_of(signals, number), Some(SigKind::Var))
+    matches!(kind_of(signals, number), Some(SigKind::Var | SigKind::Loop))
 }
 
 /// Whether a process of a kind may read the signal of a number.
@@ -36,7 +36,7 @@ pub(crate) fn reads(signals: &[Signal], kind: ProcKind, number: u32) -> bool
     ensures { result ≡ r.reads signals.now kind number }
 {
     match kind_of(signals, number) {
-        Some(SigKind::Var) => true,
+        Some(SigKind::Var | SigKind::Loop) => true,
         Some(SigKind::Net) => matches!(kind, ProcKind::Rise),
         _ => false,
     }

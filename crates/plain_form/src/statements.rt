@@ -1,30 +1,14 @@
 //! Statements of the forms that run (IEEE 1364-2005, clause 9).
 
 ghost use Rattle.std.specs.Prelude.{◌≡◌};
-ghost use Rattle.vl_design.specs.Seen.{args_of, stm_of, stms_of};
+ghost use Rattle.vl_design.specs.Seen.{stm_of, stms_of};
 ghost use Rattle.plain_form.specs.Lists.{items_of};
 ghost use Rattle.plain_form.specs.Running as r;
 
-use crate::expressions::{are_labels, is_exp, is_name};
+use crate::expressions::{are_labels, is_exp};
 use crate::targets::is_target;
-use vl_design::design::{CaseItem, ProcKind, Signal, Stmt, StmtNode, SysArg, SysCall};
-
-/// Whether a call of a system task is `$display("%0d", NAME)` or `$finish`.
-#[tactic(auto, using(crate::proofs::Tasks::task_rules))]
-fn is_task(signals: &[Signal], kind: ProcKind, call: &SysCall) -> bool
-    ensures { result ≡ r.is_task (r.reads signals.now kind) call.now.name (args_of call.now.args.items) }
-{
-    let name = call.name.as_slice();
-    match call.args.as_slice() {
-        [SysArg::Str(text), SysArg::Value(e)] => {
-            let is_display = name == b"$display".as_slice();
-            let is_decimal = text.as_slice() == b"%0d".as_slice();
-            is_display & is_decimal & is_name(signals, kind, e)
-        }
-        [] => name == b"$finish".as_slice(),
-        _ => false,
-    }
-}
+use crate::tasks::is_task;
+use vl_design::design::{CaseItem, ProcKind, Signal, Stmt, StmtNode};
 
 /// Whether a statement of a process of a kind is of the forms that run.
 #[cycle(statements)]
@@ -41,7 +25,11 @@ pub(crate) fn is_stm(signals: &[Signal], kind: ProcKind, s: &Stmt) -> bool
         StmtNode::Case(subject, items, _) => {
             is_exp(signals, kind, subject) && are_items(signals, kind, items.as_slice())
         }
-        StmtNode::For(_, _, _, _, _) => false,
+        StmtNode::For(_, start, test, step, a) => {
+            is_stm(signals, kind, start)
+                && (is_exp(signals, kind, test)
+                    && (is_stm(signals, kind, step) && is_stm(signals, kind, a)))
+        }
         StmtNode::Repeat(_, a) => is_stm(signals, kind, a),
         StmtNode::Set(t, e) | StmtNode::Later(t, e) => {
             is_target(signals, kind, t) && is_exp(signals, kind, e)

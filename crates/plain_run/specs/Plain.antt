@@ -1,9 +1,11 @@
 -- Designs of the plain forms that the runner takes (IEEE 1364-2005): one clock whose rises run blocks, signals of one
--- word, and no function, loop variable or file.
-use Rattle.std.specs.Prelude.{◌≡◌, ℕ, Bool, true, false, List, [], ⊤, All, codes, IsFalse}
+-- word, and no function or file.
+use Rattle.std.specs.Prelude.{◌≡◌, ℕ, Bool, true, false, ◌||◌, List, [], ⊤, All, codes, IsTrue, IsFalse}
+use Rattle.std.specs.Str.{bytes_eq}
 use Rattle.vl_design.specs.declared.design.ProcKind.{ProcKind}
 use Rattle.vl_design.specs.declared.design.ProcKind.TheVariants.{Init, Rise}
 use Rattle.vl_design.specs.Syntax.{Exp, Label, Word, Call, Time, LastAnswer, Exps, NoExps, MoreExps, Target, Whole, WordAt, PickAt, SliceAt, Several, Targets, NoTargets, MoreTargets}
+use Rattle.vl_design.specs.Formats.{Arg, Value}
 use Rattle.vl_design.specs.Nodes.{has}
 use Rattle.vl_design.specs.Sound.{HasValue}
 use Rattle.vl_design.specs.Placed as p
@@ -44,24 +46,27 @@ abbrev mutual
   ArePlainTargets NoTargets = ⊤
   ArePlainTargets (MoreTargets t ts) = IsPlainTarget t × ArePlainTargets ts
 
--- `$display("%0d", x)` and `$finish` (clauses 17.1 and 17.4.1), by their names and arguments
-abbrev pub IsPlainTask : List ℕ → p.Args → Type 0
-IsPlainTask name (p.TextArg text (p.ValueArg x p.NoArgs)) = (name ≡ codes "$display") × (text ≡ codes "%0d") × IsPlainExp (plain.exp x)
-IsPlainTask name p.NoArgs = name ≡ codes "$finish"
-IsPlainTask name given = ⊥
+-- `$display`, `$write` and `$finish` (clauses 17.1 and 17.4.1)
+abbrev pub is_plain_task : List ℕ → Bool
+is_plain_task name = bytes_eq name (codes "$display") || (bytes_eq name (codes "$write") || bytes_eq name (codes "$finish"))
+
+-- an argument of a task: none between two commas, a string, or a plain expression (clause 17.1)
+abbrev pub IsPlainArgument : Arg → Type 0
+IsPlainArgument (Value e) = IsPlainExp e
+IsPlainArgument other = ⊤
 
 abbrev mutual
-  -- all statements but `for`, with those tasks (clause 9)
+  -- all statements, with those tasks (clause 9)
   pub IsPlainStm : p.Stm → Type 0
   IsPlainStm (p.Nop at) = ⊤
   IsPlainStm (p.Seq at as') = ArePlainStms as'
   IsPlainStm (p.If at t a b) = IsPlainExp (plain.exp t) × IsPlainStm a × IsPlainStm b
   IsPlainStm (p.Case at x is wild) = IsPlainExp (plain.exp x) × ArePlainItems is
-  IsPlainStm (p.For at k start test step a) = ⊥
+  IsPlainStm (p.For at k start test step a) = IsPlainStm start × IsPlainExp (plain.exp test) × IsPlainStm step × IsPlainStm a
   IsPlainStm (p.Repeat at n a) = IsPlainStm a
   IsPlainStm (p.Set at t e) = IsPlainTarget (plain.target t) × IsPlainExp (plain.exp e)
   IsPlainStm (p.Later at t e) = IsPlainTarget (plain.target t) × IsPlainExp (plain.exp e)
-  IsPlainStm (p.Task at name given) = IsPlainTask name given
+  IsPlainStm (p.Task at name given) = IsTrue (is_plain_task name) × All IsPlainArgument (plain.args given)
 
   pub ArePlainStms : p.Stms → Type 0
   ArePlainStms p.NoStms = ⊤

@@ -18,7 +18,8 @@ use Rattle.vl_design.proofs.TreeLemmas.{funs-map, procs-map}
 use Rattle.vl_masks.specs.Masks.{has, in_masks}
 use Rattle.vl_masks.proofs.Masking.{has_none}
 use Rattle.vl_walks.specs.Walks.{IsClear}
-use Rattle.vl_partly.specs.Faults.{IsFirst, IsProcessFault, IsFunctionFault, IsPathFault, first_of, names_with, stop_at}
+use Rattle.vl_stops.specs.First.{IsFirst}
+use Rattle.vl_partly.specs.Faults.{IsProcessFault, IsFunctionFault, IsPathFault, first_of, names_with, stop_at}
 use Rattle.vl_partly.specs.Partly.{IsPartly, IsPartlyFun}
 use Rattle.vl_partly.proofs.Firsts.{first-one, first-same, first-both, any-map}
 use Rattle.vl_partly.proofs.Testing.{not_both}

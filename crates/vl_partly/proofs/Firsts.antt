@@ -9,7 +9,8 @@ use Rattle.vl_base.proofs.Orders.{comes_before-self, comes_before-one_way, comes
 use Rattle.vl_design.specs.declared.stop.Stop.{Stop}
 use Rattle.vl_design.specs.declared.stop.Stop.TheVariants.{Construct}
 use Rattle.vl_design.specs.Stops.{is_before, place_of, number_of}
-use Rattle.vl_partly.specs.Faults.{IsFirst, stop_at, first_of}
+use Rattle.vl_stops.specs.First.{IsFirst}
+use Rattle.vl_partly.specs.Faults.{stop_at, first_of}
 
 chain : (a b c : Stop) → is_before a b ≡ false → is_before b c ≡ false → is_before a c ≡ false
 chain a b c h k = comes_before-chain (place_of a) (number_of a) (place_of b) (number_of b) (place_of c) (number_of c) h k

@@ -3,7 +3,8 @@ use Rattle.std.proofs.Common.{◌≡◌, ℕ, ◌+◌, ◌<◌, ◌≤◌, List,
 use Rattle.std.specs.Prelude.{◌⊎◌, Any, Option, None}
 use Rattle.vl_base.specs.declared.place.Place.{Place}
 use Rattle.vl_design.specs.declared.stop.Stop.{Stop}
-use Rattle.vl_partly.specs.Faults.{IsFirst, stop_at, first_of}
+use Rattle.vl_stops.specs.First.{IsFirst}
+use Rattle.vl_partly.specs.Faults.{stop_at, first_of}
 use Rattle.vl_partly.proofs.Firsts.{Before, before-none, before-more, before-all, first-same, first-both}
 
 pub first-none : {X : Type 0} (P : X → Stop → Type 0) (ys : List X) → IsFirst (λ s. Before (λ y. P y s) ys 0) (stop_at None)

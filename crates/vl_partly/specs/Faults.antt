@@ -1,5 +1,5 @@
 -- The first construct 19 of a design whose loops are unrolled (own).
-use Rattle.std.specs.Prelude.{◌≡◌, ◌⊎◌, false, List, ◌++◌, map, Any, Option, Some, None, option_map}
+use Rattle.std.specs.Prelude.{◌≡◌, ◌⊎◌, List, ◌++◌, map, Any, Option, Some, None, option_map}
 use Rattle.vl_base.specs.declared.place.Place.{Place}
 use Rattle.vl_base.specs.Places as places
 use Rattle.vl_design.specs.declared.design.Design.{Design}
@@ -9,15 +9,9 @@ use Rattle.vl_design.specs.declared.stop.Stop.{Stop}
 use Rattle.vl_design.specs.declared.stop.Stop.TheVariants.{Construct}
 use Rattle.vl_design.specs.Placed as p
 use Rattle.vl_design.specs.Plainly as plain
-use Rattle.vl_design.specs.Stops.{is_before}
 use Rattle.vl_design.specs.Trees.{row_of, flat_of}
 use Rattle.vl_design.specs.Width.{Names, names_in, names_of}
 use Rattle.vl_partly.specs.Partly.{IsPartly, IsPartlyFun}
-
--- the stop that holds and before which no other that holds comes, or none where none holds
-abbrev pub IsFirst : (Stop → Type 0) → Option Stop → Type 0
-IsFirst P None = (s : Stop) → P s → ⊥
-IsFirst P (Some first) = P first × ((s : Stop) → P s → is_before s first ≡ false)
 
 -- a combinational process, at its first token
 abbrev pub IsProcessFault : Names → p.Process → Stop → Type 0

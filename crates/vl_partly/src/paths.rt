@@ -8,7 +8,8 @@ ghost use Rattle.vl_design.specs.Trees.{flat_of, fun_of, proc_of};
 ghost use Rattle.vl_design.specs.Width.{names_of};
 ghost use Rattle.vl_index.specs.Seen.{names_seen};
 ghost use Rattle.vl_walks.specs.Walks.{IsClear};
-ghost use Rattle.vl_partly.specs.Faults.{IsFirst, IsFunctionFault, IsPathFault, IsProcessFault, first_of, names_with, stop_at};
+ghost use Rattle.vl_stops.specs.First.{IsFirst};
+ghost use Rattle.vl_partly.specs.Faults.{IsFunctionFault, IsPathFault, IsProcessFault, first_of, names_with, stop_at};
 
 use crate::bodies::{function_is_partly, process_is_partly};
 use std::alloc::{AllocError, Global};

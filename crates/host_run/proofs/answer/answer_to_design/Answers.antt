@@ -1,32 +1,14 @@
-use Rattle.std.proofs.Common.{refl, sym, ◌∙◌}
-use Rattle.vl_design.specs.Trees.{flat_of}
-use Rattle.vl_design.specs.Seen.{placed}
-use Rattle.host_run.specs.Due.{unbuilt}
+use Rattle.host_run.specs.Due.{unfit, too_large, looped}
 use Rattle.host_run.proofs.answer.answer_to_design.Goals as goal
 
-pub returns-then-not-is_running : goal.returns-then-not-is_running
-returns-then-not-is_running c = λ text tree is elaborated.
-    unbuilt is.read is.parsed elaborated (sym c.in_ok-is_running.ensures.same ∙ c.if-not-is_running.true) c.in_ok-notbuilt.ensures
+pub returns-in_ok-construct-in-Err-Construct : goal.returns-in_ok-construct-in-Err-Construct
+returns-in_ok-construct-in-Err-Construct c = λ text tree is elaborated.
+    unfit is.read is.parsed elaborated (rw c.in-Err-Construct.field-0-is at c.in-Err-Construct.ensures) c.in_ok-construct-in-Err-Construct.ensures
 
-pub returns : goal.returns
-returns c = λ text tree is elaborated.
-    let d = c.args.design.now in
-    let (q, ends, ticks, printed) = c.in_ok-outcome.ensures in
-    record {
-      design = flat_of d;
-      stands = record {
-        tokens = is.tokens;
-        tree = tree;
-        flat = placed d;
-        read = is.read;
-        parsed = is.parsed;
-        elaborated = elaborated;
-        running = sym c.in_ok-is_running.ensures.same ∙ c.if-not-is_running.false;
-        is = refl;
-      };
-      tick = c.in_ok-outcome.outcome.ticks;
-      reason = c.in_ok-outcome.outcome.end;
-      last = q;
-      ends = ends;
-      block = rw (ticks, printed, ← c.as_slice.ensures) c.in_ok-block.ensures;
-    }
+pub returns-in_ok-limit-in-Err-Limit : goal.returns-in_ok-limit-in-Err-Limit
+returns-in_ok-limit-in-Err-Limit c = λ text tree is elaborated.
+    too_large is.read is.parsed elaborated (rw c.in-Err-Limit.field-0-is at c.in-Err-Limit.ensures) c.in_ok-limit-in-Err-Limit.ensures
+
+pub returns-in_ok-looped-in-Err-Loop : goal.returns-in_ok-looped-in-Err-Loop
+returns-in_ok-looped-in-Err-Loop c = λ text tree is elaborated.
+    looped is.read is.parsed elaborated (rw c.in-Err-Loop.field-0-is at c.in-Err-Loop.ensures) c.in_ok-looped-in-Err-Loop.ensures

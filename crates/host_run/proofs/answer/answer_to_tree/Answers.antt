@@ -4,6 +4,7 @@ use Rattle.vl_design.specs.Seen.{placed}
 use Rattle.vl_flatten.specs.Meeting.{IsElaboration}
 use Rattle.host_run.specs.Due.{misbuilt, outgrown}
 use Rattle.host_run.specs.Answers.{IsAnswer, IsTreeOf}
+use Rattle.vl_fit.proofs.Elaborated.{fit}
 use Rattle.host_run.proofs.answer.answer_to_tree.Goals as goal
 
 ok_weaker : {A E : Type 0} (P Q : A → Type 0) → ((a : A) → P a → Q a) → (r : Result A E) → IfOk r P → IfOk r Q
@@ -25,3 +26,6 @@ returns-in_ok-construct-in-Err-Construct c = λ text is.
 pub returns-in_ok-limit-in-Err-Limit : goal.returns-in_ok-limit-in-Err-Limit
 returns-in_ok-limit-in-Err-Limit c = λ text is.
     outgrown is.read is.parsed (rw c.in-Err-Limit.field-0-is at c.in-Err-Limit.ensures.elaborated) c.in_ok-limit-in-Err-Limit.ensures
+
+pub answer_to_design-requires : goal.answer_to_design-requires
+answer_to_design-requires c = fit c.args.tree.now (placed c.in-Ok.design) c.in-Ok.ensures.elaborated

@@ -7,11 +7,15 @@ use Rattle.vl_design.proofs.Ending.{ends_by}
 use Rattle.vl_flat.specs.Environments.{size}
 use Rattle.vl_flat.specs.Flat.{instance}
 use Rattle.host_run.specs.Examples.{counter_design}
+use Rattle.host_run.proofs.Counter.{counter-accepted}
 use Rattle.host_run.proofs.rows.three_ticks_of_a_counter_are_reported.Goals as goal
 
 pub returns-clause-design : goal.returns-clause-design
 unfolding size instance
 returns-clause-design c = refl
+
+pub returns-clause-accepted : goal.returns-clause-accepted
+returns-clause-accepted c = counter-accepted
 
 pub returns-clause-running : goal.returns-clause-running
 returns-clause-running c = refl

@@ -3,7 +3,8 @@ use Rattle.vl_design.specs.Seen.{func_of}
 use Rattle.vl_design.specs.Trees.{flat_of}
 use Rattle.vl_design.specs.Width.{names_of}
 use Rattle.vl_walks.specs.Walks.{IsClear}
-use Rattle.vl_partly.specs.Faults.{IsFirst, IsFunctionFault, stop_at}
+use Rattle.vl_stops.specs.First.{IsFirst}
+use Rattle.vl_partly.specs.Faults.{IsFunctionFault, stop_at}
 use Rattle.vl_partly.proofs.Firsts.{Before}
 use Rattle.vl_partly.proofs.paths.functions_fault.Given as goal
 

@@ -1,0 +1,4 @@
+//! How processes settle that are evaluated one after another.
+#![tactic(auto)]
+
+pub mod laws;

@@ -1,0 +1,12 @@
+pub mod Steady
+pub mod Fine
+pub mod Timeless
+pub mod Instance
+pub mod Calming
+pub mod Delayed
+pub mod Writes
+pub mod Checks
+pub mod Ticks
+pub mod Reaching
+pub mod Boundaries
+pub mod Solutions

@@ -1,0 +1,4 @@
+pub mod Nets
+pub mod Checked
+pub mod Runs
+pub mod Sample

@@ -1,0 +1,4 @@
+//! The combinational processes of a design settle.
+#![tactic(auto)]
+
+pub mod laws;

@@ -1,0 +1,6 @@
+pub mod Cycle
+pub mod Data
+pub mod Sound
+pub mod States
+pub mod Values
+pub mod Views

@@ -1,0 +1,1 @@
+//! What the definitions say of every cycle. No function here does anything: each `ensures` is a law.

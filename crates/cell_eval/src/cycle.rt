@@ -54,7 +54,8 @@ fn write(bank: &mut Bank, write: Write)
                 let word = bank.slots[word as usize];
                 let new = bank.slots[new as usize];
                 let mask = bank.slots[mask as usize];
-                put_word(&mut bank.mems[memory as usize], word, new, mask);
+                let words = &mut bank.mems[memory as usize];
+                put_word(words, word, new, mask);
             }
         }
     }

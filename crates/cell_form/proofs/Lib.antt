@@ -1,0 +1,5 @@
+pub mod Cycling
+pub mod Fitting
+pub mod Putting
+pub mod Slots
+pub mod Writing

@@ -4,3 +4,4 @@ pub mod Sound
 pub mod States
 pub mod Values
 pub mod Views
+pub mod Writes

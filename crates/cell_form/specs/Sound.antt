@@ -1,5 +1,5 @@
 -- When a list of cells may run on a bank.
-use Rattle.std.specs.Prelude.{ℕ, ◌≡◌, ◌+◌, ◌-◌, ◌<◌, ◌≤◌, true, List, [], ◌∷◌, ◌++◌, map, length, slice_index, ⊤}
+use Rattle.std.specs.Prelude.{ℕ, ◌≡◌, ◌+◌, ◌-◌, ◌^◌, ◌<◌, ◌≤◌, true, List, [], ◌∷◌, ◌++◌, map, length, slice_index, ⊤}
 use Rattle.std.specs.List.{AllByRecursion}
 use Rattle.vl_base.specs.Value.{unary_width, binary_width, needs_one_width}
 use Rattle.cell_form.specs.declared.cell.CellOp.{CellOp}
@@ -7,6 +7,7 @@ use Rattle.cell_form.specs.declared.cell.CellOp.TheVariants as o
 use Rattle.cell_form.specs.declared.cell.Write.{Write}
 use Rattle.cell_form.specs.declared.cell.Write.TheVariants as w
 use Rattle.cell_form.specs.Data.{CellData, ListData, BankData}
+use Rattle.cell_form.specs.Values.{Slot}
 
 -- how many registers, memories and slots a bank has
 pub record Shape : Type 0 where
@@ -75,3 +76,15 @@ pub record IsList (s : Shape) (l : ListData) : Type 0 where
   pub cells : AreCells s l.first [] l.cells
   pub sets : AllByRecursion (IsWrite s l.first (length l.cells)) l.sets
   pub slots : l.first + length l.cells ≤ s.slots
+
+-- a slot with a value of its width
+pub record IsFit (x : Slot) : Type 0 where
+  pub wide : 1 ≤ x.width
+  pub narrow : x.width ≤ 128
+  pub fits : x.value < 2 ^ x.width
+
+-- two banks with as many registers, memories, words in each of them, and slots
+pub record SameShape (a b : BankData) : Type 0 where
+  pub regs : length a.regs ≡ length b.regs
+  pub mems : map (λ (m : List ℕ). length m) a.mems ≡ map (λ (m : List ℕ). length m) b.mems
+  pub slots : length a.slots ≡ length b.slots

@@ -32,7 +32,7 @@ module _ (first : ℕ) (cells : List CellData) (b : BankData) (within : first + 
       let short : first + length (values_of s) < length b.slots = omega (arith, long) in
       let P : List ℕ → BankData = λ xs. record { regs = b.regs; mems = b.mems; slots = xs } in
       let more : values_of s ++ x.value ∷ [] ≡ values_of (slots_of first b.regs b.mems (take (i + 1) cells))
-          = sym (map_push (λ (y : Slot). y.value) s x) ∙ ap values_of (sym (slots-push first b.regs b.mems before c) ∙ ap (slots_of first b.regs b.mems) (sym (take_more cells i d lt))) in
+      = sym (map_push (λ (y : Slot). y.value) s x) ∙ ap values_of (sym (slots-push first b.regs b.mems before c) ∙ ap (slots_of first b.regs b.mems) (sym (take_more cells i d lt))) in
       ap (λ n. P (set (put_at first (values_of s) b.slots) (first + n) x.value)) (sym long)
       ∙ ap P (put-push first (values_of s) b.slots x.value short ∙ ap (λ vs. put_at first vs b.slots) more)
 
@@ -51,6 +51,21 @@ module _ (first : ℕ) (cells : List CellData) (b : BankData) (within : first + 
         within = omega (arith, same, few);
         sound = subst F (sym same) sound;
       }
+
+  pub filled-shape : (i : ℕ) → i ≤ length cells → shape_of (filled first (take i cells) b) ≡ shape_of b
+  filled-shape i le =
+      let s = slots_of first b.regs b.mems (take i cells) in
+      let long : length (values_of s) ≡ i = values-length first b.regs b.mems (take i cells) ∙ length-take-le i cells le in
+      let inside : first + length (values_of s) ≤ length b.slots = omega (arith, long) in
+      ap (λ n. record { regs = length b.regs; mems = length b.mems; slots = n }) (put-length first (values_of s) b.slots inside)
+
+  pub filling-step : (i : ℕ) (d : CellData) (now next : BankData) (value : ℕ) → i < length cells → now ≡ filled first (take i cells) b → value ≡ (cell_slot first now.regs now.mems (slots_of first now.regs now.mems (take i cells)) (get_or cells i d)).value → next ≡ record { regs = now.regs; mems = now.mems; slots = set now.slots (first + i) value } → next ≡ filled first (take (i + 1) cells) b
+  filling-step i d now next value lt e h k =
+      let f = filled first (take i cells) b in
+      k ∙ ap (λ (x : BankData). record { regs = x.regs; mems = x.mems; slots = set x.slots (first + i) value }) e
+      ∙ ap (λ v. record { regs = f.regs; mems = f.mems; slots = set f.slots (first + i) v })
+      (h ∙ ap (λ (x : BankData). (cell_slot first x.regs x.mems (slots_of first x.regs x.mems (take i cells)) (get_or cells i d)).value) e)
+      ∙ filled-more i d lt
 
 -- ---- writes
 

@@ -2,12 +2,20 @@
 use Rattle.std.proofs.Common.{◌≡◌, ℕ, ◌+◌, ◌-◌, ◌^◌, ◌<◌, ◌≤◌, List, length, map, get_or, sym, ap, ◌∙◌, arith, subst}
 use Rattle.std.specs.Prelude.{slice_index}
 use Rattle.std.proofs.lemmas.List.{length-map, get_or-map}
+use Rattle.cell_form.specs.declared.cell.Cell.{Cell}
 use Rattle.cell_form.specs.Data.{CellData, BankData}
+use Rattle.cell_form.specs.Views.{cell_of}
 use Rattle.cell_form.specs.Values.{Slot, slot_at, slots_of, operands}
 use Rattle.cell_form.specs.Sound.{IsAmong, IsCell, IsFit, Makes, shape_of}
 use Rattle.cell_form.proofs.Slots.{width-at, operand-widths, slots-length, slots-widths}
 use Rattle.cell_form.proofs.Fitting.{all-at, slots-fit}
 use Rattle.cell_eval.specs.Holds.{Holds, widths_of}
+
+-- the width of a cell in the code's list
+pub cell-width : (xs : List Cell) (i : ℕ) (d : Cell) → i < length xs → (get_or xs i d).width ≡ slice_index (widths_of (map cell_of xs)) i
+cell-width xs i d lt =
+    let long : i < length (map cell_of xs) = omega (arith, length-map xs cell_of) in
+    sym (get_or-map (λ (c : CellData). c.width) (map cell_of xs) i (cell_of d) 0 long ∙ ap (λ (c : CellData). c.width) (get_or-map cell_of xs i d (cell_of d) lt))
 
 -- where an operand is found, and what it is
 pub record Found (first : ℕ) (b : BankData) (earlier : List CellData) (args : List ℕ) (place a : ℕ) : Type 0 where
@@ -52,5 +60,5 @@ operands-make first b earlier c cell =
     let s = slots_of first b.regs b.mems earlier in
     let M : List ℕ → Type 0 = λ ws. Makes c.op c.width ws in
     let e : map (λ (a : ℕ). slice_index (widths_of earlier) (a - first)) c.args ≡ map (λ (x : Slot). x.width) (operands first s c.args)
-        = ap (λ (ws : List ℕ). map (λ (a : ℕ). slice_index ws (a - first)) c.args) (sym (slots-widths first b.regs b.mems earlier)) ∙ sym (operand-widths first s c.args) in
+    = ap (λ (ws : List ℕ). map (λ (a : ℕ). slice_index ws (a - first)) c.args) (sym (slots-widths first b.regs b.mems earlier)) ∙ sym (operand-widths first s c.args) in
     subst M e cell.makes

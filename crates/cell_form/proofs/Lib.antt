@@ -2,4 +2,5 @@ pub mod Cycling
 pub mod Fitting
 pub mod Putting
 pub mod Slots
+pub mod WorkedRows
 pub mod Writing

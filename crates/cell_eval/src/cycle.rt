@@ -66,8 +66,8 @@ fn write_all(sets: &[Write], bank: &mut Bank)
     requires { AllByRecursion (IsWrite (shape_of (bank_of bank.old)) 0 (length bank.old.slots.items)) sets.now }
     ensures { bank_of bank.new ≡ written (slice_index bank.old.slots.items) sets.now (bank_of bank.old) }
 {
-    for w in sets {
-        write(bank, *w);
+    for number in 0..sets.len() {
+        write(bank, sets[number]);
     }
 }
 

@@ -1,0 +1,4 @@
+pub mod Filling
+pub mod Operands
+pub mod Selecting
+pub mod Wholes

@@ -1,0 +1,33 @@
+-- Whole numbers of values.
+use Rattle.std.proofs.Common.{◌≡◌, refl, ap, ◌∙◌, ℕ, ◌+◌, ◌-◌, ◌*◌, ◌^◌, ◌≤◌, ◌<◌, Bool, true, false, arith}
+use Rattle.std.specs.Prelude.{pos, neg_ℤ}
+use Rattle.std.proofs.lemmas.Grind.{common_steps}
+use Rattle.std.proofs.Math.Pow.{pow-add}
+use Rattle.vl_base.specs.Value.{reading, is_negative}
+
+pub half_twice : (w : ℕ) → 1 ≤ w → 2 ^ w ≡ 2 * 2 ^ (w - 1)
+half_twice w h =
+    let e : w ≡ 1 + (w - 1) = omega arith in
+    ap (λ n. 2 ^ n) e ∙ pow-add 2 1 (w - 1)
+
+reading-low : (s : Bool) (w v : ℕ) → is_negative w v ≡ false → reading s w v ≡ pos v
+reading-low true w v low = rw low refl
+reading-low false w v low = refl
+
+pub below-half : (s : Bool) (w v : ℕ) → 1 ≤ w → v < 2 ^ (w - 1) → reading s w v ≡ pos v
+below-half s w v h k =
+    let e = half_twice w h in
+    let low : is_negative w v ≡ false = grind (arith, e) in
+    reading-low s w v low
+
+pub above-half : (s : Bool) (w v : ℕ) → s ≡ true → 1 ≤ w → v < 2 ^ w → 2 ^ (w - 1) ≤ v → reading s w v ≡ neg_ℤ (pos (2 ^ (w - 1) - (v - 2 ^ (w - 1))))
+above-half s w v t h b k =
+    let e = half_twice w h in
+    let top : is_negative w v ≡ true = grind (arith, e) in
+    let d : 2 ^ w - v ≡ 2 ^ (w - 1) - (v - 2 ^ (w - 1)) = omega (arith, e) in
+    rw (t, top, d) refl
+
+pub unsigned-reading : (s : Bool) (w v : ℕ) → s ≡ false → reading s w v ≡ pos v
+unsigned-reading s w v t = rw t refl
+
+pub ruleset halves = (common_steps, half_twice, below-half, above-half, unsigned-reading)

@@ -1,0 +1,6 @@
+pub mod Cycling
+pub mod Fitting
+pub mod Putting
+pub mod Slots
+pub mod WorkedRows
+pub mod Writing

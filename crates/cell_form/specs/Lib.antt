@@ -1,0 +1,7 @@
+pub mod Cycle
+pub mod Data
+pub mod Sound
+pub mod States
+pub mod Values
+pub mod Views
+pub mod Writes

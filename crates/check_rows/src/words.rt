@@ -14,11 +14,6 @@ pub fn plain(alloc: Global, kind: &str, place: Place) -> Result<String, AllocErr
 }
 
 /// A fault by its kind and its number, at its place.
-pub fn numbered(
-    alloc: Global,
-    kind: &str,
-    number: u8,
-    place: Place,
-) -> Result<String, AllocError> {
+pub fn numbered(alloc: Global, kind: &str, number: u8, place: Place) -> Result<String, AllocError> {
     format!(in alloc; "{kind} {number} at {} {}", place.line, place.column)
 }

@@ -20,10 +20,8 @@ pub record SeatFacts (L N : Type 0) : Type 0 where
 abbrev pub IsSeatOf : {L N : Type 0} → LockFacts L → SeatFacts L N → Type 0
 IsSeatOf lock seat = (seat.table ≡ lock.table) × (seat.view.label ≡ Some lock.label) × (seat.view.count ≡ lock.words)
 
--- A seat that knows v may find a value with this label and this history, and these progress words.
-pub record Finds {L N : Type 0} (entry : N → Entry) (label : L) (history : List N) (words : List ℕ) (v : View L N) : Type 0 where
-  -- the label is the lock's
-  pub labelled : v.label ≡ Some label
+-- A seat that knows v may find a value with this history, and these progress words.
+pub record Finds {L N : Type 0} (entry : N → Entry) (history : List N) (words : List ℕ) (v : View L N) : Type 0 where
   -- the history begins with what the seat has seen
   pub begins : StartsWith history v.seen
   -- of the seat's own number it has just the notes that the seat gave

@@ -23,10 +23,10 @@ slots_had true = (0, None) ∷ []
 slots_had false = []
 
 module _ {T L N : Type 0} where
-  -- where word 0 was 0 the seat has slot 0 with a value that it may find; else nothing changed
+  -- where word 0 was 0 the seat has slot 0 with a value of its label that it may find; else nothing changed
   abbrev pub Grabs : (T → L) → (T → List N) → (N → Entry) → Step (Option T) → Me (Option T) (View L N) → ℕ → Me (Option T) (View L N) → Type 0
   Grabs label history entry step before found after =
-      (found ≡ 0 → (x : T) × (words : List ℕ) × Finds entry (label x) (history x) words before.0 × (after ≡ (after_grab before.0 (history x) words, (0, Some x) ∷ before.1)))
+      (found ≡ 0 → (x : T) × (words : List ℕ) × (before.0.label ≡ Some (label x)) × Finds entry (history x) words before.0 × (after ≡ (after_grab before.0 (history x) words, (0, Some x) ∷ before.1)))
       × (found ≢ 0 → after ≡ before)
 
   -- the value in the slot that the seat had came home

@@ -4,11 +4,14 @@
 
 mod entry;
 mod kept;
+pub mod laws;
 mod lock;
 mod rule;
 mod seat;
 mod steps;
 mod table;
+#[cfg(test)]
+mod tests;
 mod view;
 
 pub use entry::{Entry, Kind};

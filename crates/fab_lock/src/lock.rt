@@ -45,7 +45,13 @@ impl<T: Kept> Lock<T> {
         ensures view { IfOk result (λ made. made.1.view ≡ first_view (T.label value) words) }
         ensures err { IfErr result (λ failed. failed.1 ≡ value) }
     {
-        unreachable!()
+        let (table, place) = LockTable::set_up(alloc, value, words)?;
+        let seat = LockSeat {
+            place,
+            number: 0,
+            room: u32::MAX,
+        };
+        Ok((Lock { table }, seat))
     }
 
     /// Takes the value. It waits while another seat has it.
@@ -54,10 +60,10 @@ impl<T: Kept> Lock<T> {
         requires free { seat.old.view.holds ≡ false }
         ensures seat { IsSeatOf self.now seat.new }
         ensures label { T.label result ≡ self.now.label }
-        ensures finds { Finds T.entry self.now.label (T.history result) seat.new.view.words seat.old.view }
+        ensures finds { Finds T.entry (T.history result) seat.new.view.words seat.old.view }
         ensures view { seat.new.view ≡ after_grab seat.old.view (T.history result) seat.new.view.words }
     {
-        unreachable!()
+        self.table.grab(rt, &mut seat.place)
     }
 
     /// Gives the value back. Behind the history that the seat took it may have notes of the seat's
@@ -71,7 +77,7 @@ impl<T: Kept> Lock<T> {
         ensures seat { IsSeatOf self.now seat.new }
         ensures view { seat.new.view ≡ after_give seat.old.view (T.history value) }
     {
-        unreachable!()
+        self.table.give(&mut seat.place, value);
     }
 
     /// Sets a progress word, by the seat that has the value. A word never falls.
@@ -83,7 +89,7 @@ impl<T: Kept> Lock<T> {
         ensures seat { IsSeatOf self.now seat.new }
         ensures view { seat.new.view ≡ after_post seat.old.view word value }
     {
-        unreachable!()
+        self.table.post(&mut seat.place, word, value);
     }
 
     /// Reads a progress word, by any seat. It never waits. What it finds isn't below what the seat
@@ -96,7 +102,7 @@ impl<T: Kept> Lock<T> {
         ensures seen { high T.entry word seat.old.view.seen ≤ result }
         ensures known { All (λ found. found.0 ≡ word → found.1 ≤ result) seat.old.view.known }
     {
-        unreachable!()
+        self.table.glance(&mut seat.place, word)
     }
 
     /// Reads a progress word, by the seat that has the value, which alone sets it.
@@ -107,7 +113,7 @@ impl<T: Kept> Lock<T> {
         ensures seat { seat.new ≡ seat.old }
         ensures value { result ≡ slice_index seat.old.view.words word }
     {
-        unreachable!()
+        self.table.read(&mut seat.place, word)
     }
 
     /// A new seat, which gets the upper half of a seat's numbers, rounded down.
@@ -119,7 +125,14 @@ impl<T: Kept> Lock<T> {
         ensures lower { seat.new.view ≡ lower_half seat.old.view }
         ensures upper { result.view ≡ upper_half seat.old.view }
     {
-        unreachable!()
+        let half = seat.room / 2 + seat.room % 2;
+        let place = self.table.split(&mut seat.place);
+        seat.room -= half;
+        LockSeat {
+            place,
+            number: seat.number + seat.room + 1,
+            room: half - 1,
+        }
     }
 
     /// Ends a seat. Another seat then knows what both knew. Neither has the value.
@@ -133,6 +146,7 @@ impl<T: Kept> Lock<T> {
         ensures begins { StartsWith seat.new.view.seen seat.old.view.seen }
         ensures begins_other { StartsWith seat.new.view.seen other.view.seen }
     {
-        unreachable!()
+        let LockSeat { place, .. } = other;
+        self.table.join(&mut seat.place, place);
     }
 }

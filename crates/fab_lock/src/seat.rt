@@ -1,4 +1,6 @@
 //! The seats of a lock.
+ghost use Rattle.std.specs.Prelude.{◌≡◌};
+
 use crate::kept::Kept;
 use crate::rule::TableSeat;
 use std::marker::Model;

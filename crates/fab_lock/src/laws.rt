@@ -1,4 +1,5 @@
-//! Laws of the definitions and of the types. Those without a body's work say it by their contracts.
+//! Laws of the definitions, and that threads may share a lock. Each function does nothing: its contract, or what it
+//! asks of types, is the law.
 ghost use Rattle.std.specs.Prelude.{◌≡◌, ◌<◌, ◌≤◌, ℕ, List, [], ◌∷◌, ◌++◌, max, slice_index, slice_set, All};
 ghost use Rattle.fab_lock.specs.declared.view.View.{View};
 ghost use Rattle.fab_lock.specs.Facts.{Finds};
@@ -15,7 +16,7 @@ pub fn a_note_more_raises_its_word<T: Kept>()
 {}
 
 /// What a seat finds after another was joined into it is, of all that the other knew, what the other could have found.
-pub fn a_joined_seat_s_notes_and_ticks_are_found<T: Kept>()
+pub fn what_a_joined_seat_knew_is_found<T: Kept>()
     ensures own { (v other : View T.Label T.Note) (history : List T.Note) (words : List ℕ) → Finds T.entry history words (after_join v other) → notes_of T.entry other.low history ≡ other.own }
     ensures joined { (v other : View T.Label T.Note) (history : List T.Note) (words : List ℕ) → Finds T.entry history words (after_join v other) → All (λ seat. notes_of T.entry seat.0 history ≡ seat.1) other.joined }
     ensures known { (v other : View T.Label T.Note) (history : List T.Note) (words : List ℕ) → Finds T.entry history words (after_join v other) → All (λ word. word.1 ≤ high T.entry word.0 history) other.known }

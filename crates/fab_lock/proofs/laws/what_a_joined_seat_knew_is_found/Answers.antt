@@ -1,5 +1,5 @@
 use Rattle.fab_lock.proofs.Joined.{own_found, joined_found, known_found}
-use Rattle.fab_lock.proofs.laws.a_joined_seat_s_notes_and_ticks_are_found.Goals as goal
+use Rattle.fab_lock.proofs.laws.what_a_joined_seat_knew_is_found.Goals as goal
 
 pub returns-clause-own : goal.returns-clause-own
 returns-clause-own g c = own_found g.T.Kept.entry

@@ -6,7 +6,7 @@ ghost use Rattle.script_line.specs.Seen.{seen};
 
 use crate::statement::{Statement, said};
 use crate::words::{is_plain, without_return, words};
-use std::alloc::{AllocError, Global};
+use std::alloc::Global;
 
 /// Why a line was not read.
 #[derive(Clone, Copy, Debug, PartialEq, Eq)]
@@ -15,12 +15,6 @@ pub enum LineFault {
     Cause(u8),
     /// Want of memory.
     Memory,
-}
-
-impl From<AllocError> for LineFault {
-    fn from(_error: AllocError) -> LineFault {
-        LineFault::Memory
-    }
 }
 
 /// What a line says; nothing where it has no words.
@@ -32,7 +26,9 @@ pub fn read_line(alloc: Global, line: &[u8]) -> Result<Option<Statement<'_>>, Li
     if !is_plain(text) {
         return Err(LineFault::Cause(8));
     }
-    let words = words(alloc, text)?;
+    let Ok(words) = words(alloc, text) else {
+        return Err(LineFault::Memory);
+    };
     match said(&words) {
         Ok(said) => Ok(said),
         Err(cause) => Err(LineFault::Cause(cause)),

@@ -103,5 +103,8 @@ pub fn read_script(alloc: Global, bytes: &[u8]) -> Result<Script, ScriptError>
     if reading.fabrics.is_empty() || reading.tenants.is_empty() {
         return Err(ScriptError::At(lines.len() as u64 + 1, 9));
     }
-    Ok(finish(alloc, reading)?)
+    match finish(alloc, reading) {
+        Ok(script) => Ok(script),
+        Err(_) => Err(ScriptError::Memory),
+    }
 }

@@ -1,5 +1,6 @@
 -- What stands before a byte in lists that are the same.
-use Rattle.std.proofs.Common.{◌≡◌, ◌≢◌, ℕ, ◌+◌, ◌/◌, ◌%◌, ◌<◌, ◌≤◌, ◌^◌, List, [], ◌∷◌, ◌++◌, length, refl, sym, ap, ◌∙◌, arith}
+use Rattle.std.specs.Prelude.{◌≢◌}
+use Rattle.std.proofs.Common.{◌≡◌, ℕ, ◌+◌, ◌/◌, ◌%◌, ◌<◌, ◌≤◌, ◌^◌, List, [], ◌∷◌, ◌++◌, length, refl, sym, ap, ◌∙◌, arith}
 use Rattle.std.specs.List.{AllByRecursion}
 use Rattle.std.specs.Fmt.{decimal}
 use Rattle.std.proofs.lemmas.Fmt.{decimal_by_steps, decimal_injective}
@@ -13,7 +14,7 @@ lacks-append d [] ys h k = k
 lacks-append d (x ∷ xs) ys h k = (h.0, lacks-append d xs ys h.1 k)
 
 pub far : (d b : ℕ) → d < b → b ≢ d
-far d b l e = omega arith
+far d b l = λ e. omega (arith, e)
 
 pub decimal-lacks : (d : ℕ) → d < 48 → (n : ℕ) → n < 2 ^ 64 → Lacks d (decimal n)
 decimal-lacks d low n small =
@@ -26,6 +27,12 @@ heads x y xs ys e = cc
 
 pub tails : (x y : ℕ) (xs ys : List ℕ) → x ∷ xs ≡ y ∷ ys → xs ≡ ys
 tails x y xs ys e = cc
+
+pub tail : {x : ℕ} {xs ys : List ℕ} → x ∷ xs ≡ x ∷ ys → xs ≡ ys
+tail {x} {xs} {ys} e = tails x x xs ys e
+
+pub not_empty : (x : ℕ) (xs : List ℕ) → [] ≡ x ∷ xs → ⊥
+not_empty x xs e = cc
 
 -- what stands before the first d, and what stands behind it
 pub cut : (d : ℕ) (xs ys r q : List ℕ) → Lacks d xs → Lacks d ys → xs ++ (d ∷ r) ≡ ys ++ (d ∷ q) → (xs ≡ ys) × (r ≡ q)

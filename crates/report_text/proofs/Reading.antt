@@ -1,5 +1,6 @@
 -- A report is read from its front.
-use Rattle.std.proofs.Common.{◌≡◌, ◌≢◌, ℕ, ◌<◌, ◌^◌, List, [], ◌∷◌, ◌++◌, length, codes, refl, sym, ap, ◌∙◌, append_assoc, arith, lit<}
+use Rattle.std.specs.Prelude.{◌≢◌, ⊤}
+use Rattle.std.proofs.Common.{◌≡◌, ℕ, ◌<◌, ◌^◌, List, [], ◌∷◌, ◌++◌, length, codes, refl, sym, ap, ◌∙◌, append_assoc, arith, lit<}
 use Rattle.std.specs.List.{AllByRecursion, flat_map}
 use Rattle.std.specs.Fmt.{decimal}
 use Rattle.std.proofs.lemmas.List.{append_cancel_left}
@@ -14,7 +15,7 @@ use Rattle.report_text.specs.declared.block.Block.TheVariants as b
 use Rattle.report_text.specs.declared.block.FreeLine.{FreeLine}
 use Rattle.report_text.specs.Report.{status_word, stay_line, run_block, refused_line, block, free_line, report}
 use Rattle.report_text.specs.Readable.{IsWord, IsStay, IsRun, IsRefusal, IsReadable}
-use Rattle.report_text.proofs.Cutting.{Lacks, far, heads, cut, cut_at_length, cut_numbers}
+use Rattle.report_text.proofs.Cutting.{Lacks, far, heads, tail, not_empty, cut, cut_at_length, cut_numbers}
 
 -- ---- words
 
@@ -25,9 +26,9 @@ pub newline_before_digits : 10 < 48
 newline_before_digits = lit< tt
 
 status-lacks : (s : Status) → Lacks 32 (status_word s)
-status-lacks Finished = (far 32 102 (lit< tt), far 32 105 (lit< tt), far 32 110 (lit< tt), far 32 105 (lit< tt), far 32 115 (lit< tt), far 32 104 (lit< tt), far 32 101 (lit< tt), far 32 100 (lit< tt), tt)
-status-lacks Budget = (far 32 98 (lit< tt), far 32 117 (lit< tt), far 32 100 (lit< tt), far 32 103 (lit< tt), far 32 101 (lit< tt), far 32 116 (lit< tt), tt)
-status-lacks Stopped = (far 32 115 (lit< tt), far 32 116 (lit< tt), far 32 111 (lit< tt), far 32 112 (lit< tt), far 32 112 (lit< tt), far 32 101 (lit< tt), far 32 100 (lit< tt), tt)
+status-lacks Finished = (far 32 102 (lit< tt), (far 32 105 (lit< tt), (far 32 110 (lit< tt), (far 32 105 (lit< tt), (far 32 115 (lit< tt), (far 32 104 (lit< tt), (far 32 101 (lit< tt), (far 32 100 (lit< tt), tt))))))))
+status-lacks Budget = (far 32 98 (lit< tt), (far 32 117 (lit< tt), (far 32 100 (lit< tt), (far 32 103 (lit< tt), (far 32 101 (lit< tt), (far 32 116 (lit< tt), tt))))))
+status-lacks Stopped = (far 32 115 (lit< tt), (far 32 116 (lit< tt), (far 32 111 (lit< tt), (far 32 112 (lit< tt), (far 32 112 (lit< tt), (far 32 101 (lit< tt), (far 32 100 (lit< tt), tt)))))))
 
 differ : {A : Type 0} (m n : ℕ) → m ≢ n → m ≡ n → A
 differ m n h e = absurd (h e)
@@ -55,31 +56,25 @@ stay-nested : (name : List ℕ) (s : Stay) (more : List ℕ)
 stay-nested name s more = simp append_assoc
 
 same_stay : (s t : Stay) → s.fabric ≡ t.fabric → s.from ≡ t.from → s.to ≡ t.to → s ≡ t
-same_stay s t f a b =
-    ap (λ (x : List ℕ). let r : Stay = record { fabric = x; from = s.from; to = s.to } in r) f
-    ∙ ap (λ (x : ℕ). let r : Stay = record { fabric = t.fabric; from = x; to = s.to } in r) a
-    ∙ ap (λ (x : ℕ). let r : Stay = record { fabric = t.fabric; from = t.from; to = x } in r) b
+same_stay s t f a b = λ i. record { fabric = f i; from = a i; to = b i }
 
 stay-back : (name : List ℕ) (s t : Stay) (r q : List ℕ) → IsStay s → IsStay t → stay_line name s ++ r ≡ stay_line name t ++ q → (s ≡ t) × (r ≡ q)
 stay-back name s t r q h k e =
     let nested = sym (stay-nested name s r) ∙ e ∙ stay-nested name t q in
     let named = append_cancel_left (codes "stay ") _ _ nested in
     let behind = append_cancel_left name _ _ named in
-    let fabric = cut 32 s.fabric t.fabric _ _ h.fabric k.fabric (heads-off behind) in
+    let fabric = cut 32 s.fabric t.fabric _ _ h.fabric k.fabric (tail behind) in
     let from = cut_numbers 32 space_before_digits s.from t.from _ _ h.from k.from fabric.1 in
     let to = cut_numbers 10 newline_before_digits s.to t.to _ _ h.to k.to from.1 in
     (same_stay s t fabric.0 from.0 to.0, to.1)
-  where
-    heads-off : {xs ys : List ℕ} → 32 ∷ xs ≡ 32 ∷ ys → xs ≡ ys
-    heads-off e = cc
 
 -- stays, up to what is none
 stays-back : (name : List ℕ) (ss ts : List Stay) (r q : List ℕ) → AllByRecursion IsStay ss → AllByRecursion IsStay ts → NoStay r → NoStay q
     → flat_map (stay_line name) ss ++ r ≡ flat_map (stay_line name) ts ++ q → (ss ≡ ts) × (r ≡ q)
 stays-back name [] [] r q h k a b e = (refl, e)
-stays-back name [] (t ∷ ts) [] q h k a b e = absurd (cc)
+stays-back name [] (t ∷ ts) [] q h k a b e = absurd (not_empty 115 _ e)
 stays-back name [] (t ∷ ts) (x ∷ r) q h k a b e = absurd (a (heads x 115 r _ e))
-stays-back name (s ∷ ss) [] r [] h k a b e = absurd (cc)
+stays-back name (s ∷ ss) [] r [] h k a b e = absurd (not_empty 115 _ (sym e))
 stays-back name (s ∷ ss) [] r (x ∷ q) h k a b e = absurd (b (sym (heads 115 x _ q e)))
 stays-back name (s ∷ ss) (t ∷ ts) r q h k a b e =
     let flat = sym (append_assoc (stay_line name s) (flat_map (stay_line name) ss) r) ∙ e ∙ append_assoc (stay_line name t) (flat_map (stay_line name) ts) q in
@@ -94,16 +89,7 @@ run-nested : (a : RunBlock) (more : List ℕ)
 run-nested a more = simp append_assoc
 
 same_run : (a b : RunBlock) → a.name ≡ b.name → a.status ≡ b.status → a.ticks ≡ b.ticks → a.cycles ≡ b.cycles → a.printed ≡ b.printed → a.stays ≡ b.stays → a ≡ b
-same_run a b n s t c p y =
-    ap (λ (x : List ℕ). let r : RunBlock = record { name = x; status = a.status; ticks = a.ticks; cycles = a.cycles; printed = a.printed; stays = a.stays } in r) n
-    ∙ ap (λ (x : Status). let r : RunBlock = record { name = b.name; status = x; ticks = a.ticks; cycles = a.cycles; printed = a.printed; stays = a.stays } in r) s
-    ∙ ap (λ (x : ℕ). let r : RunBlock = record { name = b.name; status = b.status; ticks = x; cycles = a.cycles; printed = a.printed; stays = a.stays } in r) t
-    ∙ ap (λ (x : ℕ). let r : RunBlock = record { name = b.name; status = b.status; ticks = b.ticks; cycles = x; printed = a.printed; stays = a.stays } in r) c
-    ∙ ap (λ (x : List ℕ). let r : RunBlock = record { name = b.name; status = b.status; ticks = b.ticks; cycles = b.cycles; printed = x; stays = a.stays } in r) p
-    ∙ ap (λ (x : List Stay). let r : RunBlock = record { name = b.name; status = b.status; ticks = b.ticks; cycles = b.cycles; printed = b.printed; stays = x } in r) y
-
-tail : {x : ℕ} {xs ys : List ℕ} → x ∷ xs ≡ x ∷ ys → xs ≡ ys
-tail e = cc
+same_run a b n s t c p y = λ i. record { name = n i; status = s i; ticks = t i; cycles = c i; printed = p i; stays = y i }
 
 run-back : (a c : RunBlock) (r q : List ℕ) → IsRun a → IsRun c → NoStay r → NoStay q → run_block a ++ r ≡ run_block c ++ q → (a ≡ c) × (r ≡ q)
 run-back a c r q h k x y e =
@@ -125,15 +111,10 @@ refused-nested : (a : RefusedLine) (more : List ℕ)
 refused-nested a more = simp append_assoc
 
 same_place : (p q : Place) → p.line ≡ q.line → p.column ≡ q.column → p ≡ q
-same_place p q l c =
-    ap (λ (x : ℕ). let r : Place = record { line = x; column = p.column } in r) l
-    ∙ ap (λ (x : ℕ). let r : Place = record { line = q.line; column = x } in r) c
+same_place p q l c = λ i. record { line = l i; column = c i }
 
 same_refusal : (a b : RefusedLine) → a.name ≡ b.name → a.place ≡ b.place → a.kind ≡ b.kind → a ≡ b
-same_refusal a b n p k =
-    ap (λ (x : List ℕ). let r : RefusedLine = record { name = x; place = a.place; kind = a.kind } in r) n
-    ∙ ap (λ (x : Place). let r : RefusedLine = record { name = b.name; place = x; kind = a.kind } in r) p
-    ∙ ap (λ (x : List ℕ). let r : RefusedLine = record { name = b.name; place = b.place; kind = x } in r) k
+same_refusal a b n p k = λ i. record { name = n i; place = p i; kind = k i }
 
 refused-back : (a c : RefusedLine) (r q : List ℕ) → IsRefusal a → IsRefusal c → refused_line a ++ r ≡ refused_line c ++ q → (a ≡ c) × (r ≡ q)
 refused-back a c r q h k e =
@@ -160,8 +141,8 @@ no-stay (b.Refused a ∷ bs) fs = λ e. omega (arith, e)
 
 -- no block begins like a free order
 no-block : (x : Block) (r : List ℕ) (fs : List FreeLine) → flat_map free_line fs ≡ block x ++ r → ⊥
-no-block (b.Ran a) r [] e = cc
-no-block (b.Refused a) r [] e = cc
+no-block (b.Ran a) r [] e = not_empty 116 _ e
+no-block (b.Refused a) r [] e = not_empty 114 _ e
 no-block (b.Ran a) r (f ∷ fs) e = let l : 102 ≡ 116 = heads 102 116 _ _ e in omega (arith, l)
 no-block (b.Refused a) r (f ∷ fs) e = let l : 102 ≡ 114 = heads 102 114 _ _ e in omega (arith, l)
 

@@ -1,7 +1,7 @@
 //! What is answered to a row.
 
 use crate::escapes::lines_of;
-use crate::parts::parts;
+use crate::parts::read_parts;
 use crate::row::Row;
 use crate::told::told;
 use report_text::report::report;
@@ -16,7 +16,7 @@ fn read(alloc: Global, row: &Row) -> Result<String, AllocError> {
 
 /// The report behind a byte that was there, and a mark of its end.
 fn written(alloc: Global, row: &Row) -> Result<String, AllocError> {
-    let parts = parts(alloc, row.lines.as_str())?;
+    let parts = read_parts(alloc, row.lines.as_str())?;
     let mut bytes = Vec::from_slice(alloc, b">")?;
     report(alloc, &parts.blocks, &parts.free, &mut bytes)?;
     bytes.extend_from_slice(b".\n")?;

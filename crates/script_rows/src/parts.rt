@@ -16,7 +16,7 @@ pub struct Parts {
 }
 
 /// A text of a word.
-fn text(alloc: Global, word: &str) -> Result<Text, AllocError> {
+fn text_of(alloc: Global, word: &str) -> Result<Text, AllocError> {
     Ok(Text::from_vec(bytes_of(alloc, word)?))
 }
 
@@ -36,7 +36,7 @@ fn small(word: &str) -> u32 {
     }
 }
 
-fn status(word: &str) -> Status {
+fn status_of(word: &str) -> Status {
     match word {
         "finished" => Status::Finished,
         "budget" => Status::Budget,
@@ -50,7 +50,7 @@ fn stays(alloc: Global, words: &[&str]) -> Result<Items<Stay>, AllocError> {
     for three in words.chunks(3) {
         if let [fabric, from, to] = three {
             stays.push(Stay {
-                fabric: text(alloc, fabric)?,
+                fabric: text_of(alloc, fabric)?,
                 from: number(from),
                 to: number(to),
             })?;
@@ -75,11 +75,11 @@ fn ran(alloc: Global, words: &[&str]) -> Result<Option<Block>, AllocError> {
     let [name, end, ticks, cycles, printed, more @ ..] = words else {
         return Ok(None);
     };
-    let name = text(alloc, name)?;
-    let printed = text(alloc, printed)?;
+    let name = text_of(alloc, name)?;
+    let printed = text_of(alloc, printed)?;
     Ok(Some(Block::Ran(RunBlock {
         name,
-        status: status(end),
+        status: status_of(end),
         ticks: number(ticks),
         cycles: number(cycles),
         printed,
@@ -91,7 +91,7 @@ fn refused(alloc: Global, words: &[&str]) -> Result<Option<Block>, AllocError> {
     let [name, line, column, kind @ ..] = words else {
         return Ok(None);
     };
-    let name = text(alloc, name)?;
+    let name = text_of(alloc, name)?;
     Ok(Some(Block::Refused(RefusedLine {
         name,
         place: Place {
@@ -102,7 +102,7 @@ fn refused(alloc: Global, words: &[&str]) -> Result<Option<Block>, AllocError> {
     })))
 }
 
-fn reply(words: &[&str]) -> Reply {
+fn reply_of(words: &[&str]) -> Reply {
     match words {
         [word, tick] if *word == "ended" => Reply::Ended(number(tick)),
         [word] if *word == "small" => Reply::Small,
@@ -123,12 +123,12 @@ fn free(alloc: Global, line: &str) -> Result<FreeLine, AllocError> {
         } else if is_reply {
             said.push(word)?;
         } else {
-            order.push(text(alloc, word)?)?;
+            order.push(text_of(alloc, word)?)?;
         }
     }
     Ok(FreeLine {
         words: Items::from_vec(order),
-        reply: reply(said.as_slice()),
+        reply: reply_of(said.as_slice()),
     })
 }
 
@@ -157,7 +157,7 @@ fn add(alloc: Global, parts: &mut Parts, line: &str) -> Result<(), AllocError> {
 }
 
 /// What lines say.
-pub fn parts(alloc: Global, lines: &str) -> Result<Parts, AllocError> {
+pub fn read_parts(alloc: Global, lines: &str) -> Result<Parts, AllocError> {
     let mut parts = Parts {
         blocks: Vec::new(alloc),
         free: Vec::new(alloc),

@@ -10,7 +10,7 @@ fn shown(alloc: Global, text: &Text) -> Result<String, AllocError> {
 }
 
 /// An errand in a line.
-fn errand(alloc: Global, errand: &Errand) -> Result<String, AllocError> {
+fn errand_line(alloc: Global, errand: &Errand) -> Result<String, AllocError> {
     let tick = errand.tick;
     match &errand.due {
         Due::Save(name) => {
@@ -40,14 +40,14 @@ fn tenant(alloc: Global, tenant: &TenantLine) -> Result<String, AllocError> {
         text.push_str(line.as_str())?;
     }
     for one in tenant.errands.as_slice() {
-        let line = errand(alloc, one)?;
+        let line = errand_line(alloc, one)?;
         text.push_str(line.as_str())?;
     }
     Ok(text)
 }
 
 /// A free order in a line.
-fn free(alloc: Global, order: &Free) -> Result<String, AllocError> {
+fn free_line(alloc: Global, order: &Free) -> Result<String, AllocError> {
     match order {
         Free::Move(tenant, fabric) => format!(in alloc; "free move {tenant} {fabric}\n"),
         Free::Stop(tenant) => format!(in alloc; "free stop {tenant}\n"),
@@ -60,7 +60,7 @@ fn free(alloc: Global, order: &Free) -> Result<String, AllocError> {
 }
 
 /// A script in lines.
-fn script(alloc: Global, script: &Script) -> Result<String, AllocError> {
+fn script_lines(alloc: Global, script: &Script) -> Result<String, AllocError> {
     let mut text = String::new(alloc);
     for fabric in script.fabrics.as_slice() {
         let name = shown(alloc, &fabric.name)?;
@@ -73,7 +73,7 @@ fn script(alloc: Global, script: &Script) -> Result<String, AllocError> {
         text.push_str(lines.as_str())?;
     }
     for order in script.free.as_slice() {
-        let line = free(alloc, order)?;
+        let line = free_line(alloc, order)?;
         text.push_str(line.as_str())?;
     }
     Ok(text)
@@ -82,7 +82,7 @@ fn script(alloc: Global, script: &Script) -> Result<String, AllocError> {
 /// What a script was read as, in lines.
 pub fn told(alloc: Global, read: Result<Script, ScriptError>) -> Result<String, AllocError> {
     match read {
-        Ok(read) => script(alloc, &read),
+        Ok(read) => script_lines(alloc, &read),
         Err(ScriptError::At(line, cause)) => format!(in alloc; "script {line} {cause}\n"),
         Err(ScriptError::Memory) => Err(AllocError),
     }

@@ -1,4 +1,5 @@
 -- A tenant among others is changed.
+use Rattle.std.specs.Prelude.{zero, suc}
 use Rattle.std.proofs.Common.{◌≡◌, ℕ, ◌+◌, ◌<◌, ◌≤◌, List, [], ◌∷◌, ◌++◌, length, map, set, get_or, Option, Some, None, refl, sym, ap, ◌∙◌, arith}
 use Rattle.script_text.specs.declared.script.TenantLine.{TenantLine}
 use Rattle.script_text.specs.declared.draft.Draft.{Draft}

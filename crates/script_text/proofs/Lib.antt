@@ -1,7 +1,9 @@
+pub mod Apart
 pub mod Numbers
 pub mod Changes
 pub mod Errands
 pub mod Causes
 pub mod Faults
+pub mod Kept
 pub mod Readings
 pub mod Ordered

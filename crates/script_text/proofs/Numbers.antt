@@ -1,4 +1,5 @@
 -- The numbers of names.
+use Rattle.std.specs.Prelude.{zero, suc}
 use Rattle.std.proofs.Common.{◌≡◌, ℕ, ◌+◌, ◌<◌, Bool, true, false, if◌then◌else◌, List, [], ◌∷◌, ◌++◌, length, map, Option, Some, None, option_map, Bor, refl, sym, ap, ◌∙◌, arith}
 use Rattle.std.specs.Str.{bytes_eq}
 use Rattle.std.proofs.lemmas.Cmp.{nat_list_eq_equiv}
@@ -7,6 +8,7 @@ use Rattle.std.proofs.lemmas.Slice.Eq.{bytes_eq-Decides}
 use Rattle.indexmap.specs.IndexMap.{IndexMap, UpdatesBy}
 use Rattle.script_text.specs.Scripts.{number_in}
 use Rattle.script_text.specs.Drafts.{value_at}
+use Rattle.script_text.proofs.Apart.{true_false, some_none}
 
 -- what a map has after a value is put in
 pub value_at-insert : {X S : Type 0} (m n : IndexMap (Bor (List ℕ)) X S) (bs : List ℕ) (w : X) → UpdatesBy (λ x y. bytes_eq x.now y.now) (λ k. bytes_eq bs k.now) m n (Some w)
@@ -18,9 +20,9 @@ next o = option_map (λ i. i + 1) o
 
 -- a name that isn't among names is neither the first nor among the others
 apart : (b : Bool) (o : Option ℕ) → (if b then Some 0 else next o) ≡ None → (b ≡ false) × (o ≡ None)
-apart true o e = absurd (cc)
+apart true o e = absurd (some_none 0 e)
 apart false None e = (refl, refl)
-apart false (Some i) e = absurd (cc)
+apart false (Some i) e = absurd (some_none (i + 1) e)
 
 push_cases : (p q : Bool) (k : ℕ) (x o : Option ℕ) → (p ≡ true → q ≡ true → ⊥) → x ≡ (if q then Some k else o)
     → (if p then Some 0 else next x) ≡ (if q then Some (suc k) else (if p then Some 0 else next o))
@@ -45,8 +47,7 @@ number_in-push (m ∷ ms) n t none =
         let am : t ≡ m = (bytes_eq-Decides t m).0 a in
         let an : t ≡ n = (bytes_eq-Decides t n).0 b in
         let yes : bytes_eq n m ≡ true = (bytes_eq-Decides n m).1 (sym an ∙ am) in
-        let both : true ≡ false = sym yes ∙ no in
-        cc
+        true_false (sym yes ∙ no)
 
 -- a map of numbers, after the next name has got its number
 pub numbers-push : {S : Type 0} (old new : IndexMap (Bor (List ℕ)) ℕ S) (ns : List (List ℕ)) (n : List ℕ) (k : ℕ) → k ≡ length ns → number_in ns n ≡ None

@@ -1,7 +1,7 @@
 -- What the statements of a script declare.
-use Rattle.std.specs.Prelude.{ℕ, ◌+◌, Bool, true, false, not, ◌&&◌, ◌||◌, ◌==◌, nat_lt, if◌then◌else◌, List, [], ◌∷◌, ◌++◌, map, slice_get, Option, Some, None, option_map, unwrap_or}
+use Rattle.std.specs.Prelude.{ℕ, zero, suc, ◌+◌, Bool, true, false, not, ◌&&◌, ◌||◌, ◌==◌, nat_lt, if◌then◌else◌, List, [], ◌∷◌, ◌++◌, map, slice_get, Option, Some, None, option_map, unwrap_or}
 use Rattle.std.specs.Str.{bytes_eq}
-use Rattle.script_line.specs.Statements as s
+use Rattle.script_line.specs.Statements as said
 use Rattle.script_text.specs.declared.script.FabricLine.{FabricLine}
 use Rattle.script_text.specs.declared.script.FileLine.{FileLine}
 use Rattle.script_text.specs.declared.script.Due.{Due}
@@ -64,10 +64,10 @@ with_errand e [] = e ∷ []
 with_errand e (x ∷ xs) = if comes_before e x then e ∷ x ∷ xs else x ∷ with_errand e xs
 
 -- what an order is, where fabrics have numbers
-abbrev pub due_of : Script → s.Order → Due
-due_of s (s.Move fabric) = due.Move (unwrap_or (fabric_number s fabric) 0)
-due_of s (s.Save name) = due.Save name
-due_of s s.Stop = due.Stop
+abbrev pub due_of : Script → said.Order → Due
+due_of s (said.Move fabric) = due.Move (unwrap_or (fabric_number s fabric) 0)
+due_of s (said.Save name) = due.Save name
+due_of s said.Stop = due.Stop
 
 abbrev pub free_of : ℕ → Due → Free
 free_of tenant (due.Move fabric) = free.Move tenant fabric
@@ -98,11 +98,11 @@ sent e t = record { name = t.name; source = t.source; fabric = t.fabric; budget 
 
 -- a script with one more statement: a fabric, a tenant and a free order stand behind those before them; a file, a snapshot and an
 -- errand are its tenant's
-abbrev pub with_statement : Script → s.Statement → Script
-with_statement s (s.Fabric name capacity) = record { fabrics = s.fabrics ++ record { name = name; capacity = capacity } ∷ []; tenants = s.tenants; free = s.free }
-with_statement s (s.Tenant name source fabric budget) = record { fabrics = s.fabrics; tenants = s.tenants ++ new_tenant s name source fabric budget ∷ []; free = s.free }
-with_statement s (s.File tenant name path) = with_tenant s tenant (with_file (record { name = name; path = path }))
-with_statement s (s.Resume tenant path) = with_tenant s tenant (resumed path)
-with_statement s (s.At tenant tick order) = with_tenant s tenant (sent (record { tick = tick; due = due_of s order }))
-with_statement s (s.Free tenant order) = with_free s (free_of (unwrap_or (tenant_number s tenant) 0) (due_of s order))
-with_statement s (s.Watch tenant) = with_free s (free.Watch (unwrap_or (tenant_number s tenant) 0))
+abbrev pub with_statement : Script → said.Statement → Script
+with_statement s (said.Fabric name capacity) = record { fabrics = s.fabrics ++ record { name = name; capacity = capacity } ∷ []; tenants = s.tenants; free = s.free }
+with_statement s (said.Tenant name source fabric budget) = record { fabrics = s.fabrics; tenants = s.tenants ++ new_tenant s name source fabric budget ∷ []; free = s.free }
+with_statement s (said.File tenant name path) = with_tenant s tenant (with_file (record { name = name; path = path }))
+with_statement s (said.Resume tenant path) = with_tenant s tenant (resumed path)
+with_statement s (said.At tenant tick order) = with_tenant s tenant (sent (record { tick = tick; due = due_of s order }))
+with_statement s (said.Free tenant order) = with_free s (free_of (unwrap_or (tenant_number s tenant) 0) (due_of s order))
+with_statement s (said.Watch tenant) = with_free s (free.Watch (unwrap_or (tenant_number s tenant) 0))

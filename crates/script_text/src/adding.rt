@@ -17,7 +17,7 @@ use std::alloc::{AllocError, Global};
 use vl_base::items::Text;
 
 /// A text of bytes.
-fn text(alloc: Global, bytes: &[u8]) -> Result<Text, AllocError>
+fn text_of(alloc: Global, bytes: &[u8]) -> Result<Text, AllocError>
     ensures { IfOk result (λ t. t ≡ bytes.now) }
 {
     Ok(Text::from_vec(Vec::from_slice(alloc, bytes)?))
@@ -49,7 +49,7 @@ fn add_fabric<'a>(
     ensures kept { OnOk result (IsKept reading.new) }
 {
     let line = FabricLine {
-        name: text(alloc, name)?,
+        name: text_of(alloc, name)?,
         capacity,
     };
     let number = reading.fabrics.len() as u32;
@@ -68,8 +68,8 @@ fn new_tenant(
 ) -> Result<Draft, AllocError>
     ensures { IfOk result (λ d. tenant_line d ≡ record { name = name.now; source = source.now; fabric = fabric; budget = budget; files = []; resume = None; errands = [] }) }
 {
-    let name = text(alloc, name)?;
-    let source = text(alloc, source)?;
+    let name = text_of(alloc, name)?;
+    let source = text_of(alloc, source)?;
     Ok(Draft {
         name,
         source,
@@ -97,11 +97,10 @@ fn add_tenant<'a>(
     ensures kept { OnOk result (IsKept reading.new) }
 {
     let fabric = number(&reading.fabric_numbers, fabric).unwrap_or(0);
+    let tenant = new_tenant(alloc, name, source, fabric, budget)?;
     let number = reading.tenants.len() as u32;
     put_number(&mut reading.tenant_numbers, name, number)?;
-    reading
-        .tenants
-        .push(new_tenant(alloc, name, source, fabric, budget)?)?;
+    reading.tenants.push(tenant)?;
     Ok(())
 }
 
@@ -121,10 +120,11 @@ fn add_file(
         return Ok(());
     };
     let file = FileLine {
-        name: text(alloc, name)?,
-        path: text(alloc, path)?,
+        name: text_of(alloc, name)?,
+        path: text_of(alloc, path)?,
     };
-    put_file(&mut reading.tenants, tenant as usize, file)
+    put_file(&mut reading.tenants, tenant as usize, file)?;
+    Ok(())
 }
 
 /// Adds the snapshot from which a tenant starts.
@@ -141,7 +141,7 @@ fn add_resume(
     let Some(tenant) = number(&reading.tenant_numbers, tenant) else {
         return Ok(());
     };
-    let path = text(alloc, path)?;
+    let path = text_of(alloc, path)?;
     put_resume(&mut reading.tenants, tenant as usize, path);
     Ok(())
 }
@@ -155,7 +155,7 @@ fn due_of(alloc: Global, reading: &Reading<'_>, order: Order<'_>) -> Result<Due,
         Order::Move(fabric) => Ok(Due::Move(
             number(&reading.fabric_numbers, fabric).unwrap_or(0),
         )),
-        Order::Save(name) => Ok(Due::Save(text(alloc, name)?)),
+        Order::Save(name) => Ok(Due::Save(text_of(alloc, name)?)),
         Order::Stop => Ok(Due::Stop),
     }
 }
@@ -176,7 +176,8 @@ fn add_errand(
         return Ok(());
     };
     let due = due_of(alloc, reading, order)?;
-    put_sent(&mut reading.tenants, tenant as usize, Errand { tick, due })
+    put_sent(&mut reading.tenants, tenant as usize, Errand { tick, due })?;
+    Ok(())
 }
 
 /// A free order.
@@ -213,7 +214,8 @@ fn add_free(
 {
     let tenant = number(&reading.tenant_numbers, tenant).unwrap_or(0);
     let due = due_of(alloc, reading, order)?;
-    put_free(reading, free_of(tenant, due))
+    put_free(reading, free_of(tenant, due))?;
+    Ok(())
 }
 
 /// Adds a watch.
@@ -223,7 +225,8 @@ fn add_watch(reading: &mut Reading<'_>, tenant: &[u8]) -> Result<(), AllocError>
     ensures kept { OnOk result (IsKept reading.new) }
 {
     let tenant = number(&reading.tenant_numbers, tenant).unwrap_or(0);
-    put_free(reading, Free::Watch(tenant))
+    put_free(reading, Free::Watch(tenant))?;
+    Ok(())
 }
 
 /// Adds a statement that has no cause.

@@ -80,7 +80,8 @@ pub(crate) fn put_file(
         return Ok(());
     }
     let tenant = &mut tenants[number];
-    add_file(tenant, file)
+    add_file(tenant, file)?;
+    Ok(())
 }
 
 /// Says from which snapshot the tenant of a number starts.
@@ -106,7 +107,8 @@ pub(crate) fn put_sent(
         return Ok(());
     }
     let tenant = &mut tenants[number];
-    add_errand(tenant, errand)
+    add_errand(tenant, errand)?;
+    Ok(())
 }
 
 /// The line of a tenant.

@@ -92,19 +92,34 @@ fn finish(alloc: Global, reading: Reading<'_>) -> Result<Script, AllocError>
     })
 }
 
+/// The script that was read to its end, behind which the line of a number is the first; unless it has
+/// no fabric or no tenant.
+fn close(alloc: Global, reading: Reading<'_>, line: u64) -> Result<Script, ScriptError>
+    ensures whole { OnOk result (r.is_bare (drafted reading.entry) ≡ false) }
+    ensures read { IfOk result (λ s. s ≡ drafted reading.entry) }
+    ensures bare { (at cause : ℕ) → IsErrOf result (ScriptError.At at cause) → r.is_bare (drafted reading.entry) ≡ true }
+    ensures fault { (at cause : ℕ) → IsErrOf result (ScriptError.At at cause) → (at, cause) ≡ (line, 9) }
+{
+    if reading.fabrics.is_empty() || reading.tenants.is_empty() {
+        return Err(ScriptError::At(line, 9));
+    }
+    match finish(alloc, reading) {
+        Ok(script) => Ok(script),
+        Err(_) => Err(ScriptError::Memory),
+    }
+}
+
 /// Reads a script: what it declares, or its first line that has a cause, with the least of its causes.
 pub fn read_script(alloc: Global, bytes: &[u8]) -> Result<Script, ScriptError>
     ensures read { IfOk result (λ s. r.reading bytes.now ≡ Ok s) }
     ensures fault { (line cause : ℕ) → IsErrOf result (ScriptError.At line cause) → r.reading bytes.now ≡ Err (line, cause) }
 {
-    let lines = lines(alloc, bytes)?;
+    let Ok(lines) = lines(alloc, bytes) else {
+        return Err(ScriptError::Memory);
+    };
     let mut reading = begin(alloc);
-    add_lines(alloc, &mut reading, &lines)?;
-    if reading.fabrics.is_empty() || reading.tenants.is_empty() {
-        return Err(ScriptError::At(lines.len() as u64 + 1, 9));
-    }
-    match finish(alloc, reading) {
-        Ok(script) => Ok(script),
-        Err(_) => Err(ScriptError::Memory),
+    match add_lines(alloc, &mut reading, &lines) {
+        Ok(()) => close(alloc, reading, lines.len() as u64 + 1),
+        Err(error) => Err(error),
     }
 }

@@ -1,7 +1,6 @@
 //! What a script declares.
 
 use script_line::statement::Capacity;
-use std::alloc::AllocError;
 use thiserror::Error;
 use vl_base::items::{Items, Text};
 
@@ -97,15 +96,4 @@ pub enum ScriptError {
     /// Want of memory.
     #[error("out of memory")]
     Memory,
-}
-
-impl From<AllocError> for ScriptError {
-    ghost use Rattle.std.specs.Prelude.{◌≡◌};
-    ghost use Rattle.script_text.specs.declared.script.ScriptError.TheVariants.{Memory};
-
-    ghost from_gives = { λ _ e. e ≡ Memory };
-
-    fn from(_error: AllocError) -> ScriptError {
-        ScriptError::Memory
-    }
 }

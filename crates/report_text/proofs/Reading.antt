@@ -13,7 +13,7 @@ use Rattle.report_text.specs.declared.block.RefusedLine.{RefusedLine}
 use Rattle.report_text.specs.declared.block.Block.{Block}
 use Rattle.report_text.specs.declared.block.Block.TheVariants as b
 use Rattle.report_text.specs.declared.block.FreeLine.{FreeLine}
-use Rattle.report_text.specs.Report.{status_word, stay_line, run_block, refused_line, block, free_line, report}
+use Rattle.report_text.specs.Report.{status_word, number, title, tenant_line, stay_line, run_block, refused_line, block, free_line, report}
 use Rattle.report_text.specs.Readable.{IsWord, IsStay, IsRun, IsRefusal, IsReadable}
 use Rattle.report_text.proofs.Cutting.{Lacks, far, heads, tail, not_empty, cut, cut_at_length, cut_numbers}
 
@@ -44,6 +44,17 @@ same_status Budget Stopped e = let l : 6 ≡ 7 = ap length e in absurd (omega (a
 same_status Stopped Finished e = let l : 7 ≡ 8 = ap length e in absurd (omega (arith, l))
 same_status Stopped Budget e = let l : 7 ≡ 6 = ap length e in absurd (omega (arith, l))
 
+-- ---- lists, one after another
+
+assoc_four : (a b c d e : List ℕ) → (((a ++ b) ++ c) ++ d) ++ e ≡ a ++ (b ++ (c ++ (d ++ e)))
+assoc_four a b c d e = simp append_assoc
+
+assoc_five : (a b c d e f : List ℕ) → ((((a ++ b) ++ c) ++ d) ++ e) ++ f ≡ a ++ (b ++ (c ++ (d ++ (e ++ f))))
+assoc_five a b c d e f = simp append_assoc
+
+assoc_seven : (a b c d e f g h : List ℕ) → ((((((a ++ b) ++ c) ++ d) ++ e) ++ f) ++ g) ++ h ≡ a ++ (b ++ (c ++ (d ++ (e ++ (f ++ (g ++ h))))))
+assoc_seven a b c d e f g h = simp append_assoc
+
 -- ---- stays
 
 -- no stay begins here
@@ -53,7 +64,7 @@ NoStay (b ∷ bs) = b ≢ 115
 
 stay-nested : (name : List ℕ) (s : Stay) (more : List ℕ)
     → stay_line name s ++ more ≡ codes "stay " ++ (name ++ (32 ∷ (s.fabric ++ (32 ∷ (decimal s.from ++ (32 ∷ (decimal s.to ++ (10 ∷ more))))))))
-stay-nested name s more = simp append_assoc
+stay-nested name s more = assoc_seven (codes "stay ") name (codes " ") s.fabric (number s.from) (number s.to) (codes "\n") more
 
 same_stay : (s t : Stay) → s.fabric ≡ t.fabric → s.from ≡ t.from → s.to ≡ t.to → s ≡ t
 same_stay s t f a b = λ i. record { fabric = f i; from = a i; to = b i }
@@ -86,7 +97,11 @@ stays-back name (s ∷ ss) (t ∷ ts) r q h k a b e =
 
 run-nested : (a : RunBlock) (more : List ℕ)
     → run_block a ++ more ≡ codes "tenant " ++ (a.name ++ (32 ∷ (status_word a.status ++ (32 ∷ (decimal a.ticks ++ (32 ∷ (decimal a.cycles ++ (32 ∷ (decimal (length a.printed) ++ (10 ∷ (a.printed ++ (10 ∷ (flat_map (stay_line a.name) a.stays ++ more)))))))))))))
-run-nested a more = simp append_assoc
+run-nested a more =
+    assoc_four (tenant_line a) a.printed (codes "\n") (flat_map (stay_line a.name) a.stays) more
+    ∙ assoc_five (title a) (number a.ticks) (number a.cycles) (number (length a.printed)) (codes "\n") (a.printed ++ (10 ∷ (flat_map (stay_line a.name) a.stays ++ more)))
+    ∙ assoc_four (codes "tenant ") a.name (codes " ") (status_word a.status)
+    (32 ∷ (decimal a.ticks ++ (32 ∷ (decimal a.cycles ++ (32 ∷ (decimal (length a.printed) ++ (10 ∷ (a.printed ++ (10 ∷ (flat_map (stay_line a.name) a.stays ++ more))))))))))
 
 same_run : (a b : RunBlock) → a.name ≡ b.name → a.status ≡ b.status → a.ticks ≡ b.ticks → a.cycles ≡ b.cycles → a.printed ≡ b.printed → a.stays ≡ b.stays → a ≡ b
 same_run a b n s t c p y = λ i. record { name = n i; status = s i; ticks = t i; cycles = c i; printed = p i; stays = y i }
@@ -108,7 +123,7 @@ run-back a c r q h k x y e =
 
 refused-nested : (a : RefusedLine) (more : List ℕ)
     → refused_line a ++ more ≡ codes "refused " ++ (a.name ++ (32 ∷ (decimal a.place.line ++ (32 ∷ (decimal a.place.column ++ (32 ∷ (a.kind ++ (10 ∷ more))))))))
-refused-nested a more = simp append_assoc
+refused-nested a more = assoc_seven (codes "refused ") a.name (number a.place.line) (number a.place.column) (codes " ") a.kind (codes "\n") more
 
 same_place : (p q : Place) → p.line ≡ q.line → p.column ≡ q.column → p ≡ q
 same_place p q l c = λ i. record { line = l i; column = c i }

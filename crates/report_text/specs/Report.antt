@@ -22,10 +22,13 @@ status_word Stopped = codes "stopped"
 abbrev pub number : ℕ → List ℕ
 number n = codes " " ++ decimal n
 
+-- tenant NAME STATUS
+abbrev pub title : RunBlock → List ℕ
+title a = codes "tenant " ++ a.name ++ codes " " ++ status_word a.status
+
 -- tenant NAME STATUS TICKS CYCLES BYTES
 abbrev pub tenant_line : RunBlock → List ℕ
-tenant_line a =
-    codes "tenant " ++ a.name ++ codes " " ++ status_word a.status ++ number a.ticks ++ number a.cycles ++ number (length a.printed) ++ codes "\n"
+tenant_line a = title a ++ number a.ticks ++ number a.cycles ++ number (length a.printed) ++ codes "\n"
 
 -- stay NAME FABRIC FROM TO
 abbrev pub stay_line : List ℕ → Stay → List ℕ

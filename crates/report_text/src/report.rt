@@ -48,14 +48,22 @@ fn push_stay(
     Ok(())
 }
 
-/// Adds the first line of a tenant's block.
-fn push_head(alloc: Global, block: &RunBlock, text: &mut Vec<u8>) -> Result<(), AllocError>
-    ensures { OnOk result (text.new.items ≡ text.old.items ++ r.tenant_line block.now) }
+/// Adds the first words of a tenant's block.
+fn push_title(block: &RunBlock, text: &mut Vec<u8>) -> Result<(), AllocError>
+    ensures { OnOk result (text.new.items ≡ text.old.items ++ r.title block.now) }
 {
     text.extend_from_slice(b"tenant ")?;
     text.extend_from_slice(block.name.as_slice())?;
     text.extend_from_slice(b" ")?;
     text.extend_from_slice(status_word(block.status))?;
+    Ok(())
+}
+
+/// Adds the first line of a tenant's block.
+fn push_head(alloc: Global, block: &RunBlock, text: &mut Vec<u8>) -> Result<(), AllocError>
+    ensures { OnOk result (text.new.items ≡ text.old.items ++ r.tenant_line block.now) }
+{
+    push_title(block, text)?;
     push_number(alloc, block.ticks, text)?;
     push_number(alloc, block.cycles, text)?;
     push_number(alloc, block.printed.as_slice().len() as u64, text)?;

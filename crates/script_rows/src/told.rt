@@ -26,8 +26,10 @@ fn errand_line(alloc: Global, errand: &Errand) -> Result<String, AllocError> {
 fn tenant(alloc: Global, tenant: &TenantLine) -> Result<String, AllocError> {
     let name = shown(alloc, &tenant.name)?;
     let source = shown(alloc, &tenant.source)?;
-    let mut text =
-        format!(in alloc; "tenant {name} {source} {} {}\n", tenant.fabric, tenant.budget)?;
+    let mut text = format!(in alloc;
+        "tenant {name} {source} {} {}\n",
+        tenant.fabric, tenant.budget
+    )?;
     for file in tenant.files.as_slice() {
         let name = shown(alloc, &file.name)?;
         let path = shown(alloc, &file.path)?;
@@ -65,7 +67,10 @@ fn script_lines(alloc: Global, script: &Script) -> Result<String, AllocError> {
     for fabric in script.fabrics.as_slice() {
         let name = shown(alloc, &fabric.name)?;
         let size = fabric.capacity;
-        let line = format!(in alloc; "fabric {name} {} {} {}\n", size.registers, size.cells, size.memory)?;
+        let line = format!(in alloc;
+            "fabric {name} {} {} {}\n",
+            size.registers, size.cells, size.memory
+        )?;
         text.push_str(line.as_str())?;
     }
     for one in script.tenants.as_slice() {

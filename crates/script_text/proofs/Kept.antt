@@ -28,7 +28,7 @@ pub kept-fabric : (r new : Reading) (line : FabricLine) (name : List ℕ) (k : �
     → ((t : List ℕ) → value_at new.fabric_numbers t ≡ (if bytes_eq t name then Some k else value_at r.fabric_numbers t)) → IsKept new
 kept-fabric r new line name k kept none room size called items tenants same numbers =
     let names : fabric_names new.fabrics.items ≡ fabric_names r.fabrics.items ++ name ∷ [] =
-        ap fabric_names items ∙ map-append (λ (f : FabricLine). f.name) r.fabrics.items (line ∷ []) ∙ ap (λ (n : List ℕ). fabric_names r.fabrics.items ++ n ∷ []) called in
+    ap fabric_names items ∙ map-append (λ (f : FabricLine). f.name) r.fabrics.items (line ∷ []) ∙ ap (λ (n : List ℕ). fabric_names r.fabrics.items ++ n ∷ []) called in
     let long : length new.fabrics.items ≡ length r.fabrics.items + 1 = ap length items ∙ length-append r.fabrics.items (line ∷ []) in
     let few : length r.tenants.items ≤ 64 = kept.few_tenants in
     record {
@@ -44,13 +44,13 @@ pub kept-tenant : (r new : Reading) (d : Draft) (name : List ℕ) (k : ℕ) → 
     → ((t : List ℕ) → value_at new.tenant_numbers t ≡ (if bytes_eq t name then Some k else value_at r.tenant_numbers t)) → IsKept new
 kept-tenant r new d name k kept none room size called items fabrics same numbers =
     let lines : map tenant_line new.tenants.items ≡ map tenant_line r.tenants.items ++ tenant_line d ∷ [] =
-        ap (λ ds. map tenant_line ds) items ∙ map-append tenant_line r.tenants.items (d ∷ []) in
+    ap (λ ds. map tenant_line ds) items ∙ map-append tenant_line r.tenants.items (d ∷ []) in
     let names : tenant_names (map tenant_line new.tenants.items) ≡ tenant_names (map tenant_line r.tenants.items) ++ name ∷ [] =
-        ap tenant_names lines ∙ map-append (λ (t : TenantLine). t.name) (map tenant_line r.tenants.items) (tenant_line d ∷ [])
-        ∙ ap (λ (n : List ℕ). tenant_names (map tenant_line r.tenants.items) ++ n ∷ []) called in
+    ap tenant_names lines ∙ map-append (λ (t : TenantLine). t.name) (map tenant_line r.tenants.items) (tenant_line d ∷ [])
+    ∙ ap (λ (n : List ℕ). tenant_names (map tenant_line r.tenants.items) ++ n ∷ []) called in
     let long : length new.tenants.items ≡ length r.tenants.items + 1 = ap length items ∙ length-append r.tenants.items (d ∷ []) in
     let count : length (tenant_names (map tenant_line r.tenants.items)) ≡ length r.tenants.items =
-        length-map (map tenant_line r.tenants.items) (λ (t : TenantLine). t.name) ∙ length-map r.tenants.items tenant_line in
+    length-map (map tenant_line r.tenants.items) (λ (t : TenantLine). t.name) ∙ length-map r.tenants.items tenant_line in
     let few : length r.fabrics.items ≤ 8 = kept.few_fabrics in
     record {
       fabrics = λ t. same t ∙ kept.fabrics t ∙ ap (λ fs. number_in (fabric_names fs) t) (sym fabrics);
@@ -69,7 +69,7 @@ kept-changed r new o f kept keeps lines fabrics same_fabrics same_tenants =
     let old = map tenant_line r.tenants.items in
     let names : tenant_names (map tenant_line new.tenants.items) ≡ tenant_names old = ap tenant_names lines ∙ names-stay f old o keeps in
     let long : length new.tenants.items ≡ length r.tenants.items =
-        sym (length-map new.tenants.items tenant_line) ∙ ap length lines ∙ length-changed f old o ∙ length-map r.tenants.items tenant_line in
+    sym (length-map new.tenants.items tenant_line) ∙ ap length lines ∙ length-changed f old o ∙ length-map r.tenants.items tenant_line in
     let few_fabrics : length r.fabrics.items ≤ 8 = kept.few_fabrics in
     let few_tenants : length r.tenants.items ≤ 64 = kept.few_tenants in
     record {

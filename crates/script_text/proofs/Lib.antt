@@ -7,3 +7,4 @@ pub mod Faults
 pub mod Kept
 pub mod Readings
 pub mod Ordered
+pub mod Declared

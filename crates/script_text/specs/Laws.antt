@@ -1,8 +1,10 @@
 -- The reading of a script in other words, and what the order of errands is.
-use Rattle.std.specs.Prelude.{◌≡◌, ℕ, ◌+◌, ◌<◌, Bool, true, false, ◌&&◌, ◌||◌, ◌==◌, not, if◌then◌else◌, List, [], ◌∷◌, ◌++◌, length, take, filter, fold, Option, Some, None, slice_index_or, ⊤}
+use Rattle.std.specs.Prelude.{◌≡◌, ℕ, ◌+◌, ◌<◌, Bool, true, false, ◌&&◌, ◌||◌, ◌==◌, not, if◌then◌else◌, List, [], ◌∷◌, ◌++◌, length, take, filter, fold, Option, Some, None, Result, Ok, Err, slice_index_or, ⊤}
 use Rattle.std.specs.List.{AllByRecursion}
 use Rattle.script_line.specs.Words.{lines}
-use Rattle.script_text.specs.declared.script.Due.{Due}
+use Rattle.script_line.specs.Statements.{Statement}
+use Rattle.script_line.specs.Statements as said
+use Rattle.script_text.specs.declared.script.FabricLine.{FabricLine}
 use Rattle.script_text.specs.declared.script.Errand.{Errand}
 use Rattle.script_text.specs.declared.script.Script.{Script}
 use Rattle.script_text.specs.Scripts.{comes_before, with_errand, is_save}
@@ -44,3 +46,15 @@ AreOrdered (x ∷ xs) = AllByRecursion (λ y. comes_before y x ≡ false) xs × 
 -- of the same tick, and both saves or none of them
 abbrev pub is_like : Errand → Errand → Bool
 is_like a b = a.tick == b.tick && (if is_save a.due then is_save b.due else not (is_save b.due))
+
+-- ---- what lines declare
+
+-- the fabric that a line declares
+abbrev pub fabric_said : Result (Option Statement) ℕ → List FabricLine
+fabric_said (Ok (Some (said.Fabric name capacity))) = record { name = name; capacity = capacity } ∷ []
+fabric_said _ = []
+
+-- the name of the tenant that a line declares
+abbrev pub tenant_said : Result (Option Statement) ℕ → List (List ℕ)
+tenant_said (Ok (Some (said.Tenant name source fabric budget))) = name ∷ []
+tenant_said _ = []

@@ -152,9 +152,7 @@ fn due_of(alloc: Global, reading: &Reading<'_>, order: Order<'_>) -> Result<Due,
     ensures { IfOk result (λ due. due ≡ spec.due_of (drafted reading.now) (order_seen order.entry)) }
 {
     match order {
-        Order::Move(fabric) => Ok(Due::Move(
-            number(&reading.fabric_numbers, fabric).unwrap_or(0),
-        )),
+        Order::Move(fabric) => Ok(Due::Move(number(&reading.fabric_numbers, fabric).unwrap_or(0))),
         Order::Save(name) => Ok(Due::Save(text_of(alloc, name)?)),
         Order::Stop => Ok(Due::Stop),
     }

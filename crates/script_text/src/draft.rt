@@ -127,10 +127,7 @@ fn finished(draft: Draft) -> TenantLine
 }
 
 /// The lines of tenants.
-pub(crate) fn all_finished(
-    alloc: Global,
-    drafts: Vec<Draft>,
-) -> Result<Vec<TenantLine>, AllocError>
+pub(crate) fn all_finished(alloc: Global, drafts: Vec<Draft>) -> Result<Vec<TenantLine>, AllocError>
     ensures { IfOk result (λ lines. lines.items ≡ map tenant_line drafts.items) }
 {
     let mut drafts = drafts;

@@ -1,10 +1,11 @@
 //! What follows from the definitions alone.
 
-ghost use Rattle.std.specs.Prelude.{◌≡◌, ℕ, List, Ok, Err, filter};
+ghost use Rattle.std.specs.Prelude.{◌≡◌, ℕ, List, Ok, Err, filter, map, flat_map};
 ghost use Rattle.script_text.specs.declared.script.Errand.{Errand as Sent};
 ghost use Rattle.script_text.specs.declared.script.Script.{Script as Read};
-ghost use Rattle.script_text.specs.Laws.{IsScript, IsFault, in_order, AreOrdered, is_like};
-ghost use Rattle.script_text.specs.Reading.{reading};
+ghost use Rattle.script_line.specs.Statements.{says};
+ghost use Rattle.script_text.specs.Laws.{IsScript, IsFault, in_order, AreOrdered, is_like, fabric_said, tenant_said};
+ghost use Rattle.script_text.specs.Reading.{reading, script_of};
 
 /// A script is read exactly where no line has a cause, and else has one first fault: never both.
 pub fn a_script_has_one_reading_or_one_first_fault()
@@ -19,4 +20,10 @@ pub fn a_script_has_one_reading_or_one_first_fault()
 pub fn errands_stand_in_order()
     ensures ordered { (errands : List Sent) → AreOrdered (in_order errands) }
     ensures same { (errands : List Sent) (e : Sent) → filter (is_like e) (in_order errands) ≡ filter (is_like e) errands }
+{}
+
+/// A script has the fabrics and the tenants that its lines declare, in their order.
+pub fn lines_declare_fabrics_and_tenants()
+    ensures fabrics { (lines : List (List ℕ)) → (script_of lines).fabrics ≡ flat_map (λ l. fabric_said (says l)) lines }
+    ensures tenants { (lines : List (List ℕ)) → map (λ t. t.name) (script_of lines).tenants ≡ flat_map (λ l. tenant_said (says l)) lines }
 {}

@@ -40,11 +40,7 @@ fn add_statement<'a>(
 }
 
 /// Adds what a line says.
-fn add_line<'a>(
-    alloc: Global,
-    reading: &mut Reading<'a>,
-    line: &'a [u8],
-) -> Result<(), LineFault>
+fn add_line<'a>(alloc: Global, reading: &mut Reading<'a>, line: &'a [u8]) -> Result<(), LineFault>
     requires kept { IsKept reading.old }
     ensures none { OnOk result (r.cause_behind (drafted reading.old) (says line.entry.now) ≡ None) }
     ensures with { OnOk result (drafted reading.new ≡ r.with_said (drafted reading.old) (says line.entry.now)) }

@@ -1,16 +1,17 @@
 -- What is read stays kept.
-use Rattle.std.proofs.Common.{◌≡◌, ℕ, ◌+◌, ◌<◌, ◌≤◌, nat_lt, Bool, true, false, if◌then◌else◌, List, [], ◌∷◌, ◌++◌, length, map, get_or, slice_get, Option, Some, None, option_map, is_some, IfSome, Bor, refl, sym, ap, ◌∙◌, append_assoc, append-nil, arith}
+use Rattle.std.proofs.Common.{◌≡◌, ℕ, ◌+◌, ◌<◌, ◌≤◌, nat_lt, Bool, true, false, if◌then◌else◌, List, [], ◌∷◌, ◌++◌, length, map, get_or, slice_get, Option, Some, None, option_map, is_some, IfSome, unwrap_or, Bor, refl, sym, ap, ◌∙◌, append_assoc, append-nil, arith}
 use Rattle.std.specs.List.{remove}
 use Rattle.std.specs.Str.{bytes_eq}
 use Rattle.std.proofs.lemmas.List.{map-append, length-map, length-append}
 use Rattle.std.proofs.lemmas.Option.{slice_get-map, slice_get_past, slice_get-get_or}
 use Rattle.std.proofs.lemmas.Bool.Decides.{nat_tests}
+use Rattle.script_line.specs.Statements as said
 use Rattle.script_text.specs.declared.script.FabricLine.{FabricLine}
 use Rattle.script_text.specs.declared.script.TenantLine.{TenantLine}
 use Rattle.script_text.specs.declared.script.Script.{Script}
 use Rattle.script_text.specs.declared.draft.Draft.{Draft}
 use Rattle.script_text.specs.declared.draft.Reading.{Reading}
-use Rattle.script_text.specs.Scripts.{number_in, fabric_number, tenant_number, tenant_at, tenant_of, changed_at, changed, with_tenant}
+use Rattle.script_text.specs.Scripts.{number_in, fabric_number, tenant_number, tenant_at, tenant_of, changed_at, changed, with_tenant, new_tenant, with_statement}
 use Rattle.script_text.specs.Drafts.{tenant_line, drafted, value_at, IsKept}
 use Rattle.script_text.proofs.Numbers.{numbers-push}
 use Rattle.script_text.proofs.Changes.{names-stay, length-changed}
@@ -60,6 +61,16 @@ kept-tenant r new d name k kept none room size called items fabrics same numbers
       few_tenants = omega (arith, long, room);
     }
 
+pub added-tenant : (r : Reading) (ds : List Draft) (d : Draft) (name source fabric : List ℕ) (k budget : ℕ) → k ≡ unwrap_or (fabric_number (drafted r) fabric) 0
+    → tenant_line d ≡ record { name = name; source = source; fabric = k; budget = budget; files = []; resume = None; errands = [] } → ds ≡ r.tenants.items ++ d ∷ []
+    → (let t : Script = record { fabrics = r.fabrics.items; tenants = map tenant_line ds; free = r.free.items } in t) ≡ with_statement (drafted r) (said.Tenant name source fabric budget)
+added-tenant r ds d name source fabric k budget number line items =
+    let named : tenant_line d ≡ new_tenant (drafted r) name source fabric budget =
+        line ∙ ap (λ (n : ℕ). let t : TenantLine = record { name = name; source = source; fabric = n; budget = budget; files = []; resume = None; errands = [] } in t) number in
+    let lines : map tenant_line ds ≡ map tenant_line r.tenants.items ++ new_tenant (drafted r) name source fabric budget ∷ [] =
+        ap (λ xs. map tenant_line xs) items ∙ map-append tenant_line r.tenants.items (d ∷ []) ∙ ap (λ (t : TenantLine). map tenant_line r.tenants.items ++ t ∷ []) named in
+    ap (λ (ts : List TenantLine). let t : Script = record { fabrics = r.fabrics.items; tenants = ts; free = r.free.items } in t) lines
+
 -- ---- after a tenant has changed
 
 pub kept-changed : (r new : Reading) (o : Option ℕ) (f : TenantLine → TenantLine) → IsKept r → ((t : TenantLine) → (f t).name ≡ t.name)
@@ -80,6 +91,10 @@ kept-changed r new o f kept keeps lines fabrics same_fabrics same_tenants =
     }
 
 -- ---- the tenant of a name
+
+pub not_some : (r : Option ℕ) → ((m : ℕ) → r ≡ Some m → ⊥) → r ≡ None
+not_some None h = refl
+not_some (Some m) h = absurd (h m refl)
 
 pub unchanged : (s : Script) (name : List ℕ) (f : TenantLine → TenantLine) → tenant_number s name ≡ None → with_tenant s name f ≡ s
 unchanged s name f none = ap (λ o. let t : Script = record { fabrics = s.fabrics; tenants = changed o f s.tenants; free = s.free } in t) none

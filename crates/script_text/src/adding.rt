@@ -48,13 +48,13 @@ fn add_fabric<'a>(
     ensures with { OnOk result (drafted reading.new ≡ spec.with_statement (drafted reading.old) (s.Fabric name.entry.now capacity)) }
     ensures kept { OnOk result (IsKept reading.new) }
 {
-    let line = FabricLine {
-        name: text_of(alloc, name)?,
-        capacity,
-    };
+    let text = text_of(alloc, name)?;
     let number = reading.fabrics.len() as u32;
     put_number(&mut reading.fabric_numbers, name, number)?;
-    reading.fabrics.push(line)?;
+    reading.fabrics.push(FabricLine {
+        name: text,
+        capacity,
+    })?;
     Ok(())
 }
 
@@ -119,11 +119,13 @@ fn add_file(
     let Some(tenant) = number(&reading.tenant_numbers, tenant) else {
         return Ok(());
     };
-    let file = FileLine {
-        name: text_of(alloc, name)?,
-        path: text_of(alloc, path)?,
-    };
-    put_file(&mut reading.tenants, tenant as usize, file)?;
+    let name = text_of(alloc, name)?;
+    let path = text_of(alloc, path)?;
+    put_file(
+        &mut reading.tenants,
+        tenant as usize,
+        FileLine { name, path },
+    )?;
     Ok(())
 }
 

@@ -117,7 +117,7 @@ run-back a c r q h k x y e =
     let bytes = cut_numbers 10 newline_before_digits (length a.printed) (length c.printed) _ _ h.bytes k.bytes cycles.1 in
     let printed = cut_at_length a.printed c.printed _ _ bytes.0 bytes.1 in
     let here : flat_map (stay_line a.name) a.stays ++ r ≡ flat_map (stay_line a.name) c.stays ++ q =
-        tail printed.1 ∙ ap (λ n. flat_map (stay_line n) c.stays ++ q) (sym name.0) in
+    tail printed.1 ∙ ap (λ n. flat_map (stay_line n) c.stays ++ q) (sym name.0) in
     let stays = stays-back a.name a.stays c.stays r q h.stays k.stays x y here in
     (same_run a c name.0 (same_status a.status c.status status.0) ticks.0 cycles.0 printed.0 stays.0, stays.1)
 

@@ -30,12 +30,7 @@ fn status_word(status: Status) -> &'static [u8]
 }
 
 /// Adds the line of a stay.
-fn push_stay(
-    alloc: Global,
-    name: &[u8],
-    stay: &Stay,
-    text: &mut Vec<u8>,
-) -> Result<(), AllocError>
+fn push_stay(alloc: Global, name: &[u8], stay: &Stay, text: &mut Vec<u8>) -> Result<(), AllocError>
     ensures { OnOk result (text.new.items ≡ text.old.items ++ r.stay_line name.now stay.now) }
 {
     text.extend_from_slice(b"stay ")?;
@@ -163,11 +158,7 @@ fn push_free(alloc: Global, line: &FreeLine, text: &mut Vec<u8>) -> Result<(), A
 }
 
 /// Adds the lines of free orders.
-fn push_free_lines(
-    alloc: Global,
-    lines: &[FreeLine],
-    text: &mut Vec<u8>,
-) -> Result<(), AllocError>
+fn push_free_lines(alloc: Global, lines: &[FreeLine], text: &mut Vec<u8>) -> Result<(), AllocError>
     ensures { OnOk result (text.new.items ≡ text.old.items ++ flat_map r.free_line lines.now) }
 {
     for line in lines {

@@ -1,6 +1,6 @@
 -- The first line that has a cause.
 use Rattle.std.specs.Prelude.{zero, suc}
-use Rattle.std.proofs.Common.{◌≡◌, ℕ, ◌+◌, ◌<◌, ◌≤◌, Bool, true, false, if◌then◌else◌, List, [], ◌∷◌, ◌++◌, length, map, take, drop, get_or, Option, Some, None, Result, Ok, Err, Bor, refl, sym, ap, ◌∙◌, arith}
+use Rattle.std.proofs.Common.{◌≡◌, ℕ, ◌+◌, ◌<◌, ◌≤◌, Bool, true, false, if◌then◌else◌, List, [], ◌∷◌, ◌++◌, length, map, take, drop, get_or, Option, Some, None, Result, Ok, Err, IfOk, OnOk, Bor, refl, sym, ap, ◌∙◌, arith}
 use Rattle.std.proofs.lemmas.List.{at_drop_more, take_more, take_all, length-take-le, length-map, drop_all}
 use Rattle.std.proofs.lemmas.List.Sums.{fold-append}
 use Rattle.std.specs.Result.{IsErrOf}
@@ -105,3 +105,10 @@ bare bytes ls s f is none yes so e =
 
 pub faulty : (bytes : List ℕ) (ls : List (List ℕ)) (f : ℕ × ℕ) → ls ≡ lines bytes → first_fault [] ls ≡ Some f → reading bytes ≡ Err f
 faulty bytes ls f is some = ap (λ ks. reading_of ks (first_fault [] ks)) (sym is) ∙ ap (reading_of ls) some
+
+-- ---- what is answered at the end
+
+pub read-ok : (bytes : List ℕ) (ls : List (List ℕ)) (r : Result Script ScriptError) (s : Script) → ls ≡ lines bytes → first_fault [] ls ≡ None → s ≡ script_of ls
+    → OnOk r (is_bare s ≡ false) → IfOk r (λ t. t ≡ s) → IfOk r (λ t. reading bytes ≡ Ok t)
+read-ok bytes ls (Ok t) s is none so not e = whole bytes ls s is none not so ∙ ap Ok (sym e)
+read-ok bytes ls (Err f) s is none so not e = tt

@@ -10,3 +10,4 @@ pub mod Ticks
 pub mod Reaching
 pub mod Boundaries
 pub mod Solutions
+pub mod Orders

@@ -1,6 +1,6 @@
 //! What holds of every run of a checked design.
 
-ghost use Rattle.std.specs.Prelude.{◌≡◌, ℕ, ◌≤◌, Bool, true, false, List, [], ◌∷◌, None};
+ghost use Rattle.std.specs.Prelude.{◌≡◌, ◌==◌, ℕ, ◌≤◌, nat_lt, Bool, true, false, if◌then◌else◌, List, [], ◌∷◌, length, count_by, None};
 ghost use Rattle.vl_base.specs.declared.files.File.{File};
 ghost use Rattle.vl_design.specs.Syntax.{Flat};
 ghost use Rattle.vl_design.specs.State.{State};
@@ -9,7 +9,7 @@ ghost use Rattle.vl_design.specs.Functions.{scope_of};
 ghost use Rattle.vl_design.specs.Queue.{Queue, proc_at, first_pending};
 ghost use Rattle.vl_design.specs.Alone.{Origin, Settles, Boundary, first_tick};
 ghost use Rattle.vl_design.specs.Laws.{IsFine, StartsFine};
-ghost use Rattle.vl_paths.specs.Graph.{drives, reads};
+ghost use Rattle.vl_paths.specs.Graph.{drives, reads, Levelled};
 ghost use Rattle.settling.specs.Nets.{pass};
 ghost use Rattle.vl_settle.specs.Nets.{Place, bit_at, comb_at, run, IsSolved, AreSolved, SameOthers, SameDriven};
 ghost use Rattle.vl_settle.specs.Checked.{IsChecked, IsOrder};
@@ -86,6 +86,13 @@ pub fn kept_driven_bits_are_those_of_one_pass()
     ensures { (d : Flat) (files : List File) (order : List ℕ) (s : State) (v w : List (List ℕ)) → IsChecked d → IsOrder d order →
         s.finished ≡ false → IsFine d.rows s.values → IsFine d.rows w → AreSolved d files s → SameDriven d s.values v →
         SameOthers d s.values w → SameDriven d v (pass (run d files s) order w) }
+{}
+
+/// A list of the processes, each once, in which no combinational one reads a bit that it drives itself, or that one behind it
+/// drives, is an order.
+pub fn a_levelled_list_of_all_processes_is_an_order()
+    ensures { (d : Flat) (order : List ℕ) → ((i : ℕ) → count_by (λ j. j == i) order ≡ (if nat_lt i (length d.procs) then 1 else 0)) →
+        Levelled d order → IsOrder d order }
 {}
 
 /// A small design whose first net reads its second meets the rules, and has an order.

@@ -1,0 +1,3 @@
+pub mod Silent
+pub mod Pure
+pub mod Faults

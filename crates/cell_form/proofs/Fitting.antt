@@ -1,6 +1,6 @@
 -- Slots have values of their widths.
-use Rattle.std.proofs.Common.{◌≡◌, ℕ, zero, suc, ◌+◌, ◌-◌, ◌*◌, ◌%◌, ◌^◌, ◌<◌, ◌≤◌, Bool, true, false, List, [], ◌∷◌, ◌++◌, length, map, take, drop, get_or, refl, sym, ap, ◌∙◌, arith, subst, append_assoc}
-use Rattle.std.specs.Prelude.{ℤ, pos, negsuc, slice_index, if◌then◌else◌, ◌==◌}
+use Rattle.std.proofs.Common.{◌≡◌, ℕ, zero, suc, ◌+◌, ◌-◌, ◌^◌, ◌<◌, Bool, true, false, List, [], ◌∷◌, ◌++◌, length, map, take, drop, get_or, sym, ap, ◌∙◌, arith, subst, append_assoc}
+use Rattle.std.specs.Prelude.{ℤ, pos, negsuc, if◌then◌else◌, ◌==◌}
 use Rattle.std.specs.List.{AllByRecursion}
 use Rattle.std.proofs.Math.Pow.{pow_pos}
 use Rattle.std.proofs.lemmas.Nat.{mod_below}
@@ -15,7 +15,7 @@ use Rattle.cell_form.specs.declared.cell.CellOp.TheVariants as o
 use Rattle.cell_form.specs.Data.{CellData}
 use Rattle.cell_form.specs.Values.{Slot, slot_at, lowest_bit, found, applied, operands, cell_slot, slots_behind, slots_of}
 use Rattle.cell_form.specs.Sound.{Shape, IsAmong, Makes, arity, IsCell, AreCells, IsFit}
-use Rattle.cell_form.proofs.Slots.{width-at, operand-widths, behind-widths}
+use Rattle.cell_form.proofs.Slots.{width-at, operand-widths}
 
 -- ---- lists of cells
 

@@ -7,7 +7,7 @@ use Rattle.cell_form.specs.declared.cell.CellOp.{CellOp}
 use Rattle.cell_form.specs.declared.cell.CellOp.TheVariants as o
 use Rattle.cell_form.specs.declared.cell.Index.{Index}
 use Rattle.cell_form.specs.declared.cell.Write.TheVariants as w
-use Rattle.cell_form.specs.Data.{CellData, ListData, BankData}
+use Rattle.cell_form.specs.Data.{CellData}
 use Rattle.cell_form.specs.Values.{slots_of}
 use Rattle.cell_form.specs.Cycle.{values_of, cycled}
 

@@ -1,5 +1,5 @@
 -- One cycle of a table of states.
-use Rattle.std.specs.Prelude.{ℕ, List, slice_get, slice_index, Option, Some, None}
+use Rattle.std.specs.Prelude.{slice_get, slice_index, Option, Some, None}
 use Rattle.cell_form.specs.Data.{BankData, StateData, TableData}
 use Rattle.cell_form.specs.Cycle.{cycled}
 

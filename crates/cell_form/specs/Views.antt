@@ -1,5 +1,5 @@
 -- The plain data of the program's cells, banks and states.
-use Rattle.std.specs.Prelude.{ℕ, List, map}
+use Rattle.std.specs.Prelude.{map}
 use Rattle.cell_form.specs.declared.bank.Bank.{Bank}
 use Rattle.cell_form.specs.declared.cell.Cell.{Cell}
 use Rattle.cell_form.specs.declared.cell.CellList.{CellList}

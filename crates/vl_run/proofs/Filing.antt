@@ -206,13 +206,14 @@ module _ (scope : Scope) (name : List ℕ) (k : ℕ) (m : Machine) (f : m.finish
   loads values width many lowest text old words row h r w l n o q p =
       let wide : width ≡ row.width = w ∙ ap (λ z. (row_form z).width) r in
       let all : values.items ≡ slice_set m.values.items k (words_read row.width row.lowest row.words text (words_of m.values.items k)) =
-          p ∙ ap (slice_set m.values.items k) (q ∙ rw (wide, l, n, o) refl) in
+      p ∙ ap (slice_set m.values.items k) (q ∙ rw (wide, l, n, o) refl) in
       record {
-        leads = λ c.
-            (c + 1,
-              load-is c
+        leads = λ c. (
+          c + 1,
+          load-is c
               ∙ (ap (λ z. counted (memory_read k (slice_get scope.names.rows k) z (state_of m c))) (sym h)
-              ∙ (ap (λ z. counted (memory_read k z (Some text) (state_of m c))) r ∙ rw all refl)));
+              ∙ (ap (λ z. counted (memory_read k z (Some text) (state_of m c))) r ∙ rw all refl)),
+        );
       }
 
 -- ---- machines

@@ -178,7 +178,14 @@ impl<F: Fn(u32, Vec<u128>) -> Result<u128, AllocError>> Scope<'_, F> {
         let number = self.descriptor(&m.sample(), fd)?;
         let form = signal_form(&self.room, signal);
         let before = value_of(&m.values, signal);
-        let given = read(self.alloc, self.files, &mut m.table, number, form.width, before)?;
+        let given = read(
+            self.alloc,
+            self.files,
+            &mut m.table,
+            number,
+            form.width,
+            before,
+        )?;
         let mut words = words_at(self.alloc, &m.values, signal)?;
         words.set(0, given.value);
         put(&mut m.values, signal, words);

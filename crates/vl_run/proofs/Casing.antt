@@ -26,8 +26,7 @@ use Rattle.vl_design.specs.Width.{Names, Scope, form, joined}
 use Rattle.vl_eval.proofs.Rows.{exps-more, first-sound}
 use Rattle.vl_eval.proofs.Widths.{form-width}
 use Rattle.vl_run.proofs.Doing.{not-zero}
-use Rattle.vl_run.specs.Quiet.{IsQuietStm, AreQuietItems}
-use Rattle.vl_run.specs.Cases.{AreQuietBodies, items_of, body_of, body_at, body_or, AreWithin, AreSoundLabels, AreLabelsWithin}
+use Rattle.vl_run.specs.Cases.{items_of, body_of, body_at, body_or, AreWithin, AreSoundLabels, AreLabelsWithin}
 
 -- ---- items one by one
 
@@ -68,26 +67,12 @@ body-sound names path [] i d l h = absurd (omega arith)
 body-sound names path (x ∷ xs) zero d l h = (item-sound names (seen.exps_of x.labels.items) (stm_of path x.body) (items_of path xs) h).1
 body-sound names path (x ∷ xs) (suc i) d l h = body-sound names path xs i d (omega arith) (item-sound names (seen.exps_of x.labels.items) (stm_of path x.body) (items_of path xs) h).2
 
-quiet-items : {m : _} (k : s.Row_of-CaseItem m) → AreQuietItems (seen.row_items k) → AreQuietBodies (s.items-the_row-CaseItem m k)
-quiet-items s.end_of-CaseItem h = tt
-quiet-items (s.more_of-CaseItem labels q v rest) h = (h.0, quiet-items rest h.1)
-
-pub body-quiet : (xs : List CaseItem) (i : ℕ) (d : CaseItem) → i < length xs → AreQuietBodies xs → IsQuietStm (seen.stm_of (get_or xs i d).body)
-body-quiet [] i d l h = absurd (omega arith)
-body-quiet (x ∷ xs) zero d l h = h.0
-body-quiet (x ∷ xs) (suc i) d l h = body-quiet xs i d (omega arith) h.1
-
 pub body-is : (path : List ℕ) (xs : List CaseItem) (i : ℕ) (x : CaseItem) → i < length xs → x ≡ get_or xs i x → body_at path xs (Some i) ≡ stm_of path x.body
 body-is path xs i x l e = ap (body_of path) (slice_get-get_or xs i x l ∙ ap Some (sym e))
 
 pub case-items : (names : Names) (path : List ℕ) (x : Stmt) (e : Expr) (v : Vec CaseItem Global) (wild : Bool) (xs : List CaseItem) → x.node ≡ s.Case e v wild → xs ≡ v.items
     → IsSoundStm names (stm_of path x) → AreSoundItems names (items_of path xs)
 case-items names path x e v wild xs h k q = let both = rw (case-of path x e v wild h) at q in subst (λ (ys : List CaseItem). AreSoundItems names (items_of path ys)) (sym k) both.1
-
-pub case-bodies : (x : Stmt) (e : Expr) (v : Vec CaseItem Global) (wild : Bool) (xs : List CaseItem) → x.node ≡ s.Case e v wild → xs ≡ v.items → IsQuietStm (seen.stm_of x) → AreQuietBodies xs
-case-bodies x e v wild xs h k q =
-    let all = rw h at q in
-    subst AreQuietBodies (sym k) (subst AreQuietBodies (s.items_hidden-the_row-CaseItem-1 v) (quiet-items (sb.hidden-the_row-CaseItem-1 v) all))
 
 -- ---- forms
 
@@ -216,6 +201,6 @@ pub ruleset labels = (exps-more, first-sound, form-width)
 
 pub ruleset cares = (opened)
 
-pub ruleset bodies = (labels-sound, body-sound, body-quiet)
+pub ruleset bodies = (labels-sound, body-sound)
 
-pub ruleset branches = (case-items, case-bodies)
+pub ruleset branches = (case-items)

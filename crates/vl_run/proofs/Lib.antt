@@ -1,9 +1,11 @@
 pub mod Assigning
 pub mod Bodies
+pub mod Called
 pub mod Calling
 pub mod Designs
 pub mod Casing
 pub mod Doing
+pub mod Filing
 pub mod Fresh
 pub mod Inputs
 pub mod Operands

@@ -1,6 +1,6 @@
 -- System tasks, and what they do to machines.
 use Rattle.std.proofs.Common.{◌≡◌, refl, ap, sym, ◌∙◌, ℕ, List, [], ◌∷◌, ◌++◌, append-nil, append_assoc, map, ◌+◌, Bool, true, false}
-use Rattle.std.specs.Prelude.{if◌then◌else◌, ◌||◌, codes}
+use Rattle.std.specs.Prelude.{if◌then◌else◌, codes}
 use Rattle.std.specs.Str.{bytes_eq}
 use Rattle.std.specs.declared.alloc.Global.{Global}
 use Rattle.std.specs.declared.vec.Vec.{Vec}
@@ -11,7 +11,6 @@ use Rattle.vl_design.specs.Syntax.{Exps, Piece, Task, Print, Finish, Fgetc, Feof
 use Rattle.vl_design.specs.Tasks.{display_text, pieces_text}
 use Rattle.vl_design.specs.Width.{Scope}
 use Rattle.vl_run.specs.declared.machine.Machine.{Machine}
-use Rattle.vl_run.specs.Displays.{IsQuietTask}
 use Rattle.vl_run.specs.Kinds.{kind_by, task_by}
 use Rattle.vl_run.specs.declared.task.Kind.{Kind}
 use Rattle.vl_run.specs.declared.task.Kind.TheVariants as k
@@ -49,37 +48,39 @@ pub ruleset printing = (common_steps, print-line, print-text)
 
 -- ---- a task by its name
 
-kind-is : (path name : List ℕ) (args : List Arg) → IsQuietTask name → task_of path name args ≡ task_by (kind_by name) path args
-kind-is path name args q = at (bytes_eq name (codes "$display")) (bytes_eq name (codes "$write")) (bytes_eq name (codes "$finish")) (bytes_eq name (codes "$save")) (bytes_eq name (codes "$fopen"))
-    (bytes_eq name (codes "$fread")) (bytes_eq name (codes "$fgetc")) (bytes_eq name (codes "$feof")) (bytes_eq name (codes "$fclose")) (bytes_eq name (codes "$readmemh")) q
+kind-is : (path name : List ℕ) (args : List Arg) → task_of path name args ≡ task_by (kind_by name) path args
+kind-is path name args = at (bytes_eq name (codes "$display")) (bytes_eq name (codes "$write")) (bytes_eq name (codes "$finish")) (bytes_eq name (codes "$save")) (bytes_eq name (codes "$fopen"))
+    (bytes_eq name (codes "$fread")) (bytes_eq name (codes "$fgetc")) (bytes_eq name (codes "$feof")) (bytes_eq name (codes "$fclose")) (bytes_eq name (codes "$readmemh"))
   where
-    late : (a b c d e f g : Bool) → (a || (b || (c || (d || (e || (f || g)))))) ≡ false
-        → (if a then save_of args else if b then fopen_of args else if c then fread_of args else if d then file_of Fgetc args
-        else if e then file_of Feof args else if f then file_of Fclose args else if g then read_hex_of args else Print [] false) ≡ Print [] false
-    late false false false false false false false q = refl
-    late true b c d e f g q = cc
-    late false true c d e f g q = cc
-    late false false true d e f g q = cc
-    late false false false true e f g q = cc
-    late false false false false true f g q = cc
-    late false false false false false true g q = cc
-    late false false false false false false true q = cc
+    late : (a b c d e f g : Bool) →
+        (if a then save_of args else if b then fopen_of args else if c then fread_of args else if d then file_of Fgetc args
+        else if e then file_of Feof args else if f then file_of Fclose args else if g then read_hex_of args else Print [] false)
+        ≡ task_by (if a then k.Save else if b then k.Open else if c then k.Read else if d then k.Character else if e then k.Ended else if f then k.Close else if g then k.Load else k.Other) path args
+    late true b c d e f g = refl
+    late false true c d e f g = refl
+    late false false true d e f g = refl
+    late false false false true e f g = refl
+    late false false false false true f g = refl
+    late false false false false false true g = refl
+    late false false false false false false true = refl
+    late false false false false false false false = refl
 
-    at : (x y z a b c d e f g : Bool) → (a || (b || (c || (d || (e || (f || g)))))) ≡ false
-        → (if x then Print (pieces_from path 0 args) true else if y then Print (pieces_from path 0 args) false else if z then Finish (finish_of args)
+    at : (x y z a b c d e f g : Bool) →
+        (if x then Print (pieces_from path 0 args) true else if y then Print (pieces_from path 0 args) false else if z then Finish (finish_of args)
         else if a then save_of args else if b then fopen_of args else if c then fread_of args else if d then file_of Fgetc args
         else if e then file_of Feof args else if f then file_of Fclose args else if g then read_hex_of args else Print [] false)
-        ≡ task_by (if x then k.Display else if y then k.Write else if z then k.Finish else k.Other) path args
-    at true y z a b c d e f g q = refl
-    at false true z a b c d e f g q = refl
-    at false false true a b c d e f g q = refl
-    at false false false a b c d e f g q = late a b c d e f g q
+        ≡ task_by (if x then k.Display else if y then k.Write else if z then k.Finish
+        else if a then k.Save else if b then k.Open else if c then k.Read else if d then k.Character else if e then k.Ended else if f then k.Close else if g then k.Load else k.Other) path args
+    at true y z a b c d e f g = refl
+    at false true z a b c d e f g = refl
+    at false false true a b c d e f g = refl
+    at false false false a b c d e f g = late a b c d e f g
 
-pub task-is : (path name : List ℕ) (items : List SysArg) (kind : Kind) (args : List SysArg) → IsQuietTask name → kind ≡ kind_by name → args ≡ items
+pub task-is : (path name : List ℕ) (items : List SysArg) (kind : Kind) (args : List SysArg) → kind ≡ kind_by name → args ≡ items
     → task_of path name (plain.args (seen.args_of items)) ≡ task_by kind path (map arg_of args)
-task-is path name items kind args q h i =
+task-is path name items kind args h i =
     let e : task_by (kind_by name) path (map arg_of items) ≡ task_by kind path (map arg_of args) = rw (h, i) refl in
-    ap (task_of path name) (args-map items) ∙ (kind-is path name (map arg_of items) q ∙ e)
+    ap (task_of path name) (args-map items) ∙ (kind-is path name (map arg_of items) ∙ e)
 
 pub print-none : (scope : Scope) (m : Machine) → m.finished ≡ false → Does scope (Sys (Print [] false)) m m
 print-none scope m f = record { leads = λ c. (c + 1, rw (f, append-nil m.printed.items) refl) }

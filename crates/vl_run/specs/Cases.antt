@@ -7,7 +7,6 @@ use Rattle.vl_design.specs.Sound.{AreSound}
 use Rattle.vl_design.specs.Syntax.{Exps, NoExps, MoreExps, Stm, Nop, Items, NoItems}
 use Rattle.vl_design.specs.Trees.{exps_of, stm_of}
 use Rattle.vl_design.specs.Width.{Names, form}
-use Rattle.vl_run.specs.Quiet.{IsQuietStm}
 
 abbrev pub items_of : List ℕ → List CaseItem → Items
 items_of path [] = NoItems
@@ -42,8 +41,3 @@ AreSoundLabels names (a ∷ as') = AreSound names (exps_of a.labels.items) × Ar
 abbrev pub AreLabelsWithin : Names → ℕ → List CaseItem → Type 0
 AreLabelsWithin names w [] = ⊤
 AreLabelsWithin names w (a ∷ as') = AreWithin names w (exps_of a.labels.items) × AreLabelsWithin names w as'
-
--- bodies of items without system functions, `$save` and tasks on files
-abbrev pub AreQuietBodies : List CaseItem → Type 0
-AreQuietBodies [] = ⊤
-AreQuietBodies (a ∷ as') = IsQuietStm (seen.stm_of a.body) × AreQuietBodies as'

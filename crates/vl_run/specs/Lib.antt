@@ -1,8 +1,7 @@
-pub mod Bodies
+pub mod Arguments
+pub mod Called
 pub mod Cases
-pub mod Displays
 pub mod Kinds
 pub mod Lists
 pub mod Machines
-pub mod Quiet
 pub mod Scopes

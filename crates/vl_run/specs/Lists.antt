@@ -1,5 +1,6 @@
 -- Targets and loops (IEEE 1364-2005, clauses 9.2 and 9.6).
-use Rattle.std.specs.Prelude.{◌≡◌, ℕ, ℤ, List, [], ◌∷◌, ◌++◌, All, map, pos}
+use Rattle.std.specs.Prelude.{⊤, ◌≡◌, ℕ, ℤ, List, [], ◌∷◌, ◌++◌, All, map, pos}
+use Rattle.vl_design.specs.declared.design.StmtNode as s
 use Rattle.vl_design.specs.declared.design.Target.{Target as TargetCode}
 use Rattle.vl_design.specs.Syntax.{Targets, NoTargets, MoreTargets, Stm, For}
 use Rattle.vl_design.specs.Targets.{Spot, spots_width}
@@ -32,3 +33,8 @@ pub record Spotted (names : Names) (old new : List SpotCode) (spots : List Spot)
 abbrev pub loop_turns : Scope → ℕ → Stm → State → State
 loop_turns scope n (For k start test step a) s = turns n (goes_on scope test) (λ t. exec scope step (exec scope a t)) s
 loop_turns scope n a s = s
+
+-- the statement is a `for`
+abbrev pub IsForNode : s.StmtNode → Type 0
+IsForNode (s.For' k at q start test at' r step at'' u a) = ⊤
+IsForNode n = ⊥

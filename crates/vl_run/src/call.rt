@@ -4,12 +4,9 @@ ghost use Rattle.std.specs.Prelude.{◌≡◌, All, IfOk, OnOk, Some};
 ghost use Rattle.vl_design.specs.Functions as d;
 ghost use Rattle.vl_design.specs.Sound.{IsSound, IsSoundFun, IsSoundStm};
 ghost use Rattle.vl_design.specs.Trees.{fun_of, flat_of, stm_of};
-ghost use Rattle.vl_design.specs.Seen as seen;
 ghost use Rattle.vl_design.specs.Width as w;
 ghost use Rattle.vl_eval.specs.Rooms.{names_of, Fit};
 ghost use Rattle.vl_run.specs.Machines.{IsMachine, Does};
-ghost use Rattle.vl_run.specs.Bodies.{AreQuietFuns};
-ghost use Rattle.vl_run.specs.Quiet.{IsQuietStm};
 ghost use Rattle.vl_run.specs.Scopes.{scope_of, calls_in, Calls};
 
 use crate::begin::{begin, value_of};
@@ -29,7 +26,6 @@ fn run_body<F: Fn(u32, Vec<u128>) -> Result<u128, AllocError>>(
 ) -> Result<u128, AllocError>
     requires inside { names_of scope.now.room ≡ w.names_in (names_of scope.now.room) (fun_of func.now) }
     requires sound { IsSoundFun (names_of scope.now.room) (fun_of func.now) }
-    requires quiet { IsQuietStm (seen.stm_of func.now.body) }
     requires fit { Fit args.now (w.input_widths_of (names_of scope.now.room) (Some (fun_of func.now))) }
     requires calls { Calls (scope_of scope.now) (F.pre scope.now.call) (F.post scope.now.call) }
     ensures { IfOk result (λ v. v ≡ d.result_of (scope_of scope.now) (Some (fun_of func.now)) args.now) }
@@ -50,7 +46,6 @@ pub fn call(
     args: Vec<u128>,
 ) -> Result<u128, AllocError>
     requires funs { All (IsSoundFun (names_of room.now)) (names_of room.now).funs }
-    requires quiet { AreQuietFuns room.now.funcs.now }
     requires fit { Fit args.items (w.input_widths (names_of room.now) function) }
     ensures { IfOk result (λ v. v ≡ calls_in (names_of room.now) files.now depth function args.items) }
 {
@@ -65,7 +60,6 @@ pub fn call(
     let next = depth - 1;
     let give = |number: u32, values: Vec<u128>| -> Result<u128, AllocError>
         requires funs { All (IsSoundFun (names_of room.now)) (names_of room.now).funs }
-        requires quiet { AreQuietFuns room.now.funcs.now }
         requires fit { Fit values.items (w.input_widths (names_of room.now) number) }
         ensures { IfOk result (λ v. v ≡ calls_in (names_of room.entry.now) files.entry.now next number values.items) }
     { call(alloc, room, files, next, number, values) };

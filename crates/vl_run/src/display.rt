@@ -1,6 +1,6 @@
 //! Displays (IEEE 1364-2005, clause 17.1.1).
 
-ghost use Rattle.std.specs.Prelude.{◌≡◌, ◌≤◌, ◌++◌, ◌∷◌, [], All, IfOk, OnOk, map, drop, false};
+ghost use Rattle.std.specs.Prelude.{◌≡◌, ◌≤◌, ◌++◌, ◌∷◌, [], All, IfOk, OnOk, map, false};
 ghost use Rattle.vl_base.specs.Display.{format_of};
 ghost use Rattle.vl_design.specs.Formats as f;
 ghost use Rattle.vl_design.specs.Laws.{IsFine};
@@ -13,6 +13,7 @@ ghost use Rattle.vl_eval.specs.Rooms.{names_of, sample_of};
 ghost use Rattle.vl_run.specs.Scopes.{scope_of, Calls};
 ghost use Rattle.vl_show.specs.Modes.{reading_of};
 
+use crate::given::behind;
 use crate::scope::Scope;
 use std::alloc::AllocError;
 use vl_base::bits::Bits;
@@ -40,17 +41,6 @@ fn unsigned(bits: Bits) -> Shown
     Shown {
         bits,
         signed: false,
-    }
-}
-
-/// The arguments behind so many first ones.
-fn behind(args: &[SysArg], count: usize) -> &[SysArg]
-    ensures { result.now ≡ drop count args.now }
-{
-    if count < args.len() {
-        &args[count..]
-    } else {
-        &[]
     }
 }
 

@@ -2,15 +2,13 @@
 
 ghost use Rattle.std.specs.Prelude.{◌≡◌, ℕ, IfOk, OnOk};
 ghost use Rattle.vl_design.specs.Exec as x;
-ghost use Rattle.vl_design.specs.Seen as seen;
 ghost use Rattle.vl_design.specs.Sound.{AreSoundItems, IsSoundExp, IsSoundStm};
 ghost use Rattle.vl_design.specs.Syntax as y;
 ghost use Rattle.vl_design.specs.Trees.{exp_of, stm_of};
 ghost use Rattle.vl_eval.specs.Rooms.{names_of};
-ghost use Rattle.vl_run.specs.Cases.{items_of, AreQuietBodies};
-ghost use Rattle.vl_run.specs.Lists.{loop_turns};
+ghost use Rattle.vl_run.specs.Cases.{items_of};
+ghost use Rattle.vl_run.specs.Lists.{loop_turns, IsForNode};
 ghost use Rattle.vl_run.specs.Machines.{state_of, IsMachine, Leads, Does};
-ghost use Rattle.vl_run.specs.Quiet.{IsForNode, IsQuietStm};
 ghost use Rattle.vl_run.specs.Scopes.{scope_of, Calls};
 
 use crate::machine::{Machine, put, words_at};
@@ -41,7 +39,6 @@ impl<F: Fn(u32, Vec<u128>) -> Result<u128, AllocError>> Scope<'_, F> {
     #[tactic(auto, using(crate::proofs::Statements::loops))]
     fn turns(&self, path: &[u8], s: &Stmt, most: u32, m: &mut Machine) -> Result<(), AllocError>
         requires sound { IsSoundStm (names_of self.now.room) (stm_of path.now s.now) }
-        requires quiet { IsQuietStm (seen.stm_of s.now) }
         requires node { IsForNode s.now.node }
         requires machine { IsMachine (names_of self.now.room) m.old }
         requires calls { Calls (scope_of self.now) (F.pre self.now.call) (F.post self.now.call) }
@@ -67,7 +64,6 @@ impl<F: Fn(u32, Vec<u128>) -> Result<u128, AllocError>> Scope<'_, F> {
     #[tactic(auto, using(crate::proofs::Statements::loops))]
     fn run_for(&self, path: &[u8], s: &Stmt, m: &mut Machine) -> Result<(), AllocError>
         requires sound { IsSoundStm (names_of self.now.room) (stm_of path.now s.now) }
-        requires quiet { IsQuietStm (seen.stm_of s.now) }
         requires node { IsForNode s.now.node }
         requires machine { IsMachine (names_of self.now.room) m.old }
         requires calls { Calls (scope_of self.now) (F.pre self.now.call) (F.post self.now.call) }
@@ -95,7 +91,6 @@ impl<F: Fn(u32, Vec<u128>) -> Result<u128, AllocError>> Scope<'_, F> {
         m: &mut Machine,
     ) -> Result<(), AllocError>
         requires sound { IsSoundStm (names_of self.now.room) (stm_of path.now body.now) }
-        requires quiet { IsQuietStm (seen.stm_of body.now) }
         requires machine { IsMachine (names_of self.now.room) m.old }
         requires calls { Calls (scope_of self.now) (F.pre self.now.call) (F.post self.now.call) }
         ensures does { OnOk result (Does (scope_of self.now) (y.Repeat count (stm_of path.now body.now)) m.old m.new) }
@@ -119,7 +114,6 @@ impl<F: Fn(u32, Vec<u128>) -> Result<u128, AllocError>> Scope<'_, F> {
     ) -> Result<(), AllocError>
         requires items { AreSoundItems (names_of self.now.room) (items_of path.now items.now) }
         requires subject { IsSoundExp (names_of self.now.room) (exp_of subject.now) }
-        requires quiet { AreQuietBodies items.now }
         requires machine { IsMachine (names_of self.now.room) m.old }
         requires calls { Calls (scope_of self.now) (F.pre self.now.call) (F.post self.now.call) }
         ensures does { OnOk result (Does (scope_of self.now) (y.Case (exp_of subject.now) (items_of path.now items.now)) m.old m.new) }
@@ -137,7 +131,6 @@ impl<F: Fn(u32, Vec<u128>) -> Result<u128, AllocError>> Scope<'_, F> {
     #[tactic(auto, using(crate::proofs::Statements::parts, crate::proofs::Casing::branches))]
     pub fn exec(&self, path: &[u8], s: &Stmt, m: &mut Machine) -> Result<(), AllocError>
         requires sound { IsSoundStm (names_of self.now.room) (stm_of path.now s.now) }
-        requires quiet { IsQuietStm (seen.stm_of s.now) }
         requires machine { IsMachine (names_of self.now.room) m.old }
         requires calls { Calls (scope_of self.now) (F.pre self.now.call) (F.post self.now.call) }
         ensures does { OnOk result (Does (scope_of self.now) (stm_of path.now s.now) m.old m.new) }
@@ -152,6 +145,7 @@ impl<F: Fn(u32, Vec<u128>) -> Result<u128, AllocError>> Scope<'_, F> {
                 Ok(())
             }
             StmtNode::If(test, first, second) => {
+                self.call_first(path, test, m)?;
                 let bits = self.own_value(&m.sample(), test)?;
                 if bits.value == 0 {
                     self.exec(path, second, m)
@@ -160,8 +154,8 @@ impl<F: Fn(u32, Vec<u128>) -> Result<u128, AllocError>> Scope<'_, F> {
                 }
             }
             StmtNode::Repeat(count, body) => self.run_repeat(path, *count, body, m),
-            StmtNode::Set(target, source) => self.assign(target, source, m),
-            StmtNode::Later(target, source) => self.assign_later(target, source, m),
+            StmtNode::Set(target, source) => self.set(path, target, source, m),
+            StmtNode::Later(target, source) => self.set_later(path, target, source, m),
             StmtNode::Case(subject, items, _) => self.run_case(path, items, subject, m),
             StmtNode::For(_, _, _, _, _) => self.run_for(path, s, m),
             StmtNode::Sys(call) => self.task(path, call, m),

@@ -3,14 +3,11 @@
 ghost use Rattle.std.specs.Prelude.{◌≡◌, IfOk, OnOk};
 ghost use Rattle.vl_design.specs.Functions as d;
 ghost use Rattle.vl_design.specs.Functions.{fresh, zeros};
-ghost use Rattle.vl_design.specs.Seen as seen;
 ghost use Rattle.vl_design.specs.Sound.{IsSound, IsSoundStm};
 ghost use Rattle.vl_design.specs.Trees.{flat_of, stm_of};
 ghost use Rattle.vl_design.specs.Width as w;
 ghost use Rattle.vl_eval.specs.Rooms.{Fit};
-ghost use Rattle.vl_run.specs.Bodies.{AreQuietFuns};
 ghost use Rattle.vl_run.specs.Machines.{state_of, IsMachine, Does};
-ghost use Rattle.vl_run.specs.Quiet.{IsQuietStm};
 
 use crate::begin::{fresh_machine, zero_values};
 use crate::call::call;
@@ -38,7 +35,6 @@ pub fn give(
     args: Vec<u128>,
 ) -> Result<u128, AllocError>
     requires sound { IsSound (flat_of design.now) }
-    requires quiet { AreQuietFuns design.now.funcs }
     requires fit { Fit args.items (w.input_widths (w.names_of (flat_of design.now)) function) }
     ensures { IfOk result (λ v. v ≡ (d.scope_of (flat_of design.now) files.now).call function args.items) }
 {
@@ -57,16 +53,13 @@ pub fn exec_process(
     m: &mut Machine,
 ) -> Result<(), AllocError>
     requires design { IsSound (flat_of design.now) }
-    requires functions { AreQuietFuns design.now.funcs }
     requires sound { IsSoundStm (w.names_of (flat_of design.now)) (stm_of path.now s.now) }
-    requires quiet { IsQuietStm (seen.stm_of s.now) }
     requires machine { IsMachine (w.names_of (flat_of design.now)) m.old }
     ensures does { OnOk result (Does (d.scope_of (flat_of design.now) files.now) (stm_of path.now s.now) m.old m.new) }
     ensures machine { OnOk result (IsMachine (w.names_of (flat_of design.now)) m.new) }
 {
     let calls = |function: u32, args: Vec<u128>| -> Result<u128, AllocError>
         requires design { IsSound (flat_of design.now) }
-        requires functions { AreQuietFuns design.now.funcs }
         requires fit { Fit args.items (w.input_widths (w.names_of (flat_of design.now)) function) }
         ensures { IfOk result (λ v. v ≡ (d.scope_of (flat_of design.entry.now) files.entry.now).call function args.items) }
     { give(alloc, design, files, function, args) };

@@ -9,8 +9,7 @@ ghost use Rattle.vl_design.specs.Sound.{IsSoundPiece, IsSoundTask};
 ghost use Rattle.vl_design.specs.Syntax as y;
 ghost use Rattle.vl_design.specs.Trees.{arg_of, task_of};
 ghost use Rattle.vl_eval.specs.Rooms.{names_of};
-ghost use Rattle.vl_run.specs.Displays.{IsQuietTask};
-ghost use Rattle.vl_run.specs.Kinds.{kind_by, task_by};
+ghost use Rattle.vl_run.specs.Kinds.{kind_by, file_kind_by, task_by};
 ghost use Rattle.vl_run.specs.Machines.{IsMachine, Does};
 ghost use Rattle.vl_run.specs.Scopes.{scope_of, Calls};
 
@@ -29,6 +28,20 @@ enum Kind {
     Write,
     /// It finishes the run.
     Finish,
+    /// It asks for a snapshot.
+    Save,
+    /// It opens a file.
+    Open,
+    /// It reads a file to a variable.
+    Read,
+    /// It reads a byte of a file.
+    Character,
+    /// It asks whether a file has ended.
+    Ended,
+    /// It closes a file.
+    Close,
+    /// It loads a memory from a file.
+    Load,
     /// Nothing.
     Other,
 }
@@ -40,7 +53,30 @@ fn is_word(name: &[u8], word: &[u8]) -> bool
     name == word
 }
 
-/// What a task of this name does, but for `$save` and the tasks on files.
+/// What `$save` or a task on files of this name does.
+fn file_kind(name: &[u8]) -> Kind
+    ensures { result ≡ file_kind_by name.now }
+{
+    if is_word(name, b"$save".as_slice()) {
+        Kind::Save
+    } else if is_word(name, b"$fopen".as_slice()) {
+        Kind::Open
+    } else if is_word(name, b"$fread".as_slice()) {
+        Kind::Read
+    } else if is_word(name, b"$fgetc".as_slice()) {
+        Kind::Character
+    } else if is_word(name, b"$feof".as_slice()) {
+        Kind::Ended
+    } else if is_word(name, b"$fclose".as_slice()) {
+        Kind::Close
+    } else if is_word(name, b"$readmemh".as_slice()) {
+        Kind::Load
+    } else {
+        Kind::Other
+    }
+}
+
+/// What a task of this name does.
 fn kind_of(name: &[u8]) -> Kind
     ensures { result ≡ kind_by name.now }
 {
@@ -51,7 +87,7 @@ fn kind_of(name: &[u8]) -> Kind
     } else if is_word(name, b"$finish".as_slice()) {
         Kind::Finish
     } else {
-        Kind::Other
+        file_kind(name)
     }
 }
 
@@ -107,15 +143,21 @@ impl<F: Fn(u32, Vec<u128>) -> Result<u128, AllocError>> Scope<'_, F> {
                 m.finished = true;
                 Ok(())
             }
+            Kind::Save => self.save(args, m),
+            Kind::Open => self.open_file(args, m),
+            Kind::Read => self.read_file(args, m),
+            Kind::Character => self.read_character(args, m),
+            Kind::Ended => self.ask_end(args, m),
+            Kind::Close => self.close_file(args, m),
+            Kind::Load => self.load_memory(args, m),
             Kind::Other => Ok(()),
         }
     }
 
-    /// Does a system task, but for `$save` and the tasks on files. A task of an unknown name prints nothing.
+    /// Does a system task. One of an unknown name prints nothing.
     #[tactic(auto, using(crate::proofs::Tasking::over))]
     pub fn task(&self, path: &[u8], call: &SysCall, m: &mut Machine) -> Result<(), AllocError>
         requires sound { IsSoundTask (names_of self.now.room) (task_of path.now call.now.name (plain.args (seen.args_of call.now.args.items))) }
-        requires quiet { IsQuietTask call.now.name }
         requires machine { IsMachine (names_of self.now.room) m.old }
         requires calls { Calls (scope_of self.now) (F.pre self.now.call) (F.post self.now.call) }
         ensures does { OnOk result (Does (scope_of self.now) (y.Sys (task_of path.now call.now.name (plain.args (seen.args_of call.now.args.items)))) m.old m.new) }

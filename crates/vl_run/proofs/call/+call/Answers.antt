@@ -13,7 +13,7 @@ run_body-requires-clause-calls t c =
     let func = get_or room.funcs.now c.args.function c.index-room-number.result in
     let words = one-words names.rows room.signals.now room.funcs.now in
     inner-calls names (names_of c.inner.result) (fun_of func) c.args.files.now (c.args.depth - 1) _ _ c.inner.ensures c.requires.funs words
-    (λ f args h. (less c.args.depth t c.if-depth-eq0.false c.decreases, (c.requires.funs, (c.requires.quiet, h))))
+    (λ f args h. (less c.args.depth t c.if-depth-eq0.false c.decreases, (c.requires.funs, h)))
     (λ f args r h. h.1)
 
 pub returns : goal.returns

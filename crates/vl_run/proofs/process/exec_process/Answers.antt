@@ -7,7 +7,7 @@ use Rattle.vl_run.specs.Machines.{IsMachine, Does}
 use Rattle.vl_run.proofs.process.exec_process.Goals as goal
 
 pub outermost-scope-requires-clause-callable : goal.outermost-scope-requires-clause-callable
-outermost-scope-requires-clause-callable c f args h = (c.requires.design, (c.requires.functions, h))
+outermost-scope-requires-clause-callable c f args h = (c.requires.design, h)
 
 pub outermost-scope-requires-clause-gives : goal.outermost-scope-requires-clause-gives
 outermost-scope-requires-clause-gives c f args r h = h.1

@@ -5,7 +5,6 @@ use Rattle.vl_design.specs.Sound.{IsSoundFun}
 use Rattle.vl_design.specs.Trees.{fun_of}
 use Rattle.vl_design.specs.Width.{Names, Scope, input_widths}
 use Rattle.vl_eval.specs.Rooms.{names_of, Fit}
-use Rattle.vl_run.specs.Bodies.{AreQuietFuns}
 use Rattle.vl_run.proofs.Designs.{same-scope}
 use Rattle.vl_run.proofs.process.give.Goals as goal
 
@@ -14,7 +13,6 @@ call-requires c =
     let e = sym c.room_of-room.ensures.names in
     record {
       funs = subst (λ (n : Names). All (IsSoundFun n) n.funs) e c.requires.sound.funs;
-      quiet = subst AreQuietFuns (sym c.room_of-room.ensures.funcs) c.requires.quiet;
       fit = subst (λ (n : Names). Fit c.args.args.items (input_widths n c.args.function)) e c.requires.fit;
     }
 

@@ -4,11 +4,13 @@ use Rattle.std.proofs.lemmas.Result.{on_ok_weaker}
 use Rattle.vl_design.specs.Exec.{exec, times}
 use Rattle.vl_design.specs.Placed as p
 use Rattle.vl_design.specs.Seen as seen
-use Rattle.vl_design.specs.Syntax.{Nop}
+use Rattle.vl_design.specs.Syntax.{Nop, If}
 use Rattle.vl_design.specs.Trees.{exp_of, stm_of, then_of}
 use Rattle.vl_design.proofs.TreeLemmas.{placed-Seq}
 use Rattle.vl_run.specs.Cases.{items_of}
+use Rattle.vl_run.specs.Machines.{Does}
 use Rattle.vl_run.specs.Scopes.{scope_of}
+use Rattle.vl_run.proofs.Called.{does-called}
 use Rattle.vl_run.proofs.Doing.{leads-as, does-nop, does-then, does-first, does-second, does-case, does-for, does-fine, turns-over, turns-more, turns-none, times-more, times-none}
 use Rattle.vl_run.proofs.Casing.{case-of, body-is}
 use Rattle.vl_run.proofs.Statements.{stms-more, if-of, set-of, later-of, for-of, repeat-of, task-of}
@@ -21,7 +23,6 @@ exec-loop-item-init g t c =
     placed-Seq s c.in-Seq.list c.in-Seq.is ∙ ap (λ ys. p.Seq s.place (seen.stms_of ys)) (sym c.deref-item-items.ensures.value) in
     record {
       machine = c.requires.machine;
-      quiet = rw e at c.requires.quiet;
       sound = rw e at c.requires.sound;
       leads = λ n h. rw e h;
     }
@@ -31,11 +32,9 @@ exec-loop-item-preserved g t c =
     let l = c.loop-item.invariant in
     let done = c.in_ok-exec-in-Seq.ensures in
     let e = stms-more c.deref-item-items.result.now c.loop-item.item-index c.item-item.result c.loop-item-test.true c.item-item.is in
-    let quiet = rw e at l.quiet in
     let sound = rw e at l.sound in
     record {
       machine = done.machine;
-      quiet = quiet.1;
       sound = sound.1;
       leads = λ n h. l.leads n (rw e (does-then (scope_of c.args.self.now) (stm_of c.args.path.now c.item-item.result) (then_of c.args.path.now (drop (c.loop-item.item-index + 1) c.deref-item-items.result.now)) _ _ n done.does h));
     }
@@ -50,32 +49,42 @@ exec-returns-after-loop-item-clause-does g t c =
 
 pub exec-returns-in-Set-clause-does : goal.exec-returns-in-Set-clause-does
 exec-returns-in-Set-clause-does g t c =
-    let e = set-of c.args.path.now c.args.s.now c.requires.quiet c.in-Set.target c.in-Set.source c.in-Set.is in
-    rw e c.assign.ensures.does
+    let e = set-of c.args.path.now c.args.s.now c.in-Set.target c.in-Set.source c.in-Set.is in
+    rw e c.set.ensures.does
 
 pub exec-returns-in-Later-clause-does : goal.exec-returns-in-Later-clause-does
 exec-returns-in-Later-clause-does g t c =
-    let e = later-of c.args.path.now c.args.s.now c.requires.quiet c.in-Later.target c.in-Later.source c.in-Later.is in
-    rw e c.assign_later.ensures.does
+    let e = later-of c.args.path.now c.args.s.now c.in-Later.target c.in-Later.source c.in-Later.is in
+    rw e c.set_later.ensures.does
 
 pub exec-returns-then-bits-eq0-clause-does : goal.exec-returns-then-bits-eq0-clause-does
 exec-returns-then-bits-eq0-clause-does g t c =
+    let scope = scope_of c.args.self.now in
     let path = c.args.path.now in
     let i = c.in-If in
-    let e = if-of path c.args.s.now c.requires.quiet i.test i.first i.second i.is in
+    let n = c.call_first.new.m in
+    let o = c.exec-then-bits-eq0.new.m in
+    let a = stm_of path i.first.value in
+    let b = stm_of path i.second.value in
+    let e = if-of path c.args.s.now i.test i.first i.second i.is in
     let value = rw c.sample.ensures at c.in_ok-bits-in-If.ensures in
     let zero = sym value ∙ c.if-bits-eq0.true in
     let done = rw c.deref.ensures at c.exec-then-bits-eq0.ensures.does in
-    rw e (on_ok_weaker _ (does-second (scope_of c.args.self.now) (exp_of i.test) (stm_of path i.first.value) (stm_of path i.second.value) c.args.m.now c.exec-then-bits-eq0.new.m zero) done)
+    rw e (on_ok_weaker _ (λ (d : Does scope b n o). does-called scope path (seen.exp_of i.test) (If (exp_of i.test) a b) c.args.m.now n o c.in_ok-call_first-in-If.ensures.does (does-second scope (exp_of i.test) a b n o zero d)) done)
 
 pub exec-returns-else-bits-eq0-clause-does : goal.exec-returns-else-bits-eq0-clause-does
 exec-returns-else-bits-eq0-clause-does g t c =
+    let scope = scope_of c.args.self.now in
     let path = c.args.path.now in
     let i = c.in-If in
-    let e = if-of path c.args.s.now c.requires.quiet i.test i.first i.second i.is in
+    let n = c.call_first.new.m in
+    let o = c.exec-else-bits-eq0.new.m in
+    let a = stm_of path i.first.value in
+    let b = stm_of path i.second.value in
+    let e = if-of path c.args.s.now i.test i.first i.second i.is in
     let value = rw c.sample.ensures at c.in_ok-bits-in-If.ensures in
     let done = rw c.deref-else-bits-eq0.ensures at c.exec-else-bits-eq0.ensures.does in
-    rw e (on_ok_weaker _ (does-first (scope_of c.args.self.now) (exp_of i.test) (stm_of path i.first.value) (stm_of path i.second.value) c.args.m.now c.exec-else-bits-eq0.new.m (λ z. c.if-bits-eq0.false (value ∙ z))) done)
+    rw e (on_ok_weaker _ (λ (d : Does scope a n o). does-called scope path (seen.exp_of i.test) (If (exp_of i.test) a b) c.args.m.now n o c.in_ok-call_first-in-If.ensures.does (does-first scope (exp_of i.test) a b n o (λ z. c.if-bits-eq0.false (value ∙ z)) d)) done)
 
 pub exec-returns-in-Repeat-clause-does : goal.exec-returns-in-Repeat-clause-does
 exec-returns-in-Repeat-clause-does g t c =

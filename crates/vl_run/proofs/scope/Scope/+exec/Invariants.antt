@@ -1,13 +1,11 @@
 use Rattle.std.proofs.Common.{◌≡◌, ◌≤◌, ◌+◌, ℕ, drop}
 use Rattle.vl_design.specs.Exec.{exec, times}
-use Rattle.vl_design.specs.Seen as seen
 use Rattle.vl_design.specs.Sound.{IsSoundStm}
 use Rattle.vl_design.specs.Trees.{stm_of, then_of}
 use Rattle.vl_eval.specs.Rooms.{names_of}
 use Rattle.vl_run.specs.declared.machine.Machine.{Machine}
 use Rattle.vl_run.specs.Lists.{loop_turns}
 use Rattle.vl_run.specs.Machines.{IsMachine, Leads, Does}
-use Rattle.vl_run.specs.Quiet.{AreQuietStms}
 use Rattle.vl_run.specs.Scopes.{scope_of}
 use Rattle.vl_run.proofs.scope.Scope.+exec.Given as goal
 
@@ -18,7 +16,6 @@ invariant-exec-loop-item g l =
     let rest = then_of l.path (drop l.item-index l.item-items) in
     record {
       machine : IsMachine (names_of l.self.room) l.m;
-      quiet : AreQuietStms (seen.stms_of (drop l.item-index l.item-items));
       sound : IsSoundStm (names_of l.self.room) rest;
       leads : (n : Machine) → Does scope rest l.m n → Does scope (stm_of l.path l.s) l.initial.m n;
     }

@@ -1,14 +1,9 @@
 use Rattle.std.proofs.Common.{◌≡◌, true, false, refl, sym, ap, ◌∙◌, map}
-use Rattle.std.specs.Prelude.{All}
 use Rattle.vl_design.specs.Functions.{scope_of}
 use Rattle.vl_design.specs.Trees.{flat_of, proc_of, stm_of}
-use Rattle.vl_design.specs.Seen.{process_of}
-use Rattle.vl_design.specs.Seen.{stm_of as seen}
 use Rattle.vl_design.proofs.TreeLemmas.{procs-map}
-use Rattle.plain_run.specs.Plain.{IsPlainProc}
 use Rattle.plain_run.specs.Runs.{is_of}
-use Rattle.plain_run.proofs.Bodies.{sound-at, plain-at, does-ticks}
-use Rattle.plain_run.proofs.Quiet.{stm-quiet, funs-quiet}
+use Rattle.plain_run.proofs.Bodies.{sound-at, does-ticks}
 use Rattle.plain_run.proofs.Waves.{reaches-here, wave-passed, wave-run, begun-blocks}
 use Rattle.plain_run.proofs.run.run_wave.Goals as goal
 use Rattle.plain_run.proofs.run.run_wave.Goals.{then-belongs+in_ok-exec_process, else-belongs}
@@ -20,9 +15,6 @@ loop-process-init c = record {
   reaches = rw (c.as_slice-process-items.ensures, ← procs-map c.args.design.now.processes) (reaches-here _ _ _ _);
 }
 
-pub exec_process-requires-clause-functions : goal.exec_process-requires-clause-functions
-exec_process-requires-clause-functions c = funs-quiet c.args.design.now c.requires.plain
-
 pub exec_process-requires-clause-sound : goal.exec_process-requires-clause-sound
 exec_process-requires-clause-sound c =
     let xs = c.as_slice-process-items.result.now in
@@ -30,12 +22,6 @@ exec_process-requires-clause-sound c =
     let procs : d.procs ≡ map proc_of xs = procs-map c.args.design.now.processes ∙ ap (map proc_of) (sym c.as_slice-process-items.ensures) in
     rw c.as_slice.ensures
     (sound-at d xs c.loop-process.process-index c.process-item.result c.requires.sound procs c.loop-process-test.true c.process-item.is)
-
-pub exec_process-requires-clause-quiet : goal.exec_process-requires-clause-quiet
-exec_process-requires-clause-quiet c =
-    let xs = c.as_slice-process-items.result.now in
-    let all : All IsPlainProc (map process_of xs) = rw c.as_slice-process-items.ensures c.requires.plain.processes in
-    stm-quiet (seen c.process-item.result.body) (plain-at xs c.loop-process.process-index c.process-item.result all c.loop-process-test.true c.process-item.is).body
 
 pub loop-process-preserved : goal.loop-process-preserved
 loop-process-preserved c =

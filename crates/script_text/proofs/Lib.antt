@@ -1,8 +1,8 @@
 pub mod Apart
 pub mod Numbers
 pub mod Changes
-pub mod Errands
-pub mod Causes
+pub mod Insertion
+pub mod Rooms
 pub mod Faults
 pub mod Kept
 pub mod Readings

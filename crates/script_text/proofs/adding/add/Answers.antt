@@ -3,7 +3,7 @@ use Rattle.script_line.specs.Seen.{seen}
 use Rattle.script_line.specs.declared.statement.Statement.{Statement}
 use Rattle.script_text.specs.Causes.{cause_of}
 use Rattle.script_text.specs.Drafts.{drafted}
-use Rattle.script_text.proofs.Causes.{fabric-room, tenant-room}
+use Rattle.script_text.proofs.Rooms.{fabric-room, tenant-room}
 use Rattle.script_text.proofs.adding.add.Goals as goal
 
 pub add_fabric-requires-clause-new : goal.add_fabric-requires-clause-new

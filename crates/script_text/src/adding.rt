@@ -43,7 +43,7 @@ fn add_fabric<'a>(
     capacity: Capacity,
 ) -> Result<(), AllocError>
     requires kept { IsKept reading.old }
-    requires new { spec.fabric_number (drafted reading.old) name.entry.now ≡ None }
+    requires new { spec.fabric_number (drafted reading.old) name.now ≡ None }
     requires room { length reading.old.fabrics.items < 8 }
     ensures with { OnOk result (drafted reading.new ≡ spec.with_statement (drafted reading.old) (s.Fabric name.entry.now capacity)) }
     ensures kept { OnOk result (IsKept reading.new) }
@@ -91,7 +91,7 @@ fn add_tenant<'a>(
     budget: u64,
 ) -> Result<(), AllocError>
     requires kept { IsKept reading.old }
-    requires new { spec.tenant_number (drafted reading.old) name.entry.now ≡ None }
+    requires new { spec.tenant_number (drafted reading.old) name.now ≡ None }
     requires room { length reading.old.tenants.items < 64 }
     ensures with { OnOk result (drafted reading.new ≡ spec.with_statement (drafted reading.old) (s.Tenant name.entry.now source.now fabric.now budget)) }
     ensures kept { OnOk result (IsKept reading.new) }
@@ -236,7 +236,7 @@ pub(crate) fn add<'a>(
     statement: Statement<'a>,
 ) -> Result<(), AllocError>
     requires kept { IsKept reading.old }
-    requires right { c.cause_of (drafted reading.old) (seen statement.entry) ≡ None }
+    requires right { c.cause_of (drafted reading.old) (seen statement) ≡ None }
     ensures with { OnOk result (drafted reading.new ≡ spec.with_statement (drafted reading.old) (seen statement.entry)) }
     ensures kept { OnOk result (IsKept reading.new) }
 {

@@ -1,6 +1,6 @@
 //! Scripts are read.
 
-ghost use Rattle.std.specs.Prelude.{◌≡◌, ℕ, [], Some, None, Ok, Err, map, IfOk, OnOk, IsErrOf};
+ghost use Rattle.std.specs.Prelude.{◌≡◌, ℕ, [], true, false, Some, None, Ok, Err, map, IfOk, OnOk, IsErrOf};
 ghost use Rattle.script_line.specs.Seen.{seen};
 ghost use Rattle.script_line.specs.Statements.{says};
 ghost use Rattle.script_text.specs.Causes as c;
@@ -94,7 +94,7 @@ fn close(alloc: Global, reading: Reading<'_>, line: u64) -> Result<Script, Scrip
     ensures whole { OnOk result (r.is_bare (drafted reading.entry) ≡ false) }
     ensures read { IfOk result (λ s. s ≡ drafted reading.entry) }
     ensures bare { (at cause : ℕ) → IsErrOf result (ScriptError.At at cause) → r.is_bare (drafted reading.entry) ≡ true }
-    ensures fault { (at cause : ℕ) → IsErrOf result (ScriptError.At at cause) → (at, cause) ≡ (line, 9) }
+    ensures fault { (at cause : ℕ) → IsErrOf result (ScriptError.At at cause) → (at ≡ line) × (cause ≡ 9) }
 {
     if reading.fabrics.is_empty() || reading.tenants.is_empty() {
         return Err(ScriptError::At(line, 9));

@@ -7,15 +7,14 @@ use Rattle.std.proofs.lemmas.Bool.Decides.{nat_tests}
 use Rattle.cell_form.specs.declared.cell.Write.{Write}
 use Rattle.cell_form.specs.declared.cell.Write.TheVariants as w
 use Rattle.cell_form.specs.Data.{CellData, ListData, BankData}
-use Rattle.cell_form.specs.Values.{Slot, slot_at, slots_of, cell_slot}
+use Rattle.cell_form.specs.Values.{Slot, slots_of, cell_slot}
 use Rattle.cell_form.specs.Cycle.{put_at, values_of, value_at, with_word, filled, wrote, written, cycled}
-use Rattle.cell_form.specs.Sound.{Shape, IsAmong, AreCells, IsCell, IsWrite, IsList, shape_of}
+use Rattle.cell_form.specs.Sound.{Shape, IsAmong, AreCells, IsWrite, IsList, shape_of}
 use Rattle.cell_form.proofs.Slots.{slots-push}
-use Rattle.cell_form.proofs.Fitting.{cell-among}
 use Rattle.cell_form.proofs.Putting.{put-none, put-length, put-held, put-push}
 use Rattle.cell_form.proofs.Writing.{written-same, wrote-slots, wrote-shape}
 use Rattle.cell_form.proofs.Cycling.{value-at, values-length}
-use Rattle.cell_eval.specs.Holds.{Holds, widths_of}
+use Rattle.cell_eval.specs.Holds.{Holds}
 
 pub filled-none : (first : ℕ) (b : BankData) → b ≡ filled first [] b
 filled-none first b = ap (λ (xs : List ℕ). record { regs = b.regs; mems = b.mems; slots = xs }) (sym (put-none first b.slots))

@@ -1,6 +1,8 @@
 -- The operands of a cell behind others whose slots have their values.
-use Rattle.std.proofs.Common.{◌≡◌, ℕ, ◌+◌, ◌-◌, ◌^◌, ◌<◌, ◌≤◌, List, length, map, get_or, sym, ap, ◌∙◌, arith, subst}
-use Rattle.std.specs.Prelude.{slice_index}
+use Rattle.std.proofs.Common.{◌≡◌, ℕ, Bool, true, false, refl, ◌+◌, ◌-◌, ◌*◌, ◌/◌, ◌^◌, ◌<◌, ◌≤◌, List, length, map, get_or, sym, ap, ◌∙◌, arith, subst}
+use Rattle.std.specs.Prelude.{slice_index, if◌then◌else◌}
+use Rattle.std.proofs.Math.Pow.{pow_pos}
+use Rattle.std.proofs.lemmas.Nat.{pow-add, shr_high}
 use Rattle.std.proofs.lemmas.List.{length-map, get_or-map}
 use Rattle.cell_form.specs.declared.cell.Cell.{Cell}
 use Rattle.cell_form.specs.Data.{CellData, BankData}
@@ -62,3 +64,25 @@ operands-make first b earlier c cell =
     let e : map (λ (a : ℕ). slice_index (widths_of earlier) (a - first)) c.args ≡ map (λ (x : Slot). x.width) (operands first s c.args)
     = ap (λ (ws : List ℕ). map (λ (a : ℕ). slice_index ws (a - first)) c.args) (sym (slots-widths first b.regs b.mems earlier)) ∙ sym (operand-widths first s c.args) in
     subst M e cell.makes
+
+-- the operand that a condition chooses
+pub chosen : (t : Bool) (xs : List Slot) → (slot_at xs (if t then 2 else 1)).value ≡ (if t then (slot_at xs 2).value else (slot_at xs 1).value)
+chosen true xs = refl
+chosen false xs = refl
+
+parts : (a b n : ℕ) → 0 < b → 0 < a → a * b ≡ n → (a - 1) * b + (b - 1) ≡ n - 1
+parts a b n h k e =
+    let t : (a - 1) + 1 ≡ a = omega arith in
+    let all : ((a - 1) + 1) * b ≡ n = ap (λ x. x * b) t ∙ e in
+    omega (arith, all)
+
+-- as many ones as a width
+pub ones-shifted : (w : ℕ) → w ≤ 64 → 18446744073709551615 / 2 ^ (64 - w) ≡ 2 ^ w - 1
+ones-shifted w h =
+    let k : w + (64 - w) ≡ 64 = omega arith in
+    let p = pow_pos (64 - w) in
+    let q = pow_pos w in
+    let low : 2 ^ (64 - w) - 1 < 2 ^ (64 - w) = omega (arith, p) in
+    let whole : 2 ^ w * 2 ^ (64 - w) ≡ 18446744073709551616 = sym (pow-add 2 w (64 - w)) ∙ ap (λ n. 2 ^ n) k in
+    let split : (2 ^ w - 1) * 2 ^ (64 - w) + (2 ^ (64 - w) - 1) ≡ 18446744073709551615 = parts (2 ^ w) (2 ^ (64 - w)) 18446744073709551616 p q whole in
+    ap (λ n. n / 2 ^ (64 - w)) (sym split) ∙ shr_high (2 ^ w - 1) (64 - w) (2 ^ (64 - w) - 1) low

@@ -1,6 +1,6 @@
 //! The value of one cell.
 
-ghost use Rattle.std.specs.Prelude.{◌≡◌, ◌+◌, ◌<◌, ◌≤◌, ◌%◌, ◌^◌, map, length};
+ghost use Rattle.std.specs.Prelude.{◌≡◌, ◌+◌, ◌<◌, ◌≤◌, ◌%◌, ◌^◌, ◌==◌, if◌then◌else◌, map, length};
 ghost use Rattle.vl_base.specs.Selects.{appended};
 ghost use Rattle.cell_form.specs.Views.{cell_of, bank_of};
 ghost use Rattle.cell_form.specs.Sound.{IsCell, shape_of};
@@ -19,8 +19,20 @@ fn cut(value: u128, width: u8) -> u128
     requires narrow { width ≤ 128 }
     ensures { result ≡ value % 2 ^ width }
 {
+    if width <= 64 {
+        return narrow(value, width);
+    }
     let all = Bits { value, width: 128 };
     resize(all, false, width).value
+}
+
+/// The lowest bits of a number, up to 64 of them.
+fn narrow(value: u128, width: u8) -> u128
+    requires wide { 1 ≤ width }
+    requires narrow { width ≤ 64 }
+    ensures { result ≡ value % 2 ^ width }
+{
+    value & u128::from(u64::MAX >> (64 - width))
 }
 
 /// An operand of a cell, by its place among them.
@@ -36,6 +48,14 @@ fn operand(earlier: &[Cell], cell: &Cell, place: usize, first: u32, bank: &Bank)
         value: bank.slots[slot as usize],
         width: earlier[(slot - first) as usize].width,
     }
+}
+
+/// The place of the operand that a condition chooses. It is a number, so that no branch of the program hangs on values.
+fn branch(test: Bits) -> usize
+    ensures value { result ≡ (if test.value == 0 then 2 else 1) }
+    ensures below { result < 3 }
+{
+    if test.value == 0 { 2 } else { 1 }
 }
 
 /// The value of a cell behind earlier ones, whose slots have theirs.
@@ -54,11 +74,9 @@ pub(crate) fn value_of(earlier: &[Cell], cell: &Cell, first: u32, bank: &Bank) -
             binary(op, signed, left, right).value
         }
         CellOp::Mux => {
-            if operand(earlier, cell, 0, first, bank).value == 0 {
-                operand(earlier, cell, 2, first, bank).value
-            } else {
-                operand(earlier, cell, 1, first, bank).value
-            }
+            let test = operand(earlier, cell, 0, first, bank);
+            let place = branch(test);
+            operand(earlier, cell, place, first, bank).value
         }
         CellOp::Pick(from) => {
             let base = operand(earlier, cell, 0, first, bank);

@@ -1,4 +1,4 @@
-use Rattle.std.proofs.Common.{◌≡◌, ◌+◌, ◌<◌, ◌≤◌, ℕ, List, map, length, get_or, take, ap, sym, ◌∙◌, subst, arith}
+use Rattle.std.proofs.Common.{◌≡◌, ◌+◌, ◌<◌, ◌≤◌, List, map, length, get_or, take, ap, sym, ◌∙◌, subst, arith}
 use Rattle.std.proofs.lemmas.List.{get_or-map, length-map, take-map}
 use Rattle.cell_form.specs.Data.{CellData, BankData}
 use Rattle.cell_form.specs.Views.{cell_of, bank_of}

@@ -5,10 +5,13 @@ use Rattle.vl_design.specs.Plainly.{flat}
 use Rattle.vl_design.specs.Rows.{range_width}
 use Rattle.vl_design.specs.Sound.{IsSound, IsWidth}
 use Rattle.vl_turns.specs.Fits.{AreNoLoops}
+use Rattle.vl_checked.specs.Built.{IsBuilt}
 
--- the design is sound, no input of a function is a loop variable, and signals and locals have from 1 to 128 bits
+-- the design is sound, no input of a function is a loop variable, signals and locals have from 1 to 128 bits, and processes are
+-- as elaboration makes them
 pub record IsFit (d : Design) : Type 0 where
   pub sound : IsSound (flat d)
   pub inputs : All (λ f. AreNoLoops ((flat d).rows ++ f.locals) f.inputs) (flat d).funs
   pub signals : All (λ r. IsWidth (range_width r.left r.right)) d.signals
   pub locals : All (λ f. All (λ r. IsWidth (range_width r.left r.right)) f.locals) d.funcs
+  pub processes : All (IsBuilt d.signals) d.processes

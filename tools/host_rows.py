@@ -1,4 +1,5 @@
-"""Makes the input and the wanted output of crates/host_rows from the tables tools/host_rows.txt and tools/width_rows.txt."""
+"""Makes the input and the wanted output of crates/host_rows from the tables tools/host_rows.txt, tools/run_rows.txt and
+tools/width_rows.txt."""
 
 import sys
 
@@ -8,6 +9,7 @@ from flat_rows import MARK, TOOLS, TOP, marked, numbered, parted, text_of
 
 FOLDER = TOP / "crates" / "host_rows"
 USAGE = "usage: fabhost run SOURCE TICKS"
+LETTERS = "begin " + " ".join(f"msg[{i}] = {ord(c)};" for i, c in enumerate("Hello\n")) + " end"
 COUNTER = (TOP / "examples" / "counter.v").read_text().rstrip("\n")
 BLOCK = "module m(input wire k); reg [7:0] a; always @(posedge k) begin {} end endmodule"
 
@@ -53,6 +55,19 @@ def rows_of(head, rest):
     return [(["@ run m.v 3"], *refused(kind, source)) for source in sources]
 
 
+def run():
+    """Sources of many nets, and the examples that need many ticks."""
+    # each net is the one before it and 1, the last in the text first
+    nets = "\n".join(f"  assign w{i} = w{i - 1} + 1;" for i in range(999, 0, -1))
+    yield "run 3 budget", f"999\n1000\n1001\n\nmodule m(input wire k);\n  reg [15:0] x;\n  wire [15:0] {numbered('w', 1000)};\n{nets}\n  assign w0 = x;\n  always @(posedge k) begin $display(\"%0d\", w999); x <= x + 1; end\nendmodule"
+    # a chain through each bit of ten nets: a bit follows the one before it, and the first bit of a net the last of the net before it
+    bits = "\n".join(f"  assign w{i // 100}[{i % 100}] = w{(i - 1) // 100}[{(i - 1) % 100}];" for i in range(999, 0, -1))
+    yield "run 3 budget", f"0\n1\n0\n\nmodule m(input wire k);\n  reg a;\n  wire [99:0] {numbered('w', 10)};\n{bits}\n  assign w0[0] = a;\n  always @(posedge k) begin $display(\"%0d\", w9[99]); a <= !a; end\nendmodule"
+    yield "run 600 budget", f"8d3135aa\na5a002aa\n\n{text_of('file examples/lcg.v')}"
+    uart = text_of("file examples/uart.v").replace('$readmemh("hello.hex", msg);', LETTERS)
+    yield "run 600 finished 247", "Hello\n117 22 1 4 1\n\n" + uart
+
+
 def large():
     """Sources at limits, from both sides."""
     registers = numbered("r", 16384)
@@ -74,8 +89,8 @@ def large():
     yield "refused limit 9", leaf + top.replace("MARK", MARK).replace("MORE", "a = 7;")
 
 
-tables = [case for name in ("host_rows.txt", "width_rows.txt") for case in parted((TOOLS / name).read_text())]
-rows = [row for case in [*tables, *large()] for row in rows_of(*case)]
+tables = [case for name in ("host_rows.txt", "run_rows.txt", "width_rows.txt") for case in parted((TOOLS / name).read_text())]
+rows = [row for case in [*tables, *run(), *large()] for row in rows_of(*case)]
 shown = ["\n".join(head + [f"= {line}" for line in wanted]) + "\n" + source for head, wanted, source in rows]
 (FOLDER / "stdin").write_text("\n".join(shown) + "\n")
 (FOLDER / "stdout").write_text("ok\n" * len(shown))

@@ -30,7 +30,7 @@ use Rattle.cell_accept.specs.declared.fault.Fault.{Fault}
 use Rattle.cell_accept.specs.declared.fault.Fault.TheVariants as accept
 use Rattle.cell_accept.specs.Accepted.{IsAccepted, IsRefused}
 use Rattle.cell_accept.proofs.Once.{accepted-or-refused, refused-once}
-use Rattle.plain_form.specs.Running.{is_running}
+use Rattle.host_run.specs.Saving.{has_saves}
 use Rattle.host_run.specs.Report.{block, refusal, lexical, limit, syntax, construct, loop, notbuilt}
 use Rattle.host_run.specs.Due.{end_of, StandsFor, Reports, Refuses, fault, passed, unparsed, too_deep, too_long, misbuilt, outgrown, unfit, too_large, looped, unbuilt}
 
@@ -105,10 +105,10 @@ line_of (accept.Limit p n) = refusal p (limit n)
 line_of (accept.Loop p) = refusal p loop
 line_of accept.Memory = []
 
--- the design that runs, or the line of the first fault for which it isn't accepted, or that it isn't of the forms that run
+-- the design that runs, or the line of the first fault for which it isn't accepted, or that it asks for a snapshot
 data Judged (d : p.Design) (r : Result Flat (List ℕ)) : Type 0 where
-  runs : IsAccepted d → is_running d ≡ true → r ≡ Ok (plain.flat d) → Judged d r
-  rests : IsAccepted d → is_running d ≡ false → r ≡ Err notbuilt → Judged d r
+  runs : IsAccepted d → has_saves d ≡ false → r ≡ Ok (plain.flat d) → Judged d r
+  rests : IsAccepted d → has_saves d ≡ true → r ≡ Err notbuilt → Judged d r
   refused : (f : Fault) → IsRefused d f → r ≡ Err (line_of f) → Judged d r
 
 true-no-false : {X : Type 0} (b : Bool) → b ≡ true → b ≡ false → X
@@ -116,9 +116,9 @@ true-no-false b h k = absurd cc
 
 judged_once : (d : p.Design) (r q : Result Flat (List ℕ)) → Judged d r → Judged d q → r ≡ q
 judged_once d r q (runs a t e) (runs b u f) = e ∙ sym f
-judged_once d r q (runs a t e) (rests b u f) = true-no-false (is_running d) t u
+judged_once d r q (runs a t e) (rests b u f) = true-no-false (has_saves d) u t
 judged_once d r q (runs a t e) (refused g k f) = absurd (accepted-or-refused d g a k)
-judged_once d r q (rests a t e) (runs b u f) = true-no-false (is_running d) u t
+judged_once d r q (rests a t e) (runs b u f) = true-no-false (has_saves d) t u
 judged_once d r q (rests a t e) (rests b u f) = e ∙ sym f
 judged_once d r q (rests a t e) (refused g k f) = absurd (accepted-or-refused d g a k)
 judged_once d r q (refused g h e) (runs b u f) = absurd (accepted-or-refused d g b h)
@@ -192,7 +192,7 @@ answered_once text r q (built ts s h i b) (built us t k l c) =
 -- ---- of the definitions
 
 stands : (text : List ℕ) (d : Flat) → StandsFor text d → Answered text (Ok d)
-stands text d h = built h.tokens h.tree (tokens h.tokens h.read refl) (tree h.tree h.parsed refl) (flat h.flat h.elaborated (runs h.accepted h.running (ap Ok h.is)))
+stands text d h = built h.tokens h.tree (tokens h.tokens h.read refl) (tree h.tree h.parsed refl) (flat h.flat h.elaborated (runs h.accepted h.unsaved (ap Ok h.is)))
 
 refuses : (text line : List ℕ) → Refuses text line → Answered text (Err line)
 refuses text line (fault {place} {cause} h e) = unread line (misspelt place cause h (ap Err e)) refl

@@ -1,14 +1,10 @@
 -- What is answered to a source.
-use Rattle.std.specs.Prelude.{ℕ, List, [], ⊤, Result, Ok, Err}
+use Rattle.std.specs.Prelude.{ℕ, List, []}
 use Rattle.vl_tree.specs.declared.token.Token.{Token}
 use Rattle.vl_tree.specs.Faults.{IsRead}
 use Rattle.vl_source.specs.declared.tree.Source.{Source}
 use Rattle.vl_source.specs.Grammar.{ReadsSource}
 use Rattle.vl_source.specs.Faults.{limits}
-use Rattle.vl_design.specs.Placed.{Design}
-use Rattle.cell_accept.specs.declared.fault.Fault.{Fault}
-use Rattle.cell_accept.specs.declared.fault.Fault.TheVariants.{Memory}
-use Rattle.cell_accept.specs.Accepted.{IsAccepted, IsRefused}
 use Rattle.host_run.specs.declared.answer.Answer.{Answer}
 use Rattle.host_run.specs.declared.answer.Answer.TheVariants.{Report, Refusal}
 use Rattle.host_run.specs.Due.{Reports, Refuses}
@@ -23,9 +19,3 @@ pub record IsTreeOf (text : List ℕ) (tree : Source) : Type 0 where
   pub tokens : List Token
   pub read : IsRead text tokens
   pub parsed : ReadsSource (limits 0) tree tokens []
-
--- the design is accepted, or refused; want of memory says nothing
-abbrev pub IsVerdict : {T : Type 0} → Design → Result T Fault → Type 0
-IsVerdict d (Ok v) = IsAccepted d
-IsVerdict d (Err Memory) = ⊤
-IsVerdict d (Err f) = IsRefused d f

@@ -22,7 +22,7 @@ use Rattle.vl_design.specs.Plainly as plain
 use Rattle.vl_flatten.specs.Meeting.{IsElaboration}
 use Rattle.cell_accept.specs.declared.fault.Fault.TheVariants as accept
 use Rattle.cell_accept.specs.Accepted.{IsAccepted, IsRefused}
-use Rattle.plain_form.specs.Running.{is_running}
+use Rattle.host_run.specs.Saving.{has_saves}
 use Rattle.host_run.specs.Taking.{Takes}
 use Rattle.host_run.specs.Words.{command_of}
 use Rattle.host_run.specs.Report.{block, refusal, lexical, limit, syntax, construct, loop, notbuilt, usage, unread}
@@ -36,7 +36,7 @@ abbrev pub end_of : List ℕ → Place
 end_of text = place_after start text
 
 -- a source text stands for this design: its tokens are a source within the limits, the elaboration of its tree is a flat
--- design that is accepted and of the forms that run, and the design is that one without places
+-- design that is accepted and asks for no snapshot, and the design is that one without places
 pub record StandsFor (text : List ℕ) (design : Flat) : Type 0 where
   pub tokens : List Token
   pub tree : Source
@@ -45,7 +45,7 @@ pub record StandsFor (text : List ℕ) (design : Flat) : Type 0 where
   pub parsed : ReadsSource (limits 0) tree tokens []
   pub elaborated : IsElaboration tree (Ok flat)
   pub accepted : IsAccepted flat
-  pub running : is_running flat ≡ true
+  pub unsaved : has_saves flat ≡ false
   pub is : design ≡ plain.flat flat
 
 -- what the run alone of a source prints in at most this many ticks, and how it ends
@@ -60,7 +60,7 @@ pub record Reports (text : List ℕ) (budget : ℕ) (report : List ℕ) : Type 0
 
 -- the line by which a source is refused: its first lexical fault or limit; else the first syntax fault of its tokens, or
 -- limit 3 or 4; else it has tokens and a tree, and the first fault of its elaboration; else it has a flat design, and the first
--- fault for which that isn't accepted; else the flat design is not of the forms that run
+-- fault for which that isn't accepted; else the flat design asks for a snapshot
 pub data Refuses (text line : List ℕ) : Type 0 where
   fault : {place : Place} {cause : ℕ} → IsFirstFault text place cause → line ≡ refusal place (lexical cause) → Refuses text line
   passed : {place : Place} {number : ℕ} → IsFirstLimit text place number → line ≡ refusal place (limit number) → Refuses text line
@@ -78,7 +78,7 @@ pub data Refuses (text line : List ℕ) : Type 0 where
   looped : {tokens : List Token} {tree : Source} {flat : p.Design} {place : Place} → IsRead text tokens → ReadsSource (limits 0) tree tokens [] →
       IsElaboration tree (Ok flat) → IsRefused flat (accept.Loop place) → line ≡ refusal place loop → Refuses text line
   unbuilt : {tokens : List Token} {tree : Source} {flat : p.Design} → IsRead text tokens → ReadsSource (limits 0) tree tokens [] →
-      IsElaboration tree (Ok flat) → IsAccepted flat → is_running flat ≡ false → line ≡ notbuilt → Refuses text line
+      IsElaboration tree (Ok flat) → IsAccepted flat → has_saves flat ≡ true → line ≡ notbuilt → Refuses text line
 
 -- why a file was not read: the store's faults or absences rose, or the told file is absent or too long
 pub record Counts : Type 0 where

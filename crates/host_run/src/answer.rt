@@ -4,19 +4,17 @@ ghost use Rattle.std.specs.Prelude.{◌≡◌, ℕ, List, IfOk, Ok};
 ghost use Rattle.vl_tree.specs.Faults.{IsRead};
 ghost use Rattle.vl_source.specs.declared.tree.Source.{Source as Tree};
 ghost use Rattle.vl_design.specs.Seen.{placed};
-ghost use Rattle.vl_design.specs.Sound.{IsSound};
-ghost use Rattle.vl_design.specs.Trees.{flat_of};
 ghost use Rattle.vl_flatten.specs.Meeting.{IsElaboration};
 ghost use Rattle.vl_checked.specs.Fit.{IsFit};
-ghost use Rattle.cell_accept.specs.Accepted.{IsAccepted};
+ghost use Rattle.cell_accept.specs.Accepted.{Stands};
 ghost use Rattle.host_run.specs.Due.{end_of as end_of_lem};
-ghost use Rattle.host_run.specs.Answers.{IsAnswer, IsTreeOf, IsVerdict};
+ghost use Rattle.host_run.specs.Answers.{IsAnswer, IsTreeOf};
 
 use crate::end::end_of;
 use crate::report;
-use cell_accept::accept::accept;
+use crate::saving::has_saves;
+use cell_accept::accept::{Accepted, accept};
 use cell_accept::fault::Fault;
-use plain_form::form::runs;
 use plain_run::run::run;
 use std::alloc::{AllocError, Global};
 use vl_base::place::Place;
@@ -37,28 +35,22 @@ pub enum Answer {
     Refusal(Vec<u8>),
 }
 
-/// Whether a design is accepted: an error where it isn't.
-fn judge(alloc: Global, design: &Design) -> Result<(), Fault>
-    requires { IsFit (placed design.now) }
-    ensures { IsVerdict (placed design.now) result }
-{
-    match accept(alloc, design) {
-        Ok(_) => Ok(()),
-        Err(fault) => Err(fault),
-    }
-}
-
 /// The answer to an accepted design.
-fn answer_to_accepted(alloc: Global, design: &Design, ticks: u64) -> Result<Answer, AllocError>
-    requires sound { IsSound (flat_of design.now) }
-    requires accepted { IsAccepted (placed design.now) }
+fn answer_to_accepted(
+    alloc: Global,
+    design: &Design,
+    accepted: &Accepted,
+    ticks: u64,
+) -> Result<Answer, AllocError>
+    requires fit { IsFit (placed design.now) }
+    requires stands { Stands (placed design.now) accepted.now }
     ensures { IfOk result (λ a. (text : List ℕ) (tree : Tree) → IsTreeOf text tree → IsElaboration tree (Ok (placed design.now)) → IsAnswer text ticks a) }
 {
-    let is_running = runs(design);
-    if !is_running {
+    let saves = has_saves(alloc, design)?;
+    if saves {
         return Ok(Answer::Refusal(report::notbuilt(alloc)?));
     }
-    let outcome = run(alloc, design, ticks)?;
+    let outcome = run(alloc, &accepted.design, accepted.order.as_slice(), ticks)?;
     let block = report::block(
         alloc,
         outcome.end,
@@ -73,8 +65,8 @@ fn answer_to_design(alloc: Global, design: &Design, ticks: u64) -> Result<Answer
     requires { IsFit (placed design.now) }
     ensures { IfOk result (λ a. (text : List ℕ) (tree : Tree) → IsTreeOf text tree → IsElaboration tree (Ok (placed design.now)) → IsAnswer text ticks a) }
 {
-    match judge(alloc, design) {
-        Ok(()) => answer_to_accepted(alloc, design, ticks),
+    match accept(alloc, design) {
+        Ok(accepted) => answer_to_accepted(alloc, design, &accepted, ticks),
         Err(Fault::Construct(place, number)) => Ok(Answer::Refusal(report::construct(
             alloc, place, number,
         )?)),

@@ -8,4 +8,5 @@ pub mod laws;
 mod put;
 mod report;
 pub mod rows;
+mod saving;
 mod words;

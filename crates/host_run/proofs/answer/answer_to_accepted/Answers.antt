@@ -1,33 +1,35 @@
 use Rattle.std.proofs.Common.{refl, sym, ◌∙◌}
-use Rattle.vl_design.specs.Trees.{flat_of}
+use Rattle.vl_design.specs.Plainly as plain
 use Rattle.vl_design.specs.Seen.{placed}
 use Rattle.host_run.specs.Due.{unbuilt}
+use Rattle.host_run.proofs.Unrolled.{EndsAs, run-is, is-sound, is-checked, is-order}
 use Rattle.host_run.proofs.answer.answer_to_accepted.Goals as goal
 
-pub returns-then-not-is_running : goal.returns-then-not-is_running
-returns-then-not-is_running c = λ text tree is elaborated.
-    unbuilt is.read is.parsed elaborated c.requires.accepted (sym c.runs-is_running.ensures.same ∙ c.if-not-is_running.true) c.in_ok-notbuilt.ensures
+pub returns-then-saves : goal.returns-then-saves
+returns-then-saves c = λ text tree is elaborated.
+    unbuilt is.read is.parsed elaborated c.requires.stands.accepted (sym c.in_ok-saves.ensures ∙ c.if-saves.true) c.in_ok-notbuilt.ensures
 
 pub returns : goal.returns
 returns c = λ text tree is elaborated.
-    let d = c.args.design.now in
+    let d = placed c.args.design.now in
     let (q, ends, ticks, printed) = c.in_ok-outcome.ensures in
+    let e = run-is d c.requires.fit c.args.accepted.now c.requires.stands _ _ _ _ _ (record { last = q; ends = ends; ticks_are = ticks; printed_are = printed }) in
     record {
-      design = flat_of d;
+      design = plain.flat d;
       stands = record {
         tokens = is.tokens;
         tree = tree;
-        flat = placed d;
+        flat = d;
         read = is.read;
         parsed = is.parsed;
         elaborated = elaborated;
-        accepted = c.requires.accepted;
-        running = sym c.runs-is_running.ensures.same ∙ c.if-not-is_running.false;
+        accepted = c.requires.stands.accepted;
+        unsaved = sym c.in_ok-saves.ensures ∙ c.if-saves.false;
         is = refl;
       };
       tick = c.in_ok-outcome.outcome.ticks;
       reason = c.in_ok-outcome.outcome.end;
-      last = q;
-      ends = ends;
-      block = rw (ticks, printed, ← c.as_slice.ensures) c.in_ok-block.ensures;
+      last = e.last;
+      ends = e.ends;
+      block = rw (e.ticks_are, e.printed_are, ← c.as_slice.ensures) c.in_ok-block.ensures;
     }

@@ -17,8 +17,8 @@ returns-clause-design c = refl
 pub returns-clause-accepted : goal.returns-clause-accepted
 returns-clause-accepted c = counter-accepted
 
-pub returns-clause-running : goal.returns-clause-running
-returns-clause-running c = refl
+pub returns-clause-unsaved : goal.returns-clause-unsaved
+returns-clause-unsaved c = refl
 
 pub returns-clause-report : goal.returns-clause-report
 unfolding digits

@@ -20,7 +20,7 @@ use Rattle.vl_settle.proofs.Steady.{IsAccepted, IsSteady}
 use Rattle.vl_settle.proofs.Checks.{accepted}
 use Rattle.vl_settle.proofs.Calming.{IsBehind, Calming, calming}
 use Rattle.vl_settle.proofs.Reaching.{comes_steady}
-use Rattle.plain_run.specs.Runs.{over, IsAt, IsQuietAt, IsDone, StandsBehind, Passes, Reaches, RunsWave, SettlesAs}
+use Rattle.plain_run.specs.Runs.{over, IsAt, IsQuietAt, StandsBehind, Passes, Reaches, RunsWave, SettlesAs}
 use Rattle.plain_run.proofs.Bodies.{blocks-more, blocks-taken, blocks-passed}
 use Rattle.plain_run.proofs.Passing.{passes-finished}
 use Rattle.plain_run.proofs.Events.{next-block, next-end, next-update, calms-come, calms-precede}

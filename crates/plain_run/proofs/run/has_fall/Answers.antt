@@ -1,4 +1,4 @@
-use Rattle.std.proofs.Common.{◌≡◌, ap}
+use Rattle.std.proofs.Common.{ap}
 use Rattle.plain_run.proofs.Bodies.{any-fall, procs-are}
 use Rattle.plain_run.proofs.run.has_fall.Goals as goal
 

@@ -1,6 +1,6 @@
-use Rattle.std.proofs.Common.{◌≡◌, true, false, refl, sym, ap, ◌∙◌, map}
+use Rattle.std.proofs.Common.{◌≡◌, true, false, refl, sym, ◌∙◌}
 use Rattle.vl_design.specs.Functions.{scope_of}
-use Rattle.vl_design.specs.Trees.{flat_of, proc_of, stm_of}
+use Rattle.vl_design.specs.Trees.{flat_of, stm_of}
 use Rattle.vl_design.proofs.TreeLemmas.{procs-map}
 use Rattle.plain_run.specs.Runs.{is_of}
 use Rattle.plain_run.proofs.Bodies.{procs-are, sound-at, does-ticks}

@@ -1,118 +1,61 @@
--- Waves of plain designs.
-use Rattle.std.proofs.Common.{◌≡◌, ◌<◌, ◌≤◌, ◌+◌, ℕ, zero, suc, Bool, true, false, List, [], ◌∷◌, map, length, drop, get_or, refl, sym, ap, ◌∙◌, arith, subst}
-use Rattle.std.specs.Prelude.{Some, None, nat_lt, nat_le}
-use Rattle.std.specs.List.{AllByRecursion}
-use Rattle.std.proofs.lemmas.List.{at_drop_more}
-use Rattle.std.proofs.lemmas.Bool.{ltb-true, ltb-false, le-leb}
-use Rattle.std.proofs.lemmas.Bool.Decides.{nat_tests}
-use Rattle.std.proofs.lemmas.List.Elements.{recursion_from_All}
+-- Waves, and the nets and updates behind them.
+use Rattle.std.proofs.Common.{◌≡◌, ◌<◌, ◌+◌, ℕ, Bool, true, false, List, [], ◌∷◌, map, length, drop, get_or, Some, refl, sym, ap, ◌∙◌, subst}
 use Rattle.vl_base.specs.declared.files.File.{File}
-use Rattle.vl_design.specs.declared.design.Design.{Design}
 use Rattle.vl_design.specs.declared.design.Process.{Process}
 use Rattle.vl_design.specs.declared.design.ProcKind.{ProcKind}
-use Rattle.vl_design.specs.declared.design.ProcKind.TheVariants.{Init, Rise}
-use Rattle.vl_design.specs.declared.design.End.TheVariants.{Finished, Budget}
 use Rattle.vl_design.specs.Syntax.{Proc, Flat}
 use Rattle.vl_design.specs.State.{State, counted}
 use Rattle.vl_design.specs.Exec.{exec}
-use Rattle.vl_design.specs.Functions.{scope_of, fresh, zeros}
-use Rattle.vl_design.specs.Queue.{Queue, Phase, Wave, Ended, Updated, next, woken, first_pending, with_updates, is_comb, is_fall}
-use Rattle.vl_design.specs.Alone.{Settles, rests, goes, Boundary, begun, ticked, start, risen, blocks, all_comb, reason_at}
-use Rattle.vl_design.specs.Width.{Scope}
-use Rattle.vl_design.specs.Placed.{Process as PlacedProcess}
-use Rattle.vl_design.specs.Plainly as plain
-use Rattle.vl_design.specs.Seen.{placed}
-use Rattle.vl_design.specs.Trees.{stm_of, proc_of, flat_of}
-use Rattle.vl_design.proofs.Settling.{boundary_once}
+use Rattle.vl_design.specs.Functions.{scope_of}
+use Rattle.vl_design.specs.Queue.{Queue, Phase, Wave, Ended, Updated, next, executed, wave_ended, updates_done, with_updates}
+use Rattle.vl_design.specs.Alone.{Settles, blocks}
+use Rattle.vl_design.specs.Trees.{stm_of, proc_of}
 use Rattle.vl_run.specs.declared.machine.Machine.{Machine}
 use Rattle.vl_run.specs.Machines.{state_of, Does}
-use Rattle.plain_run.specs.Plain.{IsPlainProcKind, IsPlainProc, IsPlain}
-use Rattle.plain_run.specs.Runs.{over, queue_of, wave_of, Reaches, RunsWave, IsQuiet, SettlesAs, StandsAt, GoesOn}
-
--- ---- plain designs have no pending processes, and no waves of the fall
-
--- only initial blocks and blocks of the clock's rise
-abbrev pub AreBegun : List Proc → Type 0
-AreBegun ps = AllByRecursion (λ p. IsPlainProcKind p.kind) ps
-
-procs-begun : (ps : List PlacedProcess) → AllByRecursion IsPlainProc ps → AreBegun (map plain.proc ps)
-procs-begun [] h = tt
-procs-begun (a ∷ as') h = (h.0.kind, procs-begun as' h.1)
-
-pub begun-blocks : (x : Design) → IsPlain (placed x) → AreBegun (flat_of x).procs
-begun-blocks x h = procs-begun (placed x).processes (recursion_from_All IsPlainProc (placed x).processes h.processes)
-
-not-comb : (k : ProcKind) → IsPlainProcKind k → is_comb k ≡ false
-not-comb Init h = refl
-not-comb Rise h = refl
-not-comb k h = absurd h
-
-not-fall : (k : ProcKind) → IsPlainProcKind k → is_fall k ≡ false
-not-fall Init h = refl
-not-fall Rise h = refl
-not-fall k h = absurd h
-
-woken-none : (scope : Scope) (t : ℕ → Bool) (ps : List Proc) → AreBegun ps → woken scope t ps (all_comb ps) ≡ all_comb ps
-woken-none scope t [] h = refl
-woken-none scope t (x ∷ xs) h = rw (not-comb x.kind h.0, woken-none scope t xs h.1) refl
-
-first-none : (ps : List Proc) → AreBegun ps → first_pending ps (all_comb ps) ≡ None
-first-none [] h = refl
-first-none (p ∷ ps) h = rw (not-comb p.kind h.0) (first-none ps h.1)
-
-falls-none : (ps : List Proc) → AreBegun ps → blocks is_fall ps ≡ []
-falls-none [] h = refl
-falls-none (p ∷ ps) h = rw (not-fall p.kind h.0) (falls-none ps h.1)
-
--- ---- one event
-
--- the queue of a state, where nothing is pending and no wave is to come
-abbrev calm : Flat → Phase → State → Queue
-calm d phase s = record { state = s; phase = phase; ahead = []; pending = all_comb d.procs }
-
-next-block : (d : Flat) (files : List File) (b : Proc) (bs : List Proc) (s : State) → AreBegun d.procs → s.finished ≡ false
-    → next d files (calm d (Wave (b ∷ bs)) s) ≡ Some (calm d (Wave bs) (exec (scope_of d files) b.body s))
-next-block d files b bs s p f = rw (f, woken-none _ _ d.procs p) refl
-
-next-end : (d : Flat) (files : List File) (s : State) → s.finished ≡ false → next d files (calm d (Wave []) s) ≡ Some (calm d Ended (counted s))
-next-end d files s f = rw f refl
-
-next-update : (d : Flat) (files : List File) (s : State) → AreBegun d.procs → s.finished ≡ false → next d files (calm d Ended s) ≡ Some (calm d Updated (counted (with_updates d.rows s)))
-next-update d files s p f = rw (f, first-none d.procs p, woken-none _ _ d.procs p) refl
-
-next-none : (d : Flat) (files : List File) (s : State) → AreBegun d.procs → s.finished ≡ false → next d files (calm d Updated s) ≡ None
-next-none d files s p f = rw (f, first-none d.procs p) refl
-
-finished-none : (d : Flat) (files : List File) (q : Queue) → q.state.finished ≡ true → next d files q ≡ None
-finished-none d files q f = rw f refl
-
-calm-settles : (d : Flat) (files : List File) (s : State) → AreBegun d.procs → s.finished ≡ false → Settles d files (calm d (Wave []) s) (calm d Updated (counted (with_updates d.rows (counted s))))
-calm-settles d files s p f = goes (next-end d files s f) (goes (next-update d files (counted s) p f) (rests (next-none d files _ p f)))
-
--- ---- waves
-
--- the blocks of a wave in the rest of a list of processes
-blocks-more : (p : ProcKind → Bool) (xs : List Process) (i : ℕ) (x : Process) → i < length xs → x ≡ get_or xs i x → blocks p (map proc_of (drop i xs)) ≡ blocks p (map proc_of (x ∷ drop (i + 1) xs))
-blocks-more p xs i x h e = at_drop_more (λ ys. blocks p (map proc_of ys)) xs i x h ∙ ap (λ y. blocks p (map proc_of (y ∷ drop (i + 1) xs))) (sym e)
-
-blocks-taken : (p : ProcKind → Bool) (x : Proc) (xs : List Proc) → p x.kind ≡ true → blocks p (x ∷ xs) ≡ x ∷ blocks p xs
-blocks-taken p x xs h = rw h refl
-
-blocks-passed : (p : ProcKind → Bool) (x : Proc) (xs : List Proc) → p x.kind ≡ false → blocks p (x ∷ xs) ≡ blocks p xs
-blocks-passed p x xs h = rw h refl
+use Rattle.settling.specs.Nets.{pass}
+use Rattle.vl_settle.specs.Nets.{run}
+use Rattle.vl_settle.specs.Checked.{IsChecked, IsOrder}
+use Rattle.vl_settle.specs.Runs.{Comes, Calmed, with_values}
+use Rattle.vl_settle.proofs.Steady.{IsAccepted, IsSteady}
+use Rattle.vl_settle.proofs.Checks.{accepted}
+use Rattle.vl_settle.proofs.Calming.{IsBehind, Calming, calming}
+use Rattle.vl_settle.proofs.Reaching.{comes_steady}
+use Rattle.plain_run.specs.Runs.{over, IsAt, IsQuietAt, StandsBehind, Passes, Reaches, RunsWave, SettlesAs}
+use Rattle.plain_run.proofs.Bodies.{blocks-more, blocks-taken, blocks-passed}
+use Rattle.plain_run.proofs.Passing.{passes-finished}
+use Rattle.plain_run.proofs.Events.{next-block, next-end, next-update, calms-come, calms-precede}
 
 module _ (d : Flat) (files : List File) where
-  pub reaches-here : (bs : List Proc) (m : Machine) → Reaches d files bs m bs m
-  reaches-here bs m = record { leads = λ c. (c, λ q h. h) }
+  -- ---- one event
 
-  reaches-more : (from : List Proc) (m : Machine) (b : Proc) (bs : List Proc) (n n' : Machine) → AreBegun d.procs → n.finished ≡ false → Reaches d files from m (b ∷ bs) n → Does (scope_of d files) b.body n n' → Reaches d files from m bs n'
-  reaches-more from m b bs n n' p f h does = record {
-    leads = λ c.
-        let x = h.leads c in
-        let y = does.leads x.0 in
-        let e : next d files (queue_of d (Wave (b ∷ bs)) n x.0) ≡ Some (queue_of d (Wave bs) n' y.0) =
-        next-block d files b bs (state_of n x.0) p f ∙ ap (λ (s : State). Some (calm d (Wave bs) s)) y.1 in
-        (y.0, λ q s. x.1 q (goes e s));
+  pub alive-at : (first : Queue) (P : Queue → Type 0) (m : Machine) → (x : StandsBehind d files first P m) → m.finished ≡ false → x.queue.state.finished ≡ false
+  alive-at first P m x f = ap {A = State} {B = Bool} (λ s. s.finished) (x.state) ∙ f
+
+  pub by-event : (first : Queue) (P Q : Queue → Type 0) (m n : Machine) (c : ℕ) (r : Queue) (x : StandsBehind d files first P m) →
+      next d files x.queue ≡ Some r → r.state ≡ state_of n c → Q r → StandsBehind d files first Q n
+  by-event first P Q m n c r x e s h = record {
+    queue = r;
+    count = c;
+    state = s;
+    there = h;
+    comes = Comes.goes x.comes e;
+    leads = λ q t. x.leads q (Settles.goes e t);
+  }
+
+  -- ---- blocks
+
+  pub reaches-here : (bs : List Proc) (m : Machine) → Reaches d files bs m bs m
+  reaches-here bs m = record { leads = λ first waves x. x }
+
+  reaches-more : (from : List Proc) (m : Machine) (b : Proc) (bs : List Proc) (n o : Machine) → n.finished ≡ false → Reaches d files from m (b ∷ bs) n → Does (scope_of d files) b.body n o → Reaches d files from m bs o
+  reaches-more from m b bs n o f h does = record {
+    leads = λ first waves y.
+        let x : StandsBehind d files first (IsAt (Wave (b ∷ bs)) waves) n = h.leads first waves y in
+        let z = does.leads x.count in
+        let at : IsAt (Wave (b ∷ bs)) waves x.queue = x.there in
+        let state : exec (scope_of d files) b.body x.queue.state ≡ state_of o z.0 = ap {A = State} {B = State} (exec (scope_of d files) b.body) (x.state) ∙ z.1 in
+        by-event first (IsAt (Wave (b ∷ bs)) waves) (IsAt (Wave bs) waves) n o z.0 (executed d files x.queue b bs) x
+        (next-block d files x.queue b bs (alive-at first (IsAt (Wave (b ∷ bs)) waves) n x f) at.phase) state (record { phase = refl; ahead = at.ahead });
   }
 
   -- a process that doesn't belong to the wave is passed over
@@ -123,78 +66,81 @@ module _ (d : Flat) (files : List File) where
       subst (λ (w : List Proc). Reaches d files from m w n) same l
 
   -- one that belongs to it is run
-  pub wave-run : (t : ProcKind → Bool) (xs : List Process) (i : ℕ) (x : Process) (from : List Proc) (m n n' : Machine) → AreBegun d.procs → n.finished ≡ false → i < length xs → x ≡ get_or xs i x → t x.kind ≡ true
-      → Reaches d files from m (blocks t (map proc_of (drop i xs))) n → Does (scope_of d files) (stm_of x.path x.body) n n' → Reaches d files from m (blocks t (map proc_of (drop (i + 1) xs))) n'
-  wave-run t xs i x from m n n' p go h e is l does =
+  pub wave-run : (t : ProcKind → Bool) (xs : List Process) (i : ℕ) (x : Process) (from : List Proc) (m n o : Machine) → n.finished ≡ false → i < length xs → x ≡ get_or xs i x → t x.kind ≡ true
+      → Reaches d files from m (blocks t (map proc_of (drop i xs))) n → Does (scope_of d files) (stm_of x.path x.body) n o → Reaches d files from m (blocks t (map proc_of (drop (i + 1) xs))) o
+  wave-run t xs i x from m n o go h e is l does =
       let same = blocks-more t xs i x h e ∙ blocks-taken t (proc_of x) (map proc_of (drop (i + 1) xs)) is in
       let here = subst (λ (w : List Proc). Reaches d files from m w n) same l in
-      reaches-more from m _ _ n n' p go here does
+      reaches-more from m _ _ n o go here does
 
-  -- a wave that is over settles with the updates made
-  pub settles-updated : (from : List Proc) (m n n' : Machine) → AreBegun d.procs → n.finished ≡ false → RunsWave d files from m n → ((c : ℕ) → with_updates d.rows (state_of n c) ≡ state_of n' c) → SettlesAs d files from m n'
-  settles-updated from m n n' p f w u = record {
-    leads = λ c.
-        let x = w.reaches.leads c in
-        let e : counted (with_updates d.rows (counted (state_of n x.0))) ≡ state_of n' (x.0 + 1 + 1) = ap counted (u (x.0 + 1)) in
-        let ends : Settles d files (queue_of d (Wave []) n x.0) (queue_of d Updated n' (x.0 + 1 + 1)) =
-        subst (λ (s : State). Settles d files (queue_of d (Wave []) n x.0) (calm d Updated s)) e (calm-settles d files (state_of n x.0) p f) in
-        let here = subst (λ (bs : List Proc). Settles d files (queue_of d (Wave bs) n x.0) (queue_of d Updated n' (x.0 + 1 + 1))) (sym (w.over f)) ends in
-        (queue_of d Updated n' (x.0 + 1 + 1), x.1 _ here, record { count = x.0 + 1 + 1; state = refl; quiet = λ _. refl });
+  -- ---- behind a wave
+
+  ends : (first : Queue) (waves : List (List Proc)) (m : Machine) → m.finished ≡ false → StandsBehind d files first (IsAt (Wave []) waves) m → StandsBehind d files first (IsAt Ended waves) m
+  ends first waves m f x =
+      let at : IsAt (Wave []) waves x.queue = x.there in
+      by-event first (IsAt (Wave []) waves) (IsAt Ended waves) m m (x.count + 1) (wave_ended x.queue) x
+      (next-end d files x.queue (alive-at first (IsAt (Wave []) waves) m x f) at.phase) (ap {A = State} {B = State} counted (x.state)) (record { phase = refl; ahead = at.ahead })
+
+  updates : (first : Queue) (waves : List (List Proc)) (m n : Machine) → m.finished ≡ false → ((c : ℕ) → with_updates d.rows (state_of m c) ≡ state_of n c) →
+      StandsBehind d files first (IsQuietAt d Ended waves) m → StandsBehind d files first (IsAt Updated waves) n
+  updates first waves m n f u x =
+      let at : IsQuietAt d Ended waves x.queue = x.there in
+      let state : counted (with_updates d.rows x.queue.state) ≡ state_of n (x.count + 1) =
+      ap {A = State} {B = State} (λ s. counted (with_updates d.rows s)) (x.state) ∙ ap {A = State} {B = State} counted (u x.count) in
+      by-event first (IsQuietAt d Ended waves) (IsAt Updated waves) m n (x.count + 1) (updates_done d files x.queue) x
+      (next-update d files x.queue waves (alive-at first (IsQuietAt d Ended waves) m x f) at) state (record { phase = refl; ahead = at.place.ahead })
+
+  -- evaluations lead to the machine behind a pass
+  calms : (order : List ℕ) → IsChecked d → IsOrder d order → (first : Queue) (at : Phase) (waves : List (List Proc)) (m n : Machine) → IsBehind at → m.finished ≡ false → Passes d files order m n →
+      StandsBehind d files first (IsAt at waves) m → StandsBehind d files first (IsQuietAt d at waves) n
+  calms order checked ord first at waves m n b f p x =
+      let there : IsAt at waves x.queue = x.there in
+      let alive : x.queue.state.finished ≡ false = alive-at first (IsAt at waves) m x f in
+      let acc : IsAccepted d = accepted d checked in
+      let steady : IsSteady d files x.queue = comes_steady (over d files 0) acc order ord tt x.comes alive in
+      let r : Calming d files acc order ord x.queue = calming d files acc order ord x.queue alive steady.ready in
+      let c : Calmed d files x.queue = r.calmed in
+      let behind : IsBehind x.queue.phase = subst IsBehind (sym there.phase) b in
+      let values : c.values ≡ pass (run d files x.queue.state) order x.queue.state.values = r.pass in
+      let state : (with_values x.queue c.values c.pending).state ≡ state_of n x.count =
+      ap {A = List (List ℕ)} {B = State} (λ v. record (x.queue.state) { values = v }) values
+      ∙ ap {A = State} {B = State} (λ s. record s { values = pass (run d files s) order s.values }) (x.state)
+      ∙ sym (p x.count) in
+      record {
+        queue = with_values x.queue c.values c.pending;
+        count = x.count;
+        state = state;
+        there = record { place = record { phase = there.phase; ahead = there.ahead }; none = c.calm.none };
+        comes = calms-come d files c.calms alive behind x.comes;
+        leads = λ q s. x.leads q (calms-precede d files c.calms alive behind q s);
+      }
+
+  -- the nets, the update, and the nets again
+  pub all-updated : (order : List ℕ) → IsChecked d → IsOrder d order → (m n o p : Machine) → m.finished ≡ false → Passes d files order m n →
+      ((c : ℕ) → with_updates d.rows (state_of n c) ≡ state_of o c) → Passes d files order o p → SettlesAs d files [] m p
+  all-updated order checked ord m n o p f before u behind =
+      let g : n.finished ≡ false = passes-finished d files order m n before ∙ f in
+      let h : o.finished ≡ false = sym (ap {A = State} {B = Bool} (λ s. s.finished) (u 0)) ∙ g in
+      record {
+        leads = λ first waves x.
+            let y = calms order checked ord first Ended waves m n tt f before (ends first waves m f x) in
+            let z = calms order checked ord first Updated waves o p tt h behind (updates first waves n o g u y) in
+            record { queue = z.queue; count = z.count; state = z.state; there = λ _. z.there; comes = z.comes; leads = z.leads };
+      }
+
+  -- ---- a wave and its update
+
+  pub settles-updated : (from : List Proc) (m n o : Machine) → n.finished ≡ false → RunsWave d files from m n → SettlesAs d files [] n o → SettlesAs d files from m o
+  settles-updated from m n o f w u = record {
+    leads = λ first waves x.
+        let y = subst (λ (left : List Proc). StandsBehind d files first (IsAt (Wave left) waves) n) (w.over f) (w.reaches.leads first waves x) in
+        u.leads first waves y;
   }
 
   -- one that comes to a `$finish` settles there
   pub settles-finished : (from : List Proc) (m n : Machine) → n.finished ≡ true → RunsWave d files from m n → SettlesAs d files from m n
   settles-finished from m n f w = record {
-    leads = λ c.
-        let x = w.reaches.leads c in
-        let q = queue_of d (Wave w.left) n x.0 in
-        (q, x.1 q (rests (finished-none d files q f)), record { count = x.0; state = refl; quiet = λ g. cc });
+    leads = λ first waves x.
+        let y = w.reaches.leads first waves x in
+        record { queue = y.queue; count = y.count; state = y.state; there = λ g. (let z : ⊥ = cc in absurd z); comes = y.comes; leads = y.leads };
   }
-
--- ---- boundaries
-
--- the clock rises
-rises : (d : Flat) (m r : Machine) (c : ℕ) → AreBegun d.procs → m.finished ≡ false → state_of r c ≡ record (state_of m c) { ticks = m.ticks + 1; saves = [] }
-    → risen d (queue_of d Updated m c) ≡ queue_of d (Wave (wave_of d Rise)) r c
-rises d m r c p f e = let same = rw f at e in rw (f, falls-none d.procs p) (ap (λ (s : State). calm d (Wave (wave_of d Rise)) s) (sym same))
-
-module _ (d : Flat) (files : List File) (budget : ℕ) where
-  pub ticked-once : (k : ℕ) (m r n : Machine) → AreBegun d.procs → m.finished ≡ false → ((c : ℕ) → state_of r c ≡ record (state_of m c) { ticks = m.ticks + 1; saves = [] })
-      → SettlesAs d files (wave_of d Rise) r n → StandsAt d files budget k m → StandsAt d files budget (suc k) n
-  ticked-once k m r n p f e h (q, b, quiet) =
-      let x = h.leads quiet.count in
-      let up : risen d q ≡ queue_of d (Wave (wave_of d Rise)) r quiet.count = ap (risen d) (quiet.quiet f) ∙ rises d m r quiet.count p f (e quiet.count) in
-      (x.0, ticked b (subst (λ (a : Queue). Settles d files a x.0) (sym up) x.1), x.2)
-
-  -- time zero
-  pub stands-zero : (m n : Machine) → state_of m 0 ≡ fresh (zeros d.rows) → SettlesAs d files (wave_of d Init) m n → StandsAt d files budget zero n
-  stands-zero m n e h =
-      let x = h.leads 0 in
-      let same : queue_of d (Wave (wave_of d Init)) m 0 ≡ start d = ap (λ (s : State). calm d (Wave (wave_of d Init)) s) e in
-      (x.0, begun refl (subst (λ (a : Queue). Settles d files a x.0) same x.1), x.2)
-
-  pub goes-on-zero : GoesOn d files budget zero
-  goes-on-zero = λ j b h at. absurd (omega arith)
-
-  -- a boundary that has no reason to end
-  pub goes-more : (k : ℕ) (m : Machine) → m.finished ≡ false → k < budget → StandsAt d files budget k m → GoesOn d files budget k → GoesOn d files budget (k + 1)
-  goes-more k m f lt (q, b, quiet) before = λ j c h at. go j c (nat_lt j k) refl h at
-    where
-      go : (j : ℕ) (c : Queue) (t : Bool) → nat_lt j k ≡ t → j < k + 1 → Boundary (over d files budget) j c → reason_at (over d files budget).plan j c ≡ None
-      go j c true e h at = before j c (ltb-true j k e) at
-      go j c false e h at =
-          let past : k ≤ j = ltb-false j k e in
-          let same : j ≡ k = omega arith in
-          let here : c ≡ q = boundary_once (subst (λ i. Boundary (over d files budget) i c) same at) b in
-          let on : c.state.finished ≡ false = rw (here, quiet.state) f in
-          let left : nat_le budget j ≡ false = grind (arith, nat_tests) in
-          rw (on, left) refl
-
-  pub finished-reason : (k : ℕ) (q : Queue) (m : Machine) → IsQuiet d q m → m.finished ≡ true → reason_at (over d files budget).plan k q ≡ Some Finished
-  finished-reason k q m h f = let g : q.state.finished ≡ true = rw (h.state) f in rw g refl
-
-  pub spent-reason : (k : ℕ) (q : Queue) (m : Machine) → IsQuiet d q m → m.finished ≡ false → budget ≤ k → reason_at (over d files budget).plan k q ≡ Some Budget
-  spent-reason k q m h f le =
-      let g : q.state.finished ≡ false = rw (h.state) f in
-      let spent : nat_le budget k ≡ true = le-leb budget k le in
-      rw (g, spent) refl

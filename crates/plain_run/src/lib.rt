@@ -1,4 +1,6 @@
-//! The runner: it does the events of the queue on a design of the plain forms, one after another.
+//! The runner: it does the events of the queue on a checked design, one after another.
 #![tactic(auto)]
 
+mod nets;
 pub mod run;
+mod wave;

@@ -4,7 +4,7 @@ use Rattle.vl_design.specs.Trees.{proc_of, flat_of}
 use Rattle.vl_design.specs.Width.{names_of}
 use Rattle.vl_run.specs.Machines.{IsMachine}
 use Rattle.plain_run.specs.Runs.{is_of, wave_of, Reaches}
-use Rattle.plain_run.proofs.run.run_wave.Given as goal
+use Rattle.plain_run.proofs.wave.run_wave.Given as goal
 
 -- the wave has come so far that the blocks of the rest are left
 abbrev pub invariant-loop-process : goal.invariant-loop-process

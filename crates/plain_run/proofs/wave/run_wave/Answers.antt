@@ -1,12 +1,12 @@
-use Rattle.std.proofs.Common.{◌≡◌, true, false, refl, sym, ap, ◌∙◌, map}
+use Rattle.std.proofs.Common.{◌≡◌, true, false, refl, sym, ◌∙◌}
 use Rattle.vl_design.specs.Functions.{scope_of}
-use Rattle.vl_design.specs.Trees.{flat_of, proc_of, stm_of}
+use Rattle.vl_design.specs.Trees.{flat_of, stm_of}
 use Rattle.vl_design.proofs.TreeLemmas.{procs-map}
 use Rattle.plain_run.specs.Runs.{is_of}
-use Rattle.plain_run.proofs.Bodies.{sound-at, does-ticks}
-use Rattle.plain_run.proofs.Waves.{reaches-here, wave-passed, wave-run, begun-blocks}
-use Rattle.plain_run.proofs.run.run_wave.Goals as goal
-use Rattle.plain_run.proofs.run.run_wave.Goals.{then-belongs+in_ok-exec_process, else-belongs}
+use Rattle.plain_run.proofs.Bodies.{procs-are, sound-at, does-ticks}
+use Rattle.plain_run.proofs.Waves.{reaches-here, wave-passed, wave-run}
+use Rattle.plain_run.proofs.wave.run_wave.Goals as goal
+use Rattle.plain_run.proofs.wave.run_wave.Goals.{then-belongs+in_ok-exec_process, else-belongs}
 
 pub loop-process-init : goal.loop-process-init
 loop-process-init c = record {
@@ -18,10 +18,8 @@ loop-process-init c = record {
 pub exec_process-requires-clause-sound : goal.exec_process-requires-clause-sound
 exec_process-requires-clause-sound c =
     let xs = c.as_slice-process-items.result.now in
-    let d = flat_of c.args.design.now in
-    let procs : d.procs ≡ map proc_of xs = procs-map c.args.design.now.processes ∙ ap (map proc_of) (sym c.as_slice-process-items.ensures) in
     rw c.as_slice.ensures
-    (sound-at d xs c.loop-process.process-index c.process-item.result c.requires.sound procs c.loop-process-test.true c.process-item.is)
+    (sound-at (flat_of c.args.design.now) xs c.loop-process.process-index c.process-item.result c.requires.sound (procs-are c.args.design.now xs c.as_slice-process-items.ensures) c.loop-process-test.true c.process-item.is)
 
 pub loop-process-preserved : goal.loop-process-preserved
 loop-process-preserved c =
@@ -39,7 +37,7 @@ loop-process-preserved c =
           record {
             machine = rw w.m-is done.machine;
             ticks = rw w.m-is (ticks ∙ l.ticks);
-            reaches = rw w.m-is (wave-run d files (is_of c.args.wave) xs i x _ _ c.loop-process.m _ (begun-blocks c.args.design.now c.requires.plain) c.if-m.false c.loop-process-test.true c.process-item.is at l.reaches done.does);
+            reaches = rw w.m-is (wave-run d files (is_of c.args.wave) xs i x _ _ c.loop-process.m _ c.if-m.false c.loop-process-test.true c.process-item.is at l.reaches done.does);
           }
       | else-belongs w ↦
           let at : is_of c.args.wave x.kind ≡ false = sym c.belongs.ensures ∙ w.if-belongs.false in

@@ -8,7 +8,7 @@ use Rattle.vl_design.specs.Trees.{flat_of}
 use Rattle.vl_design.specs.Width.{Names, names_of}
 use Rattle.vl_assign.specs.Updates.{update_of}
 use Rattle.vl_run.proofs.Assigning.{updates-fine}
-use Rattle.plain_run.proofs.run.update.Goals as goal
+use Rattle.plain_run.proofs.wave.update.Goals as goal
 
 pub write_all-requires-clause-named : goal.write_all-requires-clause-named
 write_all-requires-clause-named c =

@@ -63,6 +63,7 @@ def run():
     # a chain through each bit of ten nets: a bit follows the one before it, and the first bit of a net the last of the net before it
     bits = "\n".join(f"  assign w{i // 100}[{i % 100}] = w{(i - 1) // 100}[{(i - 1) % 100}];" for i in range(999, 0, -1))
     yield "run 3 budget", f"0\n1\n0\n\nmodule m(input wire k);\n  reg a;\n  wire [99:0] {numbered('w', 10)};\n{bits}\n  assign w0[0] = a;\n  always @(posedge k) begin $display(\"%0d\", w9[99]); a <= !a; end\nendmodule"
+    yield "run 3 budget", f"3 + 9 = 12\n8 + 6 = 14\n13 + 3 = 16\n\n{text_of('file examples/adder.v')}"
     yield "run 600 budget", f"8d3135aa\na5a002aa\n\n{text_of('file examples/lcg.v')}"
     uart = text_of("file examples/uart.v").replace('$readmemh("hello.hex", msg);', LETTERS)
     yield "run 600 finished 247", "Hello\n117 22 1 4 1\n\n" + uart

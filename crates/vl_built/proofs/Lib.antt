@@ -1,0 +1,11 @@
+pub mod Allowed
+pub mod Done
+pub mod Leaves
+pub mod Made
+pub mod Parts
+pub mod Quiet
+pub mod Sides
+pub mod Statements
+pub mod Texts
+pub mod Variables
+pub mod Walk

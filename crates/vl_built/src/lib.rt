@@ -1,0 +1,2 @@
+//! What elaboration makes of processes: laws of their definitions.
+#![tactic(auto)]

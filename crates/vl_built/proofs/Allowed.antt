@@ -31,7 +31,7 @@ use Rattle.vl_named.proofs.Opens.{selects_before, held, given, named-opens, argu
 use Rattle.vl_named.proofs.Loading.{sole-is, system-loads}
 use Rattle.vl_named.proofs.Sides.{Loads, loads-none}
 use Rattle.vl_named.proofs.Fitting.{class_of, IsFine, Means}
-use Rattle.vl_built.proofs.Leaves.{Leaf, Name, Call, System, is_time, is_fill, IsPlain, IsParameter, IsBareParameter, IsFixed, IsStored, IsFilled, IsOnFiles, IsCall}
+use Rattle.vl_built.proofs.Leaves.{System, is_time, is_fill, IsPlain, IsParameter, IsBareParameter, IsFixed, IsStored, IsFilled, IsOnFiles, IsCall}
 use Rattle.vl_built.proofs.Walk.{NameFits, CallFits, PartFits, Suits}
 
 untrue : (b : Bool) → not b ≡ false → b ≡ true

@@ -134,21 +134,22 @@ module _ (k : Classes) where
       AreLefts (x.MoreLefts l ls) = IsLeft l × AreLefts ls
 
     abbrev mutual
-      pub IsDone : x.Statement → Type 0
-      IsDone (x.Null at) = ⊤
-      IsDone (x.Block at as') = AreDone as'
-      IsDone (x.If at t a b) = IsTest t × IsDone a × IsDone b
-      IsDone (x.Case at wild e items) = Has (IsPlain timed) e × AreItemsDone items
-      IsDone (x.For at l e t l' e' a) = IsLeft l × IsSide e × Has (IsPlain timed) t × IsLeft l' × IsSide e' × IsDone a
-      IsDone (x.Repeat at n a) = IsDone a
-      IsDone (x.Assign at blocking l e) = IsLeft l × IsSide e
-      IsDone (x.Task at name given) = IsTask timed name given
+      -- a statement of a process: it assigns variables and memories, and asks for the time only where it may
+      pub IsBody : x.Statement → Type 0
+      IsBody (x.Null at) = ⊤
+      IsBody (x.Block at as') = AreBodies as'
+      IsBody (x.If at t a b) = IsTest t × IsBody a × IsBody b
+      IsBody (x.Case at wild e items) = Has (IsPlain timed) e × HaveBodies items
+      IsBody (x.For at l e t l' e' a) = IsLeft l × IsSide e × Has (IsPlain timed) t × IsLeft l' × IsSide e' × IsBody a
+      IsBody (x.Repeat at n a) = IsBody a
+      IsBody (x.Assign at blocking l e) = IsLeft l × IsSide e
+      IsBody (x.Task at name given) = IsTask timed name given
 
-      pub AreDone : x.Statements → Type 0
-      AreDone x.NoStatements = ⊤
-      AreDone (x.MoreStatements a as') = IsDone a × AreDone as'
+      pub AreBodies : x.Statements → Type 0
+      AreBodies x.NoStatements = ⊤
+      AreBodies (x.MoreStatements a as') = IsBody a × AreBodies as'
 
-      pub AreItemsDone : x.CaseItems → Type 0
-      AreItemsDone x.NoItems = ⊤
-      AreItemsDone (x.Labelled es a others) = ExsHave (IsPlain timed) es × IsDone a × AreItemsDone others
-      AreItemsDone (x.Default a others) = IsDone a × AreItemsDone others
+      pub HaveBodies : x.CaseItems → Type 0
+      HaveBodies x.NoItems = ⊤
+      HaveBodies (x.Labelled es a others) = ExsHave (IsPlain timed) es × IsBody a × HaveBodies others
+      HaveBodies (x.Default a others) = IsBody a × HaveBodies others

@@ -40,11 +40,11 @@ use Rattle.vl_flat.specs.Items as x
 use Rattle.vl_flat.specs.Declarations as d
 use Rattle.vl_flat.specs.Declarations.{module'}
 use Rattle.vl_used.specs.Used.{Classes, classes}
-use Rattle.vl_named.proofs.Expressions.{Every, lefts-so, rights-so}
+use Rattle.vl_named.proofs.Expressions.{Every, rights-so}
 use Rattle.vl_named.proofs.Fitting.{IsFine, Means}
 use Rattle.vl_named.proofs.Meanings.{module-means}
 use Rattle.vl_named.proofs.Types.{each-same, each-used}
-use Rattle.vl_built.proofs.Leaves.{Has, LeftHas, ValueHas, IsPlain, IsFixed, IsSide, IsDone}
+use Rattle.vl_built.proofs.Leaves.{Has, LeftHas, ValueHas, IsPlain, IsFixed, IsSide, IsBody}
 use Rattle.vl_built.proofs.Sides.{side-has, fine-has, right-side-so}
 use Rattle.vl_built.proofs.Statements.{continuous-so, statement-so}
 
@@ -69,8 +69,8 @@ module _ (k : Classes) where
   IsMadeItem (x.Parameters type ps) = ⊤
   IsMadeItem (x.Signals ds) = All (λ (y : x.Declared). IsMadeOwn y.variable y.value) ds
   IsMadeItem (x.Assigns as') = All IsMadeSetting as'
-  IsMadeItem (x.Initial at a) = IsDone k true a
-  IsMadeItem (x.Always at trigger a) = IsDone k (n.is_clocked trigger) a
+  IsMadeItem (x.Initial at a) = IsBody k true a
+  IsMadeItem (x.Always at trigger a) = IsBody k (n.is_clocked trigger) a
   IsMadeItem (x.Functions f) = ⊤
   IsMadeItem (x.Instantiates us) = All IsMadeUnit us.units
 
@@ -127,11 +127,11 @@ module _ (m : Meanings) (k : Classes) (means : Means m k) (count : ℕ) where
       let r = continuous-so m k means st a w in
       record { fixed = r.0; plain = r.1; value = side-has k false (ex a.value) refl r.2 }
 
-  always-made : (trigger : Trigger) (a : Statement) → Every P (n.always_nodes st trigger a) → IsDone k (n.is_clocked trigger) (statement a)
+  always-made : (trigger : Trigger) (a : Statement) → Every P (n.always_nodes st trigger a) → IsBody k (n.is_clocked trigger) (statement a)
   unfolding n.always_nodes
   always-made trigger a w =
       let inside : Setting = if n.is_clocked trigger then timely st else st in
-      subst (λ t. IsDone k t (statement a)) (timed-is (n.is_clocked trigger)) (statement-so m k means inside a (rights-so P (n.trigger_nodes st trigger) (n.statement_nodes inside a) w))
+      subst (λ t. IsBody k t (statement a)) (timed-is (n.is_clocked trigger)) (statement-so m k means inside a (rights-so P (n.trigger_nodes st trigger) (n.statement_nodes inside a) w))
     where
       timed-is : (b : Bool) → (if b then timely st else st).timed ≡ b
       timed-is true = refl

@@ -1,6 +1,6 @@
 -- Expressions and left sides in a design: where their leaves are plain, nothing is assigned in them, and only where it may be
 -- asked for the time is it asked for.
-use Rattle.std.proofs.Common.{◌≡◌, ℕ, ℤ, Bool, true, false, true≢false, if◌then◌else◌, ⊎_elim, inl, inr, List, [], ◌∷◌, ◌++◌, Option, Some, None, refl, sym, ap, ◌∙◌, subst}
+use Rattle.std.proofs.Common.{◌≡◌, ℕ, ℤ, Bool, true, false, true≢false, if◌then◌else◌, List, [], ◌∷◌, ◌++◌, Option, Some, None, refl, sym, ◌∙◌, subst}
 use Rattle.std.specs.Prelude.{⊤, ◌||◌, fold, codes}
 use Rattle.std.specs.List.{list_any}
 use Rattle.std.specs.Str.{bytes_eq}
@@ -14,7 +14,7 @@ use Rattle.vl_design.specs.Reads.{is_timed}
 use Rattle.vl_design.specs.Placed as p
 use Rattle.vl_design.specs.Plainly as plain
 use Rattle.vl_design.proofs.Resting.{or_none}
-use Rattle.vl_sites.specs.Sites.{Site, exp_sites, exps_sites, args_sites, target_sites, targets_sites}
+use Rattle.vl_sites.specs.Sites.{Site, exp_sites, exps_sites, args_sites, target_sites}
 use Rattle.vl_check.specs.Rules.{sets}
 use Rattle.vl_flat.specs.declared.binding.Binding.{Binding}
 use Rattle.vl_flat.specs.declared.binding.Binding.TheVariants as b

@@ -1,5 +1,5 @@
 -- Right sides, conditions and labels whose parts have no fault: a system call may be the whole of one.
-use Rattle.std.proofs.Common.{◌≡◌, Bool, true, false, if◌then◌else◌, ⊎_elim, inl, inr, List, [], ◌∷◌, Option, Some, None, refl, sym, subst}
+use Rattle.std.proofs.Common.{◌≡◌, Bool, true, false, if◌then◌else◌, ⊎_elim, inl, List, [], ◌∷◌, Option, Some, None, refl, sym, subst}
 use Rattle.vl_grammar.specs.declared.tree.Expression as e
 use Rattle.vl_grammar.specs.declared.tree.Expression.{Expression}
 use Rattle.vl_grammar.specs.declared.tree.Binary as b
@@ -25,9 +25,9 @@ use Rattle.vl_used.specs.Used.{Classes}
 use Rattle.vl_named.proofs.Loading.{some-same, operand-is, sole-is}
 use Rattle.vl_named.proofs.Expressions.{Every, first-so, rest-so}
 use Rattle.vl_named.proofs.Fitting.{IsFine, Means}
-use Rattle.vl_built.proofs.Leaves.{System, Has, ArgsHave, IsPlain, IsSide, IsTest, IsCall}
+use Rattle.vl_built.proofs.Leaves.{Has, ArgsHave, IsPlain, IsSide, IsTest}
 use Rattle.vl_built.proofs.Walk.{ex-has, arguments-have}
-use Rattle.vl_built.proofs.Allowed.{plain-suits, call-loads, WholeFits, fine-whole}
+use Rattle.vl_built.proofs.Allowed.{plain-suits, call-loads, fine-whole}
 
 -- ---- parentheses
 

@@ -1,5 +1,5 @@
 -- Left sides and statements without faults: a process assigns variables and memories, and asks for the time only where it may.
-use Rattle.std.proofs.Common.{◌≡◌, true, false, List, [], ◌∷◌, ◌++◌, refl, subst}
+use Rattle.std.proofs.Common.{◌≡◌, true, List, [], ◌∷◌, ◌++◌, refl, subst}
 use Rattle.std.specs.Prelude.{⊤, flat_map}
 use Rattle.vl_base.specs.declared.place.Place.{Place}
 use Rattle.vl_grammar.specs.declared.tree.Expression.{Expression}
@@ -21,7 +21,7 @@ use Rattle.vl_flat.specs.Binding as f
 use Rattle.vl_used.specs.Used.{Classes}
 use Rattle.vl_named.proofs.Expressions.{Every, lefts-so, rights-so, first-so, rest-so}
 use Rattle.vl_named.proofs.Fitting.{IsFine, Means}
-use Rattle.vl_built.proofs.Leaves.{Leaf, Has, ExsHave, LeftHas, LeftsHave, IsPlain, IsFixed, IsSide, IsLeft, AreLefts, IsDone, AreDone, AreItemsDone}
+use Rattle.vl_built.proofs.Leaves.{Leaf, ExsHave, LeftHas, LeftsHave, IsPlain, IsFixed, IsSide, IsLeft, AreLefts, IsBody, AreBodies, HaveBodies}
 use Rattle.vl_built.proofs.Walk.{Suits, selects-have}
 use Rattle.vl_built.proofs.Allowed.{plain-suits, fixed-suits, Stores, fine-target, fine-task}
 use Rattle.vl_built.proofs.Sides.{fine-has, fine-arguments, right-side-so, condition-so, label-so}
@@ -104,7 +104,7 @@ module _ (m : Meanings) (k : Classes) (means : Means m k) where
     labels-so st word as' (right-of (n.label_nodes st word a) (flat_map (n.label_nodes st word) as') w),
   )
 
-  task-so : (st : Setting) (at : Place) (a : y.SystemCall) → Fine (n.system_nodes st Task a) → IsDone k st.timed (f.task at (f.system a))
+  task-so : (st : Setting) (at : Place) (a : y.SystemCall) → Fine (n.system_nodes st Task a) → IsBody k st.timed (f.task at (f.system a))
   unfolding n.system_nodes
   task-so st at (y.SystemCall' q name given) w =
       let a = y.SystemCall' q name given in
@@ -119,7 +119,7 @@ module _ (m : Meanings) (k : Classes) (means : Means m k) where
   mutual
     unfolding n.statement_nodes n.otherwise_nodes n.statement_row n.case_row n.case_nodes
 
-    pub statement-so : (st : Setting) (a : s.Statement) → Fine (n.statement_nodes st a) → IsDone k st.timed (f.statement a)
+    pub statement-so : (st : Setting) (a : s.Statement) → Fine (n.statement_nodes st a) → IsBody k st.timed (f.statement a)
     statement-so st (s.Null at) w = tt
     statement-so st (s.Block' at h row) w = statements-so st row w
     statement-so st (s.If' at test h row otherwise) w =
@@ -148,25 +148,25 @@ module _ (m : Meanings) (k : Classes) (means : Means m k) where
         (left-so st target (left-of as' bs w), right-side-so m k means st value (right-of as' bs w))
     statement-so st (s.System at call) w = task-so st at call w
 
-    other-so : (st : Setting) (o : s.Held-Statement-If-3) (at : Place) → Fine (n.otherwise_nodes st o) → IsDone k st.timed (f.other o at)
+    other-so : (st : Setting) (o : s.Held-Statement-If-3) (at : Place) → Fine (n.otherwise_nodes st o) → IsBody k st.timed (f.other o at)
     other-so st s.None' at w = tt
     other-so st (s.Some' h row) at w = first-statement-so st row w
 
-    first-statement-so : {m' : _} (st : Setting) (row : s.Row_of-Statement m') → Fine (n.statement_row st row) → IsDone k st.timed (f.first_statement row)
+    first-statement-so : {m' : _} (st : Setting) (row : s.Row_of-Statement m') → Fine (n.statement_row st row) → IsBody k st.timed (f.first_statement row)
     first-statement-so st s.end_of-Statement w = tt
     first-statement-so st (s.more_of-Statement a rest) w = statement-so st a (left-of (n.statement_nodes st a) (n.statement_row st rest) w)
 
-    statements-so : {m' : _} (st : Setting) (row : s.Row_of-Statement m') → Fine (n.statement_row st row) → AreDone k st.timed (f.statements row)
+    statements-so : {m' : _} (st : Setting) (row : s.Row_of-Statement m') → Fine (n.statement_row st row) → AreBodies k st.timed (f.statements row)
     statements-so st s.end_of-Statement w = tt
     statements-so st (s.more_of-Statement a rest) w =
         (statement-so st a (left-of (n.statement_nodes st a) (n.statement_row st rest) w), statements-so st rest (right-of (n.statement_nodes st a) (n.statement_row st rest) w))
 
-    cases-so : {m' : _} (st : Setting) (word : CaseKeyword) (row : s.Row_of-CaseItem m') → Fine (n.case_row st word row) → AreItemsDone k st.timed (f.case_items row)
+    cases-so : {m' : _} (st : Setting) (word : CaseKeyword) (row : s.Row_of-CaseItem m') → Fine (n.case_row st word row) → HaveBodies k st.timed (f.case_items row)
     cases-so st word s.end_of-CaseItem w = tt
     cases-so st word (s.more_of-CaseItem a rest) w =
         case-so st word a (f.case_items rest) (cases-so st word rest (right-of (n.case_nodes st word a) (n.case_row st word rest) w)) (left-of (n.case_nodes st word a) (n.case_row st word rest) w)
 
-    case-so : (st : Setting) (word : CaseKeyword) (a : ci.CaseItem) (others : x.CaseItems) → AreItemsDone k st.timed others → Fine (n.case_nodes st word a) → AreItemsDone k st.timed (f.case_item a others)
+    case-so : (st : Setting) (word : CaseKeyword) (a : ci.CaseItem) (others : x.CaseItems) → HaveBodies k st.timed others → Fine (n.case_nodes st word a) → HaveBodies k st.timed (f.case_item a others)
     case-so st word (ci.Labels' at labels h row) others u w =
         let as' = flat_map (n.label_nodes st word) labels in
         let bs = n.statement_row st row in

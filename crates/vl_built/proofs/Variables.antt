@@ -1,6 +1,7 @@
 -- A variable is no net: what a process assigns stands for none.
 use Rattle.std.proofs.Common.{◌≡◌, ℕ, Bool, true, false, true≢false, if◌then◌else◌, ⊎_elim, inl, inr, List, [], ◌∷◌, ◌++◌, map, Option, Some, None, refl, sym, ap, ◌∙◌, subst}
-use Rattle.std.specs.Prelude.{⊤, ◌&&◌, is_some, flat_map, fold}
+use Rattle.std.specs.Prelude.{⊤, ◌&&◌, is_some, flat_map, fold, All}
+use Rattle.std.proofs.lemmas.List.Elements.{All-nil, All-cons, All-head, All-tail}
 use Rattle.std.specs.List.{list_any}
 use Rattle.std.specs.Option.{option_map_or}
 use Rattle.std.specs.Str.{bytes_eq}
@@ -14,11 +15,10 @@ use Rattle.vl_source.specs.declared.tree.PortDeclaration.{PortDeclaration}
 use Rattle.vl_source.specs.declared.tree.PortDeclaration.TheVariants as pd
 use Rattle.vl_source.specs.declared.tree.Item.{Item as ItemTree}
 use Rattle.vl_source.specs.declared.tree.Item.TheVariants as i
-use Rattle.vl_scope.specs.declared.kind.Class.{Class}
 use Rattle.vl_scope.specs.declared.kind.Class.TheVariants as c
 use Rattle.vl_scope.specs.Faults.{In}
 use Rattle.vl_scope.specs.Declarations as s
-use Rattle.vl_scope.proofs.Members.{In-map, In-map_cases, In-flat_map, In-flat_map_cases, In-append_left, In-append_right, In-append_cases, list_any-In}
+use Rattle.vl_scope.proofs.Members.{In-map, In-map_cases, In-flat_map, In-flat_map_cases, In-append_left, In-append_right, In-append_cases, In-middle, list_any-In}
 use Rattle.vl_design.specs.declared.design.SigKind.{SigKind}
 use Rattle.vl_design.specs.declared.design.SigKind.TheVariants.{Net, Var, Comb, Loop, Mem, Clock}
 use Rattle.vl_design.specs.Sound.{IsMem}
@@ -31,17 +31,19 @@ use Rattle.vl_flat.specs.Declarations as d
 use Rattle.vl_flat.specs.Kinds.{signals_in, signals_of, declared_as, is_loop, item_writes, variable_kind, kind_of}
 use Rattle.vl_flat.specs.Environments.{Counts, Given, Known, with_item, environment}
 use Rattle.vl_used.specs.Used.{class_in}
-use Rattle.vl_agree.proofs.Bound.{Binds, items-bind}
-use Rattle.vl_agree.proofs.Agree.{says-in}
+use Rattle.vl_laws.specs.Apart.{declared, IsApart, AreApart}
+use Rattle.vl_agree.proofs.Names.{S}
+use Rattle.vl_agree.proofs.Bound.{Binds, items-bind, items-known}
+use Rattle.vl_agree.proofs.Agree.{says-in, all-in}
 
 -- ---- declarations of variables
 
 -- one of the declarations declares this name as a variable
 record IsVariableIn (ds : List x.Declared) (a : s.Declared) : Type 0 where
-  declared : x.Declared
-  within : In declared ds
-  name : declared.name ≡ a.name
-  variable : declared.variable ≡ true
+  one : x.Declared
+  within : In one ds
+  name : one.name ≡ a.name
+  variable : one.variable ≡ true
 
 -- an item does
 record IsVariableOf (items : List x.Item) (a : s.Declared) : Type 0 where
@@ -64,11 +66,11 @@ port-variable (pd.Net at direction wire signed range names) a h q =
 port-variable (pd.Reg at signed range as') a h q =
     let r = In-map_cases (λ v. s.output_variable (is_some range) v.name) a as' h in
     let make = d.output_variable (d.vector signed range) in
-    record { declared = make r.0; within = In-map make r.0 as' r.1; name = ap (λ (z : s.Declared). z.name) r.2; variable = refl }
+    record { one = make r.0; within = In-map make r.0 as' r.1; name = ap (λ (z : s.Declared). z.name) r.2; variable = refl }
 port-variable (pd.Integer at as') a h q =
     let r = In-map_cases (λ v. s.output_variable true v.name) a as' h in
     let make = d.output_variable x.Integer in
-    record { declared = make r.0; within = In-map make r.0 as' r.1; name = ap (λ (z : s.Declared). z.name) r.2; variable = refl }
+    record { one = make r.0; within = In-map make r.0 as' r.1; name = ap (λ (z : s.Declared). z.name) r.2; variable = refl }
 
 item-variable : (j : ItemTree) (a : s.Declared) → In a (s.item_declarations j) → a.kind.class ≡ c.Variable → IsVariableIn (signals_in (d.item j)) a
 item-variable (i.Port p) a h q = port-variable p a h q
@@ -79,11 +81,11 @@ item-variable (i.Wire at signed range as') a h q =
 item-variable (i.Reg at signed range as') a h q =
     let r = In-map_cases (λ v. s.declared (s.variable_class v.more) (is_some range) v.name) a as' h in
     let make = d.variable (d.vector signed range) in
-    record { declared = make r.0; within = In-map make r.0 as' r.1; name = ap (λ (z : s.Declared). z.name) r.2; variable = refl }
+    record { one = make r.0; within = In-map make r.0 as' r.1; name = ap (λ (z : s.Declared). z.name) r.2; variable = refl }
 item-variable (i.Integer at as') a h q =
     let r = In-map_cases (λ v. s.declared (s.variable_class v.more) true v.name) a as' h in
     let make = d.variable x.Integer in
-    record { declared = make r.0; within = In-map make r.0 as' r.1; name = ap (λ (z : s.Declared). z.name) r.2; variable = refl }
+    record { one = make r.0; within = In-map make r.0 as' r.1; name = ap (λ (z : s.Declared). z.name) r.2; variable = refl }
 item-variable (i.Assign at as') a h q = absurd h
 item-variable (i.Initial at y) a h q = absurd h
 item-variable (i.Always at trigger y) a h q = absurd h
@@ -138,7 +140,7 @@ variable-there m a h q =
     (In-append_cases a params (header ++ others) (numbered-back 0 (s.unnumbered m) a h q))
   where
     lift : {some : List x.Item} (v : IsVariableOf some a) → In v.item (d.module' m).items → IsVariableIn (signals_of (d.module' m)) a
-    lift v there = record { declared = v.is.declared; within = In-flat_map signals_in v.item v.is.declared (d.module' m).items there v.is.within; name = v.is.name; variable = v.is.variable }
+    lift v there = record { one = v.is.one; within = In-flat_map signals_in v.item v.is.one (d.module' m).items there v.is.within; name = v.is.name; variable = v.is.variable }
 
 abbrev pub IsVariableName : x.Module → List ℕ → Type 0
 IsVariableName m t = declared_as (λ y. y.variable) m t ≡ true
@@ -152,7 +154,7 @@ pub class-variable : (m : ModuleTree) (t : List ℕ) → class_in (s.declaration
 class-variable m t h =
     let r = says-in (s.declarations m) t c.Variable h in
     let v = variable-there m r.said r.within r.class-is in
-    variable-named (d.module' m) v.declared t v.within (ap (λ (z : Identifier). z.name) v.name ∙ r.spelt) v.variable
+    variable-named (d.module' m) v.one t v.within (ap (λ (z : Identifier). z.name) v.name ∙ r.spelt) v.variable
 
 -- ---- kinds
 
@@ -204,3 +206,54 @@ signal-kind sizes g m t j y h =
 -- a signal that is declared as a variable is no net
 pub variable-no-net : (sizes : List ℕ → Counts) (g : Given) (m : x.Module) (t : List ℕ) (j : ℕ) (y : Shape) → environment sizes g m t ≡ Some (b.Signal j y) → IsVariableName m t → IsNoNet y.kind
 variable-no-net sizes g m t j y h v = subst IsNoNet (sym (signal-kind sizes g m t j y h)) (no-net-kind m (g.clocks t) (g.wired t) t v)
+
+-- ---- names of signals
+
+pub at-in : {A : Type 0} (Q : A → Type 0) (ys : List A) (y : A) → All Q ys → In y ys → Q y
+at-in Q [] y h i = absurd i
+at-in Q (z ∷ ys) y h (inl e) = subst Q e (All-head Q z ys h)
+at-in Q (z ∷ ys) y h (inr i) = at-in Q ys y (All-tail Q z ys h) i
+
+pub from-in : {A : Type 0} (Q : A → Type 0) (ys : List A) → ((y : A) → In y ys → Q y) → All Q ys
+from-in Q [] g = All-nil Q
+from-in Q (y ∷ ys) g = All-cons Q y ys (g y (inl refl)) (from-in Q ys (λ z i. g z (inr i)))
+
+-- a name that stands for a signal
+pub record IsSignalName (o : Option Binding) : Type 0 where
+  pub number : ℕ
+  pub shape : Shape
+  pub is : o ≡ Some (b.Signal number shape)
+
+module _ (sizes : List ℕ → Counts) (g : Given) (m : x.Module) (apart : AreApart m) (y : x.Declared) (there : In y (signals_of m)) where
+  abbrev t : List ℕ
+  t = y.name.name
+
+  abbrev IsNamed : Type 0
+  IsNamed = IsSignalName (environment sizes g m t)
+
+  declared-there : (n : List ℕ) → n ≡ t → declared (signals_of m) n ≡ true
+  declared-there n is =
+      subst (λ z. declared (signals_of m) z ≡ true) (sym is) (list_any-In (λ (z : x.Declared). bytes_eq t z.name.name) y (signals_of m) there ((bytes_eq-Decides t t).1 refl))
+
+  bound-named : (known : Known) (item : x.Item) (v : Binding) → In item m.items → environment sizes g m t ≡ Some v → Binds sizes g m known item t v → IsNamed
+  bound-named known (x.Signals ds) (b.Signal j z) inside e r = record { number = j; shape = z; is = e }
+  bound-named known (x.Parameters type as') (b.Constant z) inside e r =
+      absurd (true≢false (sym (declared-there r.0.name.name r.2)
+      ∙ at-in (λ (a : x.Parameter). declared (signals_of m) a.name.name ≡ false) as' r.0 (at-in (IsApart (signals_of m)) m.items (x.Parameters type as') apart inside) r.1))
+  bound-named known (x.Functions f) (b.Function j z) inside e r =
+      absurd (true≢false (sym (declared-there f.name.name r.0) ∙ at-in (IsApart (signals_of m)) m.items (x.Functions f) apart inside))
+  bound-named known item v inside e r = absurd r
+
+  -- what is declared as a signal is one
+  pub signal-named : IsNamed
+  signal-named = by (environment sizes g m t) refl (items-known sizes g m m.items (start g) (S y) (all-in m y there) tt)
+    where
+      nothing : (v : Binding) → ◌≡◌ {A = Option Binding} None (Some v) → ⊥
+      nothing v q = cc
+
+      by : (o : Option Binding) → environment sizes g m t ≡ o → is_some o ≡ true → IsNamed
+      by None e h = absurd (true≢false (sym h))
+      by (Some v) e h =
+          ⊎_elim (λ q. absurd (nothing v q))
+          (λ r. bound-named (fold (with_item sizes g m) (start g) r.before) r.item v (subst (In r.item) (sym r.is) (In-middle r.item r.before r.after)) e r.binds)
+          (items-bind sizes g m m.items (start g) t v e)

@@ -1,5 +1,5 @@
 -- Expressions whose parts fit: each leaf is so.
-use Rattle.std.proofs.Common.{◌≡◌, Bool, true, false, if◌then◌else◌, List, [], ◌∷◌, ◌++◌, refl, subst}
+use Rattle.std.proofs.Common.{◌≡◌, Bool, true, false, if◌then◌else◌, List, [], ◌∷◌, ◌++◌, subst}
 use Rattle.std.specs.Prelude.{nat_lt, ⊤}
 use Rattle.vl_base.specs.declared.place.Place.{Place}
 use Rattle.vl_grammar.specs.declared.tree.Expression as e
@@ -17,8 +17,7 @@ use Rattle.vl_grammar.specs.declared.tree.SelectMark.{SelectMark}
 use Rattle.vl_grammar.specs.declared.tree.SelectMark.TheVariants as mk
 use Rattle.vl_grammar.specs.Binding.{row_of}
 use Rattle.vl_uses.specs.declared.setting.Setting.{Setting}
-use Rattle.vl_uses.specs.declared.setting.Usage.{Usage}
-use Rattle.vl_uses.specs.declared.setting.Usage.TheVariants.{Task, Whole, Operand}
+use Rattle.vl_uses.specs.declared.setting.Usage.TheVariants.{Operand}
 use Rattle.vl_uses.specs.Settings.{constantly, before_mark}
 use Rattle.vl_uses.specs.Nodes as n
 use Rattle.vl_flat.specs.Surface as x

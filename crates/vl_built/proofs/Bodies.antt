@@ -1,22 +1,18 @@
 -- Statements in a design: a process assigns none of the signals that no name of a variable or a memory stands for, and only where
 -- it may asks for the time.
-use Rattle.std.proofs.Common.{◌≡◌, ℕ, Bool, true, false, true≢false, if◌then◌else◌, ⊎_elim, inl, inr, List, [], ◌∷◌, ◌++◌, Option, Some, None, refl, sym, ◌∙◌, subst}
-use Rattle.std.specs.Prelude.{⊤, codes}
-use Rattle.std.specs.List.{list_any}
+use Rattle.std.proofs.Common.{◌≡◌, ℕ, Bool, true, false, true≢false, if◌then◌else◌, ⊎_elim, inr, List, [], ◌++◌, Option, Some, None, refl, sym, ◌∙◌, subst}
+use Rattle.std.specs.Prelude.{codes}
 use Rattle.std.specs.Str.{bytes_eq}
 use Rattle.vl_base.specs.declared.place.Place.{Place}
 use Rattle.vl_grammar.specs.declared.tree.UnaryOperator.TheVariants.{LogicalNot}
-use Rattle.vl_scope.specs.declared.kind.Class.TheVariants as c
 use Rattle.vl_uses.specs.Nodes.{is_load}
 use Rattle.vl_design.specs.Syntax as d
-use Rattle.vl_design.specs.Calls.{task_of}
-use Rattle.vl_design.specs.Nodes.{has, some_have, target_has, stm_has, items_have}
+use Rattle.vl_design.specs.Nodes.{has, some_have, target_has, items_have}
 use Rattle.vl_design.specs.Reads.{is_timed, stm_timed}
 use Rattle.vl_design.specs.Placed as p
 use Rattle.vl_design.specs.Plainly as plain
 use Rattle.vl_design.proofs.Resting.{or_none}
-use Rattle.vl_sites.specs.Sites.{Site, bare, first_bare, loaded, call_sites, exp_sites, exps_sites, args_sites, target_sites, targets_sites, is_head, header_sites, head_sites, sites, all_sites, items_sites}
-use Rattle.vl_check.specs.Rules.{sets}
+use Rattle.vl_sites.specs.Sites.{bare, first_bare, loaded, call_sites, exp_sites, exps_sites, args_sites, target_sites, targets_sites, is_head, header_sites, head_sites, sites, all_sites, items_sites}
 use Rattle.vl_flat.specs.declared.binding.Binding.{Binding}
 use Rattle.vl_flat.specs.declared.binding.Binding.TheVariants as b
 use Rattle.vl_flat.specs.Surface as x
@@ -25,7 +21,7 @@ use Rattle.vl_flat.specs.Expressions as e
 use Rattle.vl_flat.specs.Targets as t
 use Rattle.vl_flat.specs.Statements as s
 use Rattle.vl_used.specs.Used.{Classes, IsMemoryName, IsLoad}
-use Rattle.vl_built.proofs.Leaves.{Has, ArgsHave, LeftHas, LeftsHave, is_fill, IsPlain, IsStored, IsFilled, IsOnFiles, IsTask, IsSide, IsTest, IsLeft, AreLefts, IsDone, AreDone, AreItemsDone}
+use Rattle.vl_built.proofs.Leaves.{Has, ArgsHave, LeftHas, LeftsHave, is_fill, IsPlain, IsStored, IsFilled, IsOnFiles, IsTask, IsSide, IsTest, IsLeft, AreLefts, IsBody, AreBodies, HaveBodies}
 use Rattle.vl_built.proofs.Allowed.{call-loads}
 use Rattle.vl_built.proofs.Texts.{task-timeless, first-timeless}
 use Rattle.vl_built.proofs.Quiet.{Free, free-both, Quiet, exp-quiet, first-quiet, args-quiet, labels-quiet, left-timeless, name-free}
@@ -197,7 +193,7 @@ module _ (test : ℕ → Bool) (timed : Bool) (k : Classes) (scope : Scope) (sto
             by false q = h.read q
 
     mutual
-      pub statement-quiet : (a : x.Statement) → IsDone k timed a → StmQuiet (s.statement scope a)
+      pub statement-quiet : (a : x.Statement) → IsBody k timed a → StmQuiet (s.statement scope a)
       statement-quiet (x.Null at) v = record { sites = refl; time = λ z. refl }
       statement-quiet (x.Block at as') v = let q = statements-quiet as' v in record { sites = q.sites; time = q.time }
       statement-quiet (x.If at y a c) v =
@@ -238,7 +234,7 @@ module _ (test : ℕ → Bool) (timed : Bool) (k : Classes) (scope : Scope) (sto
       statement-quiet (x.Assign at false l a) v = later-quiet at l a v.0 v.1
       statement-quiet (x.Task at name given) v = task-quiet at name given v
 
-      statements-quiet : (as' : x.Statements) → AreDone k timed as' → StmsQuiet (s.statements scope as')
+      statements-quiet : (as' : x.Statements) → AreBodies k timed as' → StmsQuiet (s.statements scope as')
       statements-quiet x.NoStatements v = record { sites = refl; time = λ z. refl }
       statements-quiet (x.MoreStatements a as') v =
           let one = statement-quiet a v.0 in
@@ -248,7 +244,7 @@ module _ (test : ℕ → Bool) (timed : Bool) (k : Classes) (scope : Scope) (sto
             time = λ z. or_none (stm_timed (plain.stm path (s.statement scope a))) (stm_timed (plain.stms path (s.statements scope as'))) (one.time z) (more.time z);
           }
 
-      items-quiet : (wild : Bool) (items : x.CaseItems) → AreItemsDone k timed items → ItemsQuiet (s.case_items scope wild items)
+      items-quiet : (wild : Bool) (items : x.CaseItems) → HaveBodies k timed items → ItemsQuiet (s.case_items scope wild items)
       items-quiet wild x.NoItems v = record { sites = refl; time = λ z. refl }
       items-quiet wild (x.Labelled es a others) v =
           let labels = labels-quiet test timed scope wild es v.0 in

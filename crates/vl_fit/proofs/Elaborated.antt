@@ -3,7 +3,10 @@ use Rattle.std.proofs.Common.{◌≡◌, refl, ℕ, false, List, [], ◌∷◌, 
 use Rattle.std.specs.Prelude.{slice_get, All}
 use Rattle.std.proofs.lemmas.List.Elements.{All-head, All-tail, All-weaker}
 use Rattle.vl_source.specs.declared.tree.Source.{Source}
+use Rattle.vl_scope.specs.declared.fault.Fault.{Fault}
 use Rattle.vl_scope.specs.Faults.{IsFirst}
+use Rattle.vl_scope.specs.DeclarationFaults.{IsDeclarationFault}
+use Rattle.vl_uses.specs.UseFaults.{IsUseFault}
 use Rattle.vl_names.specs.NameFaults.{IsNameFault, of_declaration, of_use}
 use Rattle.vl_design.specs.declared.design.SigKind.{SigKind}
 use Rattle.vl_design.specs.declared.design.SigKind.TheVariants as k
@@ -17,6 +20,7 @@ use Rattle.vl_turns.specs.Fits.{AreNoLoops}
 use Rattle.vl_checked.specs.Fit.{IsFit}
 use Rattle.vl_flat.specs.Outcome.{flattened}
 use Rattle.vl_agree.proofs.Widths.{widths}
+use Rattle.vl_built.proofs.Whole.{source-built}
 use Rattle.vl_sound.specs.Inputs.{IsNoLoop, HasNoLoopInputs, NoLoopInputs}
 use Rattle.vl_sound.proofs.Whole.{source-sound}
 use Rattle.vl_flatten.specs.Meeting.{IsElaboration, misnamed, named}
@@ -53,9 +57,11 @@ inputs-kept d h =
 
 fit-flat : (s : Source) → IsFirst (IsNameFault s) None → (d : p.Design) → flattened s ≡ Ok d → IsFit d
 fit-flat s none d is =
-    let whole = source-sound s (λ f h. none f (of_declaration f h)) (λ f h. none f (of_use f h)) d is in
+    let declared : (f : Fault) → IsDeclarationFault s f → ⊥ = λ f h. none f (of_declaration f h) in
+    let used : (f : Fault) → IsUseFault s f → ⊥ = λ f h. none f (of_use f h) in
+    let whole = source-sound s declared used d is in
     let wide = widths s d is in
-    record { sound = whole.sound; inputs = inputs-kept d whole.inputs; signals = wide.signals; locals = wide.locals }
+    record { sound = whole.sound; inputs = inputs-kept d whole.inputs; signals = wide.signals; locals = wide.locals; processes = source-built s declared used d is }
 
 fit-from : (s : Source) (r : Result p.Design Stop) → IsElaboration s r → (d : p.Design) → r ≡ Ok d → IsFit d
 fit-from s r (misnamed h) d is = let z : ⊥ = cc in absurd z

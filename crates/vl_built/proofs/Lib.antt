@@ -1,0 +1,14 @@
+pub mod Allowed
+pub mod Bodies
+pub mod Constants
+pub mod Leaves
+pub mod Made
+pub mod Parts
+pub mod Processes
+pub mod Quiet
+pub mod Sides
+pub mod Statements
+pub mod Texts
+pub mod Variables
+pub mod Walk
+pub mod Whole

@@ -1,12 +1,12 @@
 -- Slots that were there stay when a list gets longer.
-use Rattle.std.proofs.Common.{◌≡◌, ℕ, zero, suc, ◌+◌, ◌-◌, ◌^◌, ◌<◌, ◌≤◌, List, [], ◌∷◌, ◌++◌, length, map, take, refl, sym, ap, ◌∙◌, arith, subst, append_assoc, length-append, append-nil}
-use Rattle.std.specs.Prelude.{slice_index, ⊤}
+use Rattle.std.proofs.Common.{◌≡◌, ℕ, suc, ◌+◌, ◌-◌, ◌^◌, ◌<◌, ◌≤◌, List, [], ◌∷◌, ◌++◌, length, sym, ap, ◌∙◌, arith, subst, append_assoc, length-append, append-nil}
+use Rattle.std.specs.Prelude.{slice_index}
 use Rattle.std.proofs.lemmas.List.{get_or-take}
 use Rattle.cell_form.specs.declared.cell.CellOp.{CellOp}
 use Rattle.cell_form.specs.declared.cell.CellOp.TheVariants as o
 use Rattle.cell_form.specs.Data.{CellData, ListData, BankData}
 use Rattle.cell_form.specs.Values.{Slot, slot_at, slots_of}
-use Rattle.cell_form.specs.Sound.{Shape, Names, IsCell, AreCells, IsAmong, IsFit}
+use Rattle.cell_form.specs.Sound.{Shape, Names, AreCells, IsFit}
 use Rattle.cell_form.proofs.Slots.{slots-length, slots-widths, slots-stay, width-at}
 use Rattle.cell_form.proofs.Fitting.{all-at, slots-fit}
 use Rattle.cell_steps.specs.Slots.{slot, held, width_at, IsIn, AreSound, Grows, Longer, Gives, Nothing}

@@ -1,5 +1,5 @@
 -- The newest cell.
-use Rattle.std.proofs.Common.{◌≡◌, ℕ, zero, suc, ◌+◌, ◌-◌, ◌%◌, ◌^◌, ◌<◌, ◌≤◌, Bool, true, false, List, [], ◌∷◌, ◌++◌, length, map, refl, sym, ap, ◌∙◌, arith, subst, append_assoc, length-append, append-nil}
+use Rattle.std.proofs.Common.{◌≡◌, ℕ, ◌+◌, ◌-◌, ◌%◌, ◌^◌, ◌<◌, ◌≤◌, Bool, true, List, [], ◌∷◌, ◌++◌, length, map, refl, sym, ap, ◌∙◌, arith, subst, append_assoc, length-append, append-nil}
 use Rattle.std.specs.Prelude.{ℤ, ◌-ℤ◌, get_or, ◌≢◌, Ok, Err, IfOk, slice_index, slice_index_or, if◌then◌else◌, ◌==◌}
 use Rattle.std.proofs.lemmas.List.{length-map, get_or-map}
 use Rattle.std.specs.declared.result.Result.{Result}
@@ -8,21 +8,20 @@ use Rattle.vl_base.specs.declared.bits.UnOp.{UnOp}
 use Rattle.vl_base.specs.declared.bits.UnOp.TheVariants as u
 use Rattle.vl_base.specs.declared.bits.BinOp.{BinOp}
 use Rattle.vl_base.specs.declared.bits.BinOp.TheVariants as i
-use Rattle.vl_base.specs.Value.{reading, resized, unary_value, unary_width, binary_value, binary_width, needs_one_width}
+use Rattle.vl_base.specs.Value.{resized, unary_value, unary_width, binary_value, binary_width, needs_one_width}
 use Rattle.vl_base.specs.Selects.{picked, placed, appended}
 use Rattle.vl_base.proofs.Readings.{wrapped-reading}
 use Rattle.cell_form.specs.declared.cell.Cell.{Cell}
-use Rattle.cell_form.specs.declared.cell.CellOp.{CellOp}
 use Rattle.cell_form.specs.declared.cell.CellOp.TheVariants as o
 use Rattle.cell_form.specs.declared.cell.Index.{Index}
 use Rattle.cell_form.specs.Data.{CellData, ListData, BankData}
 use Rattle.cell_form.specs.Views.{cell_of}
 use Rattle.cell_form.specs.Values.{Slot, slot_at, slots_of, cell_slot, applied, found, lowest_bit, whole, word_at}
-use Rattle.cell_form.specs.Sound.{Shape, Names, IsCell, AreCells, IsAmong, Makes}
+use Rattle.cell_form.specs.Sound.{Shape, IsCell, AreCells, IsAmong}
 use Rattle.cell_form.proofs.Slots.{slots-length, slots-push}
 use Rattle.cell_steps.specs.Slots.{slot, held, width_at, IsIn, AreSound, Grows, Longer, Gives, Nothing}
 use Rattle.cell_steps.specs.Pushes.{Pushed}
-use Rattle.cell_steps.proofs.Frames.{slot-width, held-fits, longer-same, in-stays, gives-held, gives-as}
+use Rattle.cell_steps.proofs.Frames.{slot-width, held-fits, longer-same, gives-held, gives-as}
 
 abbrev widths : List CellData → List ℕ
 widths cells = map (λ (c : CellData). c.width) cells

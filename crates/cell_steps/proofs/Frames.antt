@@ -8,7 +8,7 @@ use Rattle.cell_form.specs.Data.{CellData, ListData, BankData}
 use Rattle.cell_form.specs.Values.{Slot, slot_at, slots_of}
 use Rattle.cell_form.specs.Sound.{Shape, Names, AreCells, IsFit}
 use Rattle.cell_form.proofs.Slots.{slots-length, slots-widths, slots-stay, width-at}
-use Rattle.cell_form.proofs.Fitting.{all-at, slots-fit}
+use Rattle.cell_form.proofs.Fitting.{all-at, slots-fit, cells-before}
 use Rattle.cell_steps.specs.Slots.{slot, held, width_at, IsIn, AreSound, Grows, Longer, Gives, Nothing}
 
 -- ---- a slot of a list
@@ -68,6 +68,12 @@ in-stays old new r g k =
     let high = k.1 in
     let long = length-append old.cells g.more in
     subst F (sym g.is) (k.0, omega arith)
+
+-- what was there is well-formed where all of it is
+pub sound-before : (s : Shape) (old new : ListData) → Grows old new → AreSound s new → AreSound s old
+sound-before s old new g h =
+    let F : ListData → Type 0 = λ l. AreSound s l in
+    (cells-before s old.first [] old.cells g.more (subst F g.is h)).0
 
 with-none : (l : ListData) → l ≡ record l { cells = l.cells ++ [] }
 with-none l = ap (λ cs. record l { cells = cs }) (sym (append-nil l.cells))

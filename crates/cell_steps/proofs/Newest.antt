@@ -21,7 +21,7 @@ use Rattle.cell_form.specs.Sound.{Shape, IsCell, AreCells, IsAmong}
 use Rattle.cell_form.proofs.Slots.{slots-length, slots-push}
 use Rattle.cell_steps.specs.Slots.{slot, held, width_at, IsIn, AreSound, Grows, Longer, Gives, Nothing}
 use Rattle.cell_steps.specs.Pushes.{Pushed}
-use Rattle.cell_steps.proofs.Frames.{slot-width, held-fits, longer-same, gives-held, gives-as}
+use Rattle.cell_steps.proofs.Frames.{slot-width, width-fits, held-fits, longer-same, gives-held, gives-as}
 
 abbrev widths : List CellData → List ℕ
 widths cells = map (λ (c : CellData). c.width) cells
@@ -49,14 +49,14 @@ module _ (old new : ListData) (r : ℕ) (c : CellData) (p : Pushed old new r c) 
   pub pushed-grows : Grows old new
   pushed-grows = record { more = c ∷ []; is = p.is }
 
-  pub pushed-longer : (Has : Shape → Type 0) → ((s : Shape) → Has s → IsCell s old.first (widths old.cells) c) → Longer Has 1 old new
+  pub pushed-longer : (Has : Shape → Type 0) → ((s : Shape) → Has s → AreSound s old → IsCell s old.first (widths old.cells) c) → Longer Has 1 old new
   pushed-longer Has cell = record {
     more = c ∷ [];
     is = p.is;
     few = omega arith;
     sound = λ s has h.
         let F : ListData → Type 0 = λ l. AreSound s l in
-        subst F (sym p.is) (cells-push s old.first [] old.cells c h (cell s has));
+        subst F (sym p.is) (cells-push s old.first [] old.cells c h (cell s has h));
   }
 
   pushed-in : IsIn new r
@@ -79,7 +79,7 @@ module _ (old new : ListData) (r : ℕ) (c : CellData) (p : Pushed old new r c) 
       ∙ ap (slot_at (s ++ x ∷ [])) at
       ∙ get_or-append_seam s x [] (record { value = 0; width = 0 })
 
-  pub pushed-gives : (Has : Shape → Type 0) (f : BankData → ℕ) → ((s : Shape) → Has s → IsCell s old.first (widths old.cells) c) →
+  pub pushed-gives : (Has : Shape → Type 0) (f : BankData → ℕ) → ((s : Shape) → Has s → AreSound s old → IsCell s old.first (widths old.cells) c) →
       ((b : BankData) → applied c.op c.width c.low (found c.op b.regs b.mems) (map (slot b old) c.args) ≡ f b) → Gives Has 1 old new r c.width f
   pushed-gives Has f cell value = record {
     longer = pushed-longer Has cell;
@@ -134,13 +134,13 @@ module _ (old new : ListData) (r : ℕ) where
       Gives Nothing 1 old new r width (λ b. value % 2 ^ width)
   gives-constant value width low wide narrow p =
       pushed-gives old new r _ p Nothing (λ b. value % 2 ^ width)
-      (λ s has. record { args = tt; count = refl; makes = tt; wide = wide; narrow = narrow; names = tt }) (λ b. refl)
+      (λ s has sound. record { args = tt; count = refl; makes = tt; wide = wide; narrow = narrow; names = tt }) (λ b. refl)
 
   pub gives-register : (k width : ℕ) (low : ℤ) → 1 ≤ width → width ≤ 128 → Pushed old new r (record { op = o.Reg k; args = []; width = width; low = low }) →
       Gives (λ s. k < s.regs) 1 old new r width (λ b. slice_index b.regs k % 2 ^ width)
   gives-register k width low wide narrow p =
       pushed-gives old new r _ p (λ s. k < s.regs) (λ b. slice_index b.regs k % 2 ^ width)
-      (λ s has. record { args = tt; count = refl; makes = tt; wide = wide; narrow = narrow; names = has }) (λ b. refl)
+      (λ s has sound. record { args = tt; count = refl; makes = tt; wide = wide; narrow = narrow; names = has }) (λ b. refl)
 
   pub gives-unary : (op : UnOp) (a width : ℕ) (low : ℤ) → IsIn old a → 1 ≤ width_at old a → width_at old a ≤ 128 → width ≡ unary_width op (width_at old a) →
       Pushed old new r (record { op = o.Un op; args = a ∷ []; width = width; low = low }) →
@@ -152,7 +152,7 @@ module _ (old new : ListData) (r : ℕ) where
       let below : width ≤ 128 = rw e fits.1 in
       gives-as Nothing 1 old new r width (unary_width op (width_at old a)) f f e (λ s b h. refl)
       (pushed-gives old new r _ p Nothing f
-      (λ s has. record { args = (among old a there, tt); count = refl; makes = e; wide = above; narrow = below; names = tt })
+      (λ s has sound. record { args = (among old a there, tt); count = refl; makes = e; wide = above; narrow = below; names = tt })
       (λ b. ap (λ w. unary_value op w (held b old a)) (slot-width b old a)))
 
   pub gives-binary : (op : BinOp) (signed : Bool) (a b width : ℕ) (low : ℤ) → IsIn old a → IsIn old b → 1 ≤ width_at old a → width_at old a ≤ 128 →
@@ -166,7 +166,7 @@ module _ (old new : ListData) (r : ℕ) where
       let below : width ≤ 128 = rw e fits.1 in
       gives-as Nothing 1 old new r width (binary_width op (width_at old a)) f f e (λ s x h. refl)
       (pushed-gives old new r _ p Nothing f
-      (λ s has. record { args = (among old a first, (among old b second, tt)); count = refl; makes = (e, one); wide = above; narrow = below; names = tt })
+      (λ s has sound. record { args = (among old a first, (among old b second, tt)); count = refl; makes = (e, one); wide = above; narrow = below; names = tt })
       (λ x. ap (λ w. binary_value op signed w (held x old a) (held x old b)) (slot-width x old a)))
 
   pub gives-mux : (test a b width : ℕ) (low : ℤ) → IsIn old test → IsIn old a → IsIn old b → 1 ≤ width_at old a → width_at old a ≤ 128 → width_at old b ≡ width_at old a → width ≡ width_at old a →
@@ -176,7 +176,7 @@ module _ (old new : ListData) (r : ℕ) where
       let f : BankData → ℕ = λ x. if held x old test == 0 then held x old b else held x old a in
       gives-as Nothing 1 old new r width (width_at old a) f f e (λ s x h. refl)
       (pushed-gives old new r _ p Nothing f
-      (λ s has. record {
+      (λ s has sound. record {
         args = (among old test tested, (among old a first, (among old b second, tt)));
         count = refl;
         makes = (sym e, one ∙ sym e);
@@ -191,7 +191,7 @@ module _ (old new : ListData) (r : ℕ) where
       Gives Nothing 1 old new r width (λ b. picked (width_at old base) (held b old base) (lowest_bit from low (slot b old index)) width)
   gives-pick base index from width low k same first second wide narrow p =
       pushed-gives old new r _ p Nothing (λ b. picked (width_at old base) (held b old base) (lowest_bit from low (slot b old index)) width)
-      (λ s has. record { args = (among old base first, (among old index second, tt)); count = refl; makes = tt; wide = wide; narrow = narrow; names = tt })
+      (λ s has sound. record { args = (among old base first, (among old index second, tt)); count = refl; makes = tt; wide = wide; narrow = narrow; names = tt })
       (λ b. ap (λ z. picked (slot b old base).width (held b old base) (lowest_bit from z (slot b old index)) width) same
       ∙ ap (λ w. picked w (held b old base) (lowest_bit from low (slot b old index)) width) (slot-width b old base))
 
@@ -202,7 +202,7 @@ module _ (old new : ListData) (r : ℕ) where
       let f : BankData → ℕ = λ b. placed (width_at old a) (held b old a) (lowest_bit from low (slot b old index)) (width_at old part) (held b old part) in
       gives-as Nothing 1 old new r width (width_at old a) f f e (λ s b h. refl)
       (pushed-gives old new r _ p Nothing f
-      (λ s has. record {
+      (λ s has sound. record {
         args = (among old a first, (among old index second, (among old part third, tt)));
         count = refl;
         makes = e;
@@ -214,18 +214,18 @@ module _ (old new : ListData) (r : ℕ) where
       ∙ ap (λ w. placed w (held b old a) (lowest_bit from low (slot b old index)) (slot b old part).width (held b old part)) (slot-width b old a)
       ∙ ap (λ w. placed (width_at old a) (held b old a) (lowest_bit from low (slot b old index)) w (held b old part)) (slot-width b old part)))
 
-  pub gives-append : (high low width : ℕ) (k : ℤ) → IsIn old high → IsIn old low → 1 ≤ width_at old high + width_at old low → width_at old high + width_at old low ≤ 128 →
+  pub gives-append : (high low width : ℕ) (k : ℤ) → IsIn old high → IsIn old low → width_at old high + width_at old low ≤ 128 →
       width ≡ width_at old high + width_at old low → Pushed old new r (record { op = o.Append; args = high ∷ low ∷ []; width = width; low = k }) →
       Gives Nothing 1 old new r (width_at old high + width_at old low) (λ b. appended (held b old high) (width_at old low) (held b old low))
-  gives-append high low width k first second wide narrow e p =
+  gives-append high low width k first second narrow e p =
       let f : BankData → ℕ = λ b. appended (held b old high) (width_at old low) (held b old low) in
       gives-as Nothing 1 old new r width (width_at old high + width_at old low) f f e (λ s b h. refl)
       (pushed-gives old new r _ p Nothing f
-      (λ s has. record {
+      (λ s has sound. record {
         args = (among old high first, (among old low second, tt));
         count = refl;
         makes = e;
-        wide = rw e wide;
+        wide = let fits = (width-fits s old high sound first).0 in omega arith;
         narrow = rw e narrow;
         names = tt;
       })
@@ -235,7 +235,7 @@ module _ (old new : ListData) (r : ℕ) where
       Gives Nothing 1 old new r width (λ b. resized signed (width_at old a) width (held b old a))
   gives-resized a signed width low there wide narrow p =
       pushed-gives old new r _ p Nothing (λ b. resized signed (width_at old a) width (held b old a))
-      (λ s has. record { args = (among old a there, tt); count = refl; makes = tt; wide = wide; narrow = narrow; names = tt })
+      (λ s has sound. record { args = (among old a there, tt); count = refl; makes = tt; wide = wide; narrow = narrow; names = tt })
       (λ b. ap (λ w. resized signed w width (held b old a)) (slot-width b old a))
 
   pub gives-word : (memory address : ℕ) (signed : Bool) (width : ℕ) (lowest k : ℤ) → k ≡ lowest → IsIn old address → 1 ≤ width → width ≤ 128 →
@@ -243,7 +243,7 @@ module _ (old new : ListData) (r : ℕ) where
       Gives (λ s. memory < s.mems) 1 old new r width (λ b. word_at (slice_index_or b.mems memory []) (whole signed (slot b old address) -ℤ lowest) % 2 ^ width)
   gives-word memory address signed width lowest k same there wide narrow p =
       pushed-gives old new r _ p (λ s. memory < s.mems) (λ b. word_at (slice_index_or b.mems memory []) (whole signed (slot b old address) -ℤ lowest) % 2 ^ width)
-      (λ s has. record { args = (among old address there, tt); count = refl; makes = tt; wide = wide; narrow = narrow; names = has })
+      (λ s has sound. record { args = (among old address there, tt); count = refl; makes = tt; wide = wide; narrow = narrow; names = has })
       (λ b. ap (λ z. word_at (slice_index_or b.mems memory []) (whole signed (slot b old address) -ℤ z) % 2 ^ width) same)
 
 -- a value in its own width is itself

@@ -224,7 +224,6 @@ pub fn place_in(
 pub fn append(alloc: Global, cells: &mut CellList, high: u32, low: u32) -> Result<u32, AllocError>
     requires high { IsIn (list_of cells.old) high }
     requires low { IsIn (list_of cells.old) low }
-    requires wide { 1 ≤ width_at (list_of cells.old) high + width_at (list_of cells.old) low }
     requires narrow { width_at (list_of cells.old) high + width_at (list_of cells.old) low ≤ 128 }
     ensures grows { Grows (list_of cells.old) (list_of cells.new) }
     ensures gives { IfOk result (λ r. Gives Nothing 1 (list_of cells.old) (list_of cells.new) r

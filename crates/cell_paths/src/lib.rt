@@ -1,0 +1,4 @@
+//! What statements read and write while they are compiled to cells, on paths.
+#![tactic(auto)]
+
+pub mod at;

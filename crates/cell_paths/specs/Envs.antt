@@ -16,10 +16,10 @@ pub record Env : Type 0 where
   pub time : ℕ
   pub answer : ℕ
   pub here : ℕ
-  pub far : ℕ
+  pub away : ℕ
 
 abbrev pub env_of : At → Env
-env_of a = record { first = a.first; slots = a.slots.items; time = a.time; answer = a.answer; here = a.here; far = a.far }
+env_of a = record { first = a.first; slots = a.slots.items; time = a.time; answer = a.answer; here = a.here; away = a.away }
 
 -- the entry of a signal by its number
 abbrev pub entry : Env → ℕ → Option ℕ
@@ -45,10 +45,10 @@ pub record Fits (names : Names) (l : ListData) (at : Env) : Type 0 where
   pub signals : (k : ℕ) → IsSignal names k → IsEntry l (signal_form names.rows k).width (entry at k)
   pub time : IsSlot l at.time 64
   pub answer : IsSlot l at.answer 32
-  pub here : IsSlot l at.here 10
-  pub far : IsSlot l at.far 10
-  pub zero : Always l at.here 0
-  pub away : Always l at.far 256
+  pub here : IsSlot l at.here 1
+  pub away : IsSlot l at.away 1
+  pub is_here : Always l at.here 0
+  pub is_away : Always l at.away 1
 
 -- the memory of an entry is there
 abbrev pub IsThere : Shape → Option ℕ → Type 0

@@ -1,20 +1,16 @@
--- That cells do what a statement does where its path is taken. A path is a slot that holds 0 where the statement is executed, and
--- 256 where it isn't: as the index of a write, 256 is beyond each bit (IEEE 1364-2005, clause 5.2.1; own).
-use Rattle.std.specs.Prelude.{◌≡◌, ℕ, ◌==◌, false, ◌⊎◌, if◌then◌else◌}
+-- That cells do what a statement does where its path is taken. A path is a slot of one bit that holds 0 where the statement is
+-- executed, and 1 where it isn't (own).
+use Rattle.std.specs.Prelude.{◌≡◌, ℕ, ℤ, ◌==◌, Bool, false, if◌then◌else◌}
+use Rattle.vl_design.specs.declared.design.LowestBit.{LowestBit}
+use Rattle.vl_base.specs.Value.{reading}
 use Rattle.vl_design.specs.Width.{Names}
+use Rattle.vl_design.specs.Value.{lowest_bit}
 use Rattle.vl_design.specs.Sound.{IsMemory}
-use Rattle.vl_design.specs.State.{State, sample}
+use Rattle.vl_design.specs.State.{State, Update, sample, with_update}
 use Rattle.cell_form.specs.Data.{ListData, BankData}
 use Rattle.cell_form.specs.Sound.{Shape}
-use Rattle.cell_steps.specs.Slots.{held, AreSound, Longer}
-use Rattle.cell_paths.specs.Envs.{Env, entry, IsSlot, Fits, HasMemories, Stands}
-
-abbrev pub IsOff : ℕ → Type 0
-IsOff n = (n ≡ 0) ⊎ (n ≡ 256)
-
-pub record Path (l : ListData) (off : ℕ) : Type 0 where
-  pub slot : IsSlot l off 10
-  pub is : (s : Shape) (b : BankData) → AreSound s l → IsOff (held b l off)
+use Rattle.cell_steps.specs.Slots.{held, width_at, AreSound, Longer, Nothing}
+use Rattle.cell_paths.specs.Envs.{Env, entry, Fits, HasMemories, Stands}
 
 -- what was done where the path is taken, else what was there
 abbrev pub on : ℕ → State → State → State
@@ -26,7 +22,7 @@ pub record Keeps (names : Names) (at at' : Env) : Type 0 where
   pub time : at'.time ≡ at.time
   pub answer : at'.answer ≡ at.answer
   pub here : at'.here ≡ at.here
-  pub far : at'.far ≡ at.far
+  pub away : at'.away ≡ at.away
   pub memories : (m : ℕ) → IsMemory names m → entry at' m ≡ entry at m
 
 -- with at most n cells more, they do what f does where the path is taken
@@ -34,5 +30,29 @@ pub record Does (names : Names) (n : ℕ) (f : State → State) (off : ℕ) (at 
   pub longer : Longer (HasMemories names at) n old new
   pub fits : Fits names new at'
   pub keeps : Keeps names at at'
+  pub alive : (t : State) → t.finished ≡ false → (f t).finished ≡ false
   pub does : (s : Shape) (b : BankData) (t : State) → AreSound s old → t.finished ≡ false → Stands names b old at (sample t) →
       Stands names b new at' (sample (on (held b old off) (f t) t))
+
+-- ---- one assignment
+
+-- the lowest bit that is assigned: a constant, or by an index in a slot
+pub data Low : Type 0 where
+  Constant : (low : ℤ) → Low
+  By : (index : ℕ) (signed : Bool) (from : LowestBit) → Low
+
+abbrev pub low_in : BankData → ListData → Low → ℤ
+low_in b l (Constant low) = low
+low_in b l (By index signed from) = lowest_bit from (reading signed (width_at l index) (held b l index))
+
+-- the update of a part in a slot to a signal
+abbrev pub update_in : BankData → ListData → ℕ → Low → ℕ → Update
+update_in b l signal low part = record { signal = signal; word = 0; low = low_in b l low; width = width_at l part; value = held b l part }
+
+-- with at most n cells more, they make the update where the path is taken
+pub record Assigns (names : Names) (n signal : ℕ) (low : Low) (part off : ℕ) (at at' : Env) (old new : ListData) : Type 0 where
+  pub longer : Longer Nothing n old new
+  pub fits : Fits names new at'
+  pub keeps : Keeps names at at'
+  pub does : (s : Shape) (b : BankData) (t : State) → AreSound s old → Stands names b old at (sample t) →
+      Stands names b new at' (sample (on (held b old off) (record t { values = with_update names.rows t.values (update_in b old signal low part) }) t))

@@ -12,8 +12,8 @@ pub struct At {
     pub time: u32,
     /// The slot of the answer of the system function called last, of 32 bits.
     pub answer: u32,
-    /// A slot that holds 0, of 10 bits.
+    /// A slot that holds 0, of 1 bit: the path of a statement that is executed always.
     pub here: u32,
-    /// A slot that holds 256, of 10 bits: from there on no bit of a value is reached.
-    pub far: u32,
+    /// A slot that holds 1, of 1 bit: the path of a statement that is never executed.
+    pub away: u32,
 }

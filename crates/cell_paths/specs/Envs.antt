@@ -1,9 +1,9 @@
 -- The slots that expressions and statements read, and what they hold (IEEE 1364-2005, clauses 5 and 9; own).
-use Rattle.std.specs.Prelude.{◌≡◌, ℕ, ◌+◌, ◌-◌, ◌<◌, ◌%◌, ◌^◌, nat_lt, List, [], length, slice_index, slice_index_or, Option, Some, None, ⊤, if◌then◌else◌}
+use Rattle.std.specs.Prelude.{◌≡◌, ℕ, ◌+◌, ◌-◌, ◌<◌, ◌%◌, ◌^◌, nat_lt, List, [], length, slice_get, slice_index, slice_index_or, Option, Some, None, ⊤, if◌then◌else◌}
 use Rattle.vl_design.specs.Syntax.{Row}
 use Rattle.vl_design.specs.Width.{Names, signal_form}
 use Rattle.vl_design.specs.Value.{Sample, words_of, value_of}
-use Rattle.vl_design.specs.Sound.{IsSignal, IsMemory}
+use Rattle.vl_design.specs.Sound.{HasValue, IsSignal, IsMemory}
 use Rattle.vl_design.specs.Laws.{IsFine}
 use Rattle.cell_form.specs.Data.{ListData, BankData}
 use Rattle.cell_form.specs.Sound.{Shape}
@@ -39,6 +39,10 @@ IsEntry l w (Some r) = IsSlot l r w
 -- a slot holds this number in every bank
 abbrev pub Always : ListData → ℕ → ℕ → Type 0
 Always l r n = (s : Shape) (b : BankData) → AreSound s l → held b l r ≡ n
+
+-- each signal that has a value has one word
+pub record HasOneWord (rows : List Row) : Type 0 where
+  pub one : (k : ℕ) (r : Row) → slice_get rows k ≡ Some r → HasValue r.kind → r.words ≡ 1
 
 pub record Fits (names : Names) (l : ListData) (at : Env) : Type 0 where
   pub many : at.first + length at.slots ≡ length names.rows

@@ -1,4 +1,6 @@
 //! What statements read and write while they are compiled to cells, on paths.
 #![tactic(auto)]
 
+pub mod assign;
 pub mod at;
+

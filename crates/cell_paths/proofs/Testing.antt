@@ -9,7 +9,7 @@ use Rattle.vl_design.specs.Exec.{exec, holds, asks, counted_if}
 use Rattle.cell_form.specs.Data.{ListData, BankData}
 use Rattle.cell_form.specs.Sound.{Shape}
 use Rattle.cell_steps.specs.Slots.{held, IsIn, AreSound, Longer, Gives, Nothing}
-use Rattle.cell_steps.proofs.Frames.{held-stays, longer-grows, longer-then}
+use Rattle.cell_steps.proofs.Frames.{held-stays, longer-grows, longer-then, met-nothing, gives-as, gives-behind}
 use Rattle.cell_paths.specs.Envs.{Env, HasMemories, Fits, Stands}
 use Rattle.cell_paths.specs.Paths.{on, Does}
 use Rattle.cell_paths.proofs.Staying.{stands-stays, sound-behind, keeps-then, longer-kept, longer-plain}
@@ -90,3 +90,12 @@ does-if scope e x y n0 n m off test first second at0 at1 at2 l0 l1 l2 l3 l4 fits
     chosen : (c : Bool) (u v : State) → u.finished ≡ false → v.finished ≡ false → (if c then u else v).finished ≡ false
     chosen true u v h i = h
     chosen false u v h i = i
+
+-- the second path, behind the first one's cell
+pub gives-second : (test off first second : ℕ) (f : BankData → ℕ) (l0 l1 l2 : ListData) → IsIn l0 test → IsIn l0 off → Gives Nothing 1 l0 l1 first 1 f →
+    Gives Nothing 1 l1 l2 second 1 (λ b. if held b l1 test == 0 then held b l1 off else 1) → Gives Nothing 2 l0 l2 second 1 (λ b. if held b l0 test == 0 then held b l0 off else 1)
+gives-second test off first second f l0 l1 l2 kt ko ga gb =
+    let g = longer-grows Nothing 1 l0 l1 ga.longer in
+    gives-as Nothing 2 l0 l2 second 1 1 (λ b. if held b l1 test == 0 then held b l1 off else 1) (λ b. if held b l0 test == 0 then held b l0 off else 1) refl
+    (λ s b sound. ap (λ z. if z == 0 then held b l1 off else 1) (held-stays b l0 l1 test g kt) ∙ ap (λ z. if held b l0 test == 0 then z else 1) (held-stays b l0 l1 off g ko))
+    (gives-behind Nothing 1 1 l0 l1 l2 second 1 (λ b. if held b l1 test == 0 then held b l1 off else 1) met-nothing ga.longer gb)

@@ -127,7 +127,7 @@ updates-as names n us vs off at at' old new e u = record {
       subst (λ xs. Stands names b new at' (sample (on (held b old off) (record t { values = all_updated names.rows t.values xs }) t))) (e s b sound) (u.does s b t sound st);
 }
 
-low-stays : (b : BankData) (old new : ListData) (low : Low) → Grows old new → IsLow old low → low_in b new low ≡ low_in b old low
+pub low-stays : (b : BankData) (old new : ListData) (low : Low) → Grows old new → IsLow old low → low_in b new low ≡ low_in b old low
 low-stays b old new (Constant z) g h = refl
 low-stays b old new (By index signed from) g h =
     ap (λ w. lowest_bit from (reading signed w (held b new index))) (width-stays old new index g h)

@@ -11,8 +11,8 @@ use Rattle.vl_design.specs.State.{State, Update, sample, with_update, all_update
 use Rattle.cell_form.specs.Data.{ListData, BankData}
 use Rattle.cell_form.specs.Sound.{Shape}
 use Rattle.cell_steps.specs.Slots.{held, width_at, IsIn, AreSound, Longer, Nothing}
-use Rattle.cell_paths.specs.declared.assign.Place.{Place}
-use Rattle.cell_paths.specs.declared.assign.Place.TheVariants as p
+use Rattle.cell_paths.specs.declared.place.Place.{Place}
+use Rattle.cell_paths.specs.declared.place.Place.TheVariants as p
 use Rattle.cell_paths.specs.Envs.{Env, entry, held_or, HasOneWord, Fits, HasMemories, Stands}
 
 -- what was done where the path is taken, else what was there

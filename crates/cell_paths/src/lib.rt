@@ -3,4 +3,5 @@
 
 pub mod assign;
 pub mod at;
-
+pub mod paths;
+pub mod place;

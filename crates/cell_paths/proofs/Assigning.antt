@@ -31,7 +31,7 @@ use Rattle.cell_form.specs.Data.{ListData, BankData}
 use Rattle.cell_form.specs.Values as slots
 use Rattle.cell_form.specs.Sound.{Shape}
 use Rattle.cell_steps.specs.Slots.{slot, held, width_at, IsIn, AreSound, Grows, Longer, Gives, Nothing}
-use Rattle.cell_steps.proofs.Frames.{slot-width, held-fits, held-stays, width-stays, in-stays, longer-grows, longer-same, longer-weaken, met-nothing, gives-as, gives-then, gives-behind, gives-held, gives-weaken}
+use Rattle.cell_steps.proofs.Frames.{slot-width, held-fits, held-stays, width-stays, in-stays, longer-grows, longer-same, longer-then, longer-weaken, met-nothing, gives-as, gives-then, gives-behind, gives-held, gives-weaken}
 use Rattle.cell_paths.specs.Envs.{Env, entry, IsSlot, IsEntry, Always, HasOneWord, Fits, IsThere, held_or, word_or, HasWords, Stands}
 use Rattle.cell_paths.specs.Paths.{on, Keeps, Low, Constant, By, IsLow, low_in, update_in, written_in, IsWritable, Assigns}
 use Rattle.cell_paths.proofs.Staying.{is-slot-stays, held-or-stays, fits-stays, stands-stays, memory-other, always-stays}
@@ -78,7 +78,7 @@ in-values values k h = of (nat_lt k (length values)) refl
         let past : length (words_of values k) ≡ 0 = ap length (words_past values k (ltb-false k (length values) e)) in
         absurd (omega arith)
 
-signal-there : (rows : List Row) (k : ℕ) → IsOf HasValue (slice_get rows k) → k < length rows
+pub signal-there : (rows : List Row) (k : ℕ) → IsOf HasValue (slice_get rows k) → k < length rows
 signal-there [] k h = absurd h
 signal-there (r ∷ rows) zero h = omega arith
 signal-there (r ∷ rows) (suc k) h = let i = signal-there rows k h in omega arith
@@ -111,6 +111,19 @@ entry-other at k r j first other = of (nat_lt j at.first) refl
         let i = ltb-false j at.first e in
         let apart : (j - at.first) ≢ (k - at.first) = λ same. other (omega arith) in
         get_or-set_other at.slots (k - at.first) (j - at.first) (Some r) None apart
+
+-- what is read of an entry that is there
+pub entry-read : (at : Env) (k n : ℕ) (d : Option ℕ) → at.first + length at.slots ≡ n → at.first ≤ k → k < n → slice_index_or at.slots (k - at.first) d ≡ entry at k
+entry-read at k n d many first last = of (nat_lt k at.first) refl
+  where
+    any : (es : List (Option ℕ)) (i : ℕ) → i < length es → slice_index_or es i d ≡ slice_index_or es i None
+    any [] i h = absurd (omega arith)
+    any (e ∷ es) zero h = refl
+    any (e ∷ es) (suc i) h = any es i (omega arith)
+
+    of : (b : Bool) → nat_lt k at.first ≡ b → slice_index_or at.slots (k - at.first) d ≡ (if b then None else slice_index_or at.slots (k - at.first) None)
+    of true e = let i = ltb-true k at.first e in absurd (omega arith)
+    of false e = any at.slots (k - at.first) (omega arith)
 
 is-or-not : (P : ℕ → Type 0) (j k : ℕ) → P k → (j ≢ k → P j) → P j
 is-or-not P j k here other = of (nat_eq j k) refl
@@ -245,3 +258,63 @@ low-constant b l here low slot zeroth = ap (λ n. low +ℤ pos n) zeroth ∙ non
 pub low-index : (b : BankData) (l : ListData) (index : ℕ) (signed : Bool) (from : LowestBit) →
     slots.lowest_bit (record { signed = signed; taken = from.taken }) from.constant (slot b l index) ≡ v.lowest_bit from (reading signed (width_at l index) (held b l index))
 low-index b l index signed from = ap (λ w. v.lowest_bit from (reading signed w (held b l index))) (slot-width b l index)
+
+same-placed : (w w' x x' : ℕ) (low low' : ℤ) (n n' p p' : ℕ) → w ≡ w' → x ≡ x' → low ≡ low' → n ≡ n' → p ≡ p' → placed w x low n p ≡ placed w' x' low' n' p'
+same-placed w w' x x' low low' n n' p p' ew ex el en ep =
+    ap (λ z. placed z x low n p) ew ∙ ap (λ z. placed w' z low n p) ex ∙ ap (λ z. placed w' x' z n p) el ∙ ap (λ z. placed w' x' low' z p) en ∙ ap (placed w' x' low' n') ep
+
+-- a part that an index places
+pub gives-by : (before part index : ℕ) (signed : Bool) (from : LowestBit) (z : ℤ) (low : Low) (r : ℕ) (l0 l1 : ListData) → low ≡ By index signed from → z ≡ from.constant →
+    Gives Nothing 1 l0 l1 r (width_at l0 before) (λ b. placed (width_at l0 before) (held b l0 before) (slots.lowest_bit (record { signed = signed; taken = from.taken }) z (slot b l0 index)) (width_at l0 part) (held b l0 part)) →
+    Gives Nothing 1 l0 l1 r (width_at l0 before) (λ b. placed (width_at l0 before) (held b l0 before) (low_in b l0 low) (width_at l0 part) (held b l0 part))
+gives-by before part index signed from z low r l0 l1 e ez g =
+    gives-as Nothing 1 l0 l1 r (width_at l0 before) (width_at l0 before) _ (λ b. placed (width_at l0 before) (held b l0 before) (low_in b l0 low) (width_at l0 part) (held b l0 part)) refl
+    (λ s b sound.
+        ap (λ y. placed (width_at l0 before) (held b l0 before) y (width_at l0 part) (held b l0 part))
+        (ap (λ y. slots.lowest_bit (record { signed = signed; taken = from.taken }) y (slot b l0 index)) ez ∙ low-index b l0 index signed from ∙ sym (ap (low_in b l0) e))) g
+
+pub gives-whole : (wide : ℕ) (e : Option ℕ) (part off before r : ℕ) (l0 l1 l2 : ListData) → IsIn l0 part → IsIn l0 off → Gives Nothing 1 l0 l1 before wide (λ b. held_or b l0 e) →
+    Gives Nothing 1 l1 l2 r (width_at l1 before) (λ b. if held b l1 off == 0 then held b l1 part else held b l1 before) →
+    Gives Nothing 2 l0 l2 r wide (λ b. if held b l0 off == 0 then held b l0 part else held_or b l0 e)
+gives-whole wide e part off before r l0 l1 l2 kp ko gb g =
+    let m = longer-grows Nothing 1 l0 l1 gb.longer in
+    gives-as Nothing 2 l0 l2 r (width_at l1 before) wide (λ b. if held b l1 off == 0 then held b l1 part else held b l1 before) (λ b. if held b l0 off == 0 then held b l0 part else held_or b l0 e) gb.width
+    (λ s b sound.
+        ap (λ z. if z == 0 then held b l1 part else held b l1 before) (held-stays b l0 l1 off m ko)
+        ∙ ap (λ z. if held b l0 off == 0 then z else held b l1 before) (held-stays b l0 l1 part m kp)
+        ∙ ap (λ z. if held b l0 off == 0 then held b l0 part else z) (gb.value s b sound))
+    (gives-behind Nothing 1 1 l0 l1 l2 r (width_at l1 before) (λ b. if held b l1 off == 0 then held b l1 part else held b l1 before) met-nothing gb.longer g)
+
+pub gives-partly : (wide : ℕ) (e : Option ℕ) (low : Low) (part off before after r : ℕ) (l0 l1 l2 l3 : ListData) → IsIn l0 part → IsLow l0 low → IsIn l0 off → Gives Nothing 1 l0 l1 before wide (λ b. held_or b l0 e) →
+    Gives Nothing 1 l1 l2 after (width_at l1 before) (λ b. placed (width_at l1 before) (held b l1 before) (low_in b l1 low) (width_at l1 part) (held b l1 part)) →
+    Gives Nothing 1 l2 l3 r (width_at l2 before) (λ b. if held b l2 off == 0 then held b l2 after else held b l2 before) →
+    Gives Nothing 3 l0 l3 r wide (λ b. written_in b l0 wide e low part off)
+gives-partly wide e low part off before after r l0 l1 l2 l3 kp kl ko gb ga g =
+    let m01 = longer-grows Nothing 1 l0 l1 gb.longer in
+    let m12 = longer-grows Nothing 1 l1 l2 ga.longer in
+    let l02 = longer-then Nothing 1 1 l0 l1 l2 gb.longer ga.longer in
+    let m02 = longer-grows Nothing 2 l0 l2 l02 in
+    gives-as Nothing 3 l0 l3 r (width_at l2 before) wide (λ b. if held b l2 off == 0 then held b l2 after else held b l2 before) (λ b. written_in b l0 wide e low part off) (width-stays l1 l2 before m12 gb.there ∙ gb.width)
+    (λ s b sound.
+        let was : held b l1 before ≡ held_or b l0 e = gb.value s b sound in
+        let new : held b l2 after ≡ placed wide (held_or b l0 e) (low_in b l0 low) (width_at l0 part) (held b l0 part) =
+        ga.value s b (gb.longer.sound s tt sound)
+        ∙ same-placed (width_at l1 before) wide (held b l1 before) (held_or b l0 e) (low_in b l1 low) (low_in b l0 low) (width_at l1 part) (width_at l0 part) (held b l1 part) (held b l0 part)
+            gb.width was (low-stays b l0 l1 low m01 kl) (width-stays l0 l1 part m01 kp) (held-stays b l0 l1 part m01 kp) in
+        ap (λ z. if z == 0 then held b l2 after else held b l2 before) (held-stays b l0 l2 off m02 ko)
+        ∙ ap (λ z. if held b l0 off == 0 then z else held b l2 before) new
+        ∙ ap (λ z. if held b l0 off == 0 then placed wide (held_or b l0 e) (low_in b l0 low) (width_at l0 part) (held b l0 part) else z) (held-stays b l1 l2 before m12 gb.there ∙ was))
+    (gives-behind Nothing 2 1 l0 l2 l3 r (width_at l2 before) (λ b. if held b l2 off == 0 then held b l2 after else held b l2 before) met-nothing l02 g)
+
+-- a part that is all of the signal
+pub gives-assigned : (wide : ℕ) (e : Option ℕ) (low : Low) (part off r : ℕ) (l0 l1 : ListData) → low ≡ Constant (pos 0) → width_at l0 part ≡ wide → IsIn l0 part →
+    Gives Nothing 2 l0 l1 r wide (λ b. if held b l0 off == 0 then held b l0 part else held_or b l0 e) → Gives Nothing 4 l0 l1 r wide (λ b. written_in b l0 wide e low part off)
+gives-assigned wide e low part off r l0 l1 el ew k g =
+    gives-as Nothing 4 l0 l1 r wide wide (λ b. if held b l0 off == 0 then held b l0 part else held_or b l0 e) (λ b. written_in b l0 wide e low part off) refl
+    (λ s b sound.
+        let x = held_or b l0 e in
+        let p = held b l0 part in
+        let small : p < 2 ^ wide = subst (λ n. p < 2 ^ n) ew (held-fits s b l0 part sound k) in
+        ap (λ z. if held b l0 off == 0 then z else x)
+        (sym (placed-whole wide x p small) ∙ same-placed wide wide x x (pos 0) (low_in b l0 low) wide (width_at l0 part) p p refl refl (sym (ap (low_in b l0) el)) (sym ew) refl))
+    (gives-weaken Nothing Nothing 2 4 l0 l1 r wide (λ b. if held b l0 off == 0 then held b l0 part else held_or b l0 e) (λ s h. h) (omega arith) g)

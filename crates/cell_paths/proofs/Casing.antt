@@ -47,7 +47,7 @@ xor-equal x y = of (nat_eq (bit_xor x y) 0) (nat_eq y x) refl refl
         cc
     of false true h k =
         let same = eqb-true y x k in
-        let none : bit_xor x y ≡ 0 = rw same (grind common_steps) in
+        let none : bit_xor x y ≡ 0 = rw same (grind (arith, common_steps)) in
         let t = eq-eqb (bit_xor x y) 0 none in
         cc
     of false false h k = refl

@@ -1,15 +1,14 @@
 -- Assignments (IEEE 1364-2005, clause 9.2).
-use Rattle.std.proofs.Common.{◌≡◌, ◌≢◌, ℕ, zero, suc, ◌+◌, ◌-◌, ◌*◌, ◌/◌, ◌%◌, ◌^◌, ◌<◌, ◌≤◌, min, Bool, true, false, List, [], ◌∷◌, ◌++◌, map, length, Option, Some, None, refl, sym, ap, ◌∙◌, arith, subst, get_or-set_same, get_or-set_other, mod-eq_of_lt, zero-add}
-use Rattle.std.specs.Prelude.{ℤ, pos, ◌+ℤ◌, ◌-ℤ◌, ◌==◌, nat_eq, nat_lt, if◌then◌else◌, replicate, slice_get, slice_index, slice_index_or, slice_set, option_map}
+use Rattle.std.proofs.Common.{◌≡◌, ◌≢◌, ℕ, zero, suc, ◌+◌, ◌-◌, ◌*◌, ◌/◌, ◌%◌, ◌^◌, ◌<◌, ◌≤◌, min, Bool, true, false, List, [], ◌∷◌, map, length, Option, Some, None, refl, sym, ap, ◌∙◌, arith, subst, get_or-set_same, get_or-set_other, mod-eq_of_lt, zero-add}
+use Rattle.std.specs.Prelude.{ℤ, pos, ◌+ℤ◌, ◌==◌, nat_eq, nat_lt, if◌then◌else◌, replicate, slice_get, slice_index, slice_index_or, slice_set, option_map}
 use Rattle.std.proofs.Math.Pow.{pow_pos}
 use Rattle.std.proofs.Math.Nat.{mod-one, add-mul-mod_self_right}
-use Rattle.std.proofs.lemmas.Nat.{mod_below}
 use Rattle.std.proofs.lemmas.Int.{ints}
-use Rattle.std.proofs.lemmas.Bool.{eqb-true, eq-eqb, ltb-true, ltb-false, lt-ltb}
-use Rattle.std.proofs.lemmas.List.{length-map, length-set, length-replicate}
+use Rattle.std.proofs.lemmas.Bool.{eqb-true, eq-eqb, ltb-true, ltb-false}
+use Rattle.std.proofs.lemmas.List.{length-set}
 use Rattle.std.proofs.lemmas.Option.{slice_get-map}
 use Rattle.vl_base.specs.Value.{reading}
-use Rattle.vl_base.specs.Selects.{with_part, placed}
+use Rattle.vl_base.specs.Selects.{placed}
 use Rattle.vl_design.specs.declared.design.SigKind.{SigKind}
 use Rattle.vl_design.specs.declared.design.SigKind.TheVariants.{Net, Var, Comb, Loop, Mem, Clock}
 use Rattle.vl_design.specs.declared.design.Signal.{Signal}
@@ -19,22 +18,20 @@ use Rattle.vl_design.specs.Rows.{row_of}
 use Rattle.vl_design.specs.Width.{Names, signal_form}
 use Rattle.vl_design.specs.Value as v
 use Rattle.vl_design.specs.Value.{Sample, words_of, value_of}
-use Rattle.vl_design.specs.Sound.{IsOf, HasValue, IsWidth, IsSignal, IsMemory}
+use Rattle.vl_design.specs.Sound.{IsOf, HasValue, IsWidth, IsSignal}
 use Rattle.vl_design.specs.State.{State, Update, sample, with_update}
 use Rattle.vl_design.specs.Functions.{zeros}
 use Rattle.vl_design.specs.Laws.{IsFine}
 use Rattle.vl_design.proofs.Kept.{words_set, words_past, words_other}
 use Rattle.vl_design.proofs.Ranging.{updates_in_range}
 use Rattle.vl_design.proofs.Shaping.{all_shape, shape_on}
-use Rattle.cell_form.specs.declared.cell.Index.{Index}
 use Rattle.cell_form.specs.Data.{ListData, BankData}
 use Rattle.cell_form.specs.Values as slots
-use Rattle.cell_form.specs.Sound.{Shape}
-use Rattle.cell_steps.specs.Slots.{slot, held, width_at, IsIn, AreSound, Grows, Longer, Gives, Nothing}
-use Rattle.cell_steps.proofs.Frames.{slot-width, held-fits, held-stays, width-stays, in-stays, longer-grows, longer-same, longer-then, longer-weaken, met-nothing, gives-as, gives-then, gives-behind, gives-held, gives-weaken}
-use Rattle.cell_paths.specs.Envs.{Env, entry, IsSlot, IsEntry, Always, HasOneWord, Fits, IsThere, held_or, word_or, HasWords, Stands}
-use Rattle.cell_paths.specs.Paths.{on, Keeps, Low, Constant, By, IsLow, low_in, update_in, written_in, IsWritable, Assigns}
-use Rattle.cell_paths.proofs.Staying.{is-slot-stays, held-or-stays, fits-stays, stands-stays, memory-other, always-stays}
+use Rattle.cell_steps.specs.Slots.{slot, held, width_at, IsIn, Grows, Gives, Nothing}
+use Rattle.cell_steps.proofs.Frames.{slot-width, held-fits, held-stays, width-stays, longer-grows, longer-same, longer-then, longer-weaken, met-nothing, gives-as, gives-behind, gives-held, gives-weaken}
+use Rattle.cell_paths.specs.Envs.{Env, entry, IsSlot, IsEntry, HasOneWord, Fits, held_or, word_or, HasWords, Stands}
+use Rattle.cell_paths.specs.Paths.{Keeps, Low, Constant, By, IsLow, low_in, update_in, written_in, IsWritable, Assigns}
+use Rattle.cell_paths.proofs.Staying.{fits-stays, stands-stays, memory-other}
 use Rattle.cell_paths.proofs.Walking.{low-stays}
 
 -- ---- signals of one word
@@ -216,11 +213,11 @@ assigns-with names n k w low part off r at old new writable gives =
           let is = gives.value s b sound in
           taken-or-not (λ (z : State). Stands names b new (with_entry at k r) (sample z)) (o == 0) (o == 0) (record t { values = with_update names.rows t.values u }) t refl
           (λ e. stands-with names old new at k w r g writable slot b (sample t) (with_update names.rows t.values u) st (updated-fine names.rows t.values u st.fine)
-              (updated-value names.rows t.values u refl one ∙ ap (λ z. placed z (value_of t.values k) u.low u.width u.value) writable.width
-              ∙ ap (λ z. placed w z u.low u.width u.value) (sym was) ∙ sym (ap (λ c. if c then placed w (held_or b old (entry at k)) u.low u.width u.value else held_or b old (entry at k)) e) ∙ sym is)
-              (λ j n. words_other t.values k j _ n))
+          (updated-value names.rows t.values u refl one ∙ ap (λ z. placed z (value_of t.values k) u.low u.width u.value) writable.width
+          ∙ ap (λ z. placed w z u.low u.width u.value) (sym was) ∙ sym (ap (λ c. if c then placed w (held_or b old (entry at k)) u.low u.width u.value else held_or b old (entry at k)) e) ∙ sym is)
+          (λ j n. words_other t.values k j _ n))
           (λ e. stands-with names old new at k w r g writable slot b (sample t) t.values st st.fine
-              (sym was ∙ sym (ap (λ c. if c then placed w (held_or b old (entry at k)) u.low u.width u.value else held_or b old (entry at k)) e) ∙ sym is) (λ j n. refl));
+          (sym was ∙ sym (ap (λ c. if c then placed w (held_or b old (entry at k)) u.low u.width u.value else held_or b old (entry at k)) e) ∙ sym is) (λ j n. refl));
     }
 
 -- ---- the cells of an assignment
@@ -270,8 +267,8 @@ pub gives-by : (before part index : ℕ) (signed : Bool) (from : LowestBit) (z :
 gives-by before part index signed from z low r l0 l1 e ez g =
     gives-as Nothing 1 l0 l1 r (width_at l0 before) (width_at l0 before) _ (λ b. placed (width_at l0 before) (held b l0 before) (low_in b l0 low) (width_at l0 part) (held b l0 part)) refl
     (λ s b sound.
-        ap (λ y. placed (width_at l0 before) (held b l0 before) y (width_at l0 part) (held b l0 part))
-        (ap (λ y. slots.lowest_bit (record { signed = signed; taken = from.taken }) y (slot b l0 index)) ez ∙ low-index b l0 index signed from ∙ sym (ap (low_in b l0) e))) g
+    ap (λ y. placed (width_at l0 before) (held b l0 before) y (width_at l0 part) (held b l0 part))
+    (ap (λ y. slots.lowest_bit (record { signed = signed; taken = from.taken }) y (slot b l0 index)) ez ∙ low-index b l0 index signed from ∙ sym (ap (low_in b l0) e))) g
 
 pub gives-whole : (wide : ℕ) (e : Option ℕ) (part off before r : ℕ) (l0 l1 l2 : ListData) → IsIn l0 part → IsIn l0 off → Gives Nothing 1 l0 l1 before wide (λ b. held_or b l0 e) →
     Gives Nothing 1 l1 l2 r (width_at l1 before) (λ b. if held b l1 off == 0 then held b l1 part else held b l1 before) →
@@ -280,9 +277,9 @@ gives-whole wide e part off before r l0 l1 l2 kp ko gb g =
     let m = longer-grows Nothing 1 l0 l1 gb.longer in
     gives-as Nothing 2 l0 l2 r (width_at l1 before) wide (λ b. if held b l1 off == 0 then held b l1 part else held b l1 before) (λ b. if held b l0 off == 0 then held b l0 part else held_or b l0 e) gb.width
     (λ s b sound.
-        ap (λ z. if z == 0 then held b l1 part else held b l1 before) (held-stays b l0 l1 off m ko)
-        ∙ ap (λ z. if held b l0 off == 0 then z else held b l1 before) (held-stays b l0 l1 part m kp)
-        ∙ ap (λ z. if held b l0 off == 0 then held b l0 part else z) (gb.value s b sound))
+    ap (λ z. if z == 0 then held b l1 part else held b l1 before) (held-stays b l0 l1 off m ko)
+    ∙ ap (λ z. if held b l0 off == 0 then z else held b l1 before) (held-stays b l0 l1 part m kp)
+    ∙ ap (λ z. if held b l0 off == 0 then held b l0 part else z) (gb.value s b sound))
     (gives-behind Nothing 1 1 l0 l1 l2 r (width_at l1 before) (λ b. if held b l1 off == 0 then held b l1 part else held b l1 before) met-nothing gb.longer g)
 
 pub gives-partly : (wide : ℕ) (e : Option ℕ) (low : Low) (part off before after r : ℕ) (l0 l1 l2 l3 : ListData) → IsIn l0 part → IsLow l0 low → IsIn l0 off → Gives Nothing 1 l0 l1 before wide (λ b. held_or b l0 e) →
@@ -296,14 +293,14 @@ gives-partly wide e low part off before after r l0 l1 l2 l3 kp kl ko gb ga g =
     let m02 = longer-grows Nothing 2 l0 l2 l02 in
     gives-as Nothing 3 l0 l3 r (width_at l2 before) wide (λ b. if held b l2 off == 0 then held b l2 after else held b l2 before) (λ b. written_in b l0 wide e low part off) (width-stays l1 l2 before m12 gb.there ∙ gb.width)
     (λ s b sound.
-        let was : held b l1 before ≡ held_or b l0 e = gb.value s b sound in
-        let new : held b l2 after ≡ placed wide (held_or b l0 e) (low_in b l0 low) (width_at l0 part) (held b l0 part) =
-        ga.value s b (gb.longer.sound s tt sound)
-        ∙ same-placed (width_at l1 before) wide (held b l1 before) (held_or b l0 e) (low_in b l1 low) (low_in b l0 low) (width_at l1 part) (width_at l0 part) (held b l1 part) (held b l0 part)
-            gb.width was (low-stays b l0 l1 low m01 kl) (width-stays l0 l1 part m01 kp) (held-stays b l0 l1 part m01 kp) in
-        ap (λ z. if z == 0 then held b l2 after else held b l2 before) (held-stays b l0 l2 off m02 ko)
-        ∙ ap (λ z. if held b l0 off == 0 then z else held b l2 before) new
-        ∙ ap (λ z. if held b l0 off == 0 then placed wide (held_or b l0 e) (low_in b l0 low) (width_at l0 part) (held b l0 part) else z) (held-stays b l1 l2 before m12 gb.there ∙ was))
+    let was : held b l1 before ≡ held_or b l0 e = gb.value s b sound in
+    let new : held b l2 after ≡ placed wide (held_or b l0 e) (low_in b l0 low) (width_at l0 part) (held b l0 part) =
+    ga.value s b (gb.longer.sound s tt sound)
+    ∙ same-placed (width_at l1 before) wide (held b l1 before) (held_or b l0 e) (low_in b l1 low) (low_in b l0 low) (width_at l1 part) (width_at l0 part) (held b l1 part) (held b l0 part)
+    gb.width was (low-stays b l0 l1 low m01 kl) (width-stays l0 l1 part m01 kp) (held-stays b l0 l1 part m01 kp) in
+    ap (λ z. if z == 0 then held b l2 after else held b l2 before) (held-stays b l0 l2 off m02 ko)
+    ∙ ap (λ z. if held b l0 off == 0 then z else held b l2 before) new
+    ∙ ap (λ z. if held b l0 off == 0 then placed wide (held_or b l0 e) (low_in b l0 low) (width_at l0 part) (held b l0 part) else z) (held-stays b l1 l2 before m12 gb.there ∙ was))
     (gives-behind Nothing 2 1 l0 l2 l3 r (width_at l2 before) (λ b. if held b l2 off == 0 then held b l2 after else held b l2 before) met-nothing l02 g)
 
 -- a part that is all of the signal
@@ -312,9 +309,9 @@ pub gives-assigned : (wide : ℕ) (e : Option ℕ) (low : Low) (part off r : ℕ
 gives-assigned wide e low part off r l0 l1 el ew k g =
     gives-as Nothing 4 l0 l1 r wide wide (λ b. if held b l0 off == 0 then held b l0 part else held_or b l0 e) (λ b. written_in b l0 wide e low part off) refl
     (λ s b sound.
-        let x = held_or b l0 e in
-        let p = held b l0 part in
-        let small : p < 2 ^ wide = subst (λ n. p < 2 ^ n) ew (held-fits s b l0 part sound k) in
-        ap (λ z. if held b l0 off == 0 then z else x)
-        (sym (placed-whole wide x p small) ∙ same-placed wide wide x x (pos 0) (low_in b l0 low) wide (width_at l0 part) p p refl refl (sym (ap (low_in b l0) el)) (sym ew) refl))
+    let x = held_or b l0 e in
+    let p = held b l0 part in
+    let small : p < 2 ^ wide = subst (λ n. p < 2 ^ n) ew (held-fits s b l0 part sound k) in
+    ap (λ z. if held b l0 off == 0 then z else x)
+    (sym (placed-whole wide x p small) ∙ same-placed wide wide x x (pos 0) (low_in b l0 low) wide (width_at l0 part) p p refl refl (sym (ap (low_in b l0) el)) (sym ew) refl))
     (gives-weaken Nothing Nothing 2 4 l0 l1 r wide (λ b. if held b l0 off == 0 then held b l0 part else held_or b l0 e) (λ s h. h) (omega arith) g)

@@ -1,5 +1,5 @@
 -- Cases (IEEE 1364-2005, clause 9.5).
-use Rattle.std.proofs.Common.{◌≡◌, ℕ, zero, suc, ◌+◌, ◌*◌, ◌%◌, ◌^◌, ◌<◌, ◌≤◌, Bool, true, false, Option, Some, None, inl, inr, refl, sym, ap, ◌∙◌, arith, subst, mod-eq_of_lt}
+use Rattle.std.proofs.Common.{◌≡◌, ℕ, ◌+◌, ◌*◌, ◌%◌, ◌^◌, ◌<◌, ◌≤◌, Bool, true, false, Option, Some, inl, inr, refl, sym, ap, ◌∙◌, arith, subst, mod-eq_of_lt}
 use Rattle.std.specs.Prelude.{◌⊎◌, ◌==◌, ◌||◌, nat_eq, if◌then◌else◌, bit_and, bit_xor}
 use Rattle.std.proofs.lemmas.Bool.{eqb-true, eq-eqb}
 use Rattle.std.proofs.lemmas.Nat.{and_mod, and_le_l, and_le_r}
@@ -13,12 +13,12 @@ use Rattle.vl_design.specs.Exec.{exec, exec_items, exec_default, items_form, ite
 use Rattle.cell_form.specs.Data.{ListData, BankData}
 use Rattle.cell_form.specs.Sound.{Shape}
 use Rattle.cell_steps.specs.Slots.{held, width_at, IsIn, AreSound, Longer, Gives, Nothing}
-use Rattle.cell_steps.proofs.Frames.{held-fits, held-stays, in-stays, longer-grows, longer-same, longer-then, longer-weaken, met-nothing, gives-as, gives-then, gives-behind}
+use Rattle.cell_steps.proofs.Frames.{held-fits, held-stays, longer-grows, longer-same, longer-then, longer-weaken, met-nothing, gives-as, gives-behind}
 use Rattle.cell_paths.specs.Differs.{differing}
 use Rattle.cell_paths.specs.Envs.{Env, IsSlot, HasMemories, Fits, Stands}
 use Rattle.cell_paths.specs.Paths.{on, Does}
 use Rattle.cell_paths.specs.Cases.{Compares, Went, Missed, Hit, Away, Tries}
-use Rattle.cell_paths.proofs.Staying.{is-slot-stays, one-bit, gives-slot, stands-stays, fits-stays, sound-behind, keeps-same, keeps-then, longer-kept, longer-plain}
+use Rattle.cell_paths.proofs.Staying.{is-slot-stays, one-bit, stands-stays, sound-behind, keeps-same, keeps-then, longer-kept, longer-plain}
 use Rattle.cell_paths.proofs.Walking.{on-alive}
 use Rattle.cell_paths.proofs.Testing.{counted-sample, counted-alive}
 
@@ -60,8 +60,8 @@ gives-cared all bits mask r w l0 l1 l2 slot gm ga =
     let there = is-slot-stays l0 l1 all w g slot in
     gives-as Nothing 2 l0 l2 r (width_at l1 all) w (λ b. bit_and (held b l1 all) (held b l1 mask)) (λ b. bit_and (held b l0 all) bits) there.width
     (λ s b sound.
-        let small : held b l0 all < 2 ^ w = subst (λ v. held b l0 all < 2 ^ v) slot.width (held-fits s b l0 all sound slot.there) in
-        ap (λ v. bit_and v (held b l1 mask)) (held-stays b l0 l1 all g slot.there) ∙ ap (bit_and (held b l0 all)) (gm.value s b sound) ∙ and-cut (held b l0 all) bits w small)
+    let small : held b l0 all < 2 ^ w = subst (λ v. held b l0 all < 2 ^ v) slot.width (held-fits s b l0 all sound slot.there) in
+    ap (λ v. bit_and v (held b l1 mask)) (held-stays b l0 l1 all g slot.there) ∙ ap (bit_and (held b l0 all)) (gm.value s b sound) ∙ and-cut (held b l0 all) bits w small)
     (gives-behind Nothing 1 1 l0 l1 l2 r (width_at l1 all) (λ b. bit_and (held b l1 all) (held b l1 mask)) met-nothing gm.longer ga)
 
 pub gives-differing : (subject label bits all r w : ℕ) (care : Option ℕ) (l0 l1 l2 : ListData) → care ≡ Some bits → w ≡ width_at l0 subject →

@@ -1,18 +1,18 @@
 -- What stays when cells are added.
-use Rattle.std.proofs.Common.{◌≡◌, ◌≢◌, ℕ, zero, suc, ◌+◌, ◌-◌, ◌^◌, ◌<◌, ◌≤◌, Bool, true, false, List, [], ◌∷◌, ◌++◌, length, Option, Some, None, inl, inr, refl, sym, ap, ◌∙◌, arith, subst}
-use Rattle.std.specs.Prelude.{⊤, ◌⊎◌, nat_lt, slice_index, slice_index_or, slice_get, if◌then◌else◌}
+use Rattle.std.proofs.Common.{◌≡◌, ◌≢◌, ℕ, zero, suc, ◌+◌, ◌-◌, ◌^◌, ◌<◌, ◌≤◌, Bool, true, false, List, [], ◌∷◌, Option, Some, None, inl, inr, refl, sym, ◌∙◌, arith, subst}
+use Rattle.std.specs.Prelude.{◌⊎◌, nat_lt, slice_index_or, slice_get, if◌then◌else◌}
 use Rattle.vl_design.specs.declared.design.SigKind.{SigKind}
 use Rattle.vl_design.specs.declared.design.SigKind.TheVariants.{Net, Var, Comb, Loop, Mem, Clock}
 use Rattle.vl_design.specs.Syntax.{Row}
 use Rattle.vl_design.specs.Width.{Names, signal_form}
 use Rattle.vl_design.specs.Value.{Sample}
 use Rattle.vl_design.specs.Sound.{IsOf, HasValue, IsMem, IsSignal, IsMemory}
-use Rattle.cell_form.specs.Data.{CellData, ListData, BankData}
-use Rattle.cell_form.specs.Sound.{Shape, AreCells}
+use Rattle.cell_form.specs.Data.{ListData, BankData}
+use Rattle.cell_form.specs.Sound.{Shape}
 use Rattle.cell_form.proofs.Fitting.{cells-before}
-use Rattle.cell_steps.specs.Slots.{held, width_at, IsIn, AreSound, Grows, Longer, Gives, Nothing}
-use Rattle.cell_steps.proofs.Frames.{held-fits, held-stays, width-stays, in-stays, longer-grows, longer-then, longer-weaken, sound-wider, Met}
-use Rattle.cell_paths.specs.Envs.{Env, entry, IsSlot, IsEntry, Always, Fits, IsThere, HasMemories, held_or, word_or, Stands}
+use Rattle.cell_steps.specs.Slots.{held, IsIn, AreSound, Grows, Longer, Gives, Nothing}
+use Rattle.cell_steps.proofs.Frames.{held-fits, held-stays, width-stays, in-stays, longer-weaken, sound-wider, Met}
+use Rattle.cell_paths.specs.Envs.{Env, entry, IsSlot, IsEntry, Always, Fits, IsThere, HasMemories, held_or, Stands}
 use Rattle.cell_paths.specs.Paths.{Keeps}
 
 -- ---- slots

@@ -1,9 +1,8 @@
 -- Statements one after the other, and assignments (IEEE 1364-2005, clauses 9.2 and 9.8).
-use Rattle.std.proofs.Common.{◌≡◌, ℕ, zero, suc, ◌+◌, ◌<◌, ◌≤◌, Bool, true, false, List, [], ◌∷◌, ◌++◌, refl, sym, ap, ◌∙◌, arith, subst}
-use Rattle.std.specs.Prelude.{ℤ, ◌==◌, if◌then◌else◌}
+use Rattle.std.proofs.Common.{◌≡◌, ℕ, ◌+◌, ◌≤◌, Bool, true, false, List, [], ◌∷◌, refl, sym, ap, ◌∙◌, arith, subst}
+use Rattle.std.specs.Prelude.{◌==◌, if◌then◌else◌}
 use Rattle.vl_base.specs.Value.{reading}
-use Rattle.vl_design.specs.declared.design.LowestBit.{LowestBit}
-use Rattle.vl_design.specs.Syntax.{Exp, Target, Stm, Nop, Then, Set, Items, NoItems}
+use Rattle.vl_design.specs.Syntax.{Exp, Target, Stm, Nop, Then, Set, NoItems}
 use Rattle.vl_design.specs.Width.{Names, Scope}
 use Rattle.vl_design.specs.Value.{Sample, lowest_bit}
 use Rattle.vl_design.specs.State.{State, Update, sample, all_updated}
@@ -14,8 +13,8 @@ use Rattle.cell_form.specs.Sound.{Shape}
 use Rattle.cell_steps.specs.Slots.{held, width_at, IsIn, AreSound, Grows, Longer, Nothing}
 use Rattle.cell_steps.proofs.Frames.{held-stays, width-stays, longer-grows, longer-same, longer-then, longer-weaken}
 use Rattle.cell_paths.specs.Envs.{Env, HasMemories, Fits, Stands}
-use Rattle.cell_paths.specs.Paths.{on, Keeps, Does, Low, Constant, By, IsLow, low_in, update_in, Assigns, Updates}
-use Rattle.cell_paths.proofs.Staying.{stands-stays, fits-stays, sound-behind, keeps-same, keeps-then, longer-kept, longer-plain}
+use Rattle.cell_paths.specs.Paths.{on, Does, Low, Constant, By, IsLow, low_in, update_in, Assigns, Updates}
+use Rattle.cell_paths.proofs.Staying.{stands-stays, sound-behind, keeps-same, keeps-then, longer-kept, longer-plain}
 
 -- ---- on a path
 

@@ -1,6 +1,6 @@
 -- That cells do what the items of a case do (IEEE 1364-2005, clause 9.5). Beside the path of the statement there is one that is
 -- taken where no label has matched so far (own).
-use Rattle.std.specs.Prelude.{◌≡◌, ℕ, ◌==◌, Bool, false, if◌then◌else◌}
+use Rattle.std.specs.Prelude.{◌≡◌, ℕ, false, if◌then◌else◌}
 use Rattle.vl_design.specs.declared.design.Form.{Form}
 use Rattle.vl_design.specs.Syntax.{Exps, Items}
 use Rattle.vl_design.specs.Width.{Names, Scope}

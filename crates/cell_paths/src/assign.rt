@@ -53,7 +53,7 @@ fn with_part(
     ensures grows { Grows (list_of cells.old) (list_of cells.new) }
     ensures gives { IfOk result (λ r. Gives Nothing 1 (list_of cells.old) (list_of cells.new) r (width_at (list_of cells.old) before)
         (λ b. placed (width_at (list_of cells.old) before) (held b (list_of cells.old) before) (low_in b (list_of cells.old) (low_of low))
-            (width_at (list_of cells.old) part) (held b (list_of cells.old) part))) }
+        (width_at (list_of cells.old) part) (held b (list_of cells.old) part))) }
 {
     match low {
         Place::Constant(low) => {

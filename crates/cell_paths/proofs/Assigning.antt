@@ -1,11 +1,11 @@
 -- Assignments (IEEE 1364-2005, clause 9.2).
-use Rattle.std.proofs.Common.{◌≡◌, ◌≢◌, ℕ, zero, suc, ◌+◌, ◌-◌, ◌*◌, ◌/◌, ◌%◌, ◌^◌, ◌<◌, ◌≤◌, min, Bool, true, false, List, [], ◌∷◌, map, length, Option, Some, None, refl, sym, ap, ◌∙◌, arith, subst, get_or-set_same, get_or-set_other, mod-eq_of_lt, zero-add}
+use Rattle.std.proofs.Common.{◌≡◌, ◌≢◌, ℕ, zero, suc, ◌+◌, ◌-◌, ◌*◌, ◌/◌, ◌%◌, ◌^◌, ◌<◌, ◌≤◌, min, Bool, true, false, List, [], ◌∷◌, ◌++◌, map, length, Option, Some, None, refl, sym, ap, ◌∙◌, arith, subst, get_or-set_same, get_or-set_other, mod-eq_of_lt, zero-add}
 use Rattle.std.specs.Prelude.{ℤ, pos, ◌+ℤ◌, ◌==◌, nat_eq, nat_lt, if◌then◌else◌, replicate, slice_get, slice_index, slice_index_or, slice_set, option_map}
 use Rattle.std.proofs.Math.Pow.{pow_pos}
 use Rattle.std.proofs.Math.Nat.{mod-one, add-mul-mod_self_right}
 use Rattle.std.proofs.lemmas.Int.{ints}
 use Rattle.std.proofs.lemmas.Bool.{eqb-true, eq-eqb, ltb-true, ltb-false}
-use Rattle.std.proofs.lemmas.List.{length-set}
+use Rattle.std.proofs.lemmas.List.{map-append, length-set}
 use Rattle.std.proofs.lemmas.Option.{slice_get-map}
 use Rattle.vl_base.specs.Value.{reading}
 use Rattle.vl_base.specs.Selects.{placed}
@@ -54,6 +54,10 @@ one-word xs = record { one = λ k r e h. go xs k r e h }
         let same : row_of y ≡ r = cc in
         subst (λ (q : Row). HasValue q.kind → q.words ≡ 1) same (λ g. kind-one y.kind y refl g) h
     go (y ∷ ys) (suc k) r e h = go ys k r e h
+
+-- those of a function's locals behind a design's
+pub one-words : (xs ys : List Signal) → HasOneWord (map row_of xs ++ map row_of ys)
+one-words xs ys = subst HasOneWord (map-append row_of xs ys) (one-word (xs ++ ys))
 
 one-long : (rows : List Row) (values : List (List ℕ)) (k : ℕ) → HasOneWord rows → IsFine rows values → IsOf HasValue (slice_get rows k) → length (words_of values k) ≡ 1
 one-long rows values k o f h = f.shape.words k ∙ go (slice_get rows k) refl h

@@ -72,6 +72,18 @@ gives-differing subject label bits all r w care l0 l1 l2 e ew ga gr =
     (λ s b sound. ap (λ v. bit_and v bits) (ga.value s b sound) ∙ ap (λ c. differing c (held b l0 subject) (held b l0 label)) (sym e))
     (gives-behind Nothing 1 2 l0 l1 l2 r w (λ b. bit_and (held b l1 all) bits) met-nothing ga.longer gr)
 
+-- a label that is compiled and compared matches where no bit differs
+pub compares-label : (names : Names) (scope : Scope) (c : Form) (n subject label differs w : ℕ) (care : Option ℕ) (e : Exp) (at : Env) (l0 l1 l2 : ListData) → IsIn l0 subject → Longer (HasMemories names at) n l0 l1 →
+    ((s : Shape) (b : BankData) (x : Sample) → AreSound s l0 → Stands names b l0 at x → held b l1 label ≡ value scope x e c) → Gives Nothing 3 l1 l2 differs w (λ b. differing care (held b l1 subject) (held b l1 label)) →
+    ((x : Sample) (v : ℕ) → (differing care v (value scope x e c) == 0) ≡ label_matches scope x c v e) →
+    (s : Shape) (b : BankData) (x : Sample) → AreSound s l0 → Stands names b l0 at x → (held b l2 differs == 0) ≡ label_matches scope x c (held b l0 subject) e
+compares-label names scope c n subject label differs w care e at l0 l1 l2 k longer is g matches s b x sound st =
+    let behind = sound-behind names at n s l0 l1 longer sound in
+    ap (λ d. d == 0)
+    (g.value behind.shape b behind.sound ∙ ap (λ v. differing care v (held b l1 label)) (held-stays b l0 l1 subject (longer-grows (HasMemories names at) n l0 l1 longer) k)
+    ∙ ap (differing care (held b l0 subject)) (is s b x sound st))
+    ∙ matches x (held b l0 subject)
+
 pub compares-none : (names : Names) (scope : Scope) (c : Form) (subject rest : ℕ) (at : Env) (l : ListData) → IsSlot l rest 1 → Compares names 0 scope c subject NoExps rest rest at l l
 compares-none names scope c subject rest at l slot = record { longer = longer-same (HasMemories names at) l; slot = slot; value = λ s b x sound st. refl }
 

@@ -1,0 +1,5 @@
+pub mod Staying
+pub mod Walking
+pub mod Testing
+pub mod Casing
+pub mod Assigning

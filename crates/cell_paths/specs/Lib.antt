@@ -1,0 +1,4 @@
+pub mod Cases
+pub mod Differs
+pub mod Envs
+pub mod Paths

@@ -50,13 +50,10 @@ fn answer_to_accepted(
     if saves {
         return Ok(Answer::Refusal(report::notbuilt(alloc)?));
     }
-    let outcome = run(alloc, &accepted.design, accepted.order.as_slice(), ticks)?;
-    let block = report::block(
-        alloc,
-        outcome.end,
-        outcome.ticks,
-        outcome.printed.as_slice(),
-    )?;
+    let order = accepted.order.as_slice();
+    let outcome = run(alloc, &accepted.design, order, ticks)?;
+    let printed = outcome.printed.as_slice();
+    let block = report::block(alloc, outcome.end, outcome.ticks, printed)?;
     Ok(Answer::Report(block))
 }
 

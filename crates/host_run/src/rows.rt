@@ -1,6 +1,6 @@
 //! A worked row of the definitions.
 
-ghost use Rattle.std.specs.Prelude.{◌≡◌, Ok, true, codes};
+ghost use Rattle.std.specs.Prelude.{◌≡◌, Ok, false, codes};
 ghost use Rattle.vl_design.specs.declared.design.End.TheVariants.{Budget};
 ghost use Rattle.vl_design.specs.Queue.{Queue};
 ghost use Rattle.vl_design.specs.Alone.{Ends};

@@ -1,8 +1,5 @@
 -- Variants that differ, and what is in equal ones.
-use Rattle.std.proofs.Common.{◌≡◌, true, false, Some, None, Result, Ok, Err}
-
-pub true_false : true ≡ false → ⊥
-true_false e = cc
+use Rattle.std.proofs.Common.{◌≡◌, Some, None, Result, Ok, Err}
 
 pub some_none : {A : Type 0} (x : A) → Some x ≡ None → ⊥
 some_none x e = cc

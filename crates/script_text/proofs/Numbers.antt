@@ -2,13 +2,14 @@
 use Rattle.std.specs.Prelude.{suc}
 use Rattle.std.proofs.Common.{◌≡◌, ℕ, ◌+◌, Bool, true, false, if◌then◌else◌, List, [], ◌∷◌, ◌++◌, length, Option, Some, None, option_map, Bor, refl, sym, ap, ◌∙◌, arith}
 use Rattle.std.specs.Str.{bytes_eq}
+use Rattle.std.proofs.lemmas.Bool.{true≢false}
 use Rattle.std.proofs.lemmas.Cmp.{nat_list_eq_equiv}
 use Rattle.std.proofs.lemmas.Map.Text.{hash_map_updates_str}
 use Rattle.std.proofs.lemmas.Slice.Eq.{bytes_eq-Decides}
 use Rattle.indexmap.specs.IndexMap.{IndexMap, UpdatesBy}
 use Rattle.script_text.specs.Scripts.{number_in}
 use Rattle.script_text.specs.Drafts.{value_at}
-use Rattle.script_text.proofs.Apart.{true_false, some_none}
+use Rattle.script_text.proofs.Apart.{some_none}
 
 -- what a map has after a value is put in
 pub value_at-insert : {X S : Type 0} (m n : IndexMap (Bor (List ℕ)) X S) (bs : List ℕ) (w : X) → UpdatesBy (λ x y. bytes_eq x.now y.now) (λ k. bytes_eq bs k.now) m n (Some w)
@@ -47,7 +48,7 @@ number_in-push (m ∷ ms) n t none =
         let am : t ≡ m = (bytes_eq-Decides t m).0 a in
         let an : t ≡ n = (bytes_eq-Decides t n).0 b in
         let same : bytes_eq n m ≡ true = (bytes_eq-Decides n m).1 (sym an ∙ am) in
-        true_false (sym same ∙ other)
+        true≢false (sym same ∙ other)
 
 -- a map of numbers, after the next name has got its number
 pub numbers-push : {S : Type 0} (old new : IndexMap (Bor (List ℕ)) ℕ S) (ns : List (List ℕ)) (n : List ℕ) (k : ℕ) → k ≡ length ns → number_in ns n ≡ None

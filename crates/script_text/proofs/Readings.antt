@@ -1,12 +1,13 @@
 -- The first fault is the first.
 use Rattle.std.specs.Prelude.{zero, suc}
-use Rattle.std.proofs.Common.{◌≡◌, ℕ, ◌+◌, ◌<◌, Bool, true, false, if◌then◌else◌, List, [], ◌∷◌, ◌++◌, length, take, get_or, Option, Some, None, Result, Ok, Err, refl, sym, ap, ◌∙◌, append_assoc, append-nil, arith}
+use Rattle.std.proofs.Common.{◌≡◌, ◌⊎◌, inl, inr, ℕ, ◌+◌, ◌<◌, Bool, true, false, if◌then◌else◌, List, [], ◌∷◌, ◌++◌, length, take, get_or, Option, Some, None, Result, Ok, Err, refl, sym, ap, ◌∙◌, append_assoc, append-nil, arith}
+use Rattle.std.proofs.lemmas.Bool.{true≢false, cases_order}
 use Rattle.std.proofs.lemmas.List.{length-append}
 use Rattle.script_line.specs.Words.{lines}
 use Rattle.script_text.specs.declared.script.Script.{Script}
 use Rattle.script_text.specs.Reading.{script_of, line_cause, fault_or, first_fault, is_bare, reading_of, reading}
-use Rattle.script_text.specs.Laws.{AreRight, IsScript, IsFault, At, Bare}
-use Rattle.script_text.proofs.Apart.{true_false, some_none, some_same, err_ok, ok_same, err_same}
+use Rattle.script_text.specs.Laws.{cause_at, AreRight, IsScript, IsFault, At, Bare}
+use Rattle.script_text.proofs.Apart.{some_none, some_same, err_ok, ok_same, err_same}
 
 -- ---- no fault
 
@@ -77,8 +78,8 @@ read bytes s None e h =
     let both = by_bare (lines bytes) (is_bare (script_of (lines bytes))) s refl h in
     record { right = λ j l. none-all [] (lines bytes) e j l; whole = both.0; is = both.1 }
 
-pub one-reading : (bytes : List ℕ) (s : Script) → reading bytes ≡ Ok s → IsScript bytes s
-one-reading bytes s e = read bytes s (first_fault [] (lines bytes)) refl e
+pub reading-of : (bytes : List ℕ) (s : Script) → reading bytes ≡ Ok s → IsScript bytes s
+reading-of bytes s e = read bytes s (first_fault [] (lines bytes)) refl e
 
 bare-fault : (bytes : List ℕ) (line cause : ℕ) (b : Bool) → is_bare (script_of (lines bytes)) ≡ b → AreRight (lines bytes) (length (lines bytes))
     → answer (lines bytes) b ≡ Err (line, cause) → IsFault bytes line cause
@@ -98,12 +99,46 @@ fault bytes line cause (Some (n, c)) e h =
     (let at : line ≡ first.k + 1 = omega (arith, first.place, place) in At first.k at first.within (first.cause ∙ ap Some why) first.before)
 fault bytes line cause None e h = bare-fault bytes line cause (is_bare (script_of (lines bytes))) refl (λ j l. none-all [] (lines bytes) e j l) h
 
-pub one-fault : (bytes : List ℕ) (line cause : ℕ) → reading bytes ≡ Err (line, cause) → IsFault bytes line cause
-one-fault bytes line cause e = fault bytes line cause (first_fault [] (lines bytes)) refl e
+pub fault-of : (bytes : List ℕ) (line cause : ℕ) → reading bytes ≡ Err (line, cause) → IsFault bytes line cause
+fault-of bytes line cause e = fault bytes line cause (first_fault [] (lines bytes)) refl e
 
 pub not-both : (bytes : List ℕ) (s : Script) (line cause : ℕ) → IsScript bytes s → IsFault bytes line cause → ⊥
 not-both bytes s line cause a (At k place within here before) = some_none cause (sym here ∙ a.right k within)
-not-both bytes s line cause a (Bare place nine right bare) = true_false (sym bare ∙ a.whole)
+not-both bytes s line cause a (Bare place nine right bare) = true≢false (sym bare ∙ a.whole)
 
 pub one-script : (bytes : List ℕ) (s t : Script) → IsScript bytes s → IsScript bytes t → s ≡ t
 one-script bytes s t a b = a.is ∙ sym b.is
+
+-- lines with a cause, above which no line has one, are one line
+same-place : (ls : List (List ℕ)) (k m c d : ℕ) → cause_at ls k ≡ Some c → AreRight ls k → cause_at ls m ≡ Some d → AreRight ls m → k ≡ m
+same-place ls k m c d here before there above = by (cases_order k m)
+  where
+    by : (k ≡ m) ⊎ ((k < m) ⊎ (m < k)) → k ≡ m
+    by (inl e) = e
+    by (inr (inl l)) = absurd (some_none c (sym here ∙ above k l))
+    by (inr (inr l)) = absurd (some_none d (sym there ∙ before m l))
+
+pub one-fault : (bytes : List ℕ) (line cause at why : ℕ) → IsFault bytes line cause → IsFault bytes at why → (line ≡ at) × (cause ≡ why)
+one-fault bytes line cause at why (At k place within here before) (At m spot inside there above) =
+    let same = same-place (lines bytes) k m cause why here before there above in
+    let where_ : line ≡ at = omega (arith, place, spot, same) in
+    (where_, some_same cause why (sym here ∙ ap (cause_at (lines bytes)) same ∙ there))
+one-fault bytes line cause at why (At k place within here before) (Bare spot nine right bare) = absurd (some_none cause (sym here ∙ right k within))
+one-fault bytes line cause at why (Bare place nine right bare) (At m spot inside there above) = absurd (some_none why (sym there ∙ right m inside))
+one-fault bytes line cause at why (Bare place nine right bare) (Bare spot also correct empty) = (place ∙ sym spot, nine ∙ sym also)
+
+pub is-read : (bytes : List ℕ) (s : Script) → IsScript bytes s → reading bytes ≡ Ok s
+is-read bytes s a = by (reading bytes) refl
+  where
+    by : (r : Result Script (ℕ × ℕ)) → reading bytes ≡ r → reading bytes ≡ Ok s
+    by (Ok t) e = e ∙ ap Ok (one-script bytes t s (reading-of bytes t e) a)
+    by (Err f) e = absurd (not-both bytes s f.0 f.1 a (fault-of bytes f.0 f.1 e))
+
+pub is-fault : (bytes : List ℕ) (line cause : ℕ) → IsFault bytes line cause → reading bytes ≡ Err (line, cause)
+is-fault bytes line cause a = by (reading bytes) refl
+  where
+    by : (r : Result Script (ℕ × ℕ)) → reading bytes ≡ r → reading bytes ≡ Err (line, cause)
+    by (Ok t) e = absurd (not-both bytes t line cause (reading-of bytes t e) a)
+    by (Err f) e =
+        let same = one-fault bytes f.0 f.1 line cause (fault-of bytes f.0 f.1 e) a in
+        e ∙ ap (λ (n : ℕ). Err (n, f.1)) same.0 ∙ ap (λ (c : ℕ). Err (line, c)) same.1

@@ -1,5 +1,5 @@
 -- The reading of a script in other words, and what the order of errands is.
-use Rattle.std.specs.Prelude.{◌≡◌, ℕ, ◌+◌, ◌<◌, Bool, true, false, ◌&&◌, ◌==◌, not, if◌then◌else◌, List, [], ◌∷◌, length, take, fold, Option, Some, None, Result, Ok, slice_index_or, ⊤}
+use Rattle.std.specs.Prelude.{◌≡◌, ℕ, ◌+◌, ◌<◌, Bool, true, false, ◌&&◌, ◌==◌, not, if◌then◌else◌, List, [], ◌∷◌, length, take, Option, Some, None, Result, Ok, slice_index_or, ⊤}
 use Rattle.std.specs.List.{AllByRecursion}
 use Rattle.script_line.specs.Words.{lines}
 use Rattle.script_line.specs.Statements.{Statement}
@@ -7,7 +7,7 @@ use Rattle.script_line.specs.Statements as said
 use Rattle.script_text.specs.declared.script.FabricLine.{FabricLine}
 use Rattle.script_text.specs.declared.script.Errand.{Errand}
 use Rattle.script_text.specs.declared.script.Script.{Script}
-use Rattle.script_text.specs.Scripts.{comes_before, with_errand, is_save}
+use Rattle.script_text.specs.Scripts.{comes_before, is_save}
 use Rattle.script_text.specs.Reading.{script_of, line_cause, is_bare}
 
 -- ---- the reading
@@ -33,10 +33,6 @@ pub data IsFault (bytes : List ℕ) (line cause : ℕ) : Type 0 where
   Bare : line ≡ length (lines bytes) + 1 → cause ≡ 9 → AreRight (lines bytes) (length (lines bytes)) → is_bare (script_of (lines bytes)) ≡ true → IsFault bytes line cause
 
 -- ---- errands
-
--- errands as a script has them, put in order
-abbrev pub in_order : List Errand → List Errand
-in_order es = fold (λ xs e. with_errand e xs) [] es
 
 -- none comes before one that stands before it
 abbrev pub AreOrdered : List Errand → Type 0

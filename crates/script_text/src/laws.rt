@@ -1,25 +1,31 @@
 //! What follows from the definitions alone.
 
-ghost use Rattle.std.specs.Prelude.{◌≡◌, ℕ, List, Ok, Err, filter, map, flat_map};
+ghost use Rattle.std.specs.Prelude.{◌≡◌, ℕ, List, [], ◌∷◌, ◌++◌, Ok, Err, filter, map, flat_map};
+ghost use Rattle.std.specs.List.{AllByRecursion};
 ghost use Rattle.script_text.specs.declared.script.Errand.{Errand as Sent};
 ghost use Rattle.script_text.specs.declared.script.Script.{Script as Read};
 ghost use Rattle.script_line.specs.Statements.{says};
-ghost use Rattle.script_text.specs.Laws.{IsScript, IsFault, in_order, AreOrdered, is_like, fabric_said, tenant_said};
+ghost use Rattle.script_text.specs.Laws.{IsScript, IsFault, AreOrdered, is_like, fabric_said, tenant_said};
 ghost use Rattle.script_text.specs.Reading.{reading, script_of};
+ghost use Rattle.script_text.specs.Scripts.{with_errand};
 
-/// A script is read exactly where no line has a cause, and else has one first fault: never both.
+/// A script is read exactly where no line has a cause and a fabric and a tenant are there, and then in one
+/// way; else it has exactly one first fault, and never both.
 pub fn a_script_has_one_reading_or_one_first_fault()
     ensures read { (bytes : List ℕ) (s : Read) → reading bytes ≡ Ok s → IsScript bytes s }
+    ensures is_read { (bytes : List ℕ) (s : Read) → IsScript bytes s → reading bytes ≡ Ok s }
     ensures fault { (bytes : List ℕ) (line cause : ℕ) → reading bytes ≡ Err (line, cause) → IsFault bytes line cause }
+    ensures is_fault { (bytes : List ℕ) (line cause : ℕ) → IsFault bytes line cause → reading bytes ≡ Err (line, cause) }
     ensures not_both { (bytes : List ℕ) (s : Read) (line cause : ℕ) → IsScript bytes s → IsFault bytes line cause → ⊥ }
     ensures one_reading { (bytes : List ℕ) (s t : Read) → IsScript bytes s → IsScript bytes t → s ≡ t }
+    ensures one_fault { (bytes : List ℕ) (line cause at why : ℕ) → IsFault bytes line cause → IsFault bytes at why → (line ≡ at) × (cause ≡ why) }
 {}
 
-/// Errands stand by their ticks, and at one tick saves before the other; those of one tick that are
-/// saves, and those that are none, stand as in the script.
+/// A tenant's errands stand by their ticks, and at one tick saves before the other. Of one tick, the saves
+/// stand as in the script, and so do those that are none: one more stands behind those like it.
 pub fn errands_stand_in_order()
-    ensures ordered { (errands : List Sent) → AreOrdered (in_order errands) }
-    ensures same { (errands : List Sent) (e : Sent) → filter (is_like e) (in_order errands) ≡ filter (is_like e) errands }
+    ensures ordered { (lines : List (List ℕ)) → AllByRecursion (λ t. AreOrdered t.errands) (script_of lines).tenants }
+    ensures behind { (errands : List Sent) (e like : Sent) → AreOrdered errands → filter (is_like like) (with_errand e errands) ≡ filter (is_like like) errands ++ filter (is_like like) (e ∷ []) }
 {}
 
 /// A script has the fabrics and the tenants that its lines declare, in their order.

@@ -7,5 +7,5 @@ pub mod Faults
 pub mod Kept
 pub mod Readings
 pub mod Ordered
-pub mod Plans
+pub mod Limits
 pub mod Declared

@@ -1,6 +1,6 @@
 -- The numbers of names.
 use Rattle.std.specs.Prelude.{suc}
-use Rattle.std.proofs.Common.{◌≡◌, ℕ, ◌+◌, Bool, true, false, if◌then◌else◌, List, [], ◌∷◌, ◌++◌, length, Option, Some, None, option_map, Bor, refl, sym, ap, ◌∙◌, arith}
+use Rattle.std.proofs.Common.{◌≡◌, ℕ, ◌+◌, ◌<◌, Bool, true, false, if◌then◌else◌, List, [], ◌∷◌, ◌++◌, length, Option, Some, None, option_map, is_some, unwrap_or, Bor, refl, sym, ap, ◌∙◌, arith}
 use Rattle.std.specs.Str.{bytes_eq}
 use Rattle.std.proofs.lemmas.Bool.{true≢false}
 use Rattle.std.proofs.lemmas.Cmp.{nat_list_eq_equiv}
@@ -49,6 +49,17 @@ number_in-push (m ∷ ms) n t none =
         let an : t ≡ n = (bytes_eq-Decides t n).0 b in
         let same : bytes_eq n m ≡ true = (bytes_eq-Decides n m).1 (sym an ∙ am) in
         true≢false (sym same ∙ other)
+
+-- a number is one of so many
+pub number-within : (ns : List (List ℕ)) (name : List ℕ) → is_some (number_in ns name) ≡ true → unwrap_or (number_in ns name) 0 < length ns
+number-within [] name e = absurd (true≢false (sym e))
+number-within (m ∷ ms) name e = by (bytes_eq name m) (number_in ms name) (number-within ms name) e
+  where
+    by : (b : Bool) (o : Option ℕ) → (is_some o ≡ true → unwrap_or o 0 < length ms) → is_some (if b then Some 0 else next o) ≡ true
+        → unwrap_or (if b then Some 0 else next o) 0 < length (m ∷ ms)
+    by true o h e = omega arith
+    by false None h e = absurd (true≢false (sym e))
+    by false (Some i) h e = let l = h refl in omega (arith, l)
 
 -- a map of numbers, after the next name has got its number
 pub numbers-push : {S : Type 0} (old new : IndexMap (Bor (List ℕ)) ℕ S) (ns : List (List ℕ)) (n : List ℕ) (k : ℕ) → k ≡ length ns → number_in ns n ≡ None

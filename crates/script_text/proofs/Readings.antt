@@ -11,7 +11,7 @@ use Rattle.script_text.proofs.Apart.{some_none, some_same, err_ok, ok_same, err_
 
 -- ---- no fault
 
-both-none : (n : ℕ) (c : Option ℕ) (later : Option (ℕ × ℕ)) → fault_or n c later ≡ None → (c ≡ None) × (later ≡ None)
+pub both-none : (n : ℕ) (c : Option ℕ) (later : Option (ℕ × ℕ)) → fault_or n c later ≡ None → (c ≡ None) × (later ≡ None)
 both-none n None later e = (refl, e)
 both-none n (Some c) later e = absurd (some_none (n, c) e)
 

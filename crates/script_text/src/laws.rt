@@ -1,12 +1,11 @@
 //! What follows from the definitions alone.
 
-ghost use Rattle.std.specs.Prelude.{◌≡◌, ℕ, List, [], ◌∷◌, ◌++◌, Ok, Err, filter, map, flat_map};
-ghost use Rattle.std.specs.List.{AllByRecursion};
+ghost use Rattle.std.specs.Prelude.{◌≡◌, ℕ, List, [], ◌∷◌, ◌++◌, false, Ok, Err, filter, map, flat_map};
 ghost use Rattle.script_text.specs.declared.script.Errand.{Errand as Sent};
 ghost use Rattle.script_text.specs.declared.script.Script.{Script as Read};
 ghost use Rattle.script_line.specs.Statements.{says};
-ghost use Rattle.script_text.specs.Laws.{IsScript, IsFault, AreOrdered, is_like, fabric_said, tenant_said};
-ghost use Rattle.script_text.specs.Reading.{reading, script_of};
+ghost use Rattle.script_text.specs.Laws.{IsScript, IsFault, AreOrdered, is_like, IsWithinLimits, fabric_said, tenant_said};
+ghost use Rattle.script_text.specs.Reading.{reading, script_of, is_bare};
 ghost use Rattle.script_text.specs.Scripts.{with_errand};
 
 /// A script is read exactly where no line has a cause and a fabric and a tenant are there, and then in one
@@ -21,11 +20,18 @@ pub fn a_script_has_one_reading_or_one_first_fault()
     ensures one_fault { (bytes : List ℕ) (line cause at why : ℕ) → IsFault bytes line cause → IsFault bytes at why → (line ≡ at) × (cause ≡ why) }
 {}
 
-/// A tenant's errands stand by their ticks, and at one tick saves before the other. Of one tick, the saves
-/// stand as in the script, and so do those that are none: one more stands behind those like it.
-pub fn errands_stand_in_order()
-    ensures ordered { (lines : List (List ℕ)) → AllByRecursion (λ t. AreOrdered t.errands) (script_of lines).tenants }
-    ensures behind { (errands : List Sent) (e like : Sent) → AreOrdered errands → filter (is_like like) (with_errand e errands) ≡ filter (is_like like) errands ++ filter (is_like like) (e ∷ []) }
+/// An errand stands behind those before it in the script that are like it: the saves of its tick, or those
+/// of its tick that are none.
+pub fn errands_keep_their_order()
+    ensures { (errands : List Sent) (e like : Sent) → AreOrdered errands → filter (is_like like) (with_errand e errands) ≡ filter (is_like like) errands ++ filter (is_like like) (e ∷ []) }
+{}
+
+/// A script that is read has 1 to 8 fabrics, 1 to 64 tenants and at most 256 free orders, and each number in it
+/// is one of theirs. A tenant has at most 16 files and 256 errands; these stand by their ticks, at one tick
+/// saves of different names first, and then at most one other.
+pub fn a_script_keeps_to_its_limits()
+    ensures whole { (bytes : List ℕ) (s : Read) → reading bytes ≡ Ok s → is_bare s ≡ false }
+    ensures limits { (bytes : List ℕ) (s : Read) → reading bytes ≡ Ok s → IsWithinLimits s }
 {}
 
 /// A script has the fabrics and the tenants that its lines declare, in their order.

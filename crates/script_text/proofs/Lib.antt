@@ -1,0 +1,11 @@
+pub mod Apart
+pub mod Numbers
+pub mod Changes
+pub mod Insertion
+pub mod Rooms
+pub mod Faults
+pub mod Kept
+pub mod Readings
+pub mod Ordered
+pub mod Limits
+pub mod Declared

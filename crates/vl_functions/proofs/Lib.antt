@@ -1,0 +1,4 @@
+mod Bodies
+mod Functions
+mod Whole
+mod Elaborated

@@ -1,0 +1,4 @@
+//! What elaboration makes of functions.
+#![tactic(auto)]
+
+pub mod laws;

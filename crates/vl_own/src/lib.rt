@@ -1,0 +1,2 @@
+//! Functions that keep to what is their own: definitions alone.
+#![tactic(auto)]

@@ -6,4 +6,6 @@ mod fields;
 pub mod laws;
 pub mod reading;
 pub mod snapshot;
+#[cfg(test)]
+mod tests;
 pub mod writing;

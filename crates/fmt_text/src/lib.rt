@@ -1,0 +1,5 @@
+//! What displays print.
+#![tactic(auto)]
+
+pub mod piece;
+pub mod text;

@@ -1,0 +1,4 @@
+pub mod After
+pub mod Fits
+pub mod Names
+pub mod Rows

@@ -1,0 +1,100 @@
+"""Makes the rows of crates/text_rows: letters of items and a value, and what Python prints of it."""
+
+import pathlib
+import random
+
+WIDTHS = [1, 7, 8, 31, 32, 33, 64, 127, 128]
+FOLDER = pathlib.Path(__file__).resolve().parent.parent / "crates" / "text_rows"
+
+random.seed(20051364)
+rows = []
+answers = []
+
+
+def ones(width):
+    """The greatest value of a width."""
+    return (1 << width) - 1
+
+
+def signed(value, width):
+    """The signed reading of a value."""
+    return value - (1 << width) if value >> (width - 1) else value
+
+
+def decimal(value, width, least, is_signed):
+    """In decimal, at the right of a field for the greatest value, with a sign where it is signed."""
+    if is_signed:
+        text, field = str(signed(value, width)), 1 + len(str(1 << (width - 1)))
+    else:
+        text, field = str(value), len(str(ones(width)))
+    return text if least else text.rjust(field)
+
+
+def digits(value, width, least, size, form):
+    """In digits of so many bits each, all that the width has or as few as serve."""
+    text = format(value, form)
+    return text if least else text.zfill(-(-width // size))
+
+
+def item(letter, least, value, width, is_signed):
+    """The bytes of an item; none where there is no such item."""
+    letter = letter.lower()
+    if letter == "d":
+        return decimal(value, width, least, is_signed).encode()
+    if letter in "hx":
+        return digits(value, width, least, 4, "x").encode()
+    if letter == "o":
+        return digits(value, width, least, 3, "o").encode()
+    if letter == "b":
+        return digits(value, width, least, 1, "b").encode()
+    if letter == "s":
+        return value.to_bytes(16, "big").lstrip(b"\0")
+    if letter == "c" and not least:
+        return bytes([value & 255])
+    return None
+
+
+def shown(text):
+    """Bytes as text: those that aren't printable, and the backslash, in hexadecimal behind a backslash."""
+    return "".join(chr(b) if 32 <= b <= 126 and b != 92 else f"\\{b:02x}" for b in text)
+
+
+def put(letters, width, value):
+    texts = [
+        item(letter, least, value, width, is_signed)
+        for letter in letters
+        for least in [False, True]
+        for is_signed in [False, True]
+    ]
+    row = f"{letters} {width:x} {value:x}"
+    rows.append(row)
+    answers.append(row + " = " + shown(b"".join(b"[" + t + b"]" for t in texts if t is not None)))
+
+
+def corners(width):
+    return sorted({0, 1, ones(width), 1 << (width - 1), (1 << (width - 1)) - 1})
+
+
+def some(width):
+    """A value at random, of which half have few bits."""
+    return random.getrandbits(random.randint(1, width) if random.random() < 0.5 else width)
+
+
+def word(width):
+    """The value of some characters and zero bytes, cut to a width."""
+    text = bytes(random.choice(b"\0AZaz 09~\\") for _ in range(width // 8))
+    return int.from_bytes(text, "big")
+
+
+for width in WIDTHS:
+    for value in corners(width) + [some(width) for _ in range(6)]:
+        put("dhxobsc", width, value)
+    for value in [word(width) for _ in range(2)]:
+        put("sc", width, value)
+    put("DHXOBSC", width, some(width))
+    put("am%DdCc0", width, some(width))
+for row in ["dh 0 0", "dh 81 0", "dh 8 100"]:
+    rows.append(row)
+    answers.append(row + " = ")
+(FOLDER / "stdin").write_text("\n".join(rows) + "\n")
+(FOLDER / "stdout").write_text("\n".join(answers) + "\n")

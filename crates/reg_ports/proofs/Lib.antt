@@ -1,0 +1,5 @@
+pub mod Beside
+pub mod Holding
+pub mod Loops
+pub mod Outcomes
+pub mod Restoring

@@ -1,6 +1,6 @@
 -- What stands in a bank beside its ports, and banks that are their words.
-use Rattle.std.proofs.Common.{◌≡◌, ◌≢◌, inl, inr, ℕ, zero, suc, ◌+◌, ◌-◌, ◌<◌, ◌≤◌, Bool, true, false, List, [], ◌∷◌, ◌++◌, length, map, set, get_or, take, drop, refl, sym, ap, ◌∙◌, arith, subst}
-use Rattle.std.specs.Prelude.{not, ◌&&◌, ◌||◌, ◌==◌, nat_lt, slice_index, slice_index_or, All, AllPairs}
+use Rattle.std.proofs.Common.{◌≡◌, ◌≢◌, inl, inr, ℕ, zero, suc, ◌+◌, ◌-◌, ◌<◌, ◌≤◌, ◌^◌, Bool, true, false, List, [], ◌∷◌, length, set, get_or, take, drop, refl, sym, ap, ◌∙◌, arith, subst}
+use Rattle.std.specs.Prelude.{not, ◌&&◌, ◌||◌, ◌==◌, nat_lt, slice_index, All, AllPairs}
 use Rattle.std.specs.List.{list_any}
 use Rattle.std.proofs.lemmas.List.{length-set, length-map, get_or-map, get_or_default, get_or-set_same, get_or-set_other, get_or-append_right, get_or-drop, get_or-take, ext_get_or}
 use Rattle.std.proofs.lemmas.List.Elements.{All-nil, All-cons, All-head, All-tail}
@@ -9,10 +9,10 @@ use Rattle.cell_form.specs.declared.bank.Port.{Port}
 use Rattle.cell_form.specs.Data.{BankData}
 use Rattle.cell_form.specs.Sound.{SameShape}
 use Rattle.cell_form.specs.Writes.{word_of}
-use Rattle.reg_ports.specs.Ports.{word_count, word_counts, held, all_held, captured, widths, with_held, with_word, parted, restored, IsThere, IsPort, AreApart, IsMap}
+use Rattle.reg_ports.specs.Ports.{word_count, word_counts, port_widths, held, all_held, captured, widths, with_held, with_word, parted, restored, IsThere, AreApart, IsMap}
 use Rattle.reg_ports.specs.Elsewhere.{names_register, names_word, SameElsewhere, CopiesAgree}
-use Rattle.reg_ports.proofs.Holding.{over, memory_set, variable_set, count-memory, held-memory, held-variable, with-memory, with-variable, with-shape, held-same, held-other, register-beside, mems-length, memory-length, there-same, apart-sym}
-use Rattle.reg_ports.proofs.Restoring.{restored-shape, restored-held, captured-length, captured-parted, held-length, tail-count, own-count, still-there, head-pairs, tail-pairs, apart-at, all-there, port-there, with-word-is}
+use Rattle.reg_ports.proofs.Holding.{over, memory_set, count-memory, held-memory, held-variable, with-memory, with-variable, with-shape, held-same, held-other, register-beside, mems-length, memory-length, there-same, apart-sym}
+use Rattle.reg_ports.proofs.Restoring.{restored-shape, restored-held, captured-length, captured-parted, held-length, tail-count, own-count, still-there, head-pairs, tail-pairs, apart-at, all-there, port-there, with-word-is, with-word-map}
 
 -- ---- what a port names
 
@@ -205,7 +205,7 @@ module _ (a b : BankData) where
         | inr e ↦ beside.words m k e
       ] in
       let mems : a.mems ≡ b.mems = ext_get_or [] a.mems b.mems (mems-length a b beside.shape) (λ m lt.
-          ext_get_or 0 (get_or a.mems m []) (get_or b.mems m []) (memory-length a b m beside.shape) (λ k within. word m k)) in
+      ext_get_or 0 (get_or a.mems m []) (get_or b.mems m []) (memory-length a b m beside.shape) (λ k within. word m k)) in
       ap (λ (x : List ℕ). record { regs = x; mems = a.mems; slots = a.slots }) regs
       ∙ ap (λ (x : List (List ℕ)). record { regs = b.regs; mems = x; slots = a.slots }) mems
       ∙ ap (λ (x : List ℕ). record { regs = b.regs; mems = b.mems; slots = x }) beside.slots
@@ -261,6 +261,9 @@ module _ (ports : List Port) (b : BankData) (i k v : ℕ) (h : IsMap ports b) (s
   far : (j : ℕ) (d : Port) → j < length ports → (i ≡ j → ⊥) → AreApart own (get_or ports j d)
   far j d lt other = subst (λ (x : Port). AreApart x (get_or ports j d)) (get_or_default ports i d none at) (apart-at ports i j d h.apart other at lt)
 
+  pub written-map : v < 2 ^ slice_index (port_widths ports) i → IsMap ports (with_word ports i k v b)
+  written-map fits = with-word-map ports b i k own h at is v (slice_index (port_widths ports) i) fits refl
+
   pub written-elsewhere : SameElsewhere ports (with_word ports i k v b) b
   written-elsewhere = subst (λ (x : BankData). SameElsewhere ports x b) (sym set-is)
       (with-elsewhere ports b i own (set (held b own) k v) at is there long (with-shape own (set (held b own) k v) b there long))
@@ -280,19 +283,19 @@ module _ (ports : List Port) (b : BankData) (i k v : ℕ) (h : IsMap ports b) (s
       let many = length-map ports (held b) in
       let same_length : length (all_held ports new) ≡ length (set old i word) = length-map ports (held new) ∙ sym (length-set old i word ∙ many) in
       ap (all_held ports) set-is ∙ ext_get_or [] (all_held ports new) (set old i word) same_length (λ j within.
-          let all = length-map ports (held new) in
-          let lt : j < length ports = omega arith in
-          let q = get_or ports j none in
-          let P : List ℕ → Type 0 = λ xs. xs ≡ get_or (set old i word) j [] in
-          subst P (sym (get_or-map (held new) ports j none [] lt)) (elim (cases_eq i j) [
-            | inl same ↦ (
-                let inside : i < length old = omega arith in
-                ap (λ n. held new (get_or ports n none)) (sym same) ∙ held-same own (set (held b own) k v) b there long ∙ ap (λ (xs : List ℕ). set xs k v) (sym was)
-                ∙ sym (get_or-set_same old i word [] inside) ∙ ap (λ n. get_or (set old i word) n []) same)
-            | inr other ↦ (
-                let away : j ≢ i = λ x. other (sym x) in
-                held-other own q (set (held b own) k v) b (far j none lt other) ∙ sym (get_or-map (held b) ports j none [] lt) ∙ sym (get_or-set_other old i j word [] away))
-          ]))
+      let all = length-map ports (held new) in
+      let lt : j < length ports = omega arith in
+      let q = get_or ports j none in
+      let P : List ℕ → Type 0 = λ xs. xs ≡ get_or (set old i word) j [] in
+      subst P (sym (get_or-map (held new) ports j none [] lt)) (elim (cases_eq i j) [
+        | inl same ↦ (
+            let inside : i < length old = omega arith in
+            ap (λ n. held new (get_or ports n none)) (sym same) ∙ held-same own (set (held b own) k v) b there long ∙ ap (λ (xs : List ℕ). set xs k v) (sym was)
+            ∙ sym (get_or-set_same old i word [] inside) ∙ ap (λ n. get_or (set old i word) n []) same)
+        | inr other ↦ (
+            let away : j ≢ i = λ x. other (sym x) in
+            held-other own q (set (held b own) k v) b (far j none lt other) ∙ sym (get_or-map (held b) ports j none [] lt) ∙ sym (get_or-set_other old i j word [] away))
+      ]))
 
 -- ---- captured and restored
 

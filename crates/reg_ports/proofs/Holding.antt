@@ -1,11 +1,12 @@
 -- A bank in which one port holds other words.
-use Rattle.std.proofs.Common.{◌≡◌, ◌≢◌, inl, inr, ℕ, zero, suc, ◌+◌, ◌-◌, ◌<◌, ◌≤◌, Bool, true, false, List, [], ◌∷◌, ◌++◌, length, map, set, get_or, take, drop, refl, sym, ap, ◌∙◌, arith, subst, length-append, length-drop}
-use Rattle.std.specs.Prelude.{if◌then◌else◌, slice_index, slice_index_or}
-use Rattle.std.proofs.lemmas.List.{length-set, length-map, length-take-le, map-set, set-get_or, set-append_left, get_or-map, get_or-set_same, get_or-set_other, take_at, take-append-drop, nil_from_length}
+use Rattle.std.proofs.Common.{◌≡◌, ◌≢◌, inl, inr, ℕ, zero, suc, ◌<◌, ◌≤◌, Bool, true, false, List, [], ◌∷◌, ◌++◌, length, map, set, get_or, take, drop, refl, sym, ap, ◌∙◌, arith, subst, length-append, length-drop}
+use Rattle.std.specs.Prelude.{if◌then◌else◌, slice_index}
+use Rattle.std.proofs.lemmas.List.{length-set, length-map, length-take-le, map-set, set-get_or, set-append_left, get_or-map, get_or-take, get_or-set_same, get_or-set_other, take_at, take-append-drop, nil_from_length}
 use Rattle.std.proofs.lemmas.Bool.{cases_Bool}
 use Rattle.cell_form.specs.declared.bank.Port.{Port}
 use Rattle.cell_form.specs.Data.{BankData}
 use Rattle.cell_form.specs.Sound.{SameShape}
+use Rattle.cell_form.specs.Writes.{word_of}
 use Rattle.reg_ports.specs.Ports.{word_count, held, with_held, IsThere, AreApart}
 
 -- words over the first ones of others
@@ -31,6 +32,9 @@ held-memory b p e = ap (λ (m : Bool). if m then take p.words (get_or b.mems p.v
 
 pub held-variable : (b : BankData) (p : Port) → p.mem ≡ false → held b p ≡ slice_index b.regs p.work ∷ []
 held-variable b p e = ap (λ (m : Bool). if m then take p.words (get_or b.mems p.value []) else slice_index b.regs p.work ∷ []) e
+
+pub held-word : (b : BankData) (p : Port) (k : ℕ) → p.mem ≡ true → k < p.words → slice_index (held b p) k ≡ word_of b p.value k
+held-word b p k e lt = ap (λ (xs : List ℕ). slice_index xs k) (held-memory b p e) ∙ get_or-take p.words (get_or b.mems p.value []) k 0 lt
 
 pub with-memory : (p : Port) (ws : List ℕ) (b : BankData) → p.mem ≡ true → with_held p ws b ≡ memory_set p ws b
 with-memory p ws b e = ap (λ (m : Bool). if m then memory_set p ws b else variable_set p (slice_index ws 0) b) e

@@ -1,4 +1,5 @@
 pub mod Beside
+pub mod Examples
 pub mod Holding
 pub mod Loops
 pub mod Outcomes

@@ -1,5 +1,5 @@
 -- Words are fit or refused, and widths are those of rows.
-use Rattle.std.proofs.Common.{◌≡◌, ◌≢◌, inl, inr, ◌⊎◌, ℕ, zero, suc, ◌+◌, ◌<◌, ◌≤◌, ◌^◌, true, false, List, [], ◌∷◌, ◌++◌, length, get_or, replicate, refl, sym, ap, ◌∙◌, arith, subst}
+use Rattle.std.proofs.Common.{◌≡◌, inl, inr, ◌⊎◌, ℕ, zero, suc, ◌<◌, ◌≤◌, ◌^◌, true, false, List, [], ◌∷◌, ◌++◌, length, replicate, refl, sym, ap, ◌∙◌, arith}
 use Rattle.std.specs.Prelude.{◌==◌, if◌then◌else◌, slice_index, All}
 use Rattle.std.specs.List.{AllZip, flat_map}
 use Rattle.std.proofs.lemmas.List.Elements.{All-head, All-tail}
@@ -48,8 +48,10 @@ pub either-outcome : (ports : List Port) (ws : List ℕ) → AreFit ports ws ⊎
 either-outcome ports ws = elim (cases_eq (length ws) (length (widths ports))) [
   | inl same ↦ elim (find-wide (widths ports) ws same) [
     | inl fit ↦ inl fit
-    | inr found ↦ inr (errors.Wide found.0 (slice_index ws found.0),
-        record { many = same; there = found.1.there; is = refl; wide = found.1.wide; first = found.1.first })
+    | inr found ↦ inr (
+      errors.Wide found.0 (slice_index ws found.0),
+      record { many = same; there = found.1.there; is = refl; wide = found.1.wide; first = found.1.first },
+    )
   ]
   | inr other ↦ inr (errors.Length (length ws) (length (widths ports)), (refl, refl, other))
 ]

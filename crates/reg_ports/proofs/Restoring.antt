@@ -1,9 +1,9 @@
 -- A bank with some or all of its ports set.
-use Rattle.std.proofs.Common.{◌≡◌, ◌≢◌, inl, inr, ℕ, zero, suc, ◌+◌, ◌-◌, ◌<◌, ◌≤◌, ◌^◌, Bool, true, false, List, [], ◌∷◌, ◌++◌, length, map, set, get_or, take, drop, replicate, refl, sym, ap, ◌∙◌, arith, subst, length-append, length-drop, Some}
-use Rattle.std.specs.Prelude.{slice_index, slice_index_or, slice_get, All, AllPairs}
+use Rattle.std.proofs.Common.{◌≡◌, ◌≢◌, inl, inr, ℕ, zero, suc, ◌<◌, ◌≤◌, ◌^◌, List, [], ◌∷◌, ◌++◌, length, set, get_or, take, drop, replicate, refl, sym, ap, ◌∙◌, arith, subst, length-append, length-drop, Some}
+use Rattle.std.specs.Prelude.{slice_index, All, AllPairs}
 use Rattle.std.specs.List.{AllZip, flat_map}
 use Rattle.std.specs.Option.{option_map_or}
-use Rattle.std.proofs.lemmas.List.{length-map, length-take-le, length-replicate, length-set, take-append-drop, take_at, drop_at, append-nil, get_or-map, get_or_default, get_or_past, drop_all, take_all}
+use Rattle.std.proofs.lemmas.List.{length-map, length-take-le, length-replicate, length-set, take-append-drop, take_at, drop_at, get_or-map, get_or_default, get_or_past}
 use Rattle.std.proofs.lemmas.Option.{slice_get-get_or}
 use Rattle.std.proofs.lemmas.List.Elements.{All-nil, All-cons, All-head, All-tail, All-set, length_all_zip}
 use Rattle.std.proofs.lemmas.Bool.{cases_Bool, cases_eq, cases_lt, cases_order}

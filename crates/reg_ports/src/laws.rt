@@ -1,14 +1,21 @@
 //! What follows from the definitions alone. No function here does anything: each `ensures` is a law.
 
-ghost use Rattle.std.specs.Prelude.{◌≡◌, ℕ, ◌<◌, ◌≤◌, ◌⊎◌, ◌==◌, if◌then◌else◌, true, false, List, [], length, replicate, slice_index, slice_index_or, slice_set, All};
+ghost use Rattle.std.specs.Prelude.{◌≡◌, ℕ, ◌<◌, ◌≤◌, ◌^◌, ◌⊎◌, ◌==◌, if◌then◌else◌, true, false, List, [], ◌∷◌, length, replicate, slice_index, slice_index_or, slice_set, All};
 ghost use Rattle.std.specs.List.{flat_map};
 ghost use Rattle.cell_form.specs.declared.bank.Port.{Port as OnePort};
 ghost use Rattle.cell_form.specs.Data.{BankData};
 ghost use Rattle.cell_form.specs.Sound.{SameShape};
+ghost use Rattle.cell_form.specs.Writes.{word_of};
 ghost use Rattle.reg_ports.specs.declared.restore.PortError.{PortError as Refusal};
 ghost use Rattle.reg_ports.specs.Elsewhere.{SameElsewhere, CopiesAgree};
-ghost use Rattle.reg_ports.specs.Ports.{word_counts, all_held, captured, widths, with_word, parted, restored, IsMap};
+ghost use Rattle.reg_ports.specs.Ports.{word_counts, port_widths, held, all_held, captured, widths, with_word, parted, restored, IsMap};
 ghost use Rattle.reg_ports.specs.Refusals.{AreFit, Refuses};
+
+/// A variable's one word is its work copy, and the words of a memory are those from its lowest address on.
+pub fn words_of_a_port()
+    ensures variable { (b : BankData) (p : OnePort) → p.mem ≡ false → held b p ≡ slice_index b.regs p.work ∷ [] }
+    ensures memory { (b : BankData) (p : OnePort) (k : ℕ) → p.mem ≡ true → k < p.words → slice_index (held b p) k ≡ word_of b p.value k }
+{}
 
 /// Behind a write of a word the ports hold what they held, but for this word. What no port names stays, and values that were their
 /// work copies' are so still.
@@ -57,9 +64,13 @@ pub fn a_captured_bank_is_restored()
         restored ports (captured ports b) c ≡ b }
 {}
 
-/// A bank of the same shape has the same ports where it holds numbers of their widths.
-pub fn ports_go_with_the_shape()
-    ensures { (ports : List OnePort) (a b : BankData) → IsMap ports b → SameShape a b → AreFit ports (captured ports a) → IsMap ports a }
+/// Ports of a bank are so still where a word of one, or all words, are others that fit, and they are those of each bank of its shape
+/// whose words fit.
+pub fn ports_stay()
+    ensures written { (ports : List OnePort) (b : BankData) (port word v : ℕ) → IsMap ports b → word < slice_index (word_counts ports) port →
+        v < 2 ^ slice_index (port_widths ports) port → IsMap ports (with_word ports port word v b) }
+    ensures restored { (ports : List OnePort) (b : BankData) (ws : List ℕ) → IsMap ports b → AreFit ports ws → IsMap ports (restored ports ws b) }
+    ensures same_shape { (ports : List OnePort) (a b : BankData) → IsMap ports b → SameShape a b → AreFit ports (captured ports a) → IsMap ports a }
 {}
 
 /// Words are those of the ports or are refused, for one reason, and never both.

@@ -5,3 +5,5 @@ pub mod capture;
 pub mod laws;
 pub mod port;
 pub mod restore;
+#[cfg(test)]
+mod tests;

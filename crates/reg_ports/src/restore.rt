@@ -40,7 +40,9 @@ fn wide_one(words: &[u128], width: u8) -> Option<usize>
     ensures wide { IfSome result (λ i. 2 ^ width ≤ slice_index words.now i) }
     ensures first { IfSome result (λ i. (k : ℕ) → k < i → slice_index words.now k < 2 ^ width) }
 {
-    words.iter().position(|word| Bits::new(*word, width).is_none())
+    words
+        .iter()
+        .position(|word| Bits::new(*word, width).is_none())
 }
 
 /// The number of the first word that has more bits than its port's width, where there are as many words as the ports have.

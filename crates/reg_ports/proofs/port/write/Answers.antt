@@ -1,7 +1,6 @@
-use Rattle.std.proofs.Common.{◌≡◌, ◌<◌, length, get_or, false, sym, ◌∙◌, ap, subst, List, set}
+use Rattle.std.proofs.Common.{◌<◌, length, get_or, false, sym, ◌∙◌, ap, subst, List, set}
 use Rattle.std.proofs.lemmas.List.{get_or_default}
 use Rattle.cell_form.specs.declared.bank.Port.{Port}
-use Rattle.cell_form.specs.Data.{BankData}
 use Rattle.cell_form.specs.Views.{bank_of}
 use Rattle.reg_ports.specs.Ports.{IsMap, with_held, held}
 use Rattle.reg_ports.proofs.Restoring.{port-there, with-word-is, with-word-map}

@@ -1,4 +1,4 @@
-use Rattle.std.proofs.Common.{◌≡◌, false, arith, get_or, length, ◌<◌, refl}
+use Rattle.std.proofs.Common.{false, arith, get_or, length, ◌<◌, refl}
 use Rattle.std.proofs.lemmas.List.{get_or_default}
 use Rattle.cell_form.specs.declared.bank.Port.{Port}
 use Rattle.reg_ports.proofs.Loops.{checked-more, checked-wide, checked-all}

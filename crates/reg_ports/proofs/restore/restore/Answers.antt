@@ -1,6 +1,5 @@
 use Rattle.std.proofs.Common.{◌≡◌, sym, ◌∙◌, ap, List, subst}
 use Rattle.cell_form.specs.declared.bank.Port.{Port}
-use Rattle.cell_form.specs.Data.{BankData}
 use Rattle.cell_form.specs.Views.{bank_of}
 use Rattle.reg_ports.specs.Ports.{IsMap, restored}
 use Rattle.reg_ports.specs.Refusals.{AreFit}

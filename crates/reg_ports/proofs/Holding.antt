@@ -1,13 +1,14 @@
 -- A bank in which one port holds other words.
-use Rattle.std.proofs.Common.{◌≡◌, ◌≢◌, inl, inr, ℕ, zero, suc, ◌<◌, ◌≤◌, Bool, true, false, List, [], ◌∷◌, ◌++◌, length, map, set, get_or, take, drop, refl, sym, ap, ◌∙◌, arith, subst, length-append, length-drop}
+use Rattle.std.proofs.Common.{◌≡◌, ◌≢◌, inl, inr, ℕ, zero, suc, ◌<◌, ◌≤◌, Bool, true, false, List, [], ◌∷◌, ◌++◌, length, map, sum, replicate, set, get_or, take, drop, refl, sym, ap, ◌∙◌, arith, subst, length-append, length-drop}
 use Rattle.std.specs.Prelude.{if◌then◌else◌, slice_index}
-use Rattle.std.proofs.lemmas.List.{length-set, length-map, length-take-le, map-set, set-get_or, set-append_left, get_or-map, get_or-take, get_or-set_same, get_or-set_other, take_at, take-append-drop, nil_from_length}
+use Rattle.std.proofs.lemmas.List.{length-set, length-map, length-replicate, length-take-le, map-set, set-get_or, set-append_left, get_or-map, get_or-take, get_or-set_same, get_or-set_other, take_at, take-append-drop, nil_from_length}
+use Rattle.std.proofs.lemmas.List.Sums.{sum_by-cons}
 use Rattle.std.proofs.lemmas.Bool.{cases_Bool}
 use Rattle.cell_form.specs.declared.bank.Port.{Port}
 use Rattle.cell_form.specs.Data.{BankData}
 use Rattle.cell_form.specs.Sound.{SameShape}
 use Rattle.cell_form.specs.Writes.{word_of}
-use Rattle.reg_ports.specs.Ports.{word_count, held, with_held, IsThere, AreApart}
+use Rattle.reg_ports.specs.Ports.{word_count, word_counts, widths, held, with_held, IsThere, AreApart}
 
 -- words over the first ones of others
 abbrev pub over : List ℕ → List ℕ → List ℕ
@@ -41,6 +42,16 @@ with-memory p ws b e = ap (λ (m : Bool). if m then memory_set p ws b else varia
 
 pub with-variable : (p : Port) (ws : List ℕ) (b : BankData) → p.mem ≡ false → with_held p ws b ≡ variable_set p (slice_index ws 0) b
 with-variable p ws b e = ap (λ (m : Bool). if m then memory_set p ws b else variable_set p (slice_index ws 0) b) e
+
+-- as many widths as words
+pub widths-length : (ports : List Port) → length (widths ports) ≡ sum (word_counts ports)
+widths-length [] = refl
+widths-length (p ∷ ps) =
+    let n = length-append (replicate (word_count p) p.width) (widths ps) in
+    let c = length-replicate (word_count p) p.width in
+    let total = sum_by-cons (λ (x : ℕ). x) (word_count p) (word_counts ps) in
+    let rest = widths-length ps in
+    omega arith
 
 -- ---- the shape
 

@@ -1,5 +1,5 @@
 -- How far loops over ports have come.
-use Rattle.std.proofs.Common.{◌≡◌, inl, inr, ℕ, suc, ◌+◌, ◌-◌, ◌<◌, ◌≤◌, ◌^◌, List, [], ◌∷◌, ◌++◌, length, get_or, take, drop, replicate, refl, sym, ap, ◌∙◌, arith, subst, length-append, length-drop}
+use Rattle.std.proofs.Common.{◌≡◌, inl, inr, ℕ, suc, ◌+◌, ◌-◌, ◌<◌, ◌≤◌, ◌^◌, List, [], ◌∷◌, ◌++◌, length, sum as total, get_or, take, drop, replicate, refl, sym, ap, ◌∙◌, arith, subst, length-append, length-drop}
 use Rattle.std.specs.Prelude.{slice_index, All}
 use Rattle.std.specs.List.{AllZip}
 use Rattle.std.proofs.lemmas.List.{drop_more, drop_all, drop-drop, drop_at, get_or-drop, get_or-take, get_or-replicate, get_or_append_left, length-replicate, length-take-le}
@@ -7,9 +7,9 @@ use Rattle.std.proofs.lemmas.List.Elements.{All-get_or}
 use Rattle.std.proofs.lemmas.Bool.{cases_lt}
 use Rattle.cell_form.specs.declared.bank.Port.{Port}
 use Rattle.cell_form.specs.Data.{BankData}
-use Rattle.reg_ports.specs.Ports.{word_count, widths, with_held, restored, IsThere}
+use Rattle.reg_ports.specs.Ports.{word_count, word_counts, widths, with_held, restored, IsThere}
 use Rattle.reg_ports.specs.Refusals.{AreFit, IsFirstWide}
-use Rattle.reg_ports.proofs.Holding.{with-shape, there-same}
+use Rattle.reg_ports.proofs.Holding.{widths-length, with-shape, there-same}
 
 next : {X : Type 0} (xs : List X) (i : ℕ) (x : X) → i < length xs → x ≡ get_or xs i x → drop i xs ≡ x ∷ drop (i + 1) xs
 next xs i x lt is = drop_more xs i x lt ∙ ap (λ y. y ∷ drop (i + 1) xs) (sym is)
@@ -42,8 +42,8 @@ pub record Put (ports : List Port) (ws : List ℕ) (start : BankData) (i : ℕ) 
   pub many : length left ≡ length (widths (drop i ports))
 
 module _ (ports : List Port) (ws : List ℕ) (start : BankData) where
-  pub put-none : All (IsThere start) ports → length ws ≡ length (widths ports) → Put ports ws start 0 ws start
-  put-none there many = record { same = refl; there = there; many = many }
+  pub put-none : All (IsThere start) ports → length ws ≡ total (word_counts ports) → Put ports ws start 0 ws start
+  put-none there many = record { same = refl; there = there; many = many ∙ sym (widths-length ports) }
 
   module _ (i : ℕ) (p : Port) (left : List ℕ) (now : BankData) (lt : i < length ports) (is : p ≡ get_or ports i p) (h : Put ports ws start i left now) where
     pub put-room : word_count p ≤ length left
@@ -88,8 +88,8 @@ zip-from (x ∷ xs) [] e f = absurd (omega arith)
 zip-from (x ∷ xs) (v ∷ ws) e f = (f 0 (omega arith), zip-from xs ws (omega arith) (λ k lt. f (suc k) (omega arith)))
 
 module _ (ports : List Port) (ws : List ℕ) where
-  pub checked-none : length ws ≡ length (widths ports) → Checked ports ws 0 0 ws
-  checked-none many = record { rest = refl; behind = refl; many = many; sum = omega arith; fit = λ k lt. absurd (omega arith) }
+  pub checked-none : length ws ≡ total (word_counts ports) → Checked ports ws 0 0 ws
+  checked-none many = record { rest = refl; behind = refl; many = many ∙ sym (widths-length ports); sum = omega arith; fit = λ k lt. absurd (omega arith) }
 
   module _ (i : ℕ) (p : Port) (n : ℕ) (left : List ℕ) (lt : i < length ports) (is : p ≡ get_or ports i p) (h : Checked ports ws i n left) where
     pub checked-room : word_count p ≤ length left
@@ -143,7 +143,7 @@ module _ (ports : List Port) (ws : List ℕ) where
         }
 
     pub checked-wide : (own : List ℕ) (c number m : ℕ) → c ≡ word_count p → own ≡ take c left → m ≡ n + number → number < length own → 2 ^ p.width ≤ slice_index own number →
-        ((k : ℕ) → k < number → slice_index own k < 2 ^ p.width) → length ws ≡ length (widths ports) → IsFirstWide ports ws m (slice_index ws m)
+        ((k : ℕ) → k < number → slice_index own k < 2 ^ p.width) → length ws ≡ total (word_counts ports) → IsFirstWide ports ws m (slice_index ws m)
     checked-wide own c number m count front e inside wide first many =
         let w = word_count p in
         let own_is : own ≡ take w left = front ∙ ap (λ k. take k left) count in
@@ -165,10 +165,10 @@ module _ (ports : List Port) (ws : List ℕ) where
           first = subst F (sym e) (here number (omega arith) ok);
         }
 
-  pub checked-all : (i n : ℕ) (left : List ℕ) → length ports ≤ i → length ws ≡ length (widths ports) → Checked ports ws i n left → AreFit ports ws
+  pub checked-all : (i n : ℕ) (left : List ℕ) → length ports ≤ i → length ws ≡ total (word_counts ports) → Checked ports ws i n left → AreFit ports ws
   checked-all i n left past many h =
       let none : widths (drop i ports) ≡ [] = ap widths (drop_all i ports past) in
       let empty : length (widths (drop i ports)) ≡ 0 = ap (λ (xs : List ℕ). length xs) none in
       let many_left = h.many in
       let sum = h.sum in
-      zip-from (widths ports) ws many (λ k lt. h.fit k (omega arith))
+      zip-from (widths ports) ws (many ∙ sym (widths-length ports)) (λ k lt. h.fit k (omega arith))

@@ -1,5 +1,5 @@
 -- Words are fit or refused, and widths are those of rows.
-use Rattle.std.proofs.Common.{◌≡◌, inl, inr, ◌⊎◌, ℕ, zero, suc, ◌<◌, ◌≤◌, ◌^◌, true, false, List, [], ◌∷◌, ◌++◌, length, replicate, refl, sym, ap, ◌∙◌, arith}
+use Rattle.std.proofs.Common.{◌≡◌, inl, inr, ◌⊎◌, ℕ, zero, suc, ◌<◌, ◌≤◌, ◌^◌, true, false, List, [], ◌∷◌, ◌++◌, length, sum, replicate, refl, sym, ap, ◌∙◌, arith}
 use Rattle.std.specs.Prelude.{◌==◌, if◌then◌else◌, slice_index, All}
 use Rattle.std.specs.List.{AllZip, flat_map}
 use Rattle.std.proofs.lemmas.List.Elements.{All-head, All-tail}
@@ -7,9 +7,9 @@ use Rattle.std.proofs.lemmas.Bool.{cases_Bool, cases_eq, cases_lt, cases_order, 
 use Rattle.cell_form.specs.declared.bank.Port.{Port}
 use Rattle.reg_ports.specs.declared.restore.PortError.{PortError}
 use Rattle.reg_ports.specs.declared.restore.PortError.TheVariants as errors
-use Rattle.reg_ports.specs.Ports.{word_count, widths}
+use Rattle.reg_ports.specs.Ports.{word_count, word_counts, widths}
 use Rattle.reg_ports.specs.Refusals.{AreFit, IsFirstWide, Refuses}
-use Rattle.reg_ports.proofs.Holding.{count-memory, count-variable}
+use Rattle.reg_ports.proofs.Holding.{count-memory, count-variable, widths-length}
 use Rattle.reg_ports.proofs.Restoring.{fit-length}
 
 zip-at : (xs ws : List ℕ) (k : ℕ) → AllZip (λ w v. v < 2 ^ w) xs ws → k < length ws → slice_index ws k < 2 ^ slice_index xs k
@@ -45,19 +45,19 @@ find-wide (x ∷ xs) (v ∷ ws) e = elim (cases_lt v (2 ^ x)) [
 ]
 
 pub either-outcome : (ports : List Port) (ws : List ℕ) → AreFit ports ws ⊎ ((e : PortError) × Refuses ports ws e)
-either-outcome ports ws = elim (cases_eq (length ws) (length (widths ports))) [
-  | inl same ↦ elim (find-wide (widths ports) ws same) [
+either-outcome ports ws = elim (cases_eq (length ws) (sum (word_counts ports))) [
+  | inl same ↦ elim (find-wide (widths ports) ws (same ∙ sym (widths-length ports))) [
     | inl fit ↦ inl fit
     | inr found ↦ inr (
       errors.Wide found.0 (slice_index ws found.0),
       record { many = same; there = found.1.there; is = refl; wide = found.1.wide; first = found.1.first },
     )
   ]
-  | inr other ↦ inr (errors.Length (length ws) (length (widths ports)), (refl, refl, other))
+  | inr other ↦ inr (errors.Length (length ws) (sum (word_counts ports)), (refl, refl, other))
 ]
 
 pub never-both : (ports : List Port) (ws : List ℕ) (e : PortError) → AreFit ports ws → Refuses ports ws e → ⊥
-never-both ports ws (errors.Length given wanted) fit h = h.2 (h.0 ∙ fit-length ports ws fit ∙ sym h.1)
+never-both ports ws (errors.Length given wanted) fit h = h.2 (h.0 ∙ fit-length ports ws fit ∙ widths-length ports ∙ sym h.1)
 never-both ports ws (errors.Wide index value) fit h =
     let fits = zip-at (widths ports) ws index fit h.there in
     let wide = h.wide in

@@ -1,9 +1,10 @@
 -- A bank with some or all of its ports set.
-use Rattle.std.proofs.Common.{◌≡◌, ◌≢◌, inl, inr, ℕ, zero, suc, ◌<◌, ◌≤◌, ◌^◌, List, [], ◌∷◌, ◌++◌, length, set, get_or, take, drop, replicate, refl, sym, ap, ◌∙◌, arith, subst, length-append, length-drop, Some}
+use Rattle.std.proofs.Common.{◌≡◌, ◌≢◌, inl, inr, ℕ, zero, suc, ◌<◌, ◌≤◌, ◌^◌, List, [], ◌∷◌, ◌++◌, length, map, sum, set, get_or, take, drop, replicate, refl, sym, ap, ◌∙◌, arith, subst, length-append, length-drop, Some}
 use Rattle.std.specs.Prelude.{slice_index, All, AllPairs}
 use Rattle.std.specs.List.{AllZip, flat_map}
 use Rattle.std.specs.Option.{option_map_or}
 use Rattle.std.proofs.lemmas.List.{length-map, length-take-le, length-replicate, length-set, take-append-drop, take_at, drop_at, get_or-map, get_or_default, get_or_past}
+use Rattle.std.proofs.lemmas.List.Sums.{sum_by-cons}
 use Rattle.std.proofs.lemmas.Option.{slice_get-get_or}
 use Rattle.std.proofs.lemmas.List.Elements.{All-nil, All-cons, All-head, All-tail, All-set, length_all_zip}
 use Rattle.std.proofs.lemmas.Bool.{cases_Bool, cases_eq, cases_lt, cases_order}
@@ -12,7 +13,7 @@ use Rattle.cell_form.specs.Data.{BankData}
 use Rattle.cell_form.specs.Sound.{SameShape}
 use Rattle.reg_ports.specs.Ports.{word_count, word_counts, port_widths, held, all_held, captured, widths, with_held, with_word, parted, restored, IsThere, IsPort, AreApart, IsMap}
 use Rattle.reg_ports.specs.Refusals.{AreFit}
-use Rattle.reg_ports.proofs.Holding.{count-memory, count-variable, held-memory, held-variable, with-shape, there-same, held-same, held-other, apart-sym}
+use Rattle.reg_ports.proofs.Holding.{count-memory, count-variable, held-memory, held-variable, with-shape, there-same, held-same, held-other, apart-sym, widths-length}
 
 -- ---- how many words a port holds
 
@@ -244,15 +245,25 @@ pub captured-joined : (ports : List Port) (b : BankData) → captured ports b �
 captured-joined [] b = refl
 captured-joined (p ∷ ps) b = ap (λ (xs : List ℕ). held b p ++ xs) (captured-joined ps b)
 
-parted-joined : (ports : List Port) (ws : List ℕ) → length ws ≡ length (widths ports) → flat_map (λ (xs : List ℕ). xs) (parted (word_counts ports) ws) ≡ ws
+pub parted-joined : (ns ws : List ℕ) → length ws ≡ sum ns → flat_map (λ (xs : List ℕ). xs) (parted ns ws) ≡ ws
 parted-joined [] [] many = refl
 parted-joined [] (v ∷ ws) many = absurd (omega arith)
-parted-joined (p ∷ ps) ws many =
-    ap (λ (xs : List ℕ). take (word_count p) ws ++ xs) (parted-joined ps (drop (word_count p) ws) (tail-count p ps ws many)) ∙ take-append-drop (word_count p) ws
+parted-joined (n ∷ ns) ws many =
+    let total = sum_by-cons (λ (x : ℕ). x) n ns in
+    let d = length-drop n ws in
+    ap (λ (xs : List ℕ). take n ws ++ xs) (parted-joined ns (drop n ws) (omega arith)) ∙ take-append-drop n ws
+
+pub joined-parted : (wss : List (List ℕ)) → parted (map (λ (ws : List ℕ). length ws) wss) (flat_map (λ (xs : List ℕ). xs) wss) ≡ wss
+joined-parted [] = refl
+joined-parted (ws ∷ wss) =
+    let rest = flat_map (λ (xs : List ℕ). xs) wss in
+    let ns = map (λ (xs : List ℕ). length xs) wss in
+    ap (λ (xs : List ℕ). xs ∷ parted ns (drop (length ws) (ws ++ rest))) (take_at ws rest (length ws) refl)
+    ∙ ap (λ (xs : List ℕ). ws ∷ parted ns xs) (drop_at ws rest (length ws) refl) ∙ ap (λ (xss : List (List ℕ)). ws ∷ xss) (joined-parted wss)
 
 pub restored-captured : (ports : List Port) (ws : List ℕ) (b : BankData) → All (IsThere b) ports → AllPairs AreApart ports → length ws ≡ length (widths ports) → captured ports (restored ports ws b) ≡ ws
 restored-captured ports ws b there apart many =
-    captured-joined ports (restored ports ws b) ∙ ap (flat_map (λ (xs : List ℕ). xs)) (restored-held ports ws b there apart many) ∙ parted-joined ports ws many
+    captured-joined ports (restored ports ws b) ∙ ap (flat_map (λ (xs : List ℕ). xs)) (restored-held ports ws b there apart many) ∙ parted-joined (word_counts ports) ws (many ∙ widths-length ports)
 
 -- the ports of a bank are those of each of its shape that holds numbers of their widths
 pub shape-map : (ports : List Port) (a b : BankData) → IsMap ports b → SameShape a b → AreFit ports (captured ports a) → IsMap ports a

@@ -1,6 +1,6 @@
 //! What follows from the definitions alone. No function here does anything: each `ensures` is a law.
 
-ghost use Rattle.std.specs.Prelude.{◌≡◌, ℕ, ◌<◌, ◌≤◌, ◌^◌, ◌⊎◌, ◌==◌, if◌then◌else◌, true, false, List, [], ◌∷◌, length, replicate, slice_index, slice_index_or, slice_set, All};
+ghost use Rattle.std.specs.Prelude.{◌≡◌, ℕ, ◌<◌, ◌≤◌, ◌^◌, ◌⊎◌, ◌==◌, if◌then◌else◌, true, false, List, [], ◌∷◌, length, map, sum, replicate, slice_index, slice_index_or, slice_set, All};
 ghost use Rattle.std.specs.List.{flat_map};
 ghost use Rattle.cell_form.specs.declared.bank.Port.{Port as OnePort};
 ghost use Rattle.cell_form.specs.Data.{BankData};
@@ -36,19 +36,25 @@ pub fn captured_words_are_those_of_each_port()
     ensures fit { (ports : List OnePort) (b : BankData) → IsMap ports b → AreFit ports (captured ports b) }
 {}
 
+/// Words that are taken apart and joined are the same words, and so are parts that are joined and taken apart.
+pub fn parted_words_are_joined()
+    ensures joined { (ns ws : List ℕ) → length ws ≡ sum ns → flat_map (λ (xs : List ℕ). xs) (parted ns ws) ≡ ws }
+    ensures parted { (wss : List (List ℕ)) → parted (map (λ (ws : List ℕ). length ws) wss) (flat_map (λ (xs : List ℕ). xs) wss) ≡ wss }
+{}
+
 /// Behind a restore each port holds its part of the words, a capture gives them back, and values are their work copies'.
 pub fn restored_ports_hold_the_words()
-    ensures held { (ports : List OnePort) (b : BankData) (ws : List ℕ) → IsMap ports b → length ws ≡ length (widths ports) →
+    ensures held { (ports : List OnePort) (b : BankData) (ws : List ℕ) → IsMap ports b → length ws ≡ sum (word_counts ports) →
         all_held ports (restored ports ws b) ≡ parted (word_counts ports) ws }
-    ensures captured { (ports : List OnePort) (b : BankData) (ws : List ℕ) → IsMap ports b → length ws ≡ length (widths ports) →
+    ensures captured { (ports : List OnePort) (b : BankData) (ws : List ℕ) → IsMap ports b → length ws ≡ sum (word_counts ports) →
         captured ports (restored ports ws b) ≡ ws }
-    ensures copies { (ports : List OnePort) (b : BankData) (ws : List ℕ) → IsMap ports b → length ws ≡ length (widths ports) →
+    ensures copies { (ports : List OnePort) (b : BankData) (ws : List ℕ) → IsMap ports b → length ws ≡ sum (word_counts ports) →
         All (CopiesAgree (restored ports ws b)) ports }
 {}
 
 /// A restore leaves what no port names.
 pub fn a_restore_leaves_the_rest()
-    ensures { (ports : List OnePort) (b : BankData) (ws : List ℕ) → IsMap ports b → length ws ≡ length (widths ports) →
+    ensures { (ports : List OnePort) (b : BankData) (ws : List ℕ) → IsMap ports b → length ws ≡ sum (word_counts ports) →
         SameElsewhere ports (restored ports ws b) b }
 {}
 
@@ -80,8 +86,10 @@ pub fn one_outcome()
     ensures only { (ports : List OnePort) (ws : List ℕ) (e f : Refusal) → Refuses ports ws e → Refuses ports ws f → e ≡ f }
 {}
 
-/// Where ports say 0 words just of variables, as a snapshot's rows do, the widths are those of a snapshot of such rows.
+/// There are as many widths as words. Where ports say 0 words just of variables, as a snapshot's rows do, they are those of a
+/// snapshot of such rows.
 pub fn widths_are_those_of_rows()
-    ensures { (ports : List OnePort) → All (λ (p : OnePort). (p.mem ≡ false → p.words ≡ 0) × (p.mem ≡ true → 1 ≤ p.words)) ports →
+    ensures many { (ports : List OnePort) → length (widths ports) ≡ sum (word_counts ports) }
+    ensures rows { (ports : List OnePort) → All (λ (p : OnePort). (p.mem ≡ false → p.words ≡ 0) × (p.mem ≡ true → 1 ≤ p.words)) ports →
         widths ports ≡ flat_map (λ (p : OnePort). replicate (if p.words == 0 then 1 else p.words) p.width) ports }
 {}

@@ -1,6 +1,6 @@
 //! All ports set to the words of a capture.
 
-ghost use Rattle.std.specs.Prelude.{◌≡◌, ℕ, ◌<◌, ◌≤◌, ◌^◌, ◌++◌, length, drop, slice_index, IfNone, IfSome, IfErr, OnOk, OnErr, All};
+ghost use Rattle.std.specs.Prelude.{◌≡◌, ℕ, ◌<◌, ◌≤◌, ◌^◌, ◌++◌, length, sum, drop, slice_index, IfNone, IfSome, IfErr, OnOk, OnErr, All};
 ghost use Rattle.cell_form.specs.Views.{bank_of};
 ghost use Rattle.reg_ports.specs.Ports as s;
 ghost use Rattle.reg_ports.specs.Refusals as r;
@@ -22,7 +22,7 @@ pub enum PortError {
 
 /// How many words ports have.
 fn words_of(ports: &[Port]) -> u128
-    ensures { result ≡ length (s.widths ports.now) }
+    ensures { result ≡ sum (s.word_counts ports.now) }
 {
     let mut count = 0;
     for port in ports {
@@ -48,7 +48,7 @@ fn wide_one(words: &[u128], width: u8) -> Option<usize>
 /// The number of the first word that has more bits than its port's width, where there are as many words as the ports have.
 fn first_wide(ports: &[Port], words: &[u128]) -> Option<usize>
     requires widths { All s.HasWidth ports.now }
-    requires many { length words.now ≡ length (s.widths ports.now) }
+    requires many { length words.now ≡ sum (s.word_counts ports.now) }
     ensures none { IfNone result (r.AreFit ports.now words.now) }
     ensures some { IfSome result (λ i. r.IsFirstWide ports.now words.now i (slice_index words.now i)) }
 {
@@ -107,7 +107,7 @@ fn put(bank: &mut Bank, port: Port, own: &[u128])
 /// Sets all ports to these words.
 fn put_all(bank: &mut Bank, ports: &[Port], words: &[u128])
     requires ports { All (s.IsThere (bank_of bank.old)) ports.now }
-    requires words { length words.now ≡ length (s.widths ports.now) }
+    requires words { length words.now ≡ sum (s.word_counts ports.now) }
     ensures { bank_of bank.new ≡ s.restored ports.now words.now (bank_of bank.old) }
 {
     let mut left = words;

@@ -1,8 +1,11 @@
 use Rattle.std.proofs.Common.{false, arith, get_or, length, ◌<◌, refl}
 use Rattle.std.proofs.lemmas.List.{get_or_default}
 use Rattle.cell_form.specs.declared.bank.Port.{Port}
-use Rattle.reg_ports.proofs.Loops.{checked-more, checked-wide, checked-all}
+use Rattle.reg_ports.proofs.Loops.{checked-none, checked-more, checked-wide, checked-all}
 use Rattle.reg_ports.proofs.restore.first_wide.Goals as goal
+
+pub loop-port-init : goal.loop-port-init
+loop-port-init c = checked-none c.args.ports.now c.args.words.now c.requires.many
 
 pub loop-port-preserved : goal.loop-port-preserved
 loop-port-preserved c =

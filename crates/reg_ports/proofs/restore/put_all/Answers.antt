@@ -2,8 +2,11 @@ use Rattle.std.proofs.Common.{false, arith, get_or, length, ◌<◌}
 use Rattle.std.proofs.lemmas.List.{get_or_default}
 use Rattle.cell_form.specs.declared.bank.Port.{Port}
 use Rattle.cell_form.specs.Views.{bank_of}
-use Rattle.reg_ports.proofs.Loops.{put-more}
+use Rattle.reg_ports.proofs.Loops.{put-none, put-more}
 use Rattle.reg_ports.proofs.restore.put_all.Goals as goal
+
+pub loop-port-init : goal.loop-port-init
+loop-port-init c = put-none c.args.ports.now c.args.words.now (bank_of c.args.bank.now) c.requires.ports c.requires.words
 
 pub loop-port-preserved : goal.loop-port-preserved
 loop-port-preserved c =

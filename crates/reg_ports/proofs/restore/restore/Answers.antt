@@ -3,8 +3,14 @@ use Rattle.cell_form.specs.declared.bank.Port.{Port}
 use Rattle.cell_form.specs.Views.{bank_of}
 use Rattle.reg_ports.specs.Ports.{IsMap, restored}
 use Rattle.reg_ports.specs.Refusals.{AreFit}
-use Rattle.reg_ports.proofs.Restoring.{restored-map}
+use Rattle.reg_ports.proofs.Holding.{widths-length}
+use Rattle.reg_ports.proofs.Restoring.{fit-length, restored-map}
 use Rattle.reg_ports.proofs.restore.restore.Goals as goal
+
+pub put_all-requires-clause-words : goal.put_all-requires-clause-words
+put_all-requires-clause-words c =
+    let ports = c.as_slice-ports.result.now in
+    fit-length ports c.args.words.now c.in_ok-check.ensures.fit ∙ widths-length ports
 
 pub returns-clause-map : goal.returns-clause-map
 returns-clause-map c =

@@ -303,6 +303,11 @@ pub words-bank : (ports : List Port) (a b : BankData) → IsMap ports a → IsMa
 words-bank ports a b h k beside same left right =
     same-bank a b ports beside (sym (captured-parted ports a (all-there ports a h.each)) ∙ ap (parted (word_counts ports)) same ∙ captured-parted ports b (all-there ports b k.each)) left right
 
+pub capture-held : (ports : List Port) (b c : BankData) → IsMap ports b → IsMap ports c → all_held ports (restored ports (captured ports b) c) ≡ all_held ports b
+capture-held ports b c h k =
+    let there = all-there ports b h.each in
+    restored-held ports (captured ports b) c (all-there ports c k.each) k.apart (captured-length ports b there) ∙ captured-parted ports b there
+
 pub capture-restored : (ports : List Port) (b c : BankData) → IsMap ports b → All (CopiesAgree b) ports → SameElsewhere ports c b → restored ports (captured ports b) c ≡ b
 capture-restored ports b c h agree beside =
     let ws = captured ports b in

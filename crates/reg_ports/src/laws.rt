@@ -64,9 +64,12 @@ pub fn a_bank_is_its_words()
         All (CopiesAgree a) ports → All (CopiesAgree b) ports → a ≡ b }
 {}
 
-/// A bank whose values are their work copies' is restored from its capture, in each bank that differs at most in what ports name.
+/// What the ports of a bank hold is restored from its capture, in each bank with these ports; and so is a bank whose values are their
+/// work copies', in each bank that differs at most in what ports name.
 pub fn a_captured_bank_is_restored()
-    ensures { (ports : List OnePort) (b c : BankData) → IsMap ports b → All (CopiesAgree b) ports → SameElsewhere ports c b →
+    ensures ports { (ports : List OnePort) (b c : BankData) → IsMap ports b → IsMap ports c →
+        all_held ports (restored ports (captured ports b) c) ≡ all_held ports b }
+    ensures whole { (ports : List OnePort) (b c : BankData) → IsMap ports b → All (CopiesAgree b) ports → SameElsewhere ports c b →
         restored ports (captured ports b) c ≡ b }
 {}
 

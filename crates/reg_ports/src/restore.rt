@@ -16,7 +16,7 @@ pub enum PortError {
     Length(u128, u128),
     /// The first word that has more bits than its port's width, by its number from 0, and the word.
     Wide(u64, u128),
-    /// Want of memory.
+    /// Want of memory. `restore` wants none.
     Memory,
 }
 

@@ -1,0 +1,7 @@
+mod Plans
+mod Once
+mod Verdicts
+mod Visits
+mod Whole
+mod Lone
+mod Moving

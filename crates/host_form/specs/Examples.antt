@@ -1,0 +1,78 @@
+-- Small scripts with their histories, for worked rows (own).
+use Rattle.std.specs.Prelude.{ℕ, List, [], ◌∷◌, ◌++◌, Some, None, codes}
+use Rattle.fab_lock.specs.declared.entry.Kind.{Kind}
+use Rattle.fab_lock.specs.declared.entry.Kind.TheVariants.{Line, Came, Ran, Left}
+use Rattle.vl_design.specs.Alone.{Origin}
+use Rattle.vl_design.specs.Alone as alone
+use Rattle.vl_design.specs.Examples.{counter}
+use Rattle.script_text.specs.declared.script.Due.TheVariants as due
+use Rattle.script_text.specs.declared.script.Errand.{Errand}
+use Rattle.script_text.specs.declared.script.FabricLine.{FabricLine}
+use Rattle.script_text.specs.declared.script.Free.TheVariants as free
+use Rattle.script_text.specs.declared.script.TenantLine.{TenantLine}
+use Rattle.script_text.specs.declared.script.Script.{Script}
+use Rattle.host_form.specs.Histories.{Note, Histories}
+
+abbrev pub large : List ℕ → FabricLine
+large name = record { name = name; capacity = record { registers = 100000; cells = 100000; memory = 1000000 } }
+
+abbrev pub small : List ℕ → FabricLine
+small name = record { name = name; capacity = record { registers = 1; cells = 1; memory = 1 } }
+
+-- a note of the tenant 0
+abbrev pub note : Kind → ℕ → ℕ → Note
+note kind from to = record { entry = record { seat = 0; kind = kind; tenant = 0; from = from; to = to }; origin = None }
+
+-- the note by which the tenant 0 is put in line
+abbrev pub line : Origin → ℕ → Note
+line o tick = record { entry = record { seat = 0; kind = Line; tenant = 0; from = tick; to = tick }; origin = Some o }
+
+-- a tenant is put in line, comes, runs some ticks, and leaves
+abbrev pub stay : Origin → ℕ → ℕ → List Note
+stay o from to = line o from ∷ note Came from from ∷ note Ran from to ∷ note Left to to ∷ []
+
+-- ---- a counter on one fabric
+
+abbrev pub lone_text : List ℕ
+lone_text = codes "fabric F 100000 100000 1000000\ntenant A m.v F 3\n"
+
+abbrev pub lone_line : TenantLine
+lone_line = record { name = codes "A"; source = codes "m.v"; fabric = 0; budget = 3; files = []; resume = None; errands = [] }
+
+abbrev pub lone_script : Script
+lone_script = record { fabrics = large (codes "F") ∷ []; tenants = lone_line ∷ []; free = [] }
+
+abbrev pub lone_origin : Origin
+lone_origin = record { flat = counter; files = []; plan = record { budget = 3; errands = [] }; resume = None }
+
+abbrev pub lone_histories : Histories
+lone_histories = stay lone_origin 0 3 ∷ []
+
+-- ---- a counter that moves twice, but not to the fabric that is too small
+
+abbrev pub moving_text : List ℕ
+moving_text =
+    codes "fabric F1 100000 100000 1000000\nfabric F2 100000 100000 1000000\nfabric F3 1 1 1\n"
+    ++ codes "tenant A m.v F1 4\nat A 1 move F2\nat A 2 move F1\nat A 3 move F3\nfree move A F3\nfree watch A\n"
+
+abbrev pub move_at : ℕ → ℕ → Errand
+move_at tick g = record { tick = tick; due = due.Move g }
+
+abbrev pub moving_line : TenantLine
+moving_line = record { name = codes "A"; source = codes "m.v"; fabric = 0; budget = 4; files = []; resume = None; errands = move_at 1 1 ∷ move_at 2 0 ∷ move_at 3 2 ∷ [] }
+
+abbrev pub moving_script : Script
+moving_script = record {
+  fabrics = large (codes "F1") ∷ large (codes "F2") ∷ small (codes "F3") ∷ [];
+  tenants = moving_line ∷ [];
+  free = free.Move 0 2 ∷ free.Watch 0 ∷ [];
+}
+
+abbrev pub planned_move : ℕ → ℕ → alone.Errand
+planned_move tick g = record { tick = tick; due = alone.Move g }
+
+abbrev pub moving_origin : Origin
+moving_origin = record { flat = counter; files = []; plan = record { budget = 4; errands = planned_move 1 1 ∷ planned_move 2 0 ∷ [] }; resume = None }
+
+abbrev pub moving_histories : Histories
+moving_histories = (stay moving_origin 0 1 ++ stay moving_origin 2 4) ∷ stay moving_origin 1 2 ∷ [] ∷ []

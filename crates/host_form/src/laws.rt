@@ -1,0 +1,59 @@
+//! What follows from the definitions alone.
+
+ghost use Rattle.std.specs.Prelude.{◌≡◌, ◌⊎◌, ℕ, true, List, [], Option, Some, map, slice_get};
+ghost use Rattle.std.specs.List.{AllByRecursion};
+ghost use Rattle.vl_base.specs.declared.place.Place.{Place};
+ghost use Rattle.vl_design.specs.Cost.{Cost};
+ghost use Rattle.vl_design.specs.Alone.{Origin};
+ghost use Rattle.script_text.specs.declared.script.FabricLine.{FabricLine};
+ghost use Rattle.script_text.specs.declared.script.Script.{Script};
+ghost use Rattle.script_text.specs.declared.script.TenantLine.{TenantLine};
+ghost use Rattle.script_text.specs.Laws.{AreOrdered};
+ghost use Rattle.host_form.specs.Histories.{Histories, Visit, AreVisits};
+ghost use Rattle.host_form.specs.Laws.{AreAscending, Judges};
+ghost use Rattle.fab_io.specs.Outside.{Files};
+ghost use Rattle.host_form.specs.Origins.{Source, Tenant, IsRead, IsOrigin, IsRefused, is_planned, errand_of, plan_of};
+ghost use Rattle.host_form.specs.Reports.{IsReport};
+ghost use Rattle.host_form.specs.Saves.{Leaves};
+
+/// A plan has the errands of the script in their order, which is that of ticks, but for moves to fabrics that are too
+/// small: all of them where no move is to one, and none where there are none.
+pub fn a_plan_keeps_the_order_of_errands()
+    ensures order { (fabrics : List FabricLine) (c : Cost) (t : TenantLine) → AreOrdered t.errands → AreAscending (plan_of fabrics c t).errands }
+    ensures all { (fabrics : List FabricLine) (c : Cost) (t : TenantLine) → AllByRecursion (λ e. is_planned fabrics c e.due ≡ true) t.errands →
+        (plan_of fabrics c t).errands ≡ map errand_of t.errands }
+    ensures none { (fabrics : List FabricLine) (c : Cost) (t : TenantLine) → t.errands ≡ [] → (plan_of fabrics c t).errands ≡ [] }
+{}
+
+/// A line of a script is read as one tenant at most.
+pub fn a_line_is_read_in_one_way()
+    ensures { (judge : List ℕ → Option Source) (told : Files) (line : TenantLine) (t u : Tenant) →
+        IsRead (Judges judge) told line t → IsRead (Judges judge) told line u → t ≡ u }
+{}
+
+/// A tenant at a fabric of the script has one origin or is refused in one way, and never both.
+pub fn a_tenant_has_one_origin_or_one_refusal()
+    ensures either { (fabrics : List FabricLine) (fabric : FabricLine) (t : Tenant) → slice_get fabrics t.line.fabric ≡ Some fabric →
+        ((o : Origin) × IsOrigin fabrics t o) ⊎ ((place : Place) × (kind : List ℕ) × IsRefused fabrics t place kind) }
+    ensures one_origin { (fabrics : List FabricLine) (t : Tenant) (o u : Origin) → IsOrigin fabrics t o → IsOrigin fabrics t u → o ≡ u }
+    ensures one_refusal { (fabrics : List FabricLine) (t : Tenant) (place at : Place) (kind why : List ℕ) →
+        IsRefused fabrics t place kind → IsRefused fabrics t at why → (place ≡ at) × (kind ≡ why) }
+    ensures not_both { (fabrics : List FabricLine) (t : Tenant) (o : Origin) (place : Place) (kind : List ℕ) →
+        IsOrigin fabrics t o → IsRefused fabrics t place kind → ⊥ }
+{}
+
+/// The stays of a tenant are listed in one way.
+pub fn stays_are_listed_in_one_way()
+    ensures { (histories : Histories) (tenant from to : ℕ) (visits others : List Visit) →
+        AreVisits histories tenant from to visits → AreVisits histories tenant from to others → visits ≡ others }
+{}
+
+/// For these files, these histories, and these replies to its free orders, a script has one report at most, and leaves one set of
+/// files.
+pub fn a_script_has_one_report_at_most()
+    ensures report { (judge : List ℕ → Option Source) (told : Files) (s : Script) (histories : Histories) (bytes others : List ℕ) →
+        (a : IsReport (Judges judge) told s histories bytes) (b : IsReport (Judges judge) told s histories others) → a.answers ≡ b.answers → bytes ≡ others }
+    ensures files { (judge : List ℕ → Option Source) (told : Files) (s : Script) (histories : Histories) (bytes others : List ℕ) →
+        (a : IsReport (Judges judge) told s histories bytes) (b : IsReport (Judges judge) told s histories others) → a.answers ≡ b.answers →
+        (left right : Files) → Leaves (Judges judge) told s histories bytes a left → Leaves (Judges judge) told s histories others b right → left ≡ right }
+{}

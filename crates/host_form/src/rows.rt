@@ -1,0 +1,27 @@
+//! Worked rows of the definitions.
+
+ghost use Rattle.std.specs.Prelude.{◌≡◌, ℕ, List, Option, Some, Ok, codes};
+ghost use Rattle.vl_design.specs.Cost.{cost};
+ghost use Rattle.vl_design.specs.Examples.{counter};
+ghost use Rattle.script_text.specs.Reading.{reading};
+ghost use Rattle.fab_io.specs.Outside.{Files};
+ghost use Rattle.host_form.specs.Origins.{Source, Accepted, plan_of};
+ghost use Rattle.host_form.specs.Reports.{IsReport};
+ghost use Rattle.host_form.specs.Laws.{Judges};
+ghost use Rattle.host_form.specs.Examples.{lone_text, lone_script, lone_histories, moving_text, moving_script, moving_line, moving_origin, moving_histories};
+
+/// A counter that runs three ticks on one fabric is reported so, whatever text its source is.
+pub fn three_ticks_on_one_fabric_are_reported()
+    ensures script { reading lone_text ≡ Ok lone_script }
+    ensures report { (judge : List ℕ → Option Source) (told : Files) (text : List ℕ) → told (codes "m.v") ≡ Some text → judge text ≡ Some (Accepted counter) →
+        IsReport (Judges judge) told lone_script lone_histories (codes "tenant A budget 3 11 6\n0\n1\n2\n\nstay A F 0 3\n") }
+{}
+
+/// A counter that moves twice is reported so; a move to a fabric that is too small is not planned.
+pub fn two_moves_of_a_counter_are_reported()
+    ensures script { reading moving_text ≡ Ok moving_script }
+    ensures plan { plan_of moving_script.fabrics (cost counter) moving_line ≡ moving_origin.plan }
+    ensures report { (judge : List ℕ → Option Source) (told : Files) (text : List ℕ) → told (codes "m.v") ≡ Some text → judge text ≡ Some (Accepted counter) →
+        IsReport (Judges judge) told moving_script moving_histories
+        (codes "tenant A budget 4 14 8\n0\n1\n2\n3\n\nstay A F1 0 1\nstay A F2 1 2\nstay A F1 2 4\nfree move A F3 small\nfree watch A 3\n") }
+{}

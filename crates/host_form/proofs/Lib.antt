@@ -1,7 +1,10 @@
-mod Plans
-mod Once
-mod Verdicts
-mod Visits
-mod Whole
-mod Lone
-mod Moving
+pub mod Plans
+pub mod Once
+pub mod Verdicts
+pub mod Visits
+pub mod Whole
+pub mod Told
+pub mod Lone
+pub mod Moving
+pub mod Tight
+pub mod Stopping

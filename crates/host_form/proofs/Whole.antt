@@ -15,7 +15,7 @@ use Rattle.host_form.specs.Histories.{Histories, Visit, AreVisits}
 use Rattle.host_form.specs.Orders.{Answered, stop_of, free_line}
 use Rattle.host_form.specs.Runs.{IsEnd, alone, stopped, Run, IsRun, Outcome, Refused, Ran, IsOutcome}
 use Rattle.host_form.specs.Reports.{blocks_of, AreOutcomes, IsReport}
-use Rattle.host_form.specs.Saves.{with_saves, IsKept, AreSaved, Leaves}
+use Rattle.host_form.specs.Saves.{with_saves, IsKept, AreSaved, LeavesFiles}
 use Rattle.host_form.proofs.Once.{IsOneJudgement, some_is, all-read-once}
 use Rattle.host_form.proofs.Visits.{visits-once}
 use Rattle.host_form.proofs.Verdicts.{origin-once, refusal-once, not-both}
@@ -103,7 +103,7 @@ module _ (judged : List ℕ → Source → Type 0) (told : Files) (s : Script) (
       ∙ ap (λ answers. report (blocks_of s b.tenants b.outcomes) (map (free_line s) answers)) same
       ∙ sym b.is
 
-  pub files-once : (left right : Files) → Leaves judged told s histories bytes a left → Leaves judged told s histories others b right → left ≡ right
+  pub files-once : (left right : Files) → LeavesFiles judged told s histories bytes a left → LeavesFiles judged told s histories others b right → left ≡ right
   files-once left right x y =
       let z = subst₂ (λ ts xs. AreSaved a.answers 0 ts xs told left) tenants-once all-once x in
       let w = subst (λ answers. AreSaved answers 0 b.tenants b.outcomes told left) same z in

@@ -1,7 +1,7 @@
 -- Small scripts with their histories, for worked rows (own).
 use Rattle.std.specs.Prelude.{ℕ, List, [], ◌∷◌, ◌++◌, Some, None, codes}
 use Rattle.fab_lock.specs.declared.entry.Kind.{Kind}
-use Rattle.fab_lock.specs.declared.entry.Kind.TheVariants.{Line, Came, Ran, Left}
+use Rattle.fab_lock.specs.declared.entry.Kind.TheVariants.{Line, Came, Ran, Saved, Left}
 use Rattle.vl_design.specs.Alone.{Origin}
 use Rattle.vl_design.specs.Alone as alone
 use Rattle.vl_design.specs.Examples.{counter}
@@ -76,3 +76,51 @@ moving_origin = record { flat = counter; files = []; plan = record { budget = 4;
 
 abbrev pub moving_histories : Histories
 moving_histories = (stay moving_origin 0 1 ++ stay moving_origin 2 4) ∷ stay moving_origin 1 2 ∷ [] ∷ []
+
+-- ---- a counter on a fabric with one cell too few
+
+abbrev pub tight_text : List ℕ
+tight_text = codes "fabric F 128 47 0\ntenant A m.v F 3\n"
+
+abbrev pub tight_script : Script
+tight_script = record {
+  fabrics = record { name = codes "F"; capacity = record { registers = 128; cells = 47; memory = 0 } } ∷ [];
+  tenants = lone_line ∷ [];
+  free = [];
+}
+
+-- ---- a counter that is saved at tick 1, and that a free order stops at tick 2
+
+abbrev pub stopping_text : List ℕ
+stopping_text = codes "fabric F 100000 100000 1000000\ntenant A m.v F 5\nat A 1 save s\nfree stop A\n"
+
+abbrev pub stopping_line : TenantLine
+stopping_line = record {
+  name = codes "A";
+  source = codes "m.v";
+  fabric = 0;
+  budget = 5;
+  files = [];
+  resume = None;
+  errands = record { tick = 1; due = due.Save (codes "s") } ∷ [];
+}
+
+abbrev pub stopping_script : Script
+stopping_script = record { fabrics = large (codes "F") ∷ []; tenants = stopping_line ∷ []; free = free.Stop 0 ∷ [] }
+
+abbrev pub stopping_origin : Origin
+stopping_origin = record {
+  flat = counter;
+  files = [];
+  resume = None;
+  plan = record { budget = 5; errands = record { tick = 1; due = alone.SaveAs (codes "s") } ∷ [] };
+}
+
+abbrev pub stopping_histories : Histories
+stopping_histories = (line stopping_origin 0 ∷ note Came 0 0 ∷ note Ran 0 1 ∷ note Saved 1 1 ∷ note Ran 1 2 ∷ note Left 2 2 ∷ []) ∷ []
+
+-- the snapshot of the counter at tick 1: the magic, version 1, tick 1, one row, of three bytes of name `m.c`, 8 bits and no
+-- words; the value 1; no open file
+abbrev pub saved_counter : List ℕ
+saved_counter =
+    codes "FABSNAP\n" ++ 0 ∷ 0 ∷ 0 ∷ 1 ∷ 0 ∷ 0 ∷ 0 ∷ 0 ∷ 0 ∷ 0 ∷ 0 ∷ 1 ∷ 0 ∷ 0 ∷ 0 ∷ 1 ∷ 0 ∷ 3 ∷ [] ++ codes "m.c" ++ 8 ∷ 0 ∷ 0 ∷ 0 ∷ 0 ∷ 1 ∷ 0 ∷ []

@@ -39,6 +39,6 @@ AreSaved answers n (t ∷ ts) (x ∷ xs) before after =
     (saved : List Saved) × IsKept answers n x saved × AreSaved answers (n + 1) ts xs (with_saves t.line.name saved before) after
 
 -- the files behind a report: those told before it, with the kept snapshots of each tenant written, in the order of the script
-abbrev pub Leaves : (judged : List ℕ → Source → Type 0) (told : Files) (s : Script) (histories : Histories) (bytes : List ℕ)
+abbrev pub LeavesFiles : (judged : List ℕ → Source → Type 0) (told : Files) (s : Script) (histories : Histories) (bytes : List ℕ)
     → IsReport judged told s histories bytes → Files → Type 0
-Leaves judged told s histories bytes r after = AreSaved r.answers 0 r.tenants r.outcomes told after
+LeavesFiles judged told s histories bytes r after = AreSaved r.answers 0 r.tenants r.outcomes told after

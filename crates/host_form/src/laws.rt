@@ -4,17 +4,17 @@ ghost use Rattle.std.specs.Prelude.{◌≡◌, ◌⊎◌, ℕ, true, List, [], O
 ghost use Rattle.std.specs.List.{AllByRecursion};
 ghost use Rattle.vl_base.specs.declared.place.Place.{Place};
 ghost use Rattle.vl_design.specs.Cost.{Cost};
-ghost use Rattle.vl_design.specs.Alone.{Origin};
+ghost use Rattle.vl_design.specs.Alone.{Origin, stop_at, save_names};
 ghost use Rattle.script_text.specs.declared.script.FabricLine.{FabricLine};
 ghost use Rattle.script_text.specs.declared.script.Script.{Script};
 ghost use Rattle.script_text.specs.declared.script.TenantLine.{TenantLine};
 ghost use Rattle.script_text.specs.Laws.{AreOrdered};
 ghost use Rattle.host_form.specs.Histories.{Histories, Visit, AreVisits};
-ghost use Rattle.host_form.specs.Laws.{AreAscending, Judges};
+ghost use Rattle.host_form.specs.Laws.{AreAscending, Judges, name_of, IsTellable};
 ghost use Rattle.fab_io.specs.Outside.{Files};
 ghost use Rattle.host_form.specs.Origins.{Source, Tenant, IsRead, IsOrigin, IsRefused, is_planned, errand_of, plan_of};
-ghost use Rattle.host_form.specs.Reports.{IsReport};
-ghost use Rattle.host_form.specs.Saves.{Leaves};
+ghost use Rattle.host_form.specs.Reports.{IsReport, blocks_of};
+ghost use Rattle.host_form.specs.Saves.{LeavesFiles};
 
 /// A plan has the errands of the script in their order, which is that of ticks, but for moves to fabrics that are too
 /// small: all of them where no move is to one, and none where there are none.
@@ -23,6 +23,12 @@ pub fn a_plan_keeps_the_order_of_errands()
     ensures all { (fabrics : List FabricLine) (c : Cost) (t : TenantLine) → AllByRecursion (λ e. is_planned fabrics c e.due ≡ true) t.errands →
         (plan_of fabrics c t).errands ≡ map errand_of t.errands }
     ensures none { (fabrics : List FabricLine) (c : Cost) (t : TenantLine) → t.errands ≡ [] → (plan_of fabrics c t).errands ≡ [] }
+{}
+
+/// Moves that are not planned change neither when a run stops nor which snapshots are due.
+pub fn unplanned_moves_change_no_stop_and_no_save()
+    ensures stops { (fabrics : List FabricLine) (c : Cost) (t : TenantLine) (k : ℕ) → stop_at k (plan_of fabrics c t).errands ≡ stop_at k (map errand_of t.errands) }
+    ensures saves { (fabrics : List FabricLine) (c : Cost) (t : TenantLine) (k : ℕ) → save_names k (plan_of fabrics c t).errands ≡ save_names k (map errand_of t.errands) }
 {}
 
 /// A line of a script is read as one tenant at most.
@@ -55,5 +61,18 @@ pub fn a_script_has_one_report_at_most()
         (a : IsReport (Judges judge) told s histories bytes) (b : IsReport (Judges judge) told s histories others) → a.answers ≡ b.answers → bytes ≡ others }
     ensures files { (judge : List ℕ → Option Source) (told : Files) (s : Script) (histories : Histories) (bytes others : List ℕ) →
         (a : IsReport (Judges judge) told s histories bytes) (b : IsReport (Judges judge) told s histories others) → a.answers ≡ b.answers →
-        (left right : Files) → Leaves (Judges judge) told s histories bytes a left → Leaves (Judges judge) told s histories others b right → left ≡ right }
+        (left right : Files) → LeavesFiles (Judges judge) told s histories bytes a left → LeavesFiles (Judges judge) told s histories others b right → left ≡ right }
+{}
+
+/// A report has a block for each tenant, in the order of the script.
+pub fn tenants_are_reported_in_order()
+    ensures { (judge : List ℕ → Option Source) (told : Files) (s : Script) (histories : Histories) (bytes : List ℕ) →
+        (r : IsReport (Judges judge) told s histories bytes) → map name_of (blocks_of s r.tenants r.outcomes) ≡ map (λ t. t.name) s.tenants }
+{}
+
+/// The bytes of a report tell the replies to the free orders of a script.
+pub fn the_bytes_tell_the_replies()
+    ensures { (judge : List ℕ → Option Source) (told : Files) (s : Script) (histories : Histories) (bytes : List ℕ) →
+        (a b : IsReport (Judges judge) told s histories bytes) → IsTellable s a.tenants a.outcomes a.answers → IsTellable s b.tenants b.outcomes b.answers →
+        a.answers ≡ b.answers }
 {}

@@ -1,14 +1,15 @@
 //! Worked rows of the definitions.
 
-ghost use Rattle.std.specs.Prelude.{◌≡◌, ℕ, List, Option, Some, Ok, codes};
+ghost use Rattle.std.specs.Prelude.{◌≡◌, ℕ, List, [], ◌∷◌, Option, Some, Ok, codes};
 ghost use Rattle.vl_design.specs.Cost.{cost};
 ghost use Rattle.vl_design.specs.Examples.{counter};
 ghost use Rattle.script_text.specs.Reading.{reading};
-ghost use Rattle.fab_io.specs.Outside.{Files};
+ghost use Rattle.fab_io.specs.Outside.{Files, with_file};
 ghost use Rattle.host_form.specs.Origins.{Source, Accepted, plan_of};
 ghost use Rattle.host_form.specs.Reports.{IsReport};
+ghost use Rattle.host_form.specs.Saves.{LeavesFiles};
 ghost use Rattle.host_form.specs.Laws.{Judges};
-ghost use Rattle.host_form.specs.Examples.{lone_text, lone_script, lone_histories, moving_text, moving_script, moving_line, moving_origin, moving_histories};
+ghost use Rattle.host_form.specs.Examples.{lone_text, lone_script, lone_histories, moving_text, moving_script, moving_line, moving_origin, moving_histories, tight_text, tight_script, stopping_text, stopping_script, stopping_histories, saved_counter};
 
 /// A counter that runs three ticks on one fabric is reported so, whatever text its source is.
 pub fn three_ticks_on_one_fabric_are_reported()
@@ -24,4 +25,20 @@ pub fn two_moves_of_a_counter_are_reported()
     ensures report { (judge : List ℕ → Option Source) (told : Files) (text : List ℕ) → told (codes "m.v") ≡ Some text → judge text ≡ Some (Accepted counter) →
         IsReport (Judges judge) told moving_script moving_histories
         (codes "tenant A budget 4 14 8\n0\n1\n2\n3\n\nstay A F1 0 1\nstay A F2 1 2\nstay A F1 2 4\nfree move A F3 small\nfree watch A 3\n") }
+{}
+
+/// A counter whose fabric has one cell too few is refused so.
+pub fn a_cost_is_refused()
+    ensures script { reading tight_text ≡ Ok tight_script }
+    ensures report { (judge : List ℕ → Option Source) (told : Files) (text : List ℕ) → told (codes "m.v") ≡ Some text → judge text ≡ Some (Accepted counter) →
+        IsReport (Judges judge) told tight_script ([] ∷ []) (codes "refused A 0 0 cost 128 48 0 128 47 0\n") }
+{}
+
+/// A counter that a free order stops is reported so, and its snapshot is in the store.
+pub fn a_stop_is_reported_and_a_snapshot_is_left()
+    ensures script { reading stopping_text ≡ Ok stopping_script }
+    ensures report { (judge : List ℕ → Option Source) (told : Files) (text : List ℕ) → told (codes "m.v") ≡ Some text → judge text ≡ Some (Accepted counter) →
+        (r : IsReport (Judges judge) told stopping_script stopping_histories (codes "tenant A stopped 2 8 4\n0\n1\n\nstay A F 0 2\nfree stop A 2\n"))
+        × LeavesFiles (Judges judge) told stopping_script stopping_histories (codes "tenant A stopped 2 8 4\n0\n1\n\nstay A F 0 2\nfree stop A 2\n") r
+        (with_file (codes "A.s") saved_counter told) }
 {}

@@ -8,3 +8,6 @@ pub mod Lone
 pub mod Moving
 pub mod Tight
 pub mod Stopping
+pub mod Greeting
+pub mod Resuming
+pub mod Ends

@@ -22,7 +22,7 @@ use Rattle.host_form.specs.Runs.{IsEnd, stopped, RunsAsNoted, ArePut, AreLines, 
 use Rattle.host_form.specs.Replies.{AreAnswered}
 use Rattle.host_form.specs.Reports.{IsReport}
 use Rattle.host_form.specs.Saves.{with_saves, LeavesFiles}
-use Rattle.host_form.specs.Examples.{line, stopping_line, stopping_script, stopping_origin, stopping_histories, saved_counter}
+use Rattle.host_form.specs.Examples.{line, stopping_line, stopping_script, stopping_origin, stopping_histories, counter_bytes}
 use Rattle.host_form.proofs.Lone.{runs_as_itself, none_pass, none_there, count_one}
 
 -- its run alone ends by its budget
@@ -34,7 +34,7 @@ stopping-end : (q : Queue) × Boundary stopping_origin 2 q × (q.state.printed �
 unfolding digits
 stopping-end = (_, boundary_by stopping_origin 9 2 _ refl refl, refl, refl)
 
-stopping-saved : (saved : List Saved) × Keeps stopping_origin [] 2 saved × ((told : Files) → with_file (codes "A.s") saved_counter told ≡ with_saves (codes "A") saved told)
+stopping-saved : (saved : List Saved) × Keeps stopping_origin [] 2 saved × ((told : Files) → with_file (codes "A.s") (counter_bytes 1 8 1) told ≡ with_saves (codes "A") saved told)
 unfolding digits
 stopping-saved = (
   _,
@@ -108,5 +108,5 @@ module _ (judged : List ℕ → Source → Type 0) (told : Files) (text : List �
   }
 
   pub stopping-whole : (r : IsReport judged told stopping_script stopping_histories (codes "tenant A stopped 2 8 4\n0\n1\n\nstay A F 0 2\nfree stop A 2\n"))
-      × LeavesFiles judged told stopping_script stopping_histories (codes "tenant A stopped 2 8 4\n0\n1\n\nstay A F 0 2\nfree stop A 2\n") r (with_file (codes "A.s") saved_counter told)
+      × LeavesFiles judged told stopping_script stopping_histories (codes "tenant A stopped 2 8 4\n0\n1\n\nstay A F 0 2\nfree stop A 2\n") r (with_file (codes "A.s") (counter_bytes 1 8 1) told)
   stopping-whole = (stopping-reported, (stopping-saved.0, stopping-saved.1, stopping-saved.2 told))

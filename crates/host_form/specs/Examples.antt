@@ -1,16 +1,19 @@
 -- Small scripts with their histories, for worked rows (own).
-use Rattle.std.specs.Prelude.{ℕ, List, [], ◌∷◌, ◌++◌, Some, None, codes}
+use Rattle.std.specs.Prelude.{ℕ, false, List, [], ◌∷◌, ◌++◌, Some, None, codes}
 use Rattle.fab_lock.specs.declared.entry.Kind.{Kind}
 use Rattle.fab_lock.specs.declared.entry.Kind.TheVariants.{Line, Came, Ran, Saved, Left}
 use Rattle.vl_design.specs.Alone.{Origin}
 use Rattle.vl_design.specs.Alone as alone
-use Rattle.vl_design.specs.Examples.{counter}
+use Rattle.vl_design.specs.declared.design.SigKind.TheVariants.{Var}
+use Rattle.vl_design.specs.Syntax.{Flat}
+use Rattle.vl_design.specs.Examples.{clock, row, counter, greets}
 use Rattle.script_text.specs.declared.script.Due.TheVariants as due
 use Rattle.script_text.specs.declared.script.Errand.{Errand}
 use Rattle.script_text.specs.declared.script.FabricLine.{FabricLine}
 use Rattle.script_text.specs.declared.script.Free.TheVariants as free
 use Rattle.script_text.specs.declared.script.TenantLine.{TenantLine}
 use Rattle.script_text.specs.declared.script.Script.{Script}
+use Rattle.host_form.specs.Origins.{Accepted, Tenant}
 use Rattle.host_form.specs.Histories.{Note, Histories}
 
 abbrev pub large : List ℕ → FabricLine
@@ -119,8 +122,45 @@ stopping_origin = record {
 abbrev pub stopping_histories : Histories
 stopping_histories = (line stopping_origin 0 ∷ note Came 0 0 ∷ note Ran 0 1 ∷ note Saved 1 1 ∷ note Ran 1 2 ∷ note Left 2 2 ∷ []) ∷ []
 
--- the snapshot of the counter at tick 1: the magic, version 1, tick 1, one row, of three bytes of name `m.c`, 8 bits and no
--- words; the value 1; no open file
-abbrev pub saved_counter : List ℕ
-saved_counter =
-    codes "FABSNAP\n" ++ 0 ∷ 0 ∷ 0 ∷ 1 ∷ 0 ∷ 0 ∷ 0 ∷ 0 ∷ 0 ∷ 0 ∷ 0 ∷ 1 ∷ 0 ∷ 0 ∷ 0 ∷ 1 ∷ 0 ∷ 3 ∷ [] ++ codes "m.c" ++ 8 ∷ 0 ∷ 0 ∷ 0 ∷ 0 ∷ 1 ∷ 0 ∷ []
+-- ---- snapshots of counters
+
+-- the magic, version 1, a tick, one row: the length of its name, `m.c`, a width, no words; a value, and no open file
+abbrev pub counter_bytes : ℕ → ℕ → ℕ → List ℕ
+counter_bytes tick width value =
+    codes "FABSNAP\n" ++ 0 ∷ 0 ∷ 0 ∷ 1 ∷ 0 ∷ 0 ∷ 0 ∷ 0 ∷ 0 ∷ 0 ∷ 0 ∷ tick ∷ 0 ∷ 0 ∷ 0 ∷ 1 ∷ 0 ∷ 3 ∷ [] ++ codes "m.c"
+    ++ width ∷ 0 ∷ 0 ∷ 0 ∷ 0 ∷ value ∷ 0 ∷ []
+
+-- reg [3:0] c in place of reg [7:0] c
+abbrev pub narrow : Flat
+narrow = record { rows = clock ∷ row (codes "m.c") Var 4 false ∷ []; funs = []; procs = counter.procs }
+
+-- a tenant of a budget that is resumed from a snapshot of these bytes
+abbrev pub resumed_tenant : ℕ → Flat → List ℕ → Tenant
+resumed_tenant budget d bytes = record {
+  line = record { name = codes "A"; source = codes "m.v"; fabric = 0; budget = budget; files = []; resume = Some (codes "A.s"); errands = [] };
+  source = Accepted d;
+  files = [];
+  snapshot = Some bytes;
+}
+
+abbrev pub resumed_origin : Origin
+resumed_origin = record {
+  flat = counter;
+  files = [];
+  plan = record { budget = 5; errands = [] };
+  resume = Some (record { tick = 2; rows = record { name = codes "m.c"; width = 8; words = 0 } ∷ []; words = 2 ∷ []; files = [] });
+}
+
+-- ---- a source that ends at once
+
+abbrev pub greeting_text : List ℕ
+greeting_text = codes "fabric F 100000 100000 1000000\ntenant A m.v F 0\n"
+
+abbrev pub greeting_line : TenantLine
+greeting_line = record { name = codes "A"; source = codes "m.v"; fabric = 0; budget = 0; files = []; resume = None; errands = [] }
+
+abbrev pub greeting_script : Script
+greeting_script = record { fabrics = large (codes "F") ∷ []; tenants = greeting_line ∷ []; free = [] }
+
+abbrev pub greeting_origin : Origin
+greeting_origin = record { flat = greets; files = []; plan = record { budget = 0; errands = [] }; resume = None }

@@ -1,10 +1,11 @@
 //! What follows from the definitions alone.
 
-ghost use Rattle.std.specs.Prelude.{◌≡◌, ◌⊎◌, ℕ, true, List, [], Option, Some, map, slice_get};
+ghost use Rattle.std.specs.Prelude.{◌≡◌, ◌≤◌, ◌⊎◌, ℕ, true, List, [], Option, Some, map, slice_get};
 ghost use Rattle.std.specs.List.{AllByRecursion};
 ghost use Rattle.vl_base.specs.declared.place.Place.{Place};
+ghost use Rattle.vl_design.specs.declared.design.End.TheVariants.{Stopped};
 ghost use Rattle.vl_design.specs.Cost.{Cost};
-ghost use Rattle.vl_design.specs.Alone.{Origin, stop_at, save_names};
+ghost use Rattle.vl_design.specs.Alone.{Origin, first_tick, stop_at, save_names};
 ghost use Rattle.script_text.specs.declared.script.FabricLine.{FabricLine};
 ghost use Rattle.script_text.specs.declared.script.Script.{Script};
 ghost use Rattle.script_text.specs.declared.script.TenantLine.{TenantLine};
@@ -13,6 +14,8 @@ ghost use Rattle.host_form.specs.Histories.{Histories, Visit, AreVisits};
 ghost use Rattle.host_form.specs.Laws.{AreAscending, Judges, name_of, IsTellable};
 ghost use Rattle.fab_io.specs.Outside.{Files};
 ghost use Rattle.host_form.specs.Origins.{Source, Tenant, IsRead, IsOrigin, IsRefused, is_planned, errand_of, plan_of};
+ghost use Rattle.host_form.specs.Orders.{Answered, stop_of};
+ghost use Rattle.host_form.specs.Runs.{Run, IsRun};
 ghost use Rattle.host_form.specs.Reports.{IsReport, blocks_of};
 ghost use Rattle.host_form.specs.Saves.{LeavesFiles};
 
@@ -62,6 +65,18 @@ pub fn a_script_has_one_report_at_most()
     ensures files { (judge : List ℕ → Option Source) (told : Files) (s : Script) (histories : Histories) (bytes others : List ℕ) →
         (a : IsReport (Judges judge) told s histories bytes) (b : IsReport (Judges judge) told s histories others) → a.answers ≡ b.answers →
         (left right : Files) → LeavesFiles (Judges judge) told s histories bytes a left → LeavesFiles (Judges judge) told s histories others b right → left ≡ right }
+{}
+
+/// A tenant runs from its first tick on, and not past its budget.
+pub fn ticks_stay_within_the_budget()
+    ensures { (fabrics : List FabricLine) (histories : Histories) (answers : List Answered) (n : ℕ) (t : Tenant) (r : Run) → IsRun fabrics histories answers n t r →
+        (first_tick r.origin.resume ≤ r.tick) × (r.tick ≤ t.line.budget) }
+{}
+
+/// A tenant that is stopped has a stop at that tick: by a free order, or in the script.
+pub fn a_stopped_tenant_has_a_stop()
+    ensures { (fabrics : List FabricLine) (histories : Histories) (answers : List Answered) (n : ℕ) (t : Tenant) (r : Run) → IsRun fabrics histories answers n t r →
+        r.reason ≡ Stopped → (stop_of n answers ≡ Some r.tick) ⊎ (stop_at r.tick (map errand_of t.line.errands) ≡ true) }
 {}
 
 /// A report has a block for each tenant, in the order of the script.

@@ -1,7 +1,6 @@
 pub mod Plans
 pub mod Once
 pub mod Verdicts
-pub mod Visits
 pub mod Whole
 pub mod Told
 pub mod Lone
@@ -11,3 +10,4 @@ pub mod Stopping
 pub mod Greeting
 pub mod Resuming
 pub mod Ends
+pub mod Times

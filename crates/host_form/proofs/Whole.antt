@@ -17,7 +17,7 @@ use Rattle.host_form.specs.Runs.{IsEnd, alone, stopped, Run, IsRun, Outcome, Ref
 use Rattle.host_form.specs.Reports.{blocks_of, AreOutcomes, IsReport}
 use Rattle.host_form.specs.Saves.{with_saves, IsKept, AreSaved, LeavesFiles}
 use Rattle.host_form.proofs.Once.{IsOneJudgement, some_is, all-read-once}
-use Rattle.host_form.proofs.Visits.{visits-once}
+use Rattle.host_form.proofs.Times.{visits-once}
 use Rattle.host_form.proofs.Verdicts.{origin-once, refusal-once, not-both}
 
 end-once : {o : Origin} {stop : Option ℕ} {k j : ℕ} {r s : End} {p q : Queue} → IsEnd o stop k r p → IsEnd o stop j s q → (k ≡ j) × (r ≡ s) × (p ≡ q)

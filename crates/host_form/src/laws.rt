@@ -9,9 +9,9 @@ ghost use Rattle.vl_design.specs.Alone.{Origin, first_tick, stop_at, save_names}
 ghost use Rattle.script_text.specs.declared.script.FabricLine.{FabricLine};
 ghost use Rattle.script_text.specs.declared.script.Script.{Script};
 ghost use Rattle.script_text.specs.declared.script.TenantLine.{TenantLine};
-ghost use Rattle.script_text.specs.Laws.{AreOrdered};
-ghost use Rattle.host_form.specs.Histories.{Histories, Visit, AreVisits};
-ghost use Rattle.host_form.specs.Laws.{AreAscending, Judges, name_of, IsTellable};
+ghost use Rattle.script_text.specs.Laws.{AreOrdered as AreSorted};
+ghost use Rattle.host_form.specs.Histories.{Histories, Visit, visits_on, AreOrdered, Chain, AreVisits};
+ghost use Rattle.host_form.specs.Laws.{AreAscending, Judges, name_of, IsTellable, times};
 ghost use Rattle.fab_io.specs.Outside.{Files};
 ghost use Rattle.host_form.specs.Origins.{Source, Tenant, IsRead, IsOrigin, IsRefused, is_planned, errand_of, plan_of};
 ghost use Rattle.host_form.specs.Orders.{Answered, stop_of};
@@ -22,7 +22,7 @@ ghost use Rattle.host_form.specs.Saves.{LeavesFiles};
 /// A plan has the errands of the script in their order, which is that of ticks, but for moves to fabrics that are too
 /// small: all of them where no move is to one, and none where there are none.
 pub fn a_plan_keeps_the_order_of_errands()
-    ensures order { (fabrics : List FabricLine) (c : Cost) (t : TenantLine) → AreOrdered t.errands → AreAscending (plan_of fabrics c t).errands }
+    ensures order { (fabrics : List FabricLine) (c : Cost) (t : TenantLine) → AreSorted t.errands → AreAscending (plan_of fabrics c t).errands }
     ensures all { (fabrics : List FabricLine) (c : Cost) (t : TenantLine) → AllByRecursion (λ e. is_planned fabrics c e.due ≡ true) t.errands →
         (plan_of fabrics c t).errands ≡ map errand_of t.errands }
     ensures none { (fabrics : List FabricLine) (c : Cost) (t : TenantLine) → t.errands ≡ [] → (plan_of fabrics c t).errands ≡ [] }
@@ -55,6 +55,14 @@ pub fn a_tenant_has_one_origin_or_one_refusal()
 pub fn stays_are_listed_in_one_way()
     ensures { (histories : Histories) (tenant from to : ℕ) (visits others : List Visit) →
         AreVisits histories tenant from to visits → AreVisits histories tenant from to others → visits ≡ others }
+{}
+
+/// Stays that chain and are those of a tenant's histories, each as often, are the tenant's stays once they are put in order.
+pub fn stays_are_known_by_how_often_each_is_there()
+    ensures { (histories : Histories) (tenant from to : ℕ) (trail visits : List Visit) →
+        Chain from trail to → AllByRecursion (λ v. v.from ≤ v.to) trail → ((v : Visit) → times v trail ≡ times v (visits_on histories tenant v.fabric)) →
+        ((g : ℕ) → AreOrdered (visits_on histories tenant g)) → AreOrdered visits → ((v : Visit) → times v visits ≡ times v trail) →
+        AreVisits histories tenant from to visits }
 {}
 
 /// For these files, these histories, and these replies to its free orders, a script has one report at most, and leaves one set of

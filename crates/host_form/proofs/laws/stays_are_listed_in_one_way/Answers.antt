@@ -1,4 +1,4 @@
-use Rattle.host_form.proofs.Visits.{visits-once}
+use Rattle.host_form.proofs.Times.{visits-once}
 use Rattle.host_form.proofs.laws.stays_are_listed_in_one_way.Goals as goal
 
 pub returns : goal.returns

@@ -1,5 +1,5 @@
 -- The ticks at which tenants end.
-use Rattle.std.proofs.Common.{◌≡◌, ◌⊎◌, inl, inr, ℕ, zero, suc, ◌<◌, ◌≤◌, Bool, true, false, nat_le, if◌then◌else◌, List, map, Option, Some, None, refl, sym, subst, ap, ◌∙◌, arith}
+use Rattle.std.proofs.Common.{◌≡◌, ◌⊎◌, inl, inr, ℕ, suc, ◌<◌, ◌≤◌, Bool, true, false, nat_le, if◌then◌else◌, List, map, Option, Some, None, refl, sym, subst, ap, ◌∙◌, arith}
 use Rattle.std.proofs.lemmas.Bool.{le-leb, leb-true, leb-false}
 use Rattle.vl_design.specs.declared.design.End.{End}
 use Rattle.vl_design.specs.declared.design.End.TheVariants.{Finished, Budget, Stopped}
@@ -11,7 +11,7 @@ use Rattle.vl_design.specs.Syntax.{Flat}
 use Rattle.vl_design.proofs.Settling.{at_first}
 use Rattle.vl_base.specs.declared.files.File.{File}
 use Rattle.script_text.specs.declared.script.FabricLine.{FabricLine}
-use Rattle.host_form.specs.Origins.{Tenant, errand_of, plan_of, Starts, anew, resumed, IsOrigin}
+use Rattle.host_form.specs.Origins.{Tenant, errand_of, Starts, anew, resumed}
 use Rattle.host_form.specs.Histories.{Histories}
 use Rattle.host_form.specs.Orders.{Answered, stop_of}
 use Rattle.host_form.specs.Runs.{IsEnd, alone, stopped, Run, IsRun}

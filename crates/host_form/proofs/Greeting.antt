@@ -12,7 +12,7 @@ use Rattle.report_text.specs.declared.block.Status.TheVariants as status
 use Rattle.report_text.specs.declared.block.Block.TheVariants as b
 use Rattle.report_text.specs.Report.{report}
 use Rattle.host_form.specs.Origins.{Source, Accepted, Tenant, anew}
-use Rattle.host_form.specs.Histories.{Visit, history_of, lines_of, visits_on}
+use Rattle.host_form.specs.Histories.{history_of, lines_of, visits_on}
 use Rattle.host_form.specs.Runs.{alone, RunsAsNoted, IsPutNowhere, at_once, Run, IsRun, Ran}
 use Rattle.host_form.specs.Reports.{IsReport}
 use Rattle.host_form.specs.Examples.{greeting_line, greeting_script, greeting_origin}

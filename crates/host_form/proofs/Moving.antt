@@ -1,23 +1,22 @@
 -- A counter that moves.
-use Rattle.std.proofs.Common.{◌≡◌, ◌≢◌, ◌≤◌, ℕ, zero, suc, Bool, true, false, cond, ◌==◌, ◌&&◌, List, [], ◌∷◌, ◌++◌, filter, length, codes, Some, None, refl, sym, ap, ap₂, ◌∙◌, inl, arith, ne_eqb}
+use Rattle.std.proofs.Common.{◌≡◌, ℕ, zero, suc, Bool, true, false, cond, ◌==◌, ◌&&◌, List, [], ◌∷◌, filter, length, codes, Some, None, refl, sym, ap, ap₂, ◌∙◌, inl, arith, ne_eqb}
 use Rattle.std.specs.Fmt.{digits}
 use Rattle.std.specs.List.{AllByRecursion}
 use Rattle.vl_design.specs.declared.design.End.TheVariants.{Budget}
 use Rattle.vl_design.specs.Queue.{Queue}
-use Rattle.vl_design.specs.Alone.{Origin, Ends}
+use Rattle.vl_design.specs.Alone.{Ends}
 use Rattle.vl_design.specs.Examples.{counter}
 use Rattle.vl_design.proofs.Ending.{ends_by}
 use Rattle.script_text.specs.declared.script.Free.TheVariants as free
 use Rattle.report_text.specs.declared.block.Status.TheVariants as status
-use Rattle.report_text.specs.declared.block.Stay.{Stay}
 use Rattle.report_text.specs.declared.block.Block.TheVariants as b
 use Rattle.report_text.specs.declared.block.Reply.TheVariants as reply_is
 use Rattle.report_text.specs.Report.{report}
 use Rattle.fab_io.specs.Outside.{Files}
 use Rattle.host_form.specs.Origins.{Source, Accepted, Tenant, IsOrigin, anew}
-use Rattle.host_form.specs.Histories.{Visit, AreVisits, visits_on, history_of, lines_of, lines_at}
+use Rattle.host_form.specs.Histories.{Visit, visits_on, history_of, lines_of, lines_at}
 use Rattle.host_form.specs.Orders.{Answered, Put, puts_at}
-use Rattle.host_form.specs.Runs.{IsEnd, alone, RunsAsNoted, ArePut, AreLines, later, Run, IsRun, Ran}
+use Rattle.host_form.specs.Runs.{alone, RunsAsNoted, AreLines, later, Run, IsRun, Ran}
 use Rattle.host_form.specs.Replies.{AreAnswered}
 use Rattle.host_form.specs.Reports.{IsReport}
 use Rattle.host_form.specs.Examples.{line, moving_line, moving_script, moving_origin, moving_histories}

@@ -1,5 +1,5 @@
 -- What a store tells of a line is one tenant.
-use Rattle.std.proofs.Common.{◌≡◌, ℕ, List, [], ◌∷◌, Option, Some, None, refl, sym, subst, ap, ap₂, ◌∙◌}
+use Rattle.std.proofs.Common.{◌≡◌, ℕ, List, [], ◌∷◌, Option, Some, None, refl, sym, subst, ap₂, ◌∙◌}
 use Rattle.vl_base.specs.declared.files.File.{File}
 use Rattle.script_text.specs.declared.script.FileLine.{FileLine}
 use Rattle.script_text.specs.declared.script.TenantLine.{TenantLine}

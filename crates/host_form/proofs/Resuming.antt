@@ -1,5 +1,5 @@
 -- Snapshots of counters.
-use Rattle.std.proofs.Common.{◌≡◌, ℕ, List, [], ◌∷◌, codes, Ok, Err, refl, arith}
+use Rattle.std.proofs.Common.{◌≡◌, [], ◌∷◌, codes, Ok, Err, refl, arith}
 use Rattle.std.specs.Fmt.{digits}
 use Rattle.vl_design.specs.Examples.{counter}
 use Rattle.snap_form.specs.declared.snapshot.Snapshot.{Snapshot}

@@ -1,25 +1,23 @@
 -- A counter that is saved, and that a free order stops.
-use Rattle.std.proofs.Common.{◌≡◌, ◌≢◌, ◌≤◌, ℕ, zero, suc, Bool, true, false, cond, ◌==◌, ◌&&◌, List, [], ◌∷◌, ◌++◌, filter, length, codes, Some, None, refl, sym, ap, ap₂, ◌∙◌, inl, arith, ne_eqb}
+use Rattle.std.proofs.Common.{◌≡◌, ℕ, zero, suc, ◌==◌, ◌&&◌, List, [], ◌∷◌, filter, length, codes, Some, None, refl, sym, ap, ap₂, ◌∙◌, inl, arith, ne_eqb}
 use Rattle.std.specs.Fmt.{digits}
 use Rattle.std.specs.List.{AllByRecursion}
 use Rattle.fab_io.specs.Outside.{Files, with_file}
 use Rattle.vl_design.specs.declared.design.End.TheVariants as end_is
 use Rattle.vl_design.specs.Snapshots.{Saved}
 use Rattle.vl_design.specs.Queue.{Queue}
-use Rattle.vl_design.specs.Alone.{Origin, Boundary, Ends, Keeps}
+use Rattle.vl_design.specs.Alone.{Boundary, Ends, Keeps}
 use Rattle.vl_design.specs.Examples.{counter}
 use Rattle.vl_design.proofs.Ending.{boundary_by, ends_by}
 use Rattle.script_text.specs.declared.script.Free.TheVariants as free
 use Rattle.report_text.specs.declared.block.Status.TheVariants as status
-use Rattle.report_text.specs.declared.block.Stay.{Stay}
 use Rattle.report_text.specs.declared.block.Block.TheVariants as b
 use Rattle.report_text.specs.declared.block.Reply.TheVariants as reply_is
 use Rattle.report_text.specs.Report.{report}
 use Rattle.host_form.specs.Origins.{Source, Accepted, Tenant, IsOrigin, anew}
-use Rattle.host_form.specs.Histories.{Visit, AreVisits, visits_on, history_of, lines_of, lines_at, Leaves}
+use Rattle.host_form.specs.Histories.{Visit, visits_on, history_of, lines_of, lines_at, Leaves}
 use Rattle.host_form.specs.Orders.{Answered, Put, puts_at}
-use Rattle.host_form.specs.Runs.{IsEnd, stopped, RunsAsNoted, ArePut, AreLines, later, Run, IsRun, Ran}
-use Rattle.host_form.specs.Replies.{AreAnswered}
+use Rattle.host_form.specs.Runs.{stopped, RunsAsNoted, AreLines, later, Run, IsRun, Ran}
 use Rattle.host_form.specs.Reports.{IsReport}
 use Rattle.host_form.specs.Saves.{with_saves, LeavesFiles}
 use Rattle.host_form.specs.Examples.{line, stopping_line, stopping_script, stopping_origin, stopping_histories, counter_bytes}

@@ -1,5 +1,5 @@
 -- A script has one report, and leaves one set of files.
-use Rattle.std.proofs.Common.{◌≡◌, ℕ, suc, ◌+◌, ◌<◌, ◌≤◌, List, [], ◌∷◌, map, Option, Some, None, refl, sym, subst, subst₂, ap, ap₂, ◌∙◌, arith, le_refl, le_of_lt}
+use Rattle.std.proofs.Common.{◌≡◌, ℕ, suc, ◌+◌, ◌≤◌, List, [], ◌∷◌, map, Option, refl, sym, subst, subst₂, ap, ap₂, ◌∙◌, arith}
 use Rattle.vl_base.specs.declared.place.Place.{Place}
 use Rattle.vl_design.specs.declared.design.End.{End}
 use Rattle.vl_design.specs.Queue.{Queue}
@@ -11,7 +11,7 @@ use Rattle.script_text.specs.declared.script.Script.{Script}
 use Rattle.report_text.specs.Report.{report}
 use Rattle.fab_io.specs.Outside.{Files}
 use Rattle.host_form.specs.Origins.{Source, Tenant}
-use Rattle.host_form.specs.Histories.{Histories, Visit, AreVisits}
+use Rattle.host_form.specs.Histories.{Histories, Visit}
 use Rattle.host_form.specs.Orders.{Answered, stop_of, free_line}
 use Rattle.host_form.specs.Runs.{IsEnd, alone, stopped, Run, IsRun, Outcome, Refused, Ran, IsOutcome}
 use Rattle.host_form.specs.Reports.{blocks_of, AreOutcomes, IsReport}

@@ -1,7 +1,6 @@
 -- Free orders and the replies to them (own).
-use Rattle.std.specs.Prelude.{ℕ, Bool, ◌&&◌, ◌==◌, if◌then◌else◌, List, [], ◌∷◌, ◌++◌, length, filter, codes, slice_get, option_map, unwrap_or, Option, Some, None}
+use Rattle.std.specs.Prelude.{ℕ, ◌&&◌, ◌==◌, if◌then◌else◌, List, [], ◌∷◌, length, filter, codes, slice_get, option_map, unwrap_or, Option, Some, None}
 use Rattle.std.specs.List.{flat_map}
-use Rattle.script_text.specs.declared.script.FabricLine.{FabricLine}
 use Rattle.script_text.specs.declared.script.Free.{Free}
 use Rattle.script_text.specs.declared.script.Free.TheVariants as free
 use Rattle.script_text.specs.declared.script.Script.{Script}

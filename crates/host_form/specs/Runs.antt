@@ -10,7 +10,7 @@ use Rattle.vl_design.specs.Alone.{Due, Move, Errand, Origin, Boundary, Ends, rea
 use Rattle.vl_design.specs.Observed.{IsSameRun}
 use Rattle.script_text.specs.declared.script.FabricLine.{FabricLine}
 use Rattle.host_form.specs.Origins.{Tenant, IsOrigin, IsRefused}
-use Rattle.host_form.specs.Histories.{Note, Histories, Visit, history_of, lines_of, lines_at, lefts_at, AreVisits}
+use Rattle.host_form.specs.Histories.{Histories, Visit, history_of, lines_of, lines_at, lefts_at, AreVisits}
 use Rattle.host_form.specs.Orders.{Answered, Put, stop_of, saves_of, moves_of, puts_at}
 
 -- ---- ends

@@ -1,6 +1,5 @@
 -- The replies to orders are read from their lines.
-use Rattle.std.specs.Prelude.{◌≢◌}
-use Rattle.std.proofs.Common.{◌≡◌, ℕ, ◌<◌, ◌^◌, List, [], ◌∷◌, ◌++◌, map, codes, refl, sym, ap, ap₂, subst, ◌∙◌, append_assoc, arith, lit<}
+use Rattle.std.proofs.Common.{◌≡◌, ℕ, ◌<◌, ◌^◌, List, [], ◌∷◌, ◌++◌, map, codes, refl, sym, ap, ap₂, ◌∙◌, append_assoc, arith, lit<}
 use Rattle.std.specs.List.{AllByRecursion, flat_map}
 use Rattle.std.specs.Fmt.{decimal}
 use Rattle.std.proofs.lemmas.List.{append_cancel_left}
@@ -10,7 +9,7 @@ use Rattle.report_text.specs.declared.block.Reply.TheVariants.{At, Ended, Small,
 use Rattle.report_text.specs.declared.block.FreeLine.{FreeLine}
 use Rattle.report_text.specs.Report.{word, reply, block, free_line, report}
 use Rattle.report_text.specs.Readable.{IsReadable, IsReply}
-use Rattle.report_text.proofs.Cutting.{Lacks, decimal_lacks_letters, far, heads, tail, tails, not_empty, cut_numbers}
+use Rattle.report_text.proofs.Cutting.{Lacks, decimal_lacks_letters, heads, tail, tails, cut_numbers}
 use Rattle.report_text.proofs.Reading.{newline_before_digits, blocks-back}
 
 -- ---- replies

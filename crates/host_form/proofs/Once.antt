@@ -4,7 +4,7 @@ use Rattle.vl_base.specs.declared.files.File.{File}
 use Rattle.script_text.specs.declared.script.FileLine.{FileLine}
 use Rattle.script_text.specs.declared.script.TenantLine.{TenantLine}
 use Rattle.fab_io.specs.Outside.{Files}
-use Rattle.host_form.specs.Origins.{Source, Tenant, AreTold, IsTold, IsRead}
+use Rattle.host_form.specs.Origins.{Source, Tenant, AreFilesAt, IsSnapshotAt, IsRead}
 use Rattle.host_form.specs.Reports.{AreRead}
 use Rattle.host_form.specs.Laws.{Judges}
 
@@ -21,7 +21,7 @@ judges-once judge text a b h k = some_is (sym h ∙ k)
 same_file : (f g : File) → f.name ≡ g.name → f.bytes ≡ g.bytes → f ≡ g
 same_file f g n b = ap₂ (λ (name : List ℕ) (bytes : List ℕ). record { name = name; bytes = bytes }) n b
 
-files-once : (told : Files) (ls : List FileLine) (fs gs : List File) → AreTold told ls fs → AreTold told ls gs → fs ≡ gs
+files-once : (told : Files) (ls : List FileLine) (fs gs : List File) → AreFilesAt told ls fs → AreFilesAt told ls gs → fs ≡ gs
 files-once told [] [] [] h k = refl
 files-once told [] [] (g ∷ gs) h k = absurd k
 files-once told [] (f ∷ fs) gs h k = absurd h
@@ -31,7 +31,7 @@ files-once told (l ∷ ls) (f ∷ fs) (g ∷ gs) h k =
     let first : f ≡ g = same_file f g (h.0 ∙ sym k.0) (some_is (sym h.1 ∙ k.1)) in
     ap₂ (λ x xs. x ∷ xs) first (files-once told ls fs gs h.2 k.2)
 
-bytes-once : (told : Files) (path a b : Option (List ℕ)) → IsTold told path a → IsTold told path b → a ≡ b
+bytes-once : (told : Files) (path a b : Option (List ℕ)) → IsSnapshotAt told path a → IsSnapshotAt told path b → a ≡ b
 bytes-once told None None None h k = refl
 bytes-once told None None (Some y) h k = absurd k
 bytes-once told None (Some x) b h k = absurd h

@@ -37,18 +37,18 @@ pub record Tenant : Type 0 where
   pub snapshot : Option (List ℕ)
 
 -- the files have the names of these lines, and the bytes that are told at their paths
-abbrev pub AreTold : Files → List FileLine → List File → Type 0
-AreTold told [] [] = ⊤
-AreTold told [] (f ∷ fs) = ⊥
-AreTold told (l ∷ ls) [] = ⊥
-AreTold told (l ∷ ls) (f ∷ fs) = (f.name ≡ l.name) × (told l.path ≡ Some f.bytes) × AreTold told ls fs
+abbrev pub AreFilesAt : Files → List FileLine → List File → Type 0
+AreFilesAt told [] [] = ⊤
+AreFilesAt told [] (f ∷ fs) = ⊥
+AreFilesAt told (l ∷ ls) [] = ⊥
+AreFilesAt told (l ∷ ls) (f ∷ fs) = (f.name ≡ l.name) × (told l.path ≡ Some f.bytes) × AreFilesAt told ls fs
 
 -- there are bytes exactly where a path is given, and they are told at it
-abbrev pub IsTold : Files → Option (List ℕ) → Option (List ℕ) → Type 0
-IsTold told None None = ⊤
-IsTold told None (Some bytes) = ⊥
-IsTold told (Some path) None = ⊥
-IsTold told (Some path) (Some bytes) = told path ≡ Some bytes
+abbrev pub IsSnapshotAt : Files → Option (List ℕ) → Option (List ℕ) → Type 0
+IsSnapshotAt told None None = ⊤
+IsSnapshotAt told None (Some bytes) = ⊥
+IsSnapshotAt told (Some path) None = ⊥
+IsSnapshotAt told (Some path) (Some bytes) = told path ≡ Some bytes
 
 -- the tenant is what the store tells of its line, where judged says what the bytes of a source are judged to be
 pub record IsRead (judged : List ℕ → Source → Type 0) (told : Files) (line : TenantLine) (t : Tenant) : Type 0 where
@@ -56,8 +56,8 @@ pub record IsRead (judged : List ℕ → Source → Type 0) (told : Files) (line
   pub is : t.line ≡ line
   pub there : told line.source ≡ Some text
   pub source : judged text t.source
-  pub files : AreTold told line.files t.files
-  pub snapshot : IsTold told line.resume t.snapshot
+  pub files : AreFilesAt told line.files t.files
+  pub snapshot : IsSnapshotAt told line.resume t.snapshot
 
 -- ---- fabrics
 

@@ -24,11 +24,12 @@ pub data IsEnd (o : Origin) (stop : Option ℕ) (k : ℕ) (reason : End) (last :
 
 -- ---- where a tenant is put in line
 
--- the moves of a plan at ticks that pass a test
+-- where an errand at a tick moves a tenant
 abbrev pub move_at : ℕ → Due → List Put
 move_at tick (Move g) = record { fabric = g; tick = tick } ∷ []
 move_at tick due = []
 
+-- the moves of a plan at ticks that pass a test
 abbrev pub moves_when : (ℕ → Bool) → List Errand → List Put
 moves_when test errands = flat_map (λ e. if test e.tick then move_at e.tick e.due else []) errands
 
@@ -44,13 +45,14 @@ abbrev pub RunsAsNoted : Origin → Option Origin → Type 0
 RunsAsNoted o None = ⊥
 RunsAsNoted o (Some u) = RunsAs o u
 
--- the tenant of a number whose run ends at the tick k is put in line just there: at its first tick on the script's fabric; for each
--- move of its plan from that tick on and below k; where a free order stops it, perhaps for the move of that tick; for each free
--- move; and for each free save, at its tick, on a fabric that the tenant leaves at it
+-- the tenant of a number, whose run ends at the tick k, is put in line just there: at its first tick on the script's fabric; for
+-- each move of its plan from that tick on and below k, and perhaps for the last one; for each free move; and back for each free save
 pub record ArePut (histories : Histories) (answers : List Answered) (n fabric : ℕ) (o : Origin) (k : ℕ) : Type 0 where
   pub last : List Put
   pub back : List Put
+  -- the last move is that of the tick at which a free order stops the tenant
   pub may : (last ≡ []) ⊎ ((stop_of n answers ≡ Some k) × (last ≡ moves_when (λ j. j == k) o.plan.errands))
+  -- it is put back at the tick of the save, on a fabric that it leaves at that tick
   pub saved : map (λ p. p.tick) back ≡ map (λ s. s.tick) (saves_of n answers)
   pub left : AllByRecursion (λ p. 0 < lefts_at n p.tick (history_of histories p.fabric)) back
   pub just : (g j : ℕ) → lines_at n j (history_of histories g) ≡ puts_at g j (

@@ -11,3 +11,4 @@ pub mod Greeting
 pub mod Resuming
 pub mod Ends
 pub mod Times
+pub mod Ordered

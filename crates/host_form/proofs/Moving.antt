@@ -26,7 +26,7 @@ moving-end : (q : Queue) × Ends moving_origin 4 Budget q × (q.state.printed �
 unfolding digits
 moving-end = (_, ends_by moving_origin 9 4 Budget _ refl refl refl refl, refl, refl)
 
-abbrev visit : ℕ → ℕ → ℕ → Visit
+abbrev pub visit : ℕ → ℕ → ℕ → Visit
 visit g from to = record { fabric = g; from = from; to = to }
 
 abbrev moving-visits : List Visit
@@ -41,10 +41,10 @@ moving-each (suc (suc (suc g))) =
     let second = ne_eqb 1 (suc (suc (suc g))) (λ e. omega (arith, e)) in
     none_pass (λ v. v.fabric == suc (suc (suc g))) moving-visits (first, (second, (first, tt)))
 
-abbrev put : ℕ → ℕ → Put
+abbrev pub put : ℕ → ℕ → Put
 put g tick = record { fabric = g; tick = tick }
 
-count_two : {X Y : Type 0} (x z : X) (y w : Y) (a b : Bool)
+pub count_two : {X Y : Type 0} (x z : X) (y w : Y) (a b : Bool)
     → length (cond a (x ∷ cond b (z ∷ []) []) (cond b (z ∷ []) [])) ≡ length (cond a (y ∷ cond b (w ∷ []) []) (cond b (w ∷ []) []))
 count_two x z y w true true = refl
 count_two x z y w true false = refl

@@ -164,3 +164,31 @@ greeting_script = record { fabrics = large (codes "F") ∷ []; tenants = greetin
 
 abbrev pub greeting_origin : Origin
 greeting_origin = record { flat = greets; files = []; plan = record { budget = 0; errands = [] }; resume = None }
+
+-- ---- a counter that free orders move at tick 1 and save at tick 2, and that has ended at the third
+
+abbrev pub ordered_text : List ℕ
+ordered_text =
+    codes "fabric F1 100000 100000 1000000\nfabric F2 100000 100000 1000000\ntenant A m.v F1 4\n"
+    ++ codes "free move A F2\nfree save A s\nfree stop A\n"
+
+abbrev pub ordered_line : TenantLine
+ordered_line = record { name = codes "A"; source = codes "m.v"; fabric = 0; budget = 4; files = []; resume = None; errands = [] }
+
+abbrev pub ordered_script : Script
+ordered_script = record {
+  fabrics = large (codes "F1") ∷ large (codes "F2") ∷ [];
+  tenants = ordered_line ∷ [];
+  free = free.Move 0 1 ∷ free.Save 0 (codes "s") ∷ free.Stop 0 ∷ [];
+}
+
+abbrev pub ordered_origin : Origin
+ordered_origin = record { flat = counter; files = []; plan = record { budget = 4; errands = [] }; resume = None }
+
+abbrev pub ordered_histories : Histories
+ordered_histories = stay ordered_origin 0 1 ∷ (stay ordered_origin 1 2 ++ stay ordered_origin 2 4) ∷ []
+
+abbrev pub ordered_bytes : List ℕ
+ordered_bytes =
+    codes "tenant A budget 4 14 8\n0\n1\n2\n3\n\nstay A F1 0 1\nstay A F2 1 2\nstay A F2 2 4\n"
+    ++ codes "free move A F2 1\nfree save A s 2\nfree stop A ended 4\n"

@@ -9,7 +9,7 @@ ghost use Rattle.host_form.specs.Origins.{Source, Accepted, plan_of, IsOrigin, I
 ghost use Rattle.host_form.specs.Reports.{IsReport};
 ghost use Rattle.host_form.specs.Saves.{LeavesFiles};
 ghost use Rattle.host_form.specs.Laws.{Judges};
-ghost use Rattle.host_form.specs.Examples.{lone_text, lone_script, lone_histories, moving_text, moving_script, moving_line, moving_origin, moving_histories, tight_text, tight_script, stopping_text, stopping_script, stopping_histories, counter_bytes, narrow, resumed_tenant, resumed_origin, greeting_text, greeting_script};
+ghost use Rattle.host_form.specs.Examples.{lone_text, lone_script, lone_histories, moving_text, moving_script, moving_line, moving_origin, moving_histories, tight_text, tight_script, stopping_text, stopping_script, stopping_histories, counter_bytes, narrow, resumed_tenant, resumed_origin, greeting_text, greeting_script, ordered_text, ordered_script, ordered_histories, ordered_bytes};
 
 /// A counter that runs three ticks on one fabric is reported so, whatever text its source is.
 pub fn three_ticks_on_one_fabric_are_reported()
@@ -56,4 +56,12 @@ pub fn snapshots_are_resumed_or_refused()
     ensures resumed { IsOrigin lone_script.fabrics (resumed_tenant 5 counter (counter_bytes 2 8 2)) resumed_origin }
     ensures wide { IsRefused lone_script.fabrics (resumed_tenant 5 narrow (counter_bytes 2 4 18)) no_place (codes "snapshot 6") }
     ensures late { IsRefused lone_script.fabrics (resumed_tenant 1 counter (counter_bytes 2 8 2)) no_place (codes "snapshot 8") }
+{}
+
+/// A counter that free orders move, save and find ended is reported so, and its snapshot is in the store.
+pub fn free_orders_are_reported()
+    ensures script { reading ordered_text ≡ Ok ordered_script }
+    ensures report { (judge : List ℕ → Option Source) (told : Files) (text : List ℕ) → told (codes "m.v") ≡ Some text → judge text ≡ Some (Accepted counter) →
+        (r : IsReport (Judges judge) told ordered_script ordered_histories ordered_bytes)
+        × LeavesFiles (Judges judge) told ordered_script ordered_histories ordered_bytes r (with_file (codes "A.s") (counter_bytes 2 8 2) told) }
 {}

@@ -1,0 +1,4 @@
+//! Combinational processes of a design as cells.
+#![tactic(auto)]
+
+pub mod pass;

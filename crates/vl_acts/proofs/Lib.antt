@@ -1,2 +1,4 @@
 pub mod Logging
 pub mod Standing
+pub mod Logged
+pub mod Onward

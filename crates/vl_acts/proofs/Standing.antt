@@ -12,13 +12,13 @@ use Rattle.vl_design.specs.Queue.{Queue, Phase, Wave, Ended, Updated, first_pend
 use Rattle.vl_design.specs.Snapshots.{Snapshot}
 use Rattle.vl_design.specs.Alone.{Origin, start, risen, blocks, falls, first_queue}
 use Rattle.vl_design.specs.Acts as act
-use Rattle.vl_design.specs.Acts.{Pause, Through, AtCall, AtChoice, uptos, Point, Between, Inside, state_at, queue_at, entered, entered_by, Reached, Calls, Chooses, with_block, by_pause, through_blocks, reach, Calms, calm, Did, Act, of_wave, updates, Begins, from_nothing, from_snapshot, After, acts}
+use Rattle.vl_design.specs.Acts.{Pause, Through, AtCall, AtChoice, uptos, Point, Between, Inside, state_at, queue_at, entered, entered_by, Reached, Calls, Chooses, with_block, by_pause, through_blocks, reach, Calms, calm, Did, Act, of_wave, updates, Begins, from_nothing, from_snapshot, After, acts, NextIs, Before}
 use Rattle.vl_design.specs.Laws.{IsUnrolledStm, IsUnrolled, HasQuietNets}
 use Rattle.vl_design.proofs.Acting.{left_of}
 use Rattle.vl_design.proofs.Agreeing.{IsBare, Fits, woken_comb, blocks_unrolled, falls_unrolled, body_rests, evaluated_fits, at_first, alive}
 use Rattle.vl_settle.specs.Runs.{Comes, begins, goes, rises}
 use Rattle.vl_acts.specs.Log.{Moment, call_at, choice_at, moments, exec_all, all_moments}
-use Rattle.vl_acts.specs.Blocks.{InWave, at_zero, behind, runs, IsAt}
+use Rattle.vl_acts.specs.Blocks.{InWave, at_zero, behind, runs, Stage, at_start, at_end, at_update, IsAt}
 use Rattle.vl_acts.proofs.Logging.{Pauses, uptos_pause}
 
 module _ (o : Origin) (u : IsUnrolled o.flat) (quiet : HasQuietNets o.flat) where
@@ -186,14 +186,8 @@ module _ (o : Origin) (u : IsUnrolled o.flat) (quiet : HasQuietNets o.flat) wher
 
   -- ---- points
 
-  -- where a point stands that isn't in a block: before time zero, behind a wave's end, or behind an update
-  pub data Stage (q : Queue) : Type 0 where
-    at_start : o.resume ≡ None → q ≡ start o.flat → Stage q
-    at_end : q.phase ≡ Ended → first_pending o.flat.procs q.pending ≡ None → Stage q
-    at_update : q.phase ≡ Updated → first_pending o.flat.procs q.pending ≡ None → Stage q
-
   abbrev pub Stands : Point → Type 0
-  Stands (Between q) = Way q × Stage q
+  Stands (Between q) = Way q × Stage o q
   Stands (Inside q rest from committed) = (m : Moment) × InBlock q rest from committed m × (m.after ≡ q.state)
 
   abbrev pub Entered : Point → Type 0
@@ -221,7 +215,7 @@ module _ (o : Origin) (u : IsUnrolled o.flat) (quiet : HasQuietNets o.flat) wher
   entered_way q [] w e n a = way_risen w e n a
   entered_way q (p ∷ ps) w e n a = way_wave p ps w e n a
 
-  stage_enters : (q : Queue) → Way q → Stage q → Entered (Between (entered_by o.flat o.files q q.phase q.ahead))
+  stage_enters : (q : Queue) → Way q → Stage o q → Entered (Between (entered_by o.flat o.files q q.phase q.ahead))
   stage_enters q w (at_start e same) =
       subst (λ z. Entered (Between (entered_by o.flat o.files z z.phase z.ahead))) (sym same) (subst Way same w, λ left h. at_zero e refl)
   stage_enters q w (at_end e n) = enters_same q Ended e (w, λ left h. absurd (no_wave (sym e ∙ h)))
@@ -276,7 +270,7 @@ module _ (o : Origin) (u : IsUnrolled o.flat) (quiet : HasQuietNets o.flat) wher
   did_stands (Calls task q rest from committed) p s d = subst Stands (sym d) (call_at scope task q.state, in_state (called scope task q.state) s, refl)
   did_stands (Chooses q rest from committed) p s d = subst Stands (sym d) (choice_at q.state, in_state (counted q.state) s, refl)
 
-  pub at_ended : {q : Queue} → Stage q → q.phase ≡ Ended → first_pending o.flat.procs q.pending ≡ None
+  pub at_ended : {q : Queue} → Stage o q → q.phase ≡ Ended → first_pending o.flat.procs q.pending ≡ None
   at_ended (at_start e same) f = let g = ap (λ z. z.phase) same in let z : ⊥ = cc in absurd z
   at_ended (at_end e n) f = n
   at_ended (at_update e n) f = let z : ⊥ = cc in absurd z
@@ -309,3 +303,27 @@ module _ (o : Origin) (u : IsUnrolled o.flat) (quiet : HasQuietNets o.flat) wher
   pub after_stands : {c : ℕ} {p : Point} → After o c p → Stands p
   after_stands (act.begins b) = begins_stands refl b
   after_stands (acts x f a) = act_stands f a (after_stands x)
+
+  -- ---- what follows of a point
+
+  pub between : {c : ℕ} (q : Queue) → After o c (Between q) → Comes o q × (q.state.finished ≡ false) × Stage o q
+  between q a = let s = after_stands a in (s.0.comes, s.0.alive, s.1)
+
+  pub inside : {c : ℕ} (q : Queue) (rest : List Stm) (from committed : List (List ℕ)) → After o c (Inside q rest from committed) → (m : Moment) × IsAt o q rest from committed m × (m.after ≡ q.state)
+  inside q rest from committed a = let s = after_stands a in (s.0, s.1.at, s.2)
+
+  pub before_a_call : {c : ℕ} {task : Task} (q : Queue) (rest : List Stm) (from committed : List (List ℕ)) → Before o c task (Inside q rest from committed) → IsAt o q rest from committed (call_at scope task q.state)
+  before_a_call q rest from committed b = at b refl
+    where
+      at : {c : ℕ} {task : Task} {x : Point} → Before o c task x → x ≡ Inside q rest from committed → IsAt o q rest from committed (call_at scope task q.state)
+      at (act.before {p = p} task r more old first a n) e =
+          let w = subst ReachStands n.next (wave_stands p n.left (after_stands a) n.alive n.in_wave) in
+          let same : (r ≡ q) × (more ≡ rest) × (old ≡ from) × (first ≡ committed) = (cc, cc, cc, cc) in
+          rw (sym same.0, sym same.1, sym same.2, sym same.3) w.at
+
+  pub wave_comes : {c : ℕ} (p : Point) (left : List Proc) (q : Queue) → After o c p → (state_at p).finished ≡ false → (queue_at (entered o.flat o.files p)).phase ≡ Wave left
+      → reach o.flat o.files (entered o.flat o.files p) left ≡ act.Completes q → Comes o (wave_ended q) × (q.state.finished ≡ false)
+  wave_comes p left q a f e r = let w = subst ReachStands r (wave_stands p left (after_stands a) f e) in ((way_ended w refl).comes, w.alive)
+
+  pub update_comes : {c : ℕ} (q : Queue) → After o c (Between q) → q.phase ≡ Ended → Comes o (updates_done o.flat o.files q)
+  update_comes q a e = let s = after_stands a in (way_updated s.0 e (at_ended s.1 e)).comes

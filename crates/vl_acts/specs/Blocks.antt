@@ -1,11 +1,12 @@
 -- Where a point of a run act by act stands in the run by events: in which wave, in which block, and at which act of its log
 -- (own).
-use Rattle.std.specs.Prelude.{◌≡◌, ℕ, false, List, [], ◌∷◌, ◌++◌, None}
-use Rattle.vl_design.specs.Syntax.{Stm, Proc}
+use Rattle.std.specs.Prelude.{◌≡◌, ℕ, zero, false, List, [], ◌∷◌, ◌++◌, Some, None}
+use Rattle.vl_design.specs.Syntax.{Stm, Proc, Task}
 use Rattle.vl_design.specs.Width.{Scope}
+use Rattle.vl_design.specs.State.{State}
 use Rattle.vl_design.specs.Exec.{exec}
 use Rattle.vl_design.specs.Functions.{scope_of}
-use Rattle.vl_design.specs.Queue.{Queue, Wave, Updated, first_pending, executed}
+use Rattle.vl_design.specs.Queue.{Queue, Wave, Ended, Updated, first_pending, executed}
 use Rattle.vl_design.specs.Alone.{Origin, start}
 use Rattle.vl_design.specs.Acts.{entered_by}
 use Rattle.vl_settle.specs.Runs.{Comes}
@@ -20,6 +21,12 @@ pub data InWave (o : Origin) (committed : List (List ℕ)) : Queue → Type 0 wh
   -- the wave's next block is done, whole
   runs : {q : Queue} {p : Proc} {ps : List Proc} → InWave o committed q → q.state.finished ≡ false → q.phase ≡ Wave (p ∷ ps) →
       InWave o committed (executed o.flat o.files q p ps)
+
+-- where a point between waves stands: before time zero, or behind the end of a wave or an update, where no process is pending
+pub data Stage (o : Origin) (q : Queue) : Type 0 where
+  at_start : o.resume ≡ None → q ≡ start o.flat → Stage o q
+  at_end : q.phase ≡ Ended → first_pending o.flat.procs q.pending ≡ None → Stage o q
+  at_update : q.phase ≡ Updated → first_pending o.flat.procs q.pending ≡ None → Stage o q
 
 -- a block that began with the values `from`, in a wave that began with the committed ones, is at an act of its log: behind it
 -- this rest does the other acts, and leads to where the block leads as a whole
@@ -41,3 +48,32 @@ pub record IsAt (o : Origin) (q : Queue) (rest : List Stm) (from committed : Lis
   pub phase : q.phase ≡ Wave left
   pub ahead : q.ahead ≡ first.ahead
   pub pending : q.pending ≡ first.pending
+
+-- ---- the log of a run
+
+-- the moment is in the log of a block of the run by events
+pub record Happens (o : Origin) (m : Moment) : Type 0 where
+  -- the queue in which the block begins
+  pub first : Queue
+  pub comes : Comes o first
+  pub alive : first.state.finished ≡ false
+  pub proc : Proc
+  pub left : List Proc
+  pub next : first.phase ≡ Wave (proc ∷ left)
+  pub before : List Moment
+  pub behind : List Moment
+  pub log : moments (scope_of o.flat o.files) proc.body first.state ≡ before ++ (m ∷ behind)
+
+-- s is the state right after act c, by the count of the state itself: where the run begins, behind an act in a block's log, or
+-- where no process is pending any more behind the end of a wave or an update
+pub data LogAfter (o : Origin) : ℕ → State → Type 0 where
+  begins : o.resume ≡ None → LogAfter o zero (start o.flat).state
+  in_block : {m : Moment} → Happens o m → LogAfter o m.after.count m.after
+  behind_wave : {q : Queue} → Comes o q → q.state.finished ≡ false → q.phase ≡ Ended → first_pending o.flat.procs q.pending ≡ None →
+      LogAfter o q.state.count q.state
+  behind_update : {q : Queue} → Comes o q → q.state.finished ≡ false → q.phase ≡ Updated → first_pending o.flat.procs q.pending ≡ None →
+      LogAfter o q.state.count q.state
+
+-- s is the state right before the effect of act c, which is this call
+pub data LogBefore (o : Origin) : ℕ → Task → State → Type 0 where
+  before_call : {m : Moment} (task : Task) → Happens o m → m.task ≡ Some task → LogBefore o m.after.count task m.before

@@ -1,18 +1,21 @@
 //! What holds of every run act by act.
 
-ghost use Rattle.std.specs.Prelude.{◌≡◌, ◌+◌, ℕ, Bool, true, false, List, [], length, All};
-ghost use Rattle.vl_design.specs.Syntax.{Stm};
+ghost use Rattle.std.specs.Prelude.{◌≡◌, ◌+◌, ◌≤◌, ℕ, true, false, List, [], length, All};
+ghost use Rattle.vl_design.specs.Syntax.{Stm, Task, Proc, Flat};
 ghost use Rattle.vl_design.specs.Width.{Scope};
 ghost use Rattle.vl_design.specs.State.{State};
 ghost use Rattle.vl_design.specs.Exec.{exec};
-ghost use Rattle.vl_design.specs.Tasks.{called};
 ghost use Rattle.vl_design.specs.Functions.{scope_of};
-ghost use Rattle.vl_design.specs.Queue.{Queue};
-ghost use Rattle.vl_design.specs.Alone.{Origin};
-ghost use Rattle.vl_design.specs.Acts.{Point, Inside, uptos, After, Before};
-ghost use Rattle.vl_design.specs.Laws.{IsUnrolledStm, IsUnrolled, HasQuietNets};
+ghost use Rattle.vl_design.specs.Queue.{Queue, Wave, Ended, wave_ended, updates_done};
+ghost use Rattle.vl_design.specs.Alone.{Origin, Shows};
+ghost use Rattle.vl_design.specs.Acts.{Point, Between, Inside, Completes, state_at, queue_at, at_boundary, tick_of, entered, reach, uptos, Act, After, Before};
+ghost use Rattle.vl_design.specs.Laws.{StartsFine, IsUnrolledStm, IsUnrolled, HasQuietNets};
+ghost use Rattle.settling.specs.Nets.{pass};
+ghost use Rattle.vl_settle.specs.Nets.{run};
+ghost use Rattle.vl_settle.specs.Checked.{IsChecked, IsOrder};
+ghost use Rattle.vl_settle.specs.Runs.{Comes, Calmed, with_values};
 ghost use Rattle.vl_acts.specs.Log.{Moment, call_at, moments, all_moments, exec_all, PausesIn};
-ghost use Rattle.vl_acts.specs.Blocks.{IsAt};
+ghost use Rattle.vl_acts.specs.Blocks.{IsAt, Stage, LogAfter};
 
 /// A statement counts each act in its log once.
 pub fn each_act_in_the_log_is_counted()
@@ -31,9 +34,69 @@ pub fn statements_pause_before_the_first_act_of_their_log()
         PausesIn scope (all_moments scope rest s) (exec_all scope rest s) (uptos scope rest s) }
 {}
 
-/// A point inside a block stands right behind an act of the block's log: the block begins in a queue that the run by events
-/// comes to, and what is left of it does the rest of the log and leads to where the block leads as a whole.
-pub fn a_point_inside_a_block_stands_behind_an_act_of_its_log()
-    ensures { (o : Origin) (c : ℕ) (q : Queue) (rest : List Stm) (from committed : List (List ℕ)) → IsUnrolled o.flat → HasQuietNets o.flat →
-        After o c (Inside q rest from committed) → (m : Moment) × IsAt o q rest from committed m × (m.after ≡ q.state) }
+/// The combinational processes of a checked design hold no system call.
+pub fn checked_processes_are_quiet()
+    ensures { (d : Flat) → IsChecked d → HasQuietNets d }
+{}
+
+/// A point inside a block stands right behind an act of the block's log, or, before a call, at it: the block begins in a queue
+/// that the run by events comes to, and what is left of it does the rest of the log and leads to where the block leads as a whole.
+pub fn a_point_inside_a_block_stands_at_an_act_of_its_log()
+    ensures after { (o : Origin) (c : ℕ) (q : Queue) (rest : List Stm) (from committed : List (List ℕ)) → IsUnrolled o.flat →
+        HasQuietNets o.flat → After o c (Inside q rest from committed) → (m : Moment) × IsAt o q rest from committed m × (m.after ≡ q.state) }
+    ensures before { (o : Origin) (c : ℕ) (task : Task) (q : Queue) (rest : List Stm) (from committed : List (List ℕ)) →
+        IsUnrolled o.flat → HasQuietNets o.flat → Before o c task (Inside q rest from committed) →
+        IsAt o q rest from committed (call_at (scope_of o.flat o.files) task q.state) }
+{}
+
+/// Between waves the run act by act is where the run by events comes to: before time zero, or behind the end of a wave or an
+/// update, where no process is pending.
+pub fn a_point_between_waves_is_come_to()
+    ensures { (o : Origin) (c : ℕ) (q : Queue) → IsUnrolled o.flat → HasQuietNets o.flat → After o c (Between q) →
+        Comes o q × (q.state.finished ≡ false) × Stage o q }
+{}
+
+/// Act by act a wave ends where the run by events ends it, and updates are done where it does them.
+pub fn waves_end_and_updates_are_done_where_the_run_comes_to()
+    ensures wave { (o : Origin) (c : ℕ) (p : Point) (left : List Proc) (q : Queue) → IsUnrolled o.flat → HasQuietNets o.flat → After o c p →
+        (state_at p).finished ≡ false → (queue_at (entered o.flat o.files p)).phase ≡ Wave left →
+        reach o.flat o.files (entered o.flat o.files p) left ≡ Completes q → Comes o (wave_ended q) × (q.state.finished ≡ false) }
+    ensures update { (o : Origin) (c : ℕ) (q : Queue) → IsUnrolled o.flat → HasQuietNets o.flat → After o c (Between q) → q.phase ≡ Ended →
+        Comes o (updates_done o.flat o.files q) }
+{}
+
+/// The act at the end of a wave, and that of an update, lead to the values of one pass over the combinational processes in order.
+pub fn the_end_of_a_wave_and_an_update_lead_to_the_values_of_one_pass()
+    ensures wave { (o : Origin) (order : List ℕ) (c : ℕ) (p : Point) (left : List Proc) (q : Queue) → IsChecked o.flat → IsUnrolled o.flat →
+        IsOrder o.flat order → StartsFine o.flat.rows o.resume → After o c p → (state_at p).finished ≡ false →
+        (queue_at (entered o.flat o.files p)).phase ≡ Wave left → reach o.flat o.files (entered o.flat o.files p) left ≡ Completes q →
+        (s : Calmed o.flat o.files (wave_ended q)) × (s.values ≡ pass (run o.flat o.files (wave_ended q).state) order q.state.values) ×
+        Act o.flat o.files p (Between (with_values (wave_ended q) s.values s.pending)) }
+    ensures update { (o : Origin) (order : List ℕ) (c : ℕ) (q : Queue) → IsChecked o.flat → IsUnrolled o.flat → IsOrder o.flat order →
+        StartsFine o.flat.rows o.resume → After o c (Between q) → q.phase ≡ Ended → (s : Calmed o.flat o.files (updates_done o.flat o.files q)) ×
+        (s.values ≡ pass (run o.flat o.files (updates_done o.flat o.files q).state) order (updates_done o.flat o.files q).state.values) ×
+        Act o.flat o.files (Between q) (Between (with_values (updates_done o.flat o.files q) s.values s.pending)) }
+{}
+
+/// From each point of a run that has not finished an act leads on: so after each number of acts the run is at a point, or it has
+/// finished after fewer.
+pub fn the_run_goes_on_act_by_act()
+    ensures on { (o : Origin) (order : List ℕ) (c : ℕ) (p : Point) → IsChecked o.flat → IsUnrolled o.flat → IsOrder o.flat order →
+        StartsFine o.flat.rows o.resume → After o c p → (state_at p).finished ≡ false → (r : Point) × Act o.flat o.files p r }
+    ensures far { (o : Origin) (order : List ℕ) (c : ℕ) → IsChecked o.flat → IsUnrolled o.flat → IsOrder o.flat order →
+        StartsFine o.flat.rows o.resume → (b : ℕ) × (p : Point) × (b ≤ c) × After o b p × ((state_at p).finished ≡ false → b ≡ c) }
+{}
+
+/// What the run has printed after an act at a boundary, or once it has finished, it has printed alone at the boundary of that
+/// tick, in as many acts.
+pub fn at_a_boundary_the_run_shows_what_it_shows_alone()
+    ensures boundary { (o : Origin) (c : ℕ) (p : Point) → IsUnrolled o.flat → HasQuietNets o.flat → After o c p → at_boundary p ≡ true →
+        Shows o (tick_of p) (state_at p).printed c }
+    ensures finished { (o : Origin) (c : ℕ) (p : Point) → IsUnrolled o.flat → HasQuietNets o.flat → After o c p →
+        (state_at p).finished ≡ true → Shows o (tick_of p) (state_at p).printed c }
+{}
+
+/// What is right after an act is so by the log of the run by events.
+pub fn what_is_after_an_act_is_so_by_the_log()
+    ensures after { (o : Origin) (c : ℕ) (p : Point) → IsUnrolled o.flat → HasQuietNets o.flat → After o c p → LogAfter o c (state_at p) }
 {}

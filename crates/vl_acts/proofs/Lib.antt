@@ -1,4 +1,5 @@
 pub mod Logging
 pub mod Standing
 pub mod Logged
+pub mod Followed
 pub mod Onward

@@ -1,19 +1,21 @@
 -- What is right after an act, and right before a call, is so by the log of the run by events.
-use Rattle.std.proofs.Common.{◌≡◌, ℕ, Bool, false, List, ◌∷◌, Some, None, refl, sym, ◌∙◌, ap, subst}
+use Rattle.std.proofs.Common.{◌≡◌, ℕ, suc, ◌+◌, Bool, false, List, ◌∷◌, Some, None, refl, sym, ◌∙◌, ap, subst}
 use Rattle.vl_design.specs.Syntax.{Stm, Task}
 use Rattle.vl_design.specs.Width.{Scope}
 use Rattle.vl_design.specs.State.{State}
 use Rattle.vl_design.specs.Functions.{scope_of}
 use Rattle.vl_design.specs.Queue.{Queue}
 use Rattle.vl_design.specs.Alone.{Origin, start}
+use Rattle.vl_design.specs.Acts as act
 use Rattle.vl_design.specs.Acts.{Point, Between, Inside, state_at, After, Before}
 use Rattle.vl_design.specs.Laws.{IsUnrolled, HasQuietNets}
+use Rattle.vl_design.proofs.Resting.{done_counts}
 use Rattle.vl_design.proofs.Counting.{count_is, count_before}
 use Rattle.vl_settle.specs.Runs.{Comes}
 use Rattle.vl_acts.specs.Log.{Moment, call_at}
 use Rattle.vl_acts.specs.Blocks.{Stage, at_start, at_end, at_update, IsAt, Happens, LogAfter, LogBefore}
 use Rattle.vl_acts.specs.Blocks as log
-use Rattle.vl_acts.proofs.Standing.{between, inside}
+use Rattle.vl_acts.proofs.Standing.{between, inside, before_a_call}
 
 pub happens : {o : Origin} {q : Queue} {rest : List Stm} {from committed : List (List ℕ)} {m : Moment} → IsAt o q rest from committed m → Happens o m
 happens b = record {
@@ -42,3 +44,10 @@ module _ (o : Origin) (u : IsUnrolled o.flat) (quiet : HasQuietNets o.flat) wher
 
   pub after_is_logged : (c : ℕ) (p : Point) → After o c p → LogAfter o c (state_at p)
   after_is_logged c p a = subst (λ k. LogAfter o k (state_at p)) (count_is o u quiet c p a) (logged p a)
+
+  pub before_is_logged : {c : ℕ} {task : Task} {p : Point} → Before o c task p → LogBefore o c task (state_at p)
+  before_is_logged (act.before {n = n} {p = p} task q rest from committed a x) =
+      let b = act.before task q rest from committed a x in
+      let k : (call_at (scope_of o.flat o.files) task q.state).after.count ≡ suc n =
+      ap (λ z. z + 1) (done_counts (scope_of o.flat o.files) task q.state) ∙ count_before o u quiet b in
+      subst (λ j. LogBefore o j task q.state) k (log.before_call task (happens (before_a_call o u quiet q rest from committed b)) refl)

@@ -15,7 +15,7 @@ ghost use Rattle.vl_settle.specs.Nets.{run};
 ghost use Rattle.vl_settle.specs.Checked.{IsChecked, IsOrder};
 ghost use Rattle.vl_settle.specs.Runs.{Comes, Calmed, with_values};
 ghost use Rattle.vl_acts.specs.Log.{Moment, call_at, moments, all_moments, exec_all, PausesIn};
-ghost use Rattle.vl_acts.specs.Blocks.{IsAt, Stage, LogAfter};
+ghost use Rattle.vl_acts.specs.Blocks.{IsAt, Stage, LogAfter, LogBefore};
 
 /// A statement counts each act in its log once.
 pub fn each_act_in_the_log_is_counted()
@@ -96,7 +96,14 @@ pub fn at_a_boundary_the_run_shows_what_it_shows_alone()
         (state_at p).finished ≡ true → Shows o (tick_of p) (state_at p).printed c }
 {}
 
-/// What is right after an act is so by the log of the run by events.
-pub fn what_is_after_an_act_is_so_by_the_log()
+/// The run act by act is what the log of the run by events says: what is right after an act, and right before a call, is so by
+/// the log, and what is so by the log is so act by act.
+pub fn the_run_act_by_act_is_what_the_log_says()
     ensures after { (o : Origin) (c : ℕ) (p : Point) → IsUnrolled o.flat → HasQuietNets o.flat → After o c p → LogAfter o c (state_at p) }
+    ensures before { (o : Origin) (c : ℕ) (task : Task) (p : Point) → IsUnrolled o.flat → HasQuietNets o.flat → Before o c task p →
+        LogBefore o c task (state_at p) }
+    ensures after_back { (o : Origin) (c : ℕ) (s : State) → IsUnrolled o.flat → HasQuietNets o.flat → LogAfter o c s →
+        (p : Point) × After o c p × (state_at p ≡ s) }
+    ensures before_back { (o : Origin) (c : ℕ) (task : Task) (s : State) → IsUnrolled o.flat → HasQuietNets o.flat →
+        LogBefore o c task s → (p : Point) × Before o c task p × (state_at p ≡ s) }
 {}

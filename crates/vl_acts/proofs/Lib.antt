@@ -3,3 +3,5 @@ pub mod Standing
 pub mod Logged
 pub mod Followed
 pub mod Onward
+pub mod Holding
+pub mod Committed

@@ -46,7 +46,7 @@ module _ (o : Origin) (u : IsUnrolled o.flat) (quiet : HasQuietNets o.flat) wher
   idle_next q Ended i f e = by_phase q Ended f e
   idle_next q Updated i f e = by_phase q Updated f e
 
-  quiet_next : (q : Queue) (phase : Phase) → Idle phase → q.state.finished ≡ false → q.phase ≡ phase → first_pending o.flat.procs q.pending ≡ None → next o.flat o.files q ≡ next_phase o.flat o.files q phase q.ahead
+  pub quiet_next : (q : Queue) (phase : Phase) → Idle phase → q.state.finished ≡ false → q.phase ≡ phase → first_pending o.flat.procs q.pending ≡ None → next o.flat o.files q ≡ next_phase o.flat o.files q phase q.ahead
   quiet_next q phase i f e n = idle_next q phase i f e ∙ (ap (next_pending o.flat o.files q) n ∙ ap (λ x. next_phase o.flat o.files q x q.ahead) e)
 
   way_on : {q : Queue} → Way q → (r : Queue) → next o.flat o.files q ≡ Some r → r.state.finished ≡ false → Fits o.flat r → Way r
@@ -207,7 +207,7 @@ module _ (o : Origin) (u : IsUnrolled o.flat) (quiet : HasQuietNets o.flat) wher
       at true = refl
       at false = refl
 
-  entered_values : (q : Queue) (ahead : List (List Proc)) → (entered_by o.flat o.files q Updated ahead).state.values ≡ q.state.values
+  pub entered_values : (q : Queue) (ahead : List (List Proc)) → (entered_by o.flat o.files q Updated ahead).state.values ≡ q.state.values
   entered_values q [] = risen_values q
   entered_values q (w ∷ ws) = refl
 

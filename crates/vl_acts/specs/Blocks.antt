@@ -1,14 +1,15 @@
 -- Where a point of a run act by act stands in the run by events: in which wave, in which block, and at which act of its log
 -- (own).
-use Rattle.std.specs.Prelude.{◌≡◌, ℕ, zero, false, List, [], ◌∷◌, ◌++◌, Some, None}
+use Rattle.std.specs.Prelude.{◌≡◌, ℕ, zero, nat_lt, Bool, true, false, List, [], ◌∷◌, ◌++◌, Option, Some, None}
 use Rattle.vl_design.specs.Syntax.{Stm, Proc, Task}
 use Rattle.vl_design.specs.Width.{Scope}
 use Rattle.vl_design.specs.State.{State}
 use Rattle.vl_design.specs.Exec.{exec}
 use Rattle.vl_design.specs.Functions.{scope_of}
-use Rattle.vl_design.specs.Queue.{Queue, Wave, Ended, Updated, first_pending, executed}
+use Rattle.vl_design.specs.Queue.{Queue, Phase, Wave, Ended, Updated, first_pending, executed}
+use Rattle.vl_design.specs.Snapshots.{Snapshot}
 use Rattle.vl_design.specs.Alone.{Origin, start}
-use Rattle.vl_design.specs.Acts.{entered_by}
+use Rattle.vl_design.specs.Acts.{Point, Between, Inside, entered_by}
 use Rattle.vl_settle.specs.Runs.{Comes}
 use Rattle.vl_acts.specs.Log.{Moment, moments, exec_all, all_moments}
 
@@ -48,6 +49,19 @@ pub record IsAt (o : Origin) (q : Queue) (rest : List Stm) (from committed : Lis
   pub phase : q.phase ≡ Wave left
   pub ahead : q.ahead ≡ first.ahead
   pub pending : q.pending ≡ first.pending
+
+-- ---- nets
+
+abbrev pub is_behind : Phase → Bool
+is_behind (Wave ps) = false
+is_behind Ended = true
+is_behind Updated = true
+
+-- the point is behind the wave of time zero, or in a run that began at a snapshot
+abbrev pub has_settled : Option Snapshot → Point → Bool
+has_settled (Some s) p = true
+has_settled None (Between q) = is_behind q.phase
+has_settled None (Inside q rest from committed) = nat_lt 0 q.state.ticks
 
 -- ---- the log of a run
 

@@ -5,17 +5,17 @@ ghost use Rattle.vl_design.specs.Syntax.{Stm, Task, Proc, Flat};
 ghost use Rattle.vl_design.specs.Width.{Scope};
 ghost use Rattle.vl_design.specs.State.{State};
 ghost use Rattle.vl_design.specs.Exec.{exec};
-ghost use Rattle.vl_design.specs.Functions.{scope_of};
+ghost use Rattle.vl_design.specs.Functions.{scope_of, fresh};
 ghost use Rattle.vl_design.specs.Queue.{Queue, Wave, Ended, wave_ended, updates_done};
 ghost use Rattle.vl_design.specs.Alone.{Origin, Shows};
-ghost use Rattle.vl_design.specs.Acts.{Point, Between, Inside, Completes, state_at, queue_at, at_boundary, tick_of, entered, reach, uptos, Act, After, Before};
+ghost use Rattle.vl_design.specs.Acts.{Point, Between, Inside, Completes, state_at, queue_at, committed_at, at_boundary, tick_of, entered, reach, uptos, Act, After, Before};
 ghost use Rattle.vl_design.specs.Laws.{StartsFine, IsUnrolledStm, IsUnrolled, HasQuietNets};
 ghost use Rattle.settling.specs.Nets.{pass};
-ghost use Rattle.vl_settle.specs.Nets.{run};
+ghost use Rattle.vl_settle.specs.Nets.{run, AreSolved, SameDriven};
 ghost use Rattle.vl_settle.specs.Checked.{IsChecked, IsOrder};
 ghost use Rattle.vl_settle.specs.Runs.{Comes, Calmed, with_values};
 ghost use Rattle.vl_acts.specs.Log.{Moment, call_at, moments, all_moments, exec_all, PausesIn};
-ghost use Rattle.vl_acts.specs.Blocks.{IsAt, Stage, LogAfter, LogBefore};
+ghost use Rattle.vl_acts.specs.Blocks.{IsAt, Stage, has_settled, LogAfter, LogBefore};
 
 /// A statement counts each act in its log once.
 pub fn each_act_in_the_log_is_counted()
@@ -85,6 +85,18 @@ pub fn the_run_goes_on_act_by_act()
         StartsFine o.flat.rows o.resume → After o c p → (state_at p).finished ≡ false → (r : Point) × Act o.flat o.files p r }
     ensures far { (o : Origin) (order : List ℕ) (c : ℕ) → IsChecked o.flat → IsUnrolled o.flat → IsOrder o.flat order →
         StartsFine o.flat.rows o.resume → (b : ℕ) × (p : Point) × (b ≤ c) × After o b p × ((state_at p).finished ≡ false → b ≡ c) }
+{}
+
+/// From the end of time zero's wave on, and always in a run that begins at a snapshot, each combinational process is solved over
+/// the committed values, and each bit that one drives is still as it is in these.
+pub fn combinational_processes_hold_over_the_committed_values()
+    ensures after { (o : Origin) (order : List ℕ) (c : ℕ) (p : Point) → IsChecked o.flat → IsUnrolled o.flat → IsOrder o.flat order →
+        StartsFine o.flat.rows o.resume → After o c p → has_settled o.resume p ≡ true →
+        AreSolved o.flat o.files (fresh (committed_at p)) × SameDriven o.flat (committed_at p) (state_at p).values }
+    ensures before { (o : Origin) (order : List ℕ) (c : ℕ) (task : Task) (q : Queue) (rest : List Stm) (from committed : List (List ℕ)) →
+        IsChecked o.flat → IsUnrolled o.flat → IsOrder o.flat order → StartsFine o.flat.rows o.resume →
+        Before o c task (Inside q rest from committed) → has_settled o.resume (Inside q rest from committed) ≡ true →
+        AreSolved o.flat o.files (fresh committed) × SameDriven o.flat committed q.state.values }
 {}
 
 /// What the run has printed after an act at a boundary, or once it has finished, it has printed alone at the boundary of that

@@ -5,3 +5,4 @@ pub mod Followed
 pub mod Onward
 pub mod Holding
 pub mod Committed
+pub mod Emptied

@@ -42,7 +42,7 @@ module _ (o : Origin) (checked : IsChecked o.flat) (u : IsUnrolled o.flat) (orde
   abbrev pub OnePass : Queue → Type 0
   OnePass q = (c : Calmed o.flat o.files q) × (c.values ≡ pass (run o.flat o.files q.state) order q.state.values)
 
-  one_pass : (q : Queue) → Comes o q → q.state.finished ≡ false → OnePass q
+  pub one_pass : (q : Queue) → Comes o q → q.state.finished ≡ false → OnePass q
   one_pass q c f =
       let r = calming o.flat o.files (accepted o.flat checked) order ord q f (comes_steady o (accepted o.flat checked) order ord fine c f).ready in
       (r.calmed, r.pass)

@@ -1,12 +1,13 @@
 //! What holds of every run act by act.
 
-ghost use Rattle.std.specs.Prelude.{◌≡◌, ◌+◌, ◌≤◌, ℕ, true, false, List, [], length, All};
-ghost use Rattle.vl_design.specs.Syntax.{Stm, Task, Proc, Flat};
+ghost use Rattle.std.specs.Prelude.{◌≡◌, ◌+◌, ◌≤◌, ℕ, true, false, List, [], ◌∷◌, length, map, codes, All, Some, None};
+ghost use Rattle.vl_design.specs.Syntax.{Stm, Task, Print, Finish, Literal, NoExps, Proc, Flat};
 ghost use Rattle.vl_design.specs.Width.{Scope};
 ghost use Rattle.vl_design.specs.State.{State};
+ghost use Rattle.vl_design.specs.Tasks.{called};
 ghost use Rattle.vl_design.specs.Exec.{exec};
 ghost use Rattle.vl_design.specs.Functions.{scope_of, fresh};
-ghost use Rattle.vl_design.specs.Queue.{Queue, Wave, Ended, wave_ended, updates_done};
+ghost use Rattle.vl_design.specs.Queue.{Queue, Wave, Ended, Updated, wave_ended, updates_done};
 ghost use Rattle.vl_design.specs.Alone.{Origin, Shows};
 ghost use Rattle.vl_design.specs.Acts.{Point, Between, Inside, Completes, state_at, queue_at, committed_at, at_boundary, tick_of, entered, reach, uptos, Act, After, Before};
 ghost use Rattle.vl_design.specs.Laws.{StartsFine, IsUnrolledStm, IsUnrolled, HasQuietNets};
@@ -16,6 +17,7 @@ ghost use Rattle.vl_settle.specs.Checked.{IsChecked, IsOrder};
 ghost use Rattle.vl_settle.specs.Runs.{Comes, Calmed, with_values};
 ghost use Rattle.vl_acts.specs.Log.{Moment, call_at, moments, all_moments, exec_all, PausesIn};
 ghost use Rattle.vl_acts.specs.Blocks.{IsAt, Stage, has_settled, LogAfter, LogBefore};
+ghost use Rattle.vl_acts.specs.Sample.{choosing, chooser, with_c};
 
 /// A statement counts each act in its log once.
 pub fn each_act_in_the_log_is_counted()
@@ -99,6 +101,19 @@ pub fn combinational_processes_hold_over_the_committed_values()
         AreSolved o.flat o.files (fresh committed) × SameDriven o.flat committed q.state.values }
 {}
 
+/// Behind an update, and so at a boundary and where the next wave begins, no nonblocking update is pending.
+pub fn no_update_is_pending_behind_an_update()
+    ensures { (o : Origin) (order : List ℕ) (c : ℕ) (q : Queue) → IsChecked o.flat → IsUnrolled o.flat → IsOrder o.flat order →
+        StartsFine o.flat.rows o.resume → After o c (Between q) → q.phase ≡ Updated → q.state.later ≡ [] }
+{}
+
+/// The effect of a call, done at the point right before it, is its act.
+pub fn serving_a_call_is_its_act()
+    ensures { (o : Origin) (c : ℕ) (task : Task) (q : Queue) (rest : List Stm) (from committed : List (List ℕ)) →
+        Before o c task (Inside q rest from committed) →
+        After o c (Inside (record q { state = called (scope_of o.flat o.files) task q.state }) rest from committed) }
+{}
+
 /// What the run has printed after an act at a boundary, or once it has finished, it has printed alone at the boundary of that
 /// tick, in as many acts.
 pub fn at_a_boundary_the_run_shows_what_it_shows_alone()
@@ -118,4 +133,12 @@ pub fn the_run_act_by_act_is_what_the_log_says()
         (p : Point) × After o c p × (state_at p ≡ s) }
     ensures before_back { (o : Origin) (c : ℕ) (task : Task) (s : State) → IsUnrolled o.flat → HasQuietNets o.flat →
         LogBefore o c task s → (p : Point) × Before o c task p × (state_at p ≡ s) }
+{}
+
+/// The choice of an `if` that holds a call is an act, and then the call in its branch; a call behind `$finish` is none.
+pub fn the_log_of_a_block_with_a_choice()
+    ensures taken { map (λ m. m.task) (moments (scope_of chooser []) choosing (with_c 1)) ≡
+        None ∷ Some (Print (Literal (codes "A") ∷ []) true) ∷ Some (Finish NoExps) ∷ [] }
+    ensures passed { map (λ m. m.task) (moments (scope_of chooser []) choosing (with_c 0)) ≡ None ∷ Some (Finish NoExps) ∷ [] }
+    ensures counts { map (λ m. m.after.count) (moments (scope_of chooser []) choosing (with_c 1)) ≡ 1 ∷ 2 ∷ 3 ∷ [] }
 {}

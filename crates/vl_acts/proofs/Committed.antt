@@ -1,5 +1,5 @@
 -- Combinational processes hold over the committed values, at each point of a run act by act.
-use Rattle.std.proofs.Common.{◌≡◌, ℕ, zero, ◌<◌, nat_lt, Bool, true, false, List, [], ◌∷◌, ◌++◌, length, Option, Some, None, refl, sym, ◌∙◌, ap, subst, arith}
+use Rattle.std.proofs.Common.{◌≡◌, ℕ, nat_lt, true, false, List, [], ◌∷◌, ◌++◌, Option, Some, None, refl, sym, ◌∙◌, ap, subst}
 use Rattle.std.specs.Prelude.{◌⊎◌, ◌==◌, All, pos, slice_index}
 use Rattle.std.proofs.lemmas.List.Elements.{All-head, All-tail}
 use mathlib.Core.Logic.{inl, inr}
@@ -8,15 +8,14 @@ use Rattle.vl_design.specs.Syntax.{Task, Stm, Proc}
 use Rattle.vl_design.specs.Width.{Scope}
 use Rattle.vl_design.specs.Value.{words_of}
 use Rattle.vl_design.specs.State.{State}
-use Rattle.vl_design.specs.Exec.{exec}
 use Rattle.vl_design.specs.Functions.{scope_of, fresh}
-use Rattle.vl_design.specs.Queue.{Queue, Phase, Wave, Ended, Updated, first_pending, next_phase, next}
+use Rattle.vl_design.specs.Queue.{Queue, Wave, Updated, first_pending, next_phase, next}
 use Rattle.vl_design.specs.Snapshots.{Snapshot}
-use Rattle.vl_design.specs.Alone.{Origin, start, risen, first_queue}
+use Rattle.vl_design.specs.Alone.{Origin, start, first_queue}
 use Rattle.vl_design.specs.Acts.{Point, Between, Inside, state_at, committed_at, entered_by, After, Before}
 use Rattle.vl_design.specs.Laws.{StartsFine, IsUnrolled, HasQuietNets}
 use Rattle.vl_design.proofs.Returning.{exec_ticks}
-use Rattle.vl_settle.specs.Nets.{Place, bit_at, run, AreSolved, SameDriven}
+use Rattle.vl_settle.specs.Nets.{Place, bit_at, AreSolved, SameDriven}
 use Rattle.vl_settle.specs.Checked.{IsChecked, IsOrder}
 use Rattle.vl_settle.specs.Runs as runs
 use Rattle.vl_settle.specs.Runs.{Comes}
@@ -24,7 +23,7 @@ use Rattle.vl_settle.proofs.Steady.{IsAccepted, IsApart, AreApart, OfPhase}
 use Rattle.vl_settle.proofs.Checks.{itself, accepted}
 use Rattle.vl_settle.proofs.Ticks.{same_run, block_keeps}
 use Rattle.vl_settle.proofs.Reaching.{comes_steady, calm_solved}
-use Rattle.vl_acts.specs.Log.{Moment, call_at, moments}
+use Rattle.vl_acts.specs.Log.{Moment}
 use Rattle.vl_acts.specs.Blocks as wave
 use Rattle.vl_acts.specs.Blocks.{InWave, Stage, at_start, at_end, at_update, IsAt, has_settled}
 use Rattle.vl_acts.proofs.Standing.{by_phase, quiet_next, entered_values, between, inside, before_a_call}

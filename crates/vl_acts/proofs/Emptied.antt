@@ -1,15 +1,15 @@
 -- Behind an update no further one is pending; and serving a call is its act.
-use Rattle.std.proofs.Common.{◌≡◌, ℕ, suc, false, List, [], Option, Some, None, refl, sym, ◌∙◌, ap, subst}
+use Rattle.std.proofs.Common.{◌≡◌, ℕ, false, List, [], Option, Some, None, refl, sym, ◌∙◌, ap, subst}
 use Rattle.vl_base.specs.declared.files.File.{File}
 use Rattle.vl_design.specs.Syntax.{Task, Stm, Flat}
 use Rattle.vl_design.specs.Tasks.{called}
 use Rattle.vl_design.specs.Functions.{scope_of}
-use Rattle.vl_design.specs.Queue.{Queue, Updated, wave_ended, updates_done}
+use Rattle.vl_design.specs.Queue.{Queue, Updated, updates_done}
 use Rattle.vl_design.specs.Snapshots.{Snapshot}
 use Rattle.vl_design.specs.Alone.{Origin, first_queue}
 use Rattle.vl_design.specs.Acts as act
 use Rattle.vl_design.specs.Acts.{Point, Between, Inside, entered, Reached, Completes, Calls, Chooses, reach, Calms, calm, Did, of_wave, updates, Begins, from_nothing, from_snapshot, After, acts, Before}
-use Rattle.vl_design.specs.Laws.{StartsFine, IsUnrolled, HasQuietNets}
+use Rattle.vl_design.specs.Laws.{StartsFine, IsUnrolled}
 use Rattle.vl_design.proofs.OncePerAct.{calms_once}
 use Rattle.vl_settle.specs.Checked.{IsChecked, IsOrder}
 use Rattle.vl_settle.specs.Runs.{Comes, begins}

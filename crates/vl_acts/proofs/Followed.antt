@@ -1,6 +1,6 @@
 -- The run act by act follows the log of the run by events: behind each act in it, and before each call, it is at a point.
 use Rattle.std.proofs.Common.{◌≡◌, ℕ, zero, suc, ◌+◌, Bool, true, false, List, [], ◌∷◌, ◌++◌, Option, Some, None, refl, sym, ◌∙◌, ap, subst, add-one, append-nil, arith, length}
-use Rattle.std.specs.Prelude.{if◌then◌else◌, All}
+use Rattle.std.specs.Prelude.{All}
 use Rattle.std.proofs.lemmas.List.Elements.{All-nil, All-cons, All-head, All-tail}
 use Rattle.vl_design.specs.Syntax.{Task, Stm, Proc}
 use Rattle.vl_design.specs.Width.{Scope}

@@ -1,11 +1,9 @@
 -- What is right after an act, and right before a call, is so by the log of the run by events.
-use Rattle.std.proofs.Common.{◌≡◌, ℕ, suc, ◌+◌, Bool, false, List, ◌∷◌, Some, None, refl, sym, ◌∙◌, ap, subst}
+use Rattle.std.proofs.Common.{◌≡◌, ℕ, suc, ◌+◌, false, List, refl, sym, ◌∙◌, ap, subst}
 use Rattle.vl_design.specs.Syntax.{Stm, Task}
-use Rattle.vl_design.specs.Width.{Scope}
-use Rattle.vl_design.specs.State.{State}
 use Rattle.vl_design.specs.Functions.{scope_of}
 use Rattle.vl_design.specs.Queue.{Queue}
-use Rattle.vl_design.specs.Alone.{Origin, start}
+use Rattle.vl_design.specs.Alone.{Origin}
 use Rattle.vl_design.specs.Acts as act
 use Rattle.vl_design.specs.Acts.{Point, Between, Inside, state_at, After, Before}
 use Rattle.vl_design.specs.Laws.{IsUnrolled, HasQuietNets}

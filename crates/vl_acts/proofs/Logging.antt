@@ -1,12 +1,12 @@
 -- What the log of a statement says: its acts are counted, none is there once the run has finished or where the statement holds
 -- no call, and statements pause right before the first act of their log.
-use Rattle.std.proofs.Common.{◌≡◌, ℕ, zero, suc, ◌+◌, Bool, true, false, List, [], ◌∷◌, ◌++◌, length, Option, Some, None, refl, sym, ◌∙◌, ap, subst, arith, append_assoc, length-append}
+use Rattle.std.proofs.Common.{◌≡◌, ℕ, zero, suc, ◌+◌, Bool, true, false, List, [], ◌∷◌, ◌++◌, length, refl, sym, ◌∙◌, ap, arith, append_assoc, length-append}
 use Rattle.std.specs.Prelude.{◌||◌, ◌&&◌, not, if◌then◌else◌, All}
 use Rattle.std.proofs.lemmas.List.Elements.{All-cons, All-head, All-tail}
 use Rattle.vl_design.specs.declared.design.Form.{Form}
 use Rattle.vl_design.specs.Syntax.{Exp, Task, Stm, Nop, Then, If, Case, For, Repeat, Set, Later, Sys, Items, NoItems, Labelled, Default}
 use Rattle.vl_design.specs.Width.{Scope, form}
-use Rattle.vl_design.specs.Value.{Sample, value}
+use Rattle.vl_design.specs.Value.{value}
 use Rattle.vl_design.specs.State.{State, sample, counted}
 use Rattle.vl_design.specs.Tasks.{called}
 use Rattle.vl_design.specs.Exec.{exec, exec_items, exec_default, turns, times, restored, counted_if, items_form, some_match, is_true, goes_on, most_turns, holds, items_hold, asks}

@@ -3,13 +3,13 @@
 use Rattle.std.proofs.Common.{◌≡◌, ℕ, zero, suc, ◌+◌, ◌≤◌, Bool, true, false, List, [], ◌∷◌, Option, Some, None, refl, sym, ◌∙◌, ap, subst, arith}
 use Rattle.std.specs.Prelude.{All, slice_index_or}
 use Rattle.std.proofs.lemmas.List.Elements.{All-nil, All-cons}
-use Rattle.vl_design.specs.Syntax.{Stm, Task, Proc, Flat}
+use Rattle.vl_design.specs.Syntax.{Proc, Flat}
 use Rattle.vl_design.specs.State.{counted}
 use Rattle.vl_design.specs.Tasks.{called}
 use Rattle.vl_design.specs.Functions.{scope_of}
 use Rattle.vl_design.specs.Queue.{Queue, Wave, Ended, Updated, wave_ended, updates_done, is_comb, is_init, is_rise, is_fall}
 use Rattle.vl_design.specs.Snapshots.{Snapshot}
-use Rattle.vl_design.specs.Alone.{Origin, start, risen, blocks, falls, first_queue}
+use Rattle.vl_design.specs.Alone.{Origin, start, blocks, falls, first_queue}
 use Rattle.vl_design.specs.Acts as act
 use Rattle.vl_design.specs.Acts.{Point, Between, Inside, state_at, queue_at, entered, entered_by, Reached, Completes, Calls, Chooses, reach, Calms, Did, Act, of_wave, updates, Begins, from_nothing, from_snapshot, After, acts}
 use Rattle.vl_design.specs.Laws.{StartsFine, can_act, IsUnrolled, HasQuietNets}
@@ -71,12 +71,14 @@ module _ (o : Origin) (checked : IsChecked o.flat) (u : IsUnrolled o.flat) (orde
     where
       at : (m : Reached) → reach o.flat o.files (entered o.flat o.files p) left ≡ m → (r : Point) × Act o.flat o.files p r
       at (Completes q) h = let x = wave_passes p left q a f e h in (_, x.2)
-      at (Calls task q rest from committed) h =
-          (Inside (record q { state = called (scope_of o.flat o.files) task q.state }) rest from committed,
-          of_wave left e (subst (λ m. Did o.flat o.files m (Inside (record q { state = called (scope_of o.flat o.files) task q.state }) rest from committed)) (sym h) refl))
-      at (Chooses q rest from committed) h =
-          (Inside (record q { state = counted q.state }) rest from committed,
-          of_wave left e (subst (λ m. Did o.flat o.files m (Inside (record q { state = counted q.state }) rest from committed)) (sym h) refl))
+      at (Calls task q rest from committed) h = (
+        Inside (record q { state = called (scope_of o.flat o.files) task q.state }) rest from committed,
+        of_wave left e (subst (λ m. Did o.flat o.files m (Inside (record q { state = called (scope_of o.flat o.files) task q.state }) rest from committed)) (sym h) refl),
+      )
+      at (Chooses q rest from committed) h = (
+        Inside (record q { state = counted q.state }) rest from committed,
+        of_wave left e (subst (λ m. Did o.flat o.files m (Inside (record q { state = counted q.state }) rest from committed)) (sym h) refl),
+      )
 
   -- the wave that begins behind an update
   entered_wave : (q : Queue) (ahead : List (List Proc)) → q.state.finished ≡ false → (left : List Proc) × ((entered_by o.flat o.files q Updated ahead).phase ≡ Wave left)

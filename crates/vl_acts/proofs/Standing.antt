@@ -1,5 +1,5 @@
 -- Where each point of a run act by act stands in the run by events.
-use Rattle.std.proofs.Common.{◌≡◌, ℕ, suc, ◌+◌, Bool, true, false, List, [], ◌∷◌, ◌++◌, Option, Some, None, refl, sym, ◌∙◌, ap, subst, append_assoc, append-nil}
+use Rattle.std.proofs.Common.{◌≡◌, ℕ, ◌+◌, Bool, true, false, List, [], ◌∷◌, ◌++◌, Option, Some, None, refl, sym, ◌∙◌, ap, subst, append_assoc, append-nil}
 use Rattle.std.specs.Prelude.{⊤, if◌then◌else◌, All}
 use Rattle.std.proofs.lemmas.List.Elements.{All-nil, All-cons, All-head, All-tail}
 use Rattle.vl_design.specs.Syntax.{Task, Stm, Proc}
@@ -10,7 +10,7 @@ use Rattle.vl_design.specs.Exec.{exec}
 use Rattle.vl_design.specs.Functions.{scope_of}
 use Rattle.vl_design.specs.Queue.{Queue, Phase, Wave, Ended, Updated, first_pending, evaluated, executed, wave_ended, updates_done, next_phase, next_pending, next_event, next, is_rise, is_fall}
 use Rattle.vl_design.specs.Snapshots.{Snapshot}
-use Rattle.vl_design.specs.Alone.{Origin, start, risen, blocks, falls, first_queue}
+use Rattle.vl_design.specs.Alone.{Origin, risen, blocks, falls, first_queue}
 use Rattle.vl_design.specs.Acts as act
 use Rattle.vl_design.specs.Acts.{Pause, Through, AtCall, AtChoice, uptos, Point, Between, Inside, state_at, queue_at, entered, entered_by, Reached, Calls, Chooses, with_block, by_pause, through_blocks, reach, Calms, calm, Did, Act, of_wave, updates, Begins, from_nothing, from_snapshot, After, acts, NextIs, Before}
 use Rattle.vl_design.specs.Laws.{IsUnrolledStm, IsUnrolled, HasQuietNets}

@@ -1,8 +1,7 @@
 -- Where a point of a run act by act stands in the run by events: in which wave, in which block, and at which act of its log
 -- (own).
-use Rattle.std.specs.Prelude.{◌≡◌, ℕ, zero, nat_lt, Bool, true, false, List, [], ◌∷◌, ◌++◌, Option, Some, None}
+use Rattle.std.specs.Prelude.{◌≡◌, ℕ, zero, nat_lt, Bool, true, false, List, ◌∷◌, ◌++◌, Option, Some, None}
 use Rattle.vl_design.specs.Syntax.{Stm, Proc, Task}
-use Rattle.vl_design.specs.Width.{Scope}
 use Rattle.vl_design.specs.State.{State}
 use Rattle.vl_design.specs.Exec.{exec}
 use Rattle.vl_design.specs.Functions.{scope_of}

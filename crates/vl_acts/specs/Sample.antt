@@ -1,5 +1,5 @@
 -- A block with a choice and a call behind the end of the run: if (c) $display("A"); $finish; $display("B");
-use Rattle.std.specs.Prelude.{ℕ, false, List, [], ◌∷◌, codes}
+use Rattle.std.specs.Prelude.{ℕ, false, [], ◌∷◌, codes}
 use Rattle.vl_design.specs.declared.design.SigKind.TheVariants.{Var}
 use Rattle.vl_design.specs.Syntax.{Sig, NoExps, Literal, Finish, Stm, Nop, If, Sys, Flat}
 use Rattle.vl_design.specs.State.{State}

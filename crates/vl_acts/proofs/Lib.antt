@@ -6,3 +6,4 @@ pub mod Onward
 pub mod Holding
 pub mod Committed
 pub mod Emptied
+pub mod Ticking

@@ -8,7 +8,7 @@ ghost use Rattle.vl_design.specs.Tasks.{called};
 ghost use Rattle.vl_design.specs.Exec.{exec};
 ghost use Rattle.vl_design.specs.Functions.{scope_of, fresh};
 ghost use Rattle.vl_design.specs.Queue.{Queue, Wave, Ended, Updated, wave_ended, updates_done};
-ghost use Rattle.vl_design.specs.Alone.{Origin, Shows};
+ghost use Rattle.vl_design.specs.Alone.{Origin, Boundary, Shows};
 ghost use Rattle.vl_design.specs.Acts.{Point, Between, Inside, Completes, state_at, queue_at, committed_at, at_boundary, tick_of, entered, reach, uptos, Act, After, Before};
 ghost use Rattle.vl_design.specs.Laws.{StartsFine, IsUnrolledStm, IsUnrolled, HasQuietNets};
 ghost use Rattle.settling.specs.Nets.{pass};
@@ -114,13 +114,22 @@ pub fn serving_a_call_is_its_act()
         After o c (Inside (record q { state = called (scope_of o.flat o.files) task q.state }) rest from committed) }
 {}
 
+/// A boundary at which the run has not finished is of its tick.
+pub fn a_boundary_is_of_its_tick()
+    ensures { (o : Origin) (k : ℕ) (q : Queue) → Boundary o k q → q.state.finished ≡ false → q.state.ticks ≡ k }
+{}
+
 /// What the run has printed after an act at a boundary, or once it has finished, it has printed alone at the boundary of that
-/// tick, in as many acts.
+/// tick, in as many acts. And what it has printed alone at a boundary it has printed after as many acts, at that boundary or
+/// finished.
 pub fn at_a_boundary_the_run_shows_what_it_shows_alone()
     ensures boundary { (o : Origin) (c : ℕ) (p : Point) → IsUnrolled o.flat → HasQuietNets o.flat → After o c p → at_boundary p ≡ true →
         Shows o (tick_of p) (state_at p).printed c }
     ensures finished { (o : Origin) (c : ℕ) (p : Point) → IsUnrolled o.flat → HasQuietNets o.flat → After o c p →
         (state_at p).finished ≡ true → Shows o (tick_of p) (state_at p).printed c }
+    ensures back { (o : Origin) (k c : ℕ) (bytes : List ℕ) → IsUnrolled o.flat → HasQuietNets o.flat → Shows o k bytes c →
+        (p : Point) × After o c p × ((state_at p).printed ≡ bytes) ×
+        ((state_at p).finished ≡ false → (at_boundary p ≡ true) × (tick_of p ≡ k)) }
 {}
 
 /// The run act by act is what the log of the run by events says: what is right after an act, and right before a call, is so by

@@ -28,11 +28,7 @@ use Rattle.vl_acts.specs.Blocks as wave
 use Rattle.vl_acts.specs.Blocks.{InWave, Stage, at_start, at_end, at_update, IsAt, has_settled}
 use Rattle.vl_acts.proofs.Standing.{by_phase, quiet_next, entered_values, between, inside, before_a_call}
 use Rattle.vl_acts.proofs.Onward.{checked_quiet}
-use Rattle.vl_acts.proofs.Holding.{log_ticks, log_keeps}
-
-all_middle : (P : Moment → Type 0) (xs ys : List Moment) (m : Moment) → All P (xs ++ (m ∷ ys)) → P m
-all_middle P [] ys m h = All-head P m ys h
-all_middle P (x ∷ xs) ys m h = all_middle P xs ys m (All-tail P x (xs ++ (m ∷ ys)) h)
+use Rattle.vl_acts.proofs.Holding.{all_middle, log_ticks, log_keeps}
 
 of_words : (v w : List (List ℕ)) (b : Place) → words_of v b.0.signal ≡ words_of w b.0.signal → bit_at v b ≡ bit_at w b
 of_words v w b e = ap (λ ws. bit_of (slice_index ws b.1) (pos b.0.place)) e

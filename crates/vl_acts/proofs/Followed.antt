@@ -19,11 +19,14 @@ use Rattle.vl_design.proofs.Resting.{exec_over}
 use Rattle.vl_design.proofs.Acting.{left_of}
 use Rattle.vl_design.proofs.Counting.{count_is}
 use Rattle.vl_design.proofs.Agreeing.{IsBare, Fits, woken_comb, blocks_unrolled, falls_unrolled, body_rests, evaluated_fits, at_first, alive}
+use Rattle.settling.proofs.Logic.{never}
 use Rattle.vl_settle.specs.Runs as runs
 use Rattle.vl_settle.specs.Runs.{Comes}
 use Rattle.vl_acts.specs.Log.{Moment, call_at, choice_at, moments, exec_all, all_moments}
 use Rattle.vl_acts.specs.Blocks as log
 use Rattle.vl_acts.specs.Blocks.{Happens, LogAfter, LogBefore}
+use Rattle.vl_acts.proofs.Holding.{all_middle}
+use Rattle.vl_acts.proofs.Ticking.{some_next, ended_goes}
 use Rattle.vl_acts.proofs.Logging.{Pauses, uptos_pause, none_over, each_counts}
 
 module _ (scope : Scope) where
@@ -41,10 +44,6 @@ first_is h = (cc, cc)
 
 none_is : {m : Moment} {ms : List Moment} → ◌≡◌ {A = List Moment} [] (m ∷ ms) → ⊥
 none_is h = cc
-
-all_middle : (P : Moment → Type 0) (xs ys : List Moment) (m : Moment) → All P (xs ++ (m ∷ ys)) → P m
-all_middle P [] ys m h = All-head P m ys h
-all_middle P (x ∷ xs) ys m h = all_middle P xs ys m (All-tail P x (xs ++ (m ∷ ys)) h)
 
 module _ (o : Origin) (u : IsUnrolled o.flat) (quiet : HasQuietNets o.flat) where
   abbrev scope : Scope
@@ -270,9 +269,6 @@ module _ (o : Origin) (u : IsUnrolled o.flat) (quiet : HasQuietNets o.flat) wher
 
   -- ---- at a boundary
 
-  some_next : {q : Queue} → ◌≡◌ {A = Option Queue} (Some q) None → ⊥
-  some_next h = cc
-
   rises : (q : Queue) (b : Option Proc) (ahead : List (List Proc)) → first_pending o.flat.procs q.pending ≡ b → q.ahead ≡ ahead → q.state.finished ≡ false → q.phase ≡ Updated → Calmed q → Fits o.flat q → next_pending o.flat o.files q b ≡ None → Stands (risen o.flat q)
   rises q None [] e i f ph a g n =
       let t : State = record (q.state) { ticks = q.state.ticks + 1; saves = [] } in
@@ -299,15 +295,11 @@ module _ (o : Origin) (u : IsUnrolled o.flat) (quiet : HasQuietNets o.flat) wher
       absurd (some_next (subst (λ x. next_phase o.flat o.files q Updated x ≡ None) i z))
   rises q (Some body) ahead e i f ph a g n = absurd (some_next n)
 
-  end_rises : (q : Queue) (b : Option Proc) → q.phase ≡ Ended → next_pending o.flat o.files q b ≡ None → ⊥
-  end_rises q None e n = some_next (subst (λ x. next_phase o.flat o.files q x q.ahead ≡ None) e n)
-  end_rises q (Some body) e n = some_next n
-
   at_risen : (q : Queue) → next o.flat o.files q ≡ None → At q → Fits o.flat q → Stands (risen o.flat q)
   at_risen q n (stopped p f a e) g = let same : q ≡ risen o.flat q = rw f refl in subst Stands same (record { at = stopped p f a e; fits = g })
   at_risen q n (in_wave committed [] phase f e c) g = absurd (some_next (next_by q _ (Wave []) f e n))
   at_risen q n (in_wave committed (b ∷ bs) phase f e c) g = absurd (some_next (next_by q _ (Wave (b ∷ bs)) f e n))
-  at_risen q n (at_end f e a) g = absurd (end_rises q (first_pending o.flat.procs q.pending) e (next_by q _ Ended f e n))
+  at_risen q n (at_end f e a) g = absurd (ended_goes o.flat o.files q (first_pending o.flat.procs q.pending) e (next_by q _ Ended f e n))
   at_risen q n (at_update f e a) g = rises q (first_pending o.flat.procs q.pending) q.ahead refl refl f e a g (next_by q _ Updated f e n)
 
   begins_nothing : o.resume ≡ None → After o zero (Between (start o.flat))
@@ -337,11 +329,8 @@ module _ (o : Origin) (u : IsUnrolled o.flat) (quiet : HasQuietNets o.flat) wher
 
   -- ---- the log
 
-  never : {b : Bool} → b ≡ true → b ≡ false → ⊥
-  never e f = cc
-
   block_acted : (q : Queue) (b : Proc) (bs : List Proc) → At q → Fits o.flat q → q.state.finished ≡ false → q.phase ≡ Wave (b ∷ bs) → All Acted (moments scope b.body q.state)
-  block_acted q b bs (stopped p f a e) g i ph = absurd (never f i)
+  block_acted q b bs (stopped p f a e) g i ph = never f i
   block_acted q b bs (in_wave committed left phase f e c) g i ph =
       let same : left ≡ b ∷ bs = cc in
       let d = subst (λ l. Coming q.state.count (through_blocks o.flat o.files committed l (record q { phase = phase }))) same c in
@@ -358,13 +347,13 @@ module _ (o : Origin) (u : IsUnrolled o.flat) (quiet : HasQuietNets o.flat) wher
   Has c s = (p : Point) × After o c p × (state_at p ≡ s)
 
   behind_end : (q : Queue) → At q → q.state.finished ≡ false → q.phase ≡ Ended → first_pending o.flat.procs q.pending ≡ None → Has q.state.count q.state
-  behind_end q (stopped p f a e) i ph n = absurd (never f i)
+  behind_end q (stopped p f a e) i ph n = never f i
   behind_end q (in_wave committed left phase f e c) i ph n = let z : ⊥ = cc in absurd z
   behind_end q (at_end f e a) i ph n = (Between q, a q (calm n), refl)
   behind_end q (at_update f e a) i ph n = let z : ⊥ = cc in absurd z
 
   behind_the_update : (q : Queue) → At q → q.state.finished ≡ false → q.phase ≡ Updated → first_pending o.flat.procs q.pending ≡ None → Has q.state.count q.state
-  behind_the_update q (stopped p f a e) i ph n = absurd (never f i)
+  behind_the_update q (stopped p f a e) i ph n = never f i
   behind_the_update q (in_wave committed left phase f e c) i ph n = let z : ⊥ = cc in absurd z
   behind_the_update q (at_end f e a) i ph n = let z : ⊥ = cc in absurd z
   behind_the_update q (at_update f e a) i ph n = (Between q, a q (calm n), refl)

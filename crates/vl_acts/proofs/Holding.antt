@@ -16,6 +16,11 @@ use Rattle.vl_design.proofs.Returning.{exec_ticks}
 use Rattle.vl_design.proofs.Agreeing.{alive}
 use Rattle.vl_acts.specs.Log.{Moment, choice_at, choice_if, turn_moments, moments, item_moments, default_moments}
 
+-- what holds of all acts holds of each
+pub all_middle : (P : Moment → Type 0) (xs ys : List Moment) (m : Moment) → All P (xs ++ (m ∷ ys)) → P m
+all_middle P [] ys m h = All-head P m ys h
+all_middle P (x ∷ xs) ys m h = all_middle P xs ys m (All-tail P x (xs ++ (m ∷ ys)) h)
+
 module _ (scope : Scope) (R : State → State → Type 0) (T L : Target → Type 0) (K : Task → Type 0) (V : ℕ → Type 0) (r : Steps scope R T L K V) where
   -- the states right before and right after each of the acts
   abbrev pub Holds : State → List Moment → Type 0

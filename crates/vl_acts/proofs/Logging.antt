@@ -1,6 +1,6 @@
 -- What the log of a statement says: its acts are counted, none is there once the run has finished or where the statement holds
 -- no call, and statements pause right before the first act of their log.
-use Rattle.std.proofs.Common.{◌≡◌, ℕ, zero, suc, ◌+◌, Bool, true, false, List, [], ◌∷◌, ◌++◌, length, refl, sym, ◌∙◌, ap, arith, append_assoc, length-append}
+use Rattle.std.proofs.Common.{◌≡◌, ℕ, zero, suc, ◌+◌, Bool, true, false, List, [], ◌∷◌, ◌++◌, length, refl, sym, ◌∙◌, ap, arith, subst, add-one, append_assoc, length-append}
 use Rattle.std.specs.Prelude.{◌||◌, ◌&&◌, not, if◌then◌else◌, All}
 use Rattle.std.proofs.lemmas.List.Elements.{All-cons, All-head, All-tail}
 use Rattle.vl_design.specs.declared.design.Form.{Form}
@@ -16,7 +16,7 @@ use Rattle.vl_design.proofs.Unread.{or_false}
 use Rattle.vl_design.proofs.Resting.{exec_over, exec_rests, none_held, holds_none, items_hold_none, done_counts, case_done}
 use Rattle.vl_design.proofs.Counting.{either_unrolled, chosen_unrolled, default_unrolled}
 use Rattle.vl_design.proofs.Agreeing.{alive, counted_once}
-use Rattle.vl_acts.specs.Log.{Moment, call_at, choice_at, choice_if, turn_moments, moments, item_moments, default_moments, exec_all, all_moments, PausesIn}
+use Rattle.vl_acts.specs.Log.{Moment, call_at, choice_at, choice_if, turn_moments, moments, item_moments, default_moments, CountsUp, exec_all, all_moments, PausesIn}
 
 -- ---- once finished, and where no call is held, there is no act
 
@@ -127,15 +127,24 @@ module _ (scope : Scope) where
 
 record Counts (s t : State) (ms : List Moment) : Type 0 where
   pub count : t.count ≡ s.count + length ms
+  pub up : CountsUp s.count ms
 
 counts_none : (s t : State) → t.count ≡ s.count → Counts s t []
-counts_none s t e = record { count = omega (arith, e) }
+counts_none s t e = record { count = omega (arith, e); up = tt }
 
-counts_one : (s t : State) (m : Moment) → t.count ≡ s.count + 1 → Counts s t (m ∷ [])
-counts_one s t m e = record { count = omega (arith, e) }
+counts_one : (s t : State) (m : Moment) → t.count ≡ s.count + 1 → m.before ≡ s → m.after ≡ t → Counts s t (m ∷ [])
+counts_one s t m e f g = record { count = omega (arith, e); up = (ap (λ z. z.count) f, ap (λ z. z.count) g ∙ (e ∙ add-one s.count), tt) }
+
+up_on : (n k : ℕ) (xs ys : List Moment) → k ≡ n + length xs → CountsUp n xs → CountsUp k ys → CountsUp n (xs ++ ys)
+up_on n k [] ys e f g = let h : k ≡ n = omega (arith, e) in subst (λ j. CountsUp j ys) h g
+up_on n k (x ∷ xs) ys e f g = let h : k ≡ suc n + length xs = omega (arith, e) in (f.0, f.1, up_on (suc n) k xs ys h f.2 g)
 
 counts_on : {a b c : State} {xs ys : List Moment} → Counts a b xs → Counts b c ys → Counts a c (xs ++ ys)
-counts_on {xs = xs} {ys = ys} f g = let e = length-append xs ys in let h = f.count in let i = g.count in record { count = omega (arith, e, h, i) }
+counts_on {a} {b} {xs = xs} {ys = ys} f g =
+    let e = length-append xs ys in
+    let h = f.count in
+    let i = g.count in
+    record { count = omega (arith, e, h, i); up = up_on a.count b.count xs ys h f.up g.up }
 
 counts_by : (b : Bool) (s x y : State) (xs ys : List Moment) → Counts s x xs → Counts s y ys → Counts s (if b then x else y) (if b then xs else ys)
 counts_by true s x y xs ys f g = f
@@ -145,7 +154,7 @@ counts_choice : (b : Bool) (s : State) → Counts s (counted_if b s) (choice_if 
 counts_choice b s = at (b && not s.finished)
   where
     at : (x : Bool) → Counts s (if x then counted s else s) (if x then choice_at s ∷ [] else [])
-    at true = counts_one s (counted s) (choice_at s) refl
+    at true = counts_one s (counted s) (choice_at s) refl refl refl
     at false = counts_none s s refl
 
 counts_turns : (n : ℕ) (test : State → Bool) (turn : State → State) (log : State → List Moment) → ((s : State) → Counts s (turn s) (log s)) → (s : State) → Counts s (turns n test turn s) (turn_moments n test turn log s)
@@ -163,11 +172,11 @@ counts_times (suc n) turn log f s = counts_on (f s) (counts_times n turn log f (
 
 module _ (scope : Scope) where
   counts_call : (task : Task) (s : State) → Counts s (called scope task s) (call_at scope task s ∷ [])
-  counts_call task s = counts_one s (called scope task s) (call_at scope task s) (ap (λ n. n + 1) (done_counts scope task s))
+  counts_call task s = counts_one s (called scope task s) (call_at scope task s) (ap (λ n. n + 1) (done_counts scope task s)) refl refl
 
   -- a loop's variable is set back
   behind_loop : {t : State} {ms : List Moment} (k : ℕ) (s : State) → Counts s t ms → Counts s (restored k s t) ms
-  behind_loop k s c = record { count = c.count }
+  behind_loop k s c = record { count = c.count; up = c.up }
 
   mutual
     log_counts : (a : Stm) (s : State) → Counts s (exec scope a s) (moments scope a s)
@@ -203,6 +212,9 @@ module _ (scope : Scope) where
 module _ (scope : Scope) where
   pub each_counts : (a : Stm) (s : State) → (exec scope a s).count ≡ s.count + length (moments scope a s)
   each_counts a s = (log_counts scope a s).count
+
+  pub counts_up : (a : Stm) (s : State) → CountsUp s.count (moments scope a s)
+  counts_up a s = (log_counts scope a s).up
 
 -- ---- statements pause before their first act
 

@@ -12,12 +12,10 @@ use Rattle.vl_design.specs.Laws.{IsUnrolled, HasQuietNets, IsReached}
 use Rattle.vl_design.proofs.Running.{some_is}
 use Rattle.vl_design.proofs.Returning.{exec_ticks}
 use Rattle.vl_design.proofs.Agreeing.{alive, agrees}
+use Rattle.settling.proofs.Logic.{never}
 
-some_next : {q : Queue} → ◌≡◌ {A = Option Queue} (Some q) None → ⊥
+pub some_next : {q : Queue} → ◌≡◌ {A = Option Queue} (Some q) None → ⊥
 some_next h = cc
-
-never : {b : Bool} → b ≡ true → b ≡ false → ⊥
-never e f = cc
 
 module _ (d : Flat) (files : List File) where
   -- ---- no event begins a tick
@@ -62,7 +60,7 @@ module _ (d : Flat) (files : List File) where
 
   -- ---- where a run rests, its tick is over
 
-  ended_goes : (q : Queue) (b : Option Proc) → q.phase ≡ Ended → next_pending d files q b ≡ None → ⊥
+  pub ended_goes : (q : Queue) (b : Option Proc) → q.phase ≡ Ended → next_pending d files q b ≡ None → ⊥
   ended_goes q None e n = some_next (subst (λ x. next_phase d files q x q.ahead ≡ None) e n)
   ended_goes q (Some p) e n = some_next n
 
@@ -89,7 +87,7 @@ module _ (o : Origin) where
   tick_more : {k : ℕ} (b q : Queue) → Settles o.flat o.files (risen o.flat b) q → q.state.finished ≡ false → (b.state.finished ≡ false → b.state.ticks ≡ k) → (z : Bool) → b.state.finished ≡ z → q.state.ticks ≡ suc k
   tick_more b q s f g true e =
       let same : risen o.flat b ≡ b = rw e refl in
-      absurd (never (over_stays o.flat o.files (subst (λ z. z.state.finished ≡ true) (sym same) e) s) f)
+      never (over_stays o.flat o.files (subst (λ z. z.state.finished ≡ true) (sym same) e) s) f
   tick_more {k} b q s f g false e =
       let up : Queue = record b { state = record (b.state) { ticks = b.state.ticks + 1; saves = [] }; phase = Wave (blocks is_rise o.flat.procs); ahead = falls (blocks is_fall o.flat.procs) } in
       let same : risen o.flat b ≡ up = alive b.state.finished b up e in

@@ -1,5 +1,5 @@
 -- The log of a block: its counted acts in order, each with the states right before and right after it (own).
-use Rattle.std.specs.Prelude.{◌≡◌, ℕ, zero, suc, Bool, true, false, not, ◌&&◌, ◌||◌, List, [], ◌∷◌, ◌++◌, if◌then◌else◌, Option, Some, None}
+use Rattle.std.specs.Prelude.{◌≡◌, ℕ, zero, suc, Bool, true, false, not, ◌&&◌, ◌||◌, List, [], ◌∷◌, ◌++◌, if◌then◌else◌, ⊤, Option, Some, None}
 use Rattle.vl_design.specs.declared.design.Form.{Form}
 use Rattle.vl_design.specs.Syntax.{Stm, Nop, Then, If, Case, For, Repeat, Set, Later, Sys, Items, NoItems, Labelled, Default, Task}
 use Rattle.vl_design.specs.Width.{Scope, form}
@@ -65,6 +65,11 @@ abbrev mutual
   default_moments scope NoItems s = []
   default_moments scope (Labelled es a others) s = default_moments scope others s
   default_moments scope (Default a others) s = moments scope a s
+
+-- each act raises the count by one, from n on
+abbrev pub CountsUp : ℕ → List Moment → Type 0
+CountsUp n [] = ⊤
+CountsUp n (m ∷ ms) = (m.before.count ≡ n) × (m.after.count ≡ suc n) × CountsUp (suc n) ms
 
 -- ---- statements one after another
 

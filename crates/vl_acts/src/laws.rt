@@ -15,13 +15,14 @@ ghost use Rattle.settling.specs.Nets.{pass};
 ghost use Rattle.vl_settle.specs.Nets.{run, AreSolved, SameDriven};
 ghost use Rattle.vl_settle.specs.Checked.{IsChecked, IsOrder};
 ghost use Rattle.vl_settle.specs.Runs.{Comes, Calmed, with_values};
-ghost use Rattle.vl_acts.specs.Log.{Moment, call_at, moments, all_moments, exec_all, PausesIn};
+ghost use Rattle.vl_acts.specs.Log.{Moment, call_at, moments, all_moments, exec_all, CountsUp, PausesIn};
 ghost use Rattle.vl_acts.specs.Blocks.{IsAt, Stage, has_settled, LogAfter, LogBefore};
 ghost use Rattle.vl_acts.specs.Sample.{choosing, chooser, with_c};
 
-/// A statement counts each act in its log once.
+/// Each act in the log of a statement raises the count by one, and nothing else does.
 pub fn each_act_in_the_log_is_counted()
-    ensures { (scope : Scope) (a : Stm) (s : State) → (exec scope a s).count ≡ s.count + length (moments scope a s) }
+    ensures one_by_one { (scope : Scope) (a : Stm) (s : State) → CountsUp s.count (moments scope a s) }
+    ensures all { (scope : Scope) (a : Stm) (s : State) → (exec scope a s).count ≡ s.count + length (moments scope a s) }
 {}
 
 /// Once a run has finished, a statement has no act.

@@ -7,3 +7,4 @@ pub mod Holding
 pub mod Committed
 pub mod Emptied
 pub mod Ticking
+pub mod Finishing

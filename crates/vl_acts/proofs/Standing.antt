@@ -146,6 +146,7 @@ module _ (o : Origin) (u : IsUnrolled o.flat) (quiet : HasQuietNets o.flat) wher
       left = left;
       next = e;
       began = b;
+      running = d.1;
       before = before;
       log = l ∙ ap (λ z. before ++ z) d.0.0;
       leads = d.0.1;
@@ -166,6 +167,7 @@ module _ (o : Origin) (u : IsUnrolled o.flat) (quiet : HasQuietNets o.flat) wher
       left = left;
       next = e;
       began = b;
+      running = d.1;
       before = before;
       log = l ∙ ap (λ z. before ++ z) d.0.0;
       leads = d.0.1;
@@ -251,6 +253,7 @@ module _ (o : Origin) (u : IsUnrolled o.flat) (quiet : HasQuietNets o.flat) wher
       left = b.at.left;
       next = b.at.next;
       began = b.at.began;
+      running = b.at.running;
       before = b.at.before;
       log = b.at.log;
       leads = b.at.leads;
@@ -327,3 +330,7 @@ module _ (o : Origin) (u : IsUnrolled o.flat) (quiet : HasQuietNets o.flat) wher
 
   pub update_comes : {c : ℕ} (q : Queue) → After o c (Between q) → q.phase ≡ Ended → Comes o (updates_done o.flat o.files q)
   update_comes q a e = let s = after_stands a in (way_updated s.0 e (at_ended s.1 e)).comes
+
+  pub choice_running : {c : ℕ} (p : Point) (left : List Proc) (q : Queue) (rest : List Stm) (from committed : List (List ℕ)) → After o c p → (state_at p).finished ≡ false
+      → (queue_at (entered o.flat o.files p)).phase ≡ Wave left → reach o.flat o.files (entered o.flat o.files p) left ≡ Chooses q rest from committed → q.state.finished ≡ false
+  choice_running p left q rest from committed a f e r = let w = subst ReachStands r (wave_stands p left (after_stands a) f e) in w.at.running

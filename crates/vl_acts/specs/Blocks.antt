@@ -40,6 +40,7 @@ pub record IsAt (o : Origin) (q : Queue) (rest : List Stm) (from committed : Lis
   pub left : List Proc
   pub next : first.phase ≡ Wave (proc ∷ left)
   pub began : from ≡ first.state.values
+  pub running : m.before.finished ≡ false
   -- the acts of the block before this one
   pub before : List Moment
   pub log : moments (scope_of o.flat o.files) proc.body first.state ≡ before ++ (m ∷ all_moments (scope_of o.flat o.files) rest m.after)

@@ -1,7 +1,7 @@
 //! What holds of every run act by act.
 
-ghost use Rattle.std.specs.Prelude.{◌≡◌, ◌+◌, ◌≤◌, ℕ, true, false, List, [], ◌∷◌, length, map, codes, All, Some, None};
-ghost use Rattle.vl_design.specs.Syntax.{Stm, Task, Print, Finish, Literal, NoExps, Proc, Flat};
+ghost use Rattle.std.specs.Prelude.{◌≡◌, ◌+◌, ◌≤◌, ℕ, suc, true, false, List, [], ◌∷◌, length, map, codes, All, Some, None};
+ghost use Rattle.vl_design.specs.Syntax.{Exps, Stm, Task, Print, Finish, Literal, NoExps, Proc, Flat};
 ghost use Rattle.vl_design.specs.Width.{Scope};
 ghost use Rattle.vl_design.specs.State.{State};
 ghost use Rattle.vl_design.specs.Tasks.{called};
@@ -15,6 +15,7 @@ ghost use Rattle.settling.specs.Nets.{pass};
 ghost use Rattle.vl_settle.specs.Nets.{run, AreSolved, SameDriven};
 ghost use Rattle.vl_settle.specs.Checked.{IsChecked, IsOrder};
 ghost use Rattle.vl_settle.specs.Runs.{Comes, Calmed, with_values};
+ghost use Rattle.vl_settle.specs.Sample.{backwards};
 ghost use Rattle.vl_acts.specs.Log.{Moment, call_at, moments, all_moments, exec_all, CountsUp, PausesIn};
 ghost use Rattle.vl_acts.specs.Blocks.{IsAt, Stage, has_settled, LogAfter, LogBefore};
 ghost use Rattle.vl_acts.specs.Sample.{choosing, chooser, with_c};
@@ -115,6 +116,12 @@ pub fn serving_a_call_is_its_act()
         After o c (Inside (record q { state = called (scope_of o.flat o.files) task q.state }) rest from committed) }
 {}
 
+/// A run finishes only by a call of `$finish`: the act right after which it has finished is one.
+pub fn a_run_finishes_by_a_call()
+    ensures { (o : Origin) (c : ℕ) (p : Point) → IsUnrolled o.flat → HasQuietNets o.flat → After o (suc c) p →
+        (state_at p).finished ≡ true → (es : Exps) × (b : Point) × Before o (suc c) (Finish es) b }
+{}
+
 /// A boundary at which the run has not finished is of its tick.
 pub fn a_boundary_is_of_its_tick()
     ensures { (o : Origin) (k : ℕ) (q : Queue) → Boundary o k q → q.state.finished ≡ false → q.state.ticks ≡ k }
@@ -151,4 +158,10 @@ pub fn the_log_of_a_block_with_a_choice()
         None ∷ Some (Print (Literal (codes "A") ∷ []) true) ∷ Some (Finish NoExps) ∷ [] }
     ensures passed { map (λ m. m.task) (moments (scope_of chooser []) choosing (with_c 0)) ≡ None ∷ Some (Finish NoExps) ∷ [] }
     ensures counts { map (λ m. m.after.count) (moments (scope_of chooser []) choosing (with_c 1)) ≡ 1 ∷ 2 ∷ 3 ∷ [] }
+{}
+
+/// The small design that meets the rules of settling meets the other premises too: it has no loop, and its nets hold no call.
+pub fn a_backward_design_is_told_act_by_act()
+    ensures unrolled { IsUnrolled backwards }
+    ensures quiet { HasQuietNets backwards }
 {}

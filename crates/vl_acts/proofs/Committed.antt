@@ -1,7 +1,6 @@
 -- Combinational processes hold over the committed values, at each point of a run act by act.
-use Rattle.std.proofs.Common.{◌≡◌, ℕ, nat_lt, true, false, List, [], ◌∷◌, ◌++◌, Option, Some, None, refl, sym, ◌∙◌, ap, subst}
+use Rattle.std.proofs.Common.{◌≡◌, ℕ, nat_lt, true, false, List, [], ◌∷◌, Option, Some, None, refl, sym, ◌∙◌, ap, subst}
 use Rattle.std.specs.Prelude.{◌⊎◌, ◌==◌, All, pos, slice_index}
-use Rattle.std.proofs.lemmas.List.Elements.{All-head, All-tail}
 use mathlib.Core.Logic.{inl, inr}
 use Rattle.vl_base.specs.Selects.{bit_of}
 use Rattle.vl_design.specs.Syntax.{Task, Stm, Proc}

@@ -1,19 +1,19 @@
 -- A run finishes only by a call of `$finish`.
-use Rattle.std.proofs.Common.{◌≡◌, ℕ, suc, Bool, true, false, List, Option, Some, None, refl, sym, ◌∙◌, ap, subst}
+use Rattle.std.proofs.Common.{◌≡◌, ℕ, suc, true, false, List, Option, Some, None, refl, sym, ◌∙◌, ap, subst}
 use Rattle.std.specs.Prelude.{slice_get}
 use Rattle.vl_base.specs.Files as file
-use Rattle.vl_design.specs.Syntax.{Exps, Task, Print, Finish, Save, Fopen, Fread, Fgetc, Feof, Fclose, ReadHex, Stm, Row, Proc}
+use Rattle.vl_design.specs.Syntax.{Exps, Task, Print, Finish, Save, Fopen, Fread, Fgetc, Feof, Fclose, ReadHex, Row, Proc}
 use Rattle.vl_design.specs.Width.{Scope}
 use Rattle.vl_design.specs.State.{State}
 use Rattle.vl_design.specs.Tasks.{called, memory_read}
 use Rattle.vl_design.specs.Functions.{scope_of}
-use Rattle.vl_design.specs.Queue.{Queue, Wave}
+use Rattle.vl_design.specs.Queue.{Wave}
 use Rattle.vl_design.specs.Alone.{Origin}
 use Rattle.vl_design.specs.Acts as act
 use Rattle.vl_design.specs.Acts.{Point, Between, Inside, state_at, queue_at, entered, Reached, Completes, Calls, Chooses, reach, Did, of_wave, updates, After, acts, Before}
 use Rattle.vl_design.specs.Laws.{IsUnrolled, HasQuietNets}
 use Rattle.settling.proofs.Logic.{never}
-use Rattle.vl_acts.proofs.Standing.{between, inside, before_a_call, choice_running}
+use Rattle.vl_acts.proofs.Standing.{between, before_a_call, choice_running}
 
 memory_goes_on : (m : ℕ) (r : Option Row) (text : Option (List ℕ)) (s : State) → (memory_read m r text s).finished ≡ s.finished
 memory_goes_on m None text s = refl

@@ -8,3 +8,4 @@ pub mod Committed
 pub mod Emptied
 pub mod Ticking
 pub mod Finishing
+pub mod Passing

@@ -116,12 +116,11 @@ module _ (o : Origin) where
       → (p : Point) × After o c p × ((state_at p).printed ≡ bytes) × ((state_at p).finished ≡ false → (at_boundary p ≡ true) × (tick_of p ≡ k))
   shown_after {k} u quiet s =
       let q = s.0 in
-      let r : IsReached o q = agrees o u quiet s.1 in
-      (
+      let r : IsReached o q = agrees o u quiet s.1 in (
         r.point,
         subst (λ n. After o n r.point) s.3 r.after,
         ap (λ z. z.printed) r.same ∙ s.2,
         λ f.
-        let g = ap (λ z. z.finished) (sym r.same) ∙ f in
-        subst (λ p. (at_boundary p ≡ true) × (tick_of p ≡ k)) (sym (r.between g)) (at_it q s.1 g),
+            let g = ap (λ z. z.finished) (sym r.same) ∙ f in
+            subst (λ p. (at_boundary p ≡ true) × (tick_of p ≡ k)) (sym (r.between g)) (at_it q s.1 g),
       )

@@ -1,6 +1,7 @@
 //! What holds of every run act by act.
 
-ghost use Rattle.std.specs.Prelude.{◌≡◌, ◌+◌, ◌≤◌, ℕ, suc, true, false, List, [], ◌∷◌, length, map, codes, All, Some, None};
+ghost use Rattle.std.specs.Prelude.{◌≡◌, ◌+◌, ◌≤◌, ℕ, suc, true, false, List, [], ◌∷◌, length, map, codes, All, if◌then◌else◌, Some, None};
+ghost use Rattle.vl_base.specs.declared.files.File.{File};
 ghost use Rattle.vl_design.specs.Syntax.{Exps, Stm, Task, Print, Finish, Literal, NoExps, Proc, Flat};
 ghost use Rattle.vl_design.specs.Width.{Scope};
 ghost use Rattle.vl_design.specs.State.{State};
@@ -120,6 +121,12 @@ pub fn serving_a_call_is_its_act()
 pub fn a_run_finishes_by_a_call()
     ensures { (o : Origin) (c : ℕ) (p : Point) → IsUnrolled o.flat → HasQuietNets o.flat → After o (suc c) p →
         (state_at p).finished ≡ true → (es : Exps) × (b : Point) × Before o (suc c) (Finish es) b }
+{}
+
+/// An act begins a tick exactly where it leaves a boundary.
+pub fn an_act_begins_a_tick_where_it_leaves_a_boundary()
+    ensures { (d : Flat) (files : List File) (p r : Point) → (state_at p).finished ≡ false → Act d files p r →
+        (state_at r).ticks ≡ (if at_boundary p then (state_at p).ticks + 1 else (state_at p).ticks) }
 {}
 
 /// A boundary at which the run has not finished is of its tick.

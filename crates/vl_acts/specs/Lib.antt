@@ -1,0 +1,3 @@
+pub mod Log
+pub mod Blocks
+pub mod Sample

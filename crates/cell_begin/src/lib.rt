@@ -1,0 +1,4 @@
+//! The cells that a state begins with.
+#![tactic(auto)]
+
+pub mod begin;

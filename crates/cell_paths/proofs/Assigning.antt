@@ -59,7 +59,7 @@ one-word xs = record { one = λ k r e h. go xs k r e h }
 pub one-words : (xs ys : List Signal) → HasOneWord (map row_of xs ++ map row_of ys)
 one-words xs ys = subst HasOneWord (map-append row_of xs ys) (one-word (xs ++ ys))
 
-one-long : (rows : List Row) (values : List (List ℕ)) (k : ℕ) → HasOneWord rows → IsFine rows values → IsOf HasValue (slice_get rows k) → length (words_of values k) ≡ 1
+pub one-long : (rows : List Row) (values : List (List ℕ)) (k : ℕ) → HasOneWord rows → IsFine rows values → IsOf HasValue (slice_get rows k) → length (words_of values k) ≡ 1
 one-long rows values k o f h = f.shape.words k ∙ go (slice_get rows k) refl h
   where
     go : (r : Option Row) → slice_get rows k ≡ r → IsOf HasValue r → length (words_of (zeros rows) k) ≡ 1
@@ -93,7 +93,7 @@ signal-width names k h = of (slice_get names.rows k) refl h
 
 -- ---- an entry that is replaced
 
-abbrev with_entry : Env → ℕ → ℕ → Env
+abbrev pub with_entry : Env → ℕ → ℕ → Env
 with_entry at k r = record at { slots = slice_set at.slots (k - at.first) (Some r) }
 
 entry-here : (at : Env) (k r n : ℕ) → at.first + length at.slots ≡ n → at.first ≤ k → k < n → entry (with_entry at k r) k ≡ Some r
@@ -137,7 +137,7 @@ module _ (names : Names) (old new : ListData) (at : Env) (k w r : ℕ) (g : Grow
   here-is : entry (with_entry at k r) k ≡ Some r
   here-is = entry-here at k r (length names.rows) writable.fits.many writable.first (signal-there names.rows k writable.is_signal)
 
-  fits-with : Fits names new (with_entry at k r)
+  pub fits-with : Fits names new (with_entry at k r)
   fits-with =
       let f = fits-stays names old new at g writable.fits in
       record {
@@ -155,11 +155,11 @@ module _ (names : Names) (old new : ListData) (at : Env) (k w r : ℕ) (g : Grow
         is_away = f.is_away;
       }
 
-  keeps-with : Keeps names at (with_entry at k r)
+  pub keeps-with : Keeps names at (with_entry at k r)
   keeps-with = record { first = refl; time = refl; answer = refl; here = refl; away = refl; memories = λ m h. entry-other at k r m writable.first (memory-other names k m writable.is_signal h) }
 
   -- the new entry holds the signal's new value, and other signals stay
-  stands-with : (b : BankData) (x : Sample) (values : List (List ℕ)) → Stands names b old at x → IsFine names.rows values → value_of values k ≡ held b new r →
+  pub stands-with : (b : BankData) (x : Sample) (values : List (List ℕ)) → Stands names b old at x → IsFine names.rows values → value_of values k ≡ held b new r →
       ((j : ℕ) → j ≢ k → words_of values j ≡ words_of x.values j) → Stands names b new (with_entry at k r) (record x { values = values })
   stands-with b x values st fine value others =
       let st' = stands-stays names b old new at x g writable.fits st in

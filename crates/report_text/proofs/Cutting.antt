@@ -1,6 +1,6 @@
 -- What stands before a byte in lists that are the same.
 use Rattle.std.specs.Prelude.{◌≢◌}
-use Rattle.std.proofs.Common.{◌≡◌, ℕ, ◌+◌, ◌/◌, ◌%◌, ◌<◌, ◌≤◌, ◌^◌, List, [], ◌∷◌, ◌++◌, length, refl, sym, ap, ◌∙◌, arith}
+use Rattle.std.proofs.Common.{◌≡◌, ℕ, ◌+◌, ◌%◌, ◌<◌, ◌^◌, List, [], ◌∷◌, ◌++◌, length, refl, sym, ap, ◌∙◌, arith}
 use Rattle.std.specs.List.{AllByRecursion}
 use Rattle.std.specs.Fmt.{decimal}
 use Rattle.std.proofs.lemmas.Fmt.{decimal_by_steps, decimal_injective}
@@ -20,6 +20,15 @@ pub decimal-lacks : (d : ℕ) → d < 48 → (n : ℕ) → n < 2 ^ 64 → Lacks 
 decimal-lacks d low n small =
     decimal_by_steps (λ n ds. Lacks d ds) (λ n l. (far d (48 + n) (omega arith), tt))
     (λ n ds l h. lacks-append d ds ((48 + n % 10) ∷ []) h (far d (48 + n % 10) (omega arith), tt)) n small
+
+near : (b d : ℕ) → b < d → b ≢ d
+near b d l = λ e. omega (arith, e)
+
+-- no digit is a byte above 57
+pub decimal_lacks_letters : (d : ℕ) → 57 < d → (n : ℕ) → n < 2 ^ 64 → Lacks d (decimal n)
+decimal_lacks_letters d high n small =
+    decimal_by_steps (λ n ds. Lacks d ds) (λ n l. (near (48 + n) d (omega arith), tt))
+    (λ n ds l h. lacks-append d ds ((48 + n % 10) ∷ []) h (near (48 + n % 10) d (omega arith), tt)) n small
 
 -- lists that are the same begin the same
 pub heads : (x y : ℕ) (xs ys : List ℕ) → x ∷ xs ≡ y ∷ ys → x ≡ y

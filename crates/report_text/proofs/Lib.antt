@@ -1,3 +1,4 @@
 pub mod Cutting
 pub mod Reading
 pub mod Pieces
+pub mod Replying

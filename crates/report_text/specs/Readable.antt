@@ -1,11 +1,13 @@
 -- What can be read back from its bytes.
-use Rattle.std.specs.Prelude.{◌≢◌, ℕ, ◌<◌, ◌^◌, List, length}
+use Rattle.std.specs.Prelude.{◌≢◌, ℕ, ◌<◌, ◌^◌, List, length, ⊤}
 use Rattle.std.specs.List.{AllByRecursion}
 use Rattle.report_text.specs.declared.block.Stay.{Stay}
 use Rattle.report_text.specs.declared.block.RunBlock.{RunBlock}
 use Rattle.report_text.specs.declared.block.RefusedLine.{RefusedLine}
 use Rattle.report_text.specs.declared.block.Block.{Block}
 use Rattle.report_text.specs.declared.block.Block.TheVariants as b
+use Rattle.report_text.specs.declared.block.Reply.{Reply}
+use Rattle.report_text.specs.declared.block.Reply.TheVariants as reply_is
 
 -- a word has no space
 abbrev pub IsWord : List ℕ → Type 0
@@ -34,3 +36,10 @@ pub record IsRefusal (a : RefusedLine) : Type 0 where
 abbrev pub IsReadable : Block → Type 0
 IsReadable (b.Ran a) = IsRun a
 IsReadable (b.Refused a) = IsRefusal a
+
+-- the number of a reply has 64 bits
+abbrev pub IsReply : Reply → Type 0
+IsReply (reply_is.At tick) = tick < 2 ^ 64
+IsReply (reply_is.Ended tick) = tick < 2 ^ 64
+IsReply reply_is.Small = ⊤
+IsReply reply_is.Refused = ⊤

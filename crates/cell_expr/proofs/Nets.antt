@@ -1,0 +1,143 @@
+-- Statements of combinational processes and functions, part by part.
+use Rattle.std.proofs.Common.{◌≡◌, ◌<◌, ℕ, Bool, true, false, List, refl, ap, ◌∙◌, arith}
+use Rattle.std.proofs.lemmas.Bool.{ltb-true}
+use Rattle.std.specs.Prelude.{nat_lt}
+use Rattle.vl_base.specs.declared.bits.UnOp.TheVariants.{LogNot}
+use Rattle.std.specs.declared.alloc.Global.{Global}
+use Rattle.std.specs.declared.boxed.Box.{Box}
+use Rattle.vl_design.specs.declared.design.Expr.{Expr}
+use Rattle.vl_design.specs.declared.design.SysCall.{SysCall}
+use Rattle.vl_design.specs.declared.design.Target.{Target as TargetCode}
+use Rattle.vl_design.specs.declared.design.Stmt.{Stmt}
+use Rattle.vl_design.specs.declared.design.StmtNode as s
+use Rattle.vl_design.specs.Placed as p
+use Rattle.vl_design.specs.Plainly as plain
+use Rattle.vl_design.specs.Plainly.{called_first}
+use Rattle.vl_design.specs.Reads.{stm_writes, items_write, target_writes, targets_write}
+use Rattle.vl_design.specs.Seen as seen
+use Rattle.vl_design.specs.Syntax.{Exp, Target, Whole, WordAt, PickAt, SliceAt, Several, Targets, NoTargets, MoreTargets, Stm, Nop, Then, If, Case, For, Repeat, Set, Later, Sys, Items, NoItems, Labelled, Default}
+use Rattle.vl_design.specs.Trees.{exp_of, stm_of, target_of}
+use Rattle.vl_run.proofs.Statements.{if-of, set-of, later-of, for-of, repeat-of, task-of}
+use Rattle.vl_paths.specs.Nets.{AreNetItems, IsPlain, ArePlain, IsBase}
+use Rattle.cell_expr.specs.Bodies.{IsNet}
+
+called-net : (path : List ℕ) (e : p.Exp) (a : Stm) → IsNet (called_first path e a) → called_first path e a ≡ a
+called-net path (p.Sys at name given) a h = absurd h.0
+called-net path (p.Un at LogNot (p.Sys q name given)) a h = absurd h.0
+called-net path e a h = refl
+
+-- a test, or an assignment, calls no system function before
+pub if-net : (path : List ℕ) (x : Stmt) (t : Expr) (a b : Box Stmt Global) → x.node ≡ s.If t a b → IsNet (stm_of path x) → stm_of path x ≡ If (exp_of t) (stm_of path a.value) (stm_of path b.value)
+if-net path x t a b h n =
+    let e = if-of path x t a b h in
+    let m = rw e at n in
+    e ∙ called-net path (seen.exp_of t) (If (exp_of t) (stm_of path a.value) (stm_of path b.value)) m
+
+pub set-net : (path : List ℕ) (x : Stmt) (t : TargetCode) (e : Expr) → x.node ≡ s.Set t e → IsNet (stm_of path x) → stm_of path x ≡ Set (target_of t) (exp_of e)
+set-net path x t e h n =
+    let i = set-of path x t e h in
+    let m = rw i at n in
+    i ∙ called-net path (seen.exp_of e) (Set (target_of t) (exp_of e)) m
+
+-- ---- others aren't such
+
+later-none : (path : List ℕ) (e : p.Exp) (t : Target) (v : Exp) → IsNet (called_first path e (Later t v)) → ⊥
+later-none path (p.Sys at name given) t v h = absurd h.0
+later-none path (p.Un at LogNot (p.Sys q name given)) t v h = absurd h.0
+later-none path e t v h = absurd h
+
+pub no-later : (path : List ℕ) (x : Stmt) (t : TargetCode) (e : Expr) → x.node ≡ s.Later t e → IsNet (stm_of path x) → ⊥
+no-later path x t e h n = let m = rw (later-of path x t e h) at n in later-none path (seen.exp_of e) (target_of t) (exp_of e) m
+
+pub no-for : (path : List ℕ) (x : Stmt) (k : ℕ) (start : Box Stmt Global) (test : Expr) (step a : Box Stmt Global) → x.node ≡ s.For k start test step a → IsNet (stm_of path x) → ⊥
+no-for path x k start test step a h n = let m = rw (for-of path x k start test step a h) at n in absurd m
+
+pub no-repeat : (path : List ℕ) (x : Stmt) (k : ℕ) (a : Box Stmt Global) → x.node ≡ s.Repeat k a → IsNet (stm_of path x) → ⊥
+no-repeat path x k a h n = let m = rw (repeat-of path x k a h) at n in absurd m
+
+pub no-task : (path : List ℕ) (x : Stmt) (call : SysCall) → x.node ≡ s.Sys call → IsNet (stm_of path x) → ⊥
+no-task path x call h n = let m = rw (task-of path x call h) at n in absurd m
+
+-- ---- the path of the instance doesn't matter
+
+called-same : (path other : List ℕ) (e : p.Exp) (a b : Stm) → a ≡ b → IsNet (called_first path e a) → called_first path e a ≡ called_first other e b
+called-same path other (p.Sys at name given) a b h n = absurd n.0
+called-same path other (p.Un at LogNot (p.Sys q name given)) a b h n = absurd n.0
+called-same path other e a b h n = h
+
+called-in : (path : List ℕ) (e : p.Exp) (a : Stm) → IsNet (called_first path e a) → IsNet a
+called-in path (p.Sys at name given) a n = absurd n.0
+called-in path (p.Un at LogNot (p.Sys q name given)) a n = absurd n.0
+called-in path e a n = n
+
+mutual
+  net-paths : (path other : List ℕ) (a : p.Stm) → IsNet (plain.stm path a) → plain.stm path a ≡ plain.stm other a
+  net-paths path other (p.Nop at) n = refl
+  net-paths path other (p.Seq at as') n = nets-paths path other as' n
+  net-paths path other (p.If at t a b) n =
+      let m = called-in path t (If (plain.exp t) (plain.stm path a) (plain.stm path b)) n in
+      called-same path other t _ _ (ap (λ z. If (plain.exp t) z (plain.stm path b)) (net-paths path other a m.0) ∙ ap (If (plain.exp t) (plain.stm other a)) (net-paths path other b m.1)) n
+  net-paths path other (p.Case at e is wild) n = ap (Case (plain.exp e)) (net-items path other is n)
+  net-paths path other (p.For at k start test step a) n = absurd n
+  net-paths path other (p.Repeat at k a) n = absurd n
+  net-paths path other (p.Set at t e) n = called-same path other e _ _ refl n
+  net-paths path other (p.Later at t e) n = absurd (called-in path e (Later (plain.target t) (plain.exp e)) n)
+  net-paths path other (p.Task at name given) n = absurd n
+
+  nets-paths : (path other : List ℕ) (as' : p.Stms) → IsNet (plain.stms path as') → plain.stms path as' ≡ plain.stms other as'
+  nets-paths path other p.NoStms n = refl
+  nets-paths path other (p.MoreStms a as') n = ap (λ z. Then z (plain.stms path as')) (net-paths path other a n.0) ∙ ap (Then (plain.stm other a)) (nets-paths path other as' n.1)
+
+  net-items : (path other : List ℕ) (is : p.Items) → AreNetItems (λ k. false) (plain.items path is) → plain.items path is ≡ plain.items other is
+  net-items path other p.NoItems n = refl
+  net-items path other (p.MoreItems p.NoExps a others) n = ap (λ z. Default z (plain.items path others)) (net-paths path other a n.0) ∙ ap (Default (plain.stm other a)) (net-items path other others n.1)
+  net-items path other (p.MoreItems (p.MoreExps e es) a others) n =
+      ap (λ z. Labelled (plain.exps (p.MoreExps e es)) z (plain.items path others)) (net-paths path other a n.0) ∙ ap (Labelled (plain.exps (p.MoreExps e es)) (plain.stm other a)) (net-items path other others n.1)
+
+pub any-path : (path other : List ℕ) (x : Stmt) → IsNet (stm_of path x) → stm_of path x ≡ stm_of other x
+any-path path other x n = net-paths path other (seen.stm_of x) n
+
+-- ---- what writes nothing of the design's
+
+none-below : (k : ℕ) → nat_lt k 0 ≡ false
+none-below k = of (nat_lt k 0) refl
+  where
+    of : (b : Bool) → nat_lt k 0 ≡ b → nat_lt k 0 ≡ false
+    of true e = let h : k < 0 = ltb-true k 0 e in absurd (omega (arith, h))
+    of false e = e
+
+mutual
+  plain-apart : (t : Target) → IsPlain (λ k. false) t → target_writes (λ k. nat_lt k 0) t ≡ false
+  plain-apart (Whole k) h = none-below k
+  plain-apart (WordAt m a) h = absurd h
+  plain-apart (PickAt base i from w) h = base-apart base h
+  plain-apart (SliceAt base low w) h = base-apart base h
+  plain-apart (Several ts) h = plains-apart ts h
+
+  plains-apart : (ts : Targets) → ArePlain (λ k. false) ts → targets_write (λ k. nat_lt k 0) ts ≡ false
+  plains-apart NoTargets h = refl
+  plains-apart (MoreTargets t ts) h = rw (plain-apart t h.0, plains-apart ts h.1) refl
+
+  base-apart : (t : Target) → IsBase (λ k. false) t → target_writes (λ k. nat_lt k 0) t ≡ false
+  base-apart (Whole k) h = none-below k
+  base-apart (WordAt m a) h = absurd h
+  base-apart (PickAt base i from w) h = absurd h
+  base-apart (SliceAt base low w) h = absurd h
+  base-apart (Several ts) h = absurd h
+
+mutual
+  pub net-apart : (a : Stm) → IsNet a → stm_writes (λ k. nat_lt k 0) a ≡ false
+  net-apart Nop h = refl
+  net-apart (Then a b) h = rw (net-apart a h.0, net-apart b h.1) refl
+  net-apart (If t a b) h = rw (net-apart a h.0, net-apart b h.1) refl
+  net-apart (Case e items) h = items-apart items h
+  net-apart (Set t e) h = plain-apart t h
+  net-apart (For k start test step a) h = absurd h
+  net-apart (Repeat n a) h = absurd h
+  net-apart (Later t e) h = absurd h
+  net-apart (Sys task) h = absurd h
+
+  items-apart : (items : Items) → AreNetItems (λ k. false) items → items_write (λ k. nat_lt k 0) items ≡ false
+  items-apart NoItems h = refl
+  items-apart (Labelled es a others) h = rw (net-apart a h.0, items-apart others h.1) refl
+  items-apart (Default a others) h = rw (net-apart a h.0, items-apart others h.1) refl

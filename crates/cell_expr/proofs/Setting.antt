@@ -1,0 +1,89 @@
+-- Blocking assignments (IEEE 1364-2005, clause 9.2.1).
+use Rattle.std.proofs.Common.{◌≡◌, ℕ, ◌+◌, List, [], ◌∷◌, ◌++◌, map, refl, sym, ap, ◌∙◌, arith, append_assoc, append-nil}
+use Rattle.std.proofs.lemmas.List.{map-append}
+use Rattle.std.proofs.lemmas.List.Elements.{All-append}
+use Rattle.vl_design.specs.Syntax.{Exp, Target, Set}
+use Rattle.vl_design.specs.Targets as t
+use Rattle.vl_design.specs.Exec.{exec}
+use Rattle.vl_design.specs.Value.{Sample}
+use Rattle.vl_design.specs.Width.{Names, Scope, form, assigned}
+use Rattle.cell_form.specs.Data.{ListData}
+use Rattle.cell_form.specs.Sound.{Shape}
+use Rattle.cell_steps.specs.Slots.{held, IsIn}
+use Rattle.cell_steps.proofs.Frames.{held-stays, longer-grows, longer-same, longer-then}
+use Rattle.cell_paths.specs.Envs.{Env, Fits, HasMemories}
+use Rattle.cell_paths.specs.Paths.{Does, Updates}
+use Rattle.cell_paths.proofs.Staying.{stands-stays, sound-behind}
+use Rattle.cell_paths.proofs.Walking.{does-set}
+use Rattle.cell_expr.specs.declared.spot.Spot.{Spot}
+use Rattle.cell_expr.specs.Compiled.{Compiles}
+use Rattle.cell_expr.specs.Spots.{IsSpot, spot_in, bits_of, cells_of, Spotted}
+use Rattle.cell_expr.proofs.Spotting.{spots-stay, are-spots-stay}
+
+bits-both : (xs ys : List Spot) → bits_of (xs ++ ys) ≡ bits_of xs + bits_of ys
+bits-both [] ys = omega arith
+bits-both (x ∷ xs) ys = let e = bits-both xs ys in omega (arith, e)
+
+cells-both : (xs ys : List Spot) → cells_of (xs ++ ys) ≡ cells_of xs + cells_of ys
+cells-both [] ys = omega arith
+cells-both (x ∷ xs) ys = let e = cells-both xs ys in omega (arith, e)
+
+-- ---- spots of a target after those of others
+
+pub spotted-none : (names : Names) (at : Env) (l : ListData) (before : List Spot) → Spotted names 0 at l l before before 0 0 (λ x. [])
+spotted-none names at l before = record {
+  longer = longer-same (HasMemories names at) l;
+  more = [];
+  are = sym (append-nil before);
+  sound = λ i d h. absurd (omega arith);
+  value = λ s b x sound st. refl;
+  wide = refl;
+  many = refl;
+}
+
+pub spotted-then : (names : Names) (n m : ℕ) (at : Env) (old mid new : ListData) (first before after : List Spot) (v w p q : ℕ) (f g : Sample → List t.Spot) → Fits names old at →
+    Spotted names n at old mid first before v p f → Spotted names m at mid new before after w q g → Spotted names (n + m) at old new first after (v + w) (p + q) (λ x. f x ++ g x)
+spotted-then names n m at old mid new first before after v w p q f g fits a c =
+    let H : Shape → Type 0 = HasMemories names at in
+    let late = longer-grows H m mid new c.longer in
+    let wide-a = a.wide in
+    let wide-c = c.wide in
+    let many-a = a.many in
+    let many-c = c.many in
+    let bits = bits-both a.more c.more in
+    let cells = cells-both a.more c.more in
+    record {
+      longer = longer-then H n m old mid new a.longer c.longer;
+      more = a.more ++ c.more;
+      are = c.are ∙ (ap (λ z. z ++ c.more) a.are ∙ append_assoc first a.more c.more);
+      sound = All-append (IsSpot names at.first new) a.more c.more (are-spots-stay names at.first mid new a.more late a.sound) c.sound;
+      value = λ s b x sound st.
+          let behind = sound-behind names at n s old mid a.longer sound in
+          let st-mid = stands-stays names b old mid at x (longer-grows H n old mid a.longer) fits st in
+          map-append (spot_in b new) a.more c.more
+          ∙ ap (λ z. z ++ map (spot_in b new) c.more) (spots-stay names at.first b mid new a.more late a.sound ∙ a.value s b x sound st)
+          ∙ ap (λ z. f x ++ z) (c.value behind.shape b x behind.sound st-mid);
+      wide = bits ∙ omega (arith, wide-a, wide-c);
+      many = cells ∙ omega (arith, many-a, many-c);
+    }
+
+-- ---- the whole assignment
+
+pub set-does : (scope : Scope) (target : Target) (e : Exp) (n m k off slot : ℕ) (spots : List Spot) (at at' : Env) (l0 l1 l2 l3 : ListData) → Fits scope.names l0 at → IsIn l0 off →
+    Compiles scope.names scope n e (assigned (t.target_width scope.names target) (form scope.names e)) at l0 l1 slot →
+    Spotted scope.names m at l1 l2 [] spots (t.target_width scope.names target) k (λ x. t.spots scope x target) →
+    Updates scope.names k (λ b. t.updates_at (map (spot_in b l2) spots) (held b l2 slot)) off at at' l2 l3 →
+    Does scope.names (n + m + k) (exec scope (Set target e)) off at at' l0 l3
+set-does scope target e n m k off slot spots at at' l0 l1 l2 l3 fits inside value-is spotted updates =
+    let names = scope.names in
+    let H : Shape → Type 0 = HasMemories names at in
+    let long = longer-then H n m l0 l1 l2 value-is.longer spotted.longer in
+    let c = assigned (t.target_width names target) (form names e) in
+    does-set scope target e (n + m) k (λ b. t.updates_at (map (spot_in b l2) spots) (held b l2 slot)) off at at' l0 l2 l3 fits inside long
+    (λ s b x sound st. (
+    let behind = sound-behind names at n s l0 l1 value-is.longer sound in
+    let st1 = stands-stays names b l0 l1 at x (longer-grows H n l0 l1 value-is.longer) fits st in
+    ap (λ zs. t.updates_at (map (spot_in b l2) zs) (held b l2 slot)) spotted.are
+    ∙ ap (λ zs. t.updates_at zs (held b l2 slot)) (spotted.value behind.shape b x behind.sound st1)
+    ∙ ap (t.updates_at (t.spots scope x target)) (held-stays b l1 l2 slot (longer-grows H m l1 l2 spotted.longer) value-is.slot.there ∙ value-is.value s b x sound st)))
+    updates

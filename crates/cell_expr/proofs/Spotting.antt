@@ -1,0 +1,170 @@
+-- Spots of targets, and assignments to them.
+use Rattle.std.proofs.Common.{◌≡◌, ℕ, suc, ◌+◌, ◌/◌, ◌%◌, ◌^◌, ◌<◌, ◌≤◌, min, ℤ, true, false, List, [], ◌∷◌, ◌++◌, map, length, drop, get_or, refl, sym, ap, ◌∙◌, arith, subst, mod-lt, mod-eq_of_lt}
+use Rattle.std.specs.Prelude.{pos, All, ◌==◌}
+use Rattle.std.proofs.Math.Pow.{pow_pos}
+use Rattle.std.proofs.lemmas.List.{drop_all, drop_more, map-append}
+use Rattle.vl_base.specs.Value.{resized}
+use Rattle.vl_base.specs.Selects.{picked}
+use Rattle.vl_design.specs.declared.design.Target.{Target as TargetCode}
+use Rattle.vl_design.specs.Syntax.{Target, Whole, WordAt, PickAt, SliceAt, Several}
+use Rattle.vl_design.specs.Trees.{target_of}
+use Rattle.vl_design.specs.Width.{Names}
+use Rattle.vl_design.specs.Sound.{IsWidth, IsSoundTarget, AreSoundTargets}
+use Rattle.vl_design.specs.Targets as t
+use Rattle.vl_design.specs.State.{Update, sample, all_updated}
+use Rattle.vl_eval.proofs.Names.{named-width, signal-named, memory-named, named-there}
+use Rattle.vl_eval.specs.declared.room.Room.{Room}
+use Rattle.vl_eval.specs.Rooms as rooms
+use Rattle.vl_design.specs.Rows.{row_of}
+use Rattle.vl_run.specs.Lists.{targets_of}
+use Rattle.vl_run.proofs.Spotting.{targets-more}
+use Rattle.cell_form.specs.Data.{ListData, BankData}
+use Rattle.cell_steps.specs.Slots.{held, width_at, IsIn, Grows, Longer, Gives, Nothing}
+use Rattle.cell_steps.proofs.Frames.{held-stays, in-stays, longer-grows, longer-then, gives-weaken, gives-as}
+use Rattle.cell_nodes.specs.Counts.{resizes}
+use Rattle.cell_paths.proofs.Assigning.{one-word}
+use Rattle.cell_paths.specs.Envs.{Env, HasOneWord, Fits, Stands}
+use Rattle.cell_paths.specs.Paths.{on, Low, Constant, By, IsLow, low_in, low_of, update_in, Assigns, Updates}
+use Rattle.cell_paths.proofs.Staying.{stands-stays}
+use Rattle.cell_paths.proofs.Walking.{updates-none, updates-more, updates-as, updates-wider, low-stays}
+use Rattle.cell_expr.specs.declared.spot.Spot.{Spot}
+use Rattle.cell_expr.specs.Spots.{IsSpot, spot_in, bits_of, cells_of}
+
+-- ---- lists
+
+drop-is : (xs : List Spot) (i : ℕ) (x : Spot) → i < length xs → x ≡ get_or xs i x → drop i xs ≡ x ∷ drop (i + 1) xs
+drop-is xs i x h e = drop_more xs i x h ∙ ap (λ y. y ∷ drop (i + 1) xs) (sym e)
+
+pub bits-more : (xs : List Spot) (i : ℕ) (x : Spot) → i < length xs → x ≡ get_or xs i x → bits_of (drop i xs) ≡ x.width + bits_of (drop (i + 1) xs)
+bits-more xs i x h e = ap bits_of (drop-is xs i x h e)
+
+pub cells-more : (xs : List Spot) (i : ℕ) (x : Spot) → i < length xs → x ≡ get_or xs i x → cells_of (drop i xs) ≡ 5 + cells_of (drop (i + 1) xs)
+cells-more xs i x h e = ap cells_of (drop-is xs i x h e)
+
+pub target-width : (names : Names) (x : Target) → IsSoundTarget names x → IsWidth (t.target_width names x)
+target-width names (Whole k) h = named-width names k (signal-named names k h)
+target-width names (WordAt m a) h = named-width names m (memory-named names m h.0)
+target-width names (PickAt b i from w) h = h.0
+target-width names (SliceAt b low w) h = h.0
+target-width names (Several ts) h = h.0
+
+pub first-target : (names : Names) (xs : List TargetCode) (i : ℕ) (x : TargetCode) → i < length xs → x ≡ get_or xs i x → AreSoundTargets names (targets_of (drop i xs)) → IsSoundTarget names (target_of x)
+first-target names xs i x h e s = let k = rw (targets-more xs i x h e) at s in k.0
+
+pub ruleset listed = (bits-more, targets-more, first-target, target-width, named-width, signal-named, memory-named, named-there)
+
+-- ---- bits of a slot
+
+same-width : (w : ℕ) → resizes w w ≡ 0
+same-width w = let q : (w == w) ≡ true = grind arith in rw q refl
+
+pub part-slice : (old new : ListData) (r source low width : ℕ) (z : ℤ) → z ≡ pos low → low ≤ width_at old source →
+    Gives Nothing (1 + resizes width width) old new r width (λ b. resized false width width (picked (width_at old source) (held b old source) z width)) →
+    Gives Nothing 1 old new r width (λ b. held b old source / 2 ^ low % 2 ^ width)
+part-slice old new r source low width z e le g =
+    let none = same-width width in
+    gives-weaken Nothing Nothing (1 + resizes width width) 1 old new r width (λ b. held b old source / 2 ^ low % 2 ^ width) (λ s h. h) (omega (arith, none))
+    (gives-as Nothing (1 + resizes width width) old new r width width (λ b. resized false width width (picked (width_at old source) (held b old source) z width)) (λ b. held b old source / 2 ^ low % 2 ^ width) refl
+    (λ s b sound. (
+    let m : min low (width_at old source) ≡ low = omega (arith, le) in
+    ap (λ y. resized false width width (picked (width_at old source) (held b old source) y width)) e
+    ∙ ap (λ y. held b old source / 2 ^ y % 2 ^ width % 2 ^ width) m
+    ∙ mod-eq_of_lt (mod-lt (held b old source / 2 ^ low) (pow_pos width)))) g)
+
+-- ---- spots stay
+
+pub spot-stays : (b : BankData) (old new : ListData) (p : Spot) → Grows old new → IsLow old (low_of p.low) → spot_in b new p ≡ spot_in b old p
+spot-stays b old new p g h = ap (λ z. record { signal = p.signal; word = 0; low = z; width = p.width }) (low-stays b old new (low_of p.low) g h)
+
+pub spots-stay : (names : Names) (first : ℕ) (b : BankData) (old new : ListData) (ps : List Spot) → Grows old new → All (IsSpot names first old) ps → map (spot_in b new) ps ≡ map (spot_in b old) ps
+spots-stay names first b old new [] g h = refl
+spots-stay names first b old new (p ∷ ps) g h =
+    ap (λ z. z ∷ map (spot_in b new) ps) (spot-stays b old new p g (h 0 p (omega arith)).low)
+    ∙ ap (λ zs. spot_in b old p ∷ zs) (spots-stay names first b old new ps g (λ i d l. h (suc i) d (omega arith)))
+
+low-grows : (old new : ListData) (low : Low) → Grows old new → IsLow old low → IsLow new low
+low-grows old new (Constant z) g h = tt
+low-grows old new (By index signed from) g h = in-stays old new index g h
+
+pub is-spot-stays : (names : Names) (first : ℕ) (old new : ListData) (p : Spot) → Grows old new → IsSpot names first old p → IsSpot names first new p
+is-spot-stays names first old new p g h = record { signal = h.signal; own = h.own; width = h.width; low = low-grows old new (low_of p.low) g h.low }
+
+pub are-spots-stay : (names : Names) (first : ℕ) (old new : ListData) (ps : List Spot) → Grows old new → All (IsSpot names first old) ps → All (IsSpot names first new) ps
+are-spots-stay names first old new ps g h = λ i d l. is-spot-stays names first old new (get_or ps i d) g (h i d l)
+
+-- ---- one spot is written
+
+-- updates behind cells
+pub updates-behind : (names : Names) (n m off : ℕ) (us : BankData → List Update) (at at' : Env) (l0 l1 l2 : ListData) → Fits names l0 at → IsIn l0 off → Longer Nothing n l0 l1 → Updates names m us off at at' l1 l2 →
+    Updates names (n + m) us off at at' l0 l2
+updates-behind names n m off us at at' l0 l1 l2 fits k longer u =
+    let g = longer-grows Nothing n l0 l1 longer in
+    record {
+      longer = longer-then Nothing n m l0 l1 l2 longer u.longer;
+      fits = u.fits;
+      keeps = u.keeps;
+      does = λ s b t sound st.
+          subst (λ o. Stands names b l2 at' (sample (on o (record t { values = all_updated names.rows t.values (us b) }) t))) (held-stays b l0 l1 off g k)
+          (u.does s b t (longer.sound s tt sound) (stands-stays names b l0 l1 at (sample t) g fits st));
+    }
+
+width-bits : (b : BankData) (l : ListData) (ps : List Spot) → t.spots_width (map (spot_in b l) ps) ≡ bits_of ps
+width-bits b l [] = refl
+width-bits b l (p ∷ ps) = ap (λ z. p.width + z) (width-bits b l ps)
+
+pub updates-spot : (names : Names) (m value off part : ℕ) (p : Spot) (ps : List Spot) (at0 at1 at2 : Env) (l0 l1 l2 l3 : ListData) → Fits names l0 at0 → IsIn l0 off → IsIn l0 value → All (IsSpot names at0.first l0) (p ∷ ps) →
+    Gives Nothing 1 l0 l1 part p.width (λ b. held b l0 value / 2 ^ bits_of ps % 2 ^ p.width) →
+    Assigns names 4 p.signal (low_of p.low) part off at0 at1 l1 l2 →
+    Updates names m (λ b. t.updates_at (map (spot_in b l2) ps) (held b l2 value)) off at1 at2 l2 l3 →
+    Updates names (5 + m) (λ b. t.updates_at (map (spot_in b l0) (p ∷ ps)) (held b l0 value)) off at0 at2 l0 l3
+updates-spot names m value off part p ps at0 at1 at2 l0 l1 l2 l3 fits k there spots g a u =
+    let g01 = longer-grows Nothing 1 l0 l1 g.longer in
+    let l02 = longer-then Nothing 1 4 l0 l1 l2 g.longer a.longer in
+    let g02 = longer-grows Nothing 5 l0 l2 l02 in
+    let rest : All (IsSpot names at0.first l0) ps = λ i d l. spots (suc i) d (omega arith) in
+    let first = spots 0 p (omega arith) in
+    let F : BankData → List Update = λ b. update_in b l1 p.signal (low_of p.low) part ∷ t.updates_at (map (spot_in b l2) ps) (held b l2 value) in
+    let G : BankData → List Update = λ b. t.updates_at (map (spot_in b l0) (p ∷ ps)) (held b l0 value) in
+    updates-wider names (1 + (4 + m)) (5 + m) G off at0 at2 l0 l3 (omega arith)
+    (updates-as names (1 + (4 + m)) F G off at0 at2 l0 l3
+    (λ s b sound. (
+    let part-is = g.value s b sound in
+    let low-is = low-stays b l0 l1 (low_of p.low) g01 first.low in
+    let one : update_in b l1 p.signal (low_of p.low) part ≡ t.update_at (spot_in b l0 p) (held b l0 value / 2 ^ t.spots_width (map (spot_in b l0) ps)) =
+    ap (λ z. record { signal = p.signal; word = 0; low = z; width = width_at l1 part; value = held b l1 part }) low-is
+    ∙ ap (λ w. record { signal = p.signal; word = 0; low = low_in b l0 (low_of p.low); width = w; value = held b l1 part }) g.width
+    ∙ ap (λ v. record { signal = p.signal; word = 0; low = low_in b l0 (low_of p.low); width = p.width; value = v }) (part-is ∙ ap (λ n. held b l0 value / 2 ^ n % 2 ^ p.width) (sym (width-bits b l0 ps))) in
+    let others : t.updates_at (map (spot_in b l2) ps) (held b l2 value) ≡ t.updates_at (map (spot_in b l0) ps) (held b l0 value) =
+    ap (λ zs. t.updates_at zs (held b l2 value)) (spots-stay names at0.first b l0 l2 ps g02 rest) ∙ ap (t.updates_at (map (spot_in b l0) ps)) (held-stays b l0 l2 value g02 there) in
+    ap (λ z. z ∷ t.updates_at (map (spot_in b l2) ps) (held b l2 value)) one
+    ∙ ap (λ zs. t.update_at (spot_in b l0 p) (held b l0 value / 2 ^ t.spots_width (map (spot_in b l0) ps)) ∷ zs) others))
+    (updates-behind names 1 (4 + m) off F at0 at2 l0 l1 l3 fits k g.longer
+    (updates-more names 4 m p.signal (low_of p.low) part off (λ b. t.updates_at (map (spot_in b l2) ps) (held b l2 value)) at0 at1 at2 l1 l2 l3 (in-stays l0 l1 off g01 k) a u)))
+
+-- ---- all of them
+
+pub room-one : (room : Room) → HasOneWord (rooms.names_of room).rows
+room-one room = subst HasOneWord (map-append row_of room.signals.now room.locals.now) (one-word (room.signals.now ++ room.locals.now))
+
+pub first-spot : (P : Spot → Type 0) (xs : List Spot) (i : ℕ) (d : Spot) → i < length xs → All P (drop i xs) → P (get_or xs i d)
+first-spot P xs i d h all = let all' = subst (All P) (drop_more xs i d h) all in all' 0 d (omega arith)
+
+pub rest-spots : (P : Spot → Type 0) (xs : List Spot) (i : ℕ) (d : Spot) → i < length xs → All P (drop i xs) → All P (drop (i + 1) xs)
+rest-spots P xs i d h all = let all' = subst (All P) (drop_more xs i d h) all in λ j e l. all' (suc j) e (omega (arith, l))
+
+-- the spots that are left are written where the first of them is, and then the others
+pub updates-left : (names : Names) (value off part : ℕ) (spots : List Spot) (i : ℕ) (d : Spot) (at0 at1 at2 : Env) (l0 l1 l2 l3 : ListData) → i < length spots → Fits names l0 at0 → IsIn l0 off → IsIn l0 value → All (IsSpot names at0.first l0) (drop i spots) →
+    Gives Nothing 1 l0 l1 part (get_or spots i d).width (λ b. held b l0 value / 2 ^ bits_of (drop (i + 1) spots) % 2 ^ (get_or spots i d).width) →
+    Assigns names 4 (get_or spots i d).signal (low_of (get_or spots i d).low) part off at0 at1 l1 l2 →
+    Updates names (cells_of (drop (i + 1) spots)) (λ b. t.updates_at (map (spot_in b l2) (drop (i + 1) spots)) (held b l2 value)) off at1 at2 l2 l3 →
+    Updates names (cells_of (drop i spots)) (λ b. t.updates_at (map (spot_in b l0) (drop i spots)) (held b l0 value)) off at0 at2 l0 l3
+updates-left names value off part spots i d at0 at1 at2 l0 l1 l2 l3 h fits k there all g a u =
+    let e = drop_more spots i d h in
+    let F : List Spot → Type 0 = λ zs. Updates names (cells_of zs) (λ b. t.updates_at (map (spot_in b l0) zs) (held b l0 value)) off at0 at2 l0 l3 in
+    subst F (sym e) (updates-spot names (cells_of (drop (i + 1) spots)) value off part (get_or spots i d) (drop (i + 1) spots) at0 at1 at2 l0 l1 l2 l3 fits k there (subst (All (IsSpot names at0.first l0)) e all) g a u)
+
+pub updates-over : (names : Names) (value off : ℕ) (spots : List Spot) (i : ℕ) (at : Env) (l : ListData) → length spots ≤ i → Fits names l at →
+    Updates names (cells_of (drop i spots)) (λ b. t.updates_at (map (spot_in b l) (drop i spots)) (held b l value)) off at at l l
+updates-over names value off spots i at l h fits =
+    let F : List Spot → Type 0 = λ zs. Updates names (cells_of zs) (λ b. t.updates_at (map (spot_in b l) zs) (held b l value)) off at at l l in
+    subst F (sym (drop_all i spots h)) (updates-none names off at l fits)

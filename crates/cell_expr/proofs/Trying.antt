@@ -1,0 +1,80 @@
+-- Items of cases one by one; the default is executed behind them.
+use Rattle.std.proofs.Common.{◌≡◌, ◌≢◌, ℕ, false, List, [], ◌∷◌, refl, sym, subst, nat_lt}
+use Rattle.vl_design.specs.declared.design.Expr.{Expr}
+use Rattle.vl_design.specs.declared.design.Form.{Form}
+use Rattle.vl_design.specs.Acts.{default_body}
+use Rattle.vl_design.specs.Placed as p
+use Rattle.vl_design.specs.Plainly as plain
+use Rattle.vl_design.specs.Reads.{stm_writes, items_write}
+use Rattle.vl_design.specs.Seen as seen
+use Rattle.vl_design.specs.Sound.{AreSound, AreSoundItems, IsSoundStm}
+use Rattle.vl_design.specs.Syntax.{Stm, Items, NoItems, Labelled, Default}
+use Rattle.vl_design.specs.Trees.{exps_of}
+use Rattle.vl_design.specs.Width.{Names, Scope}
+use Rattle.vl_paths.specs.Nets.{AreNetItems}
+use Rattle.cell_form.specs.Data.{ListData}
+use Rattle.cell_steps.specs.Slots.{Nothing}
+use Rattle.cell_steps.proofs.Frames.{longer-grows, grows-then}
+use Rattle.cell_paths.specs.Envs.{Env, Fits, IsSlot, HasMemories}
+use Rattle.cell_paths.proofs.Casing.{tries-default}
+use Rattle.cell_paths.proofs.Staying.{is-slot-stays}
+use Rattle.cell_expr.specs.Bodies.{IsNet}
+use Rattle.cell_expr.specs.Counts.{items_count, stm_count}
+use Rattle.cell_expr.specs.Items.{Item, Tried}
+use Rattle.cell_expr.proofs.Labelling.{item-tries}
+use Rattle.cell_expr.proofs.Listing.{none-left, none-right}
+
+pub tried-default : (scope : Scope) (body : ℕ → ℕ) (c : Form) (subject rest : ℕ) (es : List Expr) (a : Stm) (at : Env) (l : ListData) → es ≡ [] → Fits scope.names l at → IsSlot l rest 1 →
+    Tried scope.names scope body c subject (seen.exps_of es) a rest rest at at l l
+tried-default scope body c subject rest es a at l e fits slot =
+    let F : List Expr → Type 0 = λ z. Tried scope.names scope body c subject (seen.exps_of z) a rest rest at at l l in
+    subst F (sym e) (record {
+      fits = fits;
+      first = refl;
+      slot = slot;
+      leads = λ others r at' far t. tries-default scope.names (items_count body others) scope c subject a others rest r at at' l far t;
+    })
+
+pub tried-item : (scope : Scope) (body : ℕ → ℕ) (c : Form) (subject before behind : ℕ) (es : List Expr) (a : Stm) (at at' : Env) (old new : ListData) → es ≢ [] → Fits scope.names old at → IsSlot old subject c.width → IsSlot old before 1 →
+    Item scope.names scope body c subject (exps_of es) a before behind at at' old new → Tried scope.names scope body c subject (seen.exps_of es) a before behind at at' old new
+tried-item scope body c subject before behind [] a at at' old new some fits ks slot item = absurd (some refl)
+tried-item scope body c subject before behind (x ∷ xs) a at at' old new some fits ks slot item = record {
+  fits = item.does.fits;
+  first = item.does.keeps.first;
+  slot = is-slot-stays item.compared new behind 1 (grows-then item.compared item.ready new (longer-grows Nothing 1 item.compared item.ready item.path.longer) (longer-grows (HasMemories scope.names at) (stm_count body a) item.ready new item.does.longer)) item.labels.slot;
+  leads = λ others r at2 far t. item-tries scope body c (items_count body others) subject before behind r (exps_of (x ∷ xs)) a others at at' at2 old new far fits ks.there slot item t;
+}
+
+-- ---- an item and the others
+
+pub item-sound : (names : Names) (es : p.Exps) (a : Stm) (others : Items) → AreSoundItems names (plain.item es a others) → AreSound names (plain.exps es) × IsSoundStm names a × AreSoundItems names others
+item-sound names p.NoExps a others h = (tt, h.0, h.1)
+item-sound names (p.MoreExps e es) a others h = h
+
+pub item-net : (es : p.Exps) (a : Stm) (others : Items) → AreNetItems (λ k. false) (plain.item es a others) → IsNet a × AreNetItems (λ k. false) others
+item-net p.NoExps a others h = h
+item-net (p.MoreExps e es) a others h = h
+
+pub item-apart : (n : ℕ) (es : p.Exps) (a : Stm) (others : Items) → items_write (λ k. nat_lt k n) (plain.item es a others) ≡ false → (stm_writes (λ k. nat_lt k n) a ≡ false) × (items_write (λ k. nat_lt k n) others ≡ false)
+item-apart n p.NoExps a others h = (none-left _ _ h, none-right _ _ h)
+item-apart n (p.MoreExps e es) a others h = (none-left _ _ h, none-right _ _ h)
+
+pub others-apart : (n m : ℕ) (others : Items) → m ≡ n → items_write (λ k. nat_lt k n) others ≡ false → items_write (λ k. nat_lt k m) others ≡ false
+others-apart n m others e h = subst (λ z. items_write (λ k. nat_lt k z) others ≡ false) (sym e) h
+
+-- ---- the default
+
+pub default-sound : (names : Names) (items : Items) → AreSoundItems names items → IsSoundStm names (default_body items)
+default-sound names NoItems h = tt
+default-sound names (Labelled es a others) h = default-sound names others h.2
+default-sound names (Default a others) h = h.0
+
+pub default-net : (items : Items) → AreNetItems (λ k. false) items → IsNet (default_body items)
+default-net NoItems h = tt
+default-net (Labelled es a others) h = default-net others h.1
+default-net (Default a others) h = h.0
+
+pub default-apart : (n : ℕ) (items : Items) → items_write (λ k. nat_lt k n) items ≡ false → stm_writes (λ k. nat_lt k n) (default_body items) ≡ false
+default-apart n NoItems h = refl
+default-apart n (Labelled es a others) h = default-apart n others (none-right _ _ h)
+default-apart n (Default a others) h = none-left _ _ h

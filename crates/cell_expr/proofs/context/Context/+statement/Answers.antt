@@ -1,0 +1,398 @@
+use Rattle.cell_expr.proofs.Labelling.{case-does}
+use Rattle.cell_expr.proofs.Listing.{apart-at, then-more, none-left, none-right}
+use Rattle.cell_expr.proofs.Nets.{if-net, set-net}
+use Rattle.cell_expr.proofs.Sizes.{exp_size, stm_size, items_size, item-part, stm-part}
+use Rattle.cell_expr.proofs.Trying.{tried-default, tried-item, item-sound, item-net, item-apart, others-apart, default-sound, default-net, default-apart}
+use Rattle.cell_expr.specs.Bodies.{IsNet}
+use Rattle.cell_expr.specs.Contexts.{names_of, scope_of, body_of}
+use Rattle.cell_expr.specs.Counts.{exp_count, stm_count}
+use Rattle.cell_form.specs.Views.{list_of}
+use Rattle.cell_paths.proofs.Casing.{tries-none}
+use Rattle.cell_paths.proofs.Staying.{fits-stays, is-slot-stays, gives-slot}
+use Rattle.cell_paths.proofs.Testing.{does-if}
+use Rattle.cell_paths.proofs.Walking.{does-nop, does-then}
+use Rattle.cell_paths.specs.Envs.{env_of}
+use Rattle.cell_paths.specs.Paths.{Does}
+use Rattle.cell_steps.proofs.Frames.{grows-then}
+use Rattle.cell_steps.specs.Slots.{Nothing}
+use Rattle.std.proofs.Common.{[], ◌≡◌, ◌+◌, List, drop, ◌∙◌, sym, subst, nat_lt, false, ◌*◌, arith}
+use Rattle.std.proofs.lemmas.List.{drop_all}
+use Rattle.std.proofs.lemmas.Result.{IfOk-weaker, on_ok_weaker}
+use Rattle.vl_base.specs.declared.files.File.{File}
+use Rattle.vl_design.proofs.TreeLemmas.{stm_of-Seq}
+use Rattle.vl_design.specs.Acts.{default_body}
+use Rattle.vl_design.specs.Exec.{exec}
+use Rattle.vl_design.specs.Reads.{stm_writes}
+use Rattle.vl_design.specs.Sound.{IsSoundStm}
+use Rattle.vl_design.specs.Syntax.{Stm}
+use Rattle.vl_design.specs.Trees.{stm_of, exp_of, then_of}
+use Rattle.vl_design.specs.Width.{form}
+use Rattle.vl_eval.proofs.Widths.{form-width}
+use Rattle.vl_run.proofs.Casing.{none-there, some-there, items-more, labels-within-more, labels-sound, items-grow, items-within, body-is, case-of}
+use Rattle.vl_run.specs.Cases.{items_of, AreLabelsWithin}
+use Rattle.vl_design.specs.Seen as seen
+use Rattle.cell_expr.proofs.context.Context.+statement.Goals as goal
+
+pub item_in-taken-requires-clause-behind : goal.item_in-taken-requires-clause-behind
+item_in-taken-requires-clause-behind g t c = (c.in_ok-behind.ensures.compares []).slot.there
+
+pub item_in-taken-requires-clause-never : goal.item_in-taken-requires-clause-never
+item_in-taken-requires-clause-never g t c = (fits-stays (names_of c.args.self.now) (list_of c.args.cells.now) (list_of c.labels_in.new.cells) (env_of c.args.at.now) c.in_ok-behind.ensures.grows c.requires.fits).is_away
+
+pub item_in-returns-clause-does : goal.item_in-returns-clause-does
+item_in-returns-clause-does g t c = λ files.
+    let labels = rw c.deref.ensures.value at (c.in_ok-behind.ensures.compares files) in
+    record {
+      compared = list_of c.labels_in.new.cells;
+      ready = list_of c.taken.new.cells;
+      taken = c.in_ok-path.path;
+      labels = labels;
+      path = c.in_ok-path.ensures.gives;
+      does = c.in_ok-statement_in.ensures.does files;
+    }
+
+pub try_in-returns-then-is_empty-clause-tries : goal.try_in-returns-then-is_empty-clause-tries
+try_in-returns-then-is_empty-clause-tries g t c = λ files.
+    let x = c.args.item.now in
+    let test = rw c.as_slice.ensures.value at c.is_empty.ensures in
+    let ctx = c.args.self.now in
+    tried-default (scope_of ctx files) (body_of ctx) c.args.c c.args.subject c.args.rest x.labels.items (stm_of [] x.body) (env_of c.args.at.now) (list_of c.args.cells.now) (none-there x.labels.items c.is_empty.result test c.if-is_empty.true) c.requires.fits c.requires.rest
+
+pub try_in-returns-else-is_empty-clause-tries : goal.try_in-returns-else-is_empty-clause-tries
+try_in-returns-else-is_empty-clause-tries g t c =
+    let x = c.args.item.now in
+    let test = rw c.as_slice.ensures.value at c.is_empty.ensures in
+    let ctx = c.args.self.now in
+    IfOk-weaker c.item_in.result _ _
+    (λ r d files. tried-item (scope_of ctx files) (body_of ctx) c.args.c c.args.subject c.args.rest r x.labels.items (stm_of [] x.body) (env_of c.args.at.now) (env_of c.item_in.new.at) (list_of c.args.cells.now) (list_of c.item_in.new.cells)
+    (some-there x.labels.items c.is_empty.result test c.if-is_empty.false) c.requires.fits c.requires.subject c.requires.rest (d files))
+    c.item_in.ensures.does
+
+pub items_in-loop-item-preserved : goal.items_in-loop-item-preserved
+items_in-loop-item-preserved g t c =
+    let names = names_of c.args.self.now in
+    let items = c.args.items.now in
+    let i = c.loop-item.item-index in
+    let x = c.item-item.result in
+    let l = c.loop-item.invariant in
+    let e = items-more [] items i x c.loop-item-test.true c.item-item.is in
+    let es = seen.exps_of x.labels.items in
+    let a = stm_of [] x.body in
+    let others = items_of [] (drop (i + 1) items) in
+    let s = rw e at l.sound in
+    let n = rw e at l.net in
+    let w = rw e at l.apart in
+    let d = c.in_ok-rest.ensures.tries in
+    let g = c.in_ok-rest.ensures.grows in
+    let l0 = list_of c.loop-item.cells in
+    let l1 = list_of c.try_in.new.cells in
+    record {
+      grows = grows-then (list_of c.args.cells.now) l0 l1 l.grows g;
+      fits = (d []).fits;
+      subject = is-slot-stays l0 l1 c.args.subject c.args.c.width g l.subject;
+      path = (d []).slot;
+      sound = (item-sound names es a others s).2;
+      within = (labels-within-more names c.args.c.width items i x c.loop-item-test.true c.item-item.is l.within).1;
+      net = (item-net es a others n).1;
+      apart = others-apart c.loop-item.at.first c.try_in.new.at.first others (d []).first (item-apart c.loop-item.at.first es a others w).1;
+      leads = λ files r at new h. l.leads files r at new (rw e ((d files).leads others r at new h));
+    }
+
+pub items_in-returns-clause-tries : goal.items_in-returns-clause-tries
+items_in-returns-clause-tries g t c = λ files.
+    let l = c.loop-item.invariant in
+    let none = drop_all c.loop-item.item-index c.args.items.now c.loop-item-test.false in
+    let cells = list_of c.loop-item.cells in
+    l.leads files c.loop-item.rest (env_of c.loop-item.at) cells (rw none (tries-none (names_of c.args.self.now) (scope_of c.args.self.now files) c.args.c c.args.subject c.loop-item.rest (env_of c.loop-item.at) cells l.fits l.path))
+
+pub case_in-items_form-c-requires-clause-items : goal.case_in-items_form-c-requires-clause-items
+case_in-items_form-c-requires-clause-items g t c = labels-sound (names_of c.args.self.now) [] c.args.items.now c.requires.sound
+
+pub case_in-items_form-c-requires-clause-form : goal.case_in-items_form-c-requires-clause-form
+case_in-items_form-c-requires-clause-form g t c = rw c.form_of.ensures.value (form-width (names_of c.args.self.now) (exp_of c.args.subject.now) c.requires.subject)
+
+pub case_in-compile_in-requires-clause-wide : goal.case_in-compile_in-requires-clause-wide
+case_in-compile_in-requires-clause-wide g t c =
+    let is = rw c.form_of.ensures.value at (c.items_form-c.ensures.value []) in
+    rw is (items-grow (names_of c.args.self.now) [] (form (names_of c.args.self.now) (exp_of c.args.subject.now)) c.args.items.now)
+
+pub case_in-compile_in-requires-clause-narrow : goal.case_in-compile_in-requires-clause-narrow
+case_in-compile_in-requires-clause-narrow g t c = c.items_form-c.ensures.width.narrow
+
+pub case_in-returns-in-None-clause-does : goal.case_in-returns-in-None-clause-does
+case_in-returns-in-None-clause-does g t c = λ files.
+    let ctx = c.args.self.now in
+    let names = names_of ctx in
+    let cells = body_of ctx in
+    let scope = scope_of ctx files in
+    let e = exp_of c.args.subject.now in
+    let items = items_of [] c.args.items.now in
+    let is = rw c.form_of.ensures.value at (c.items_form-c.ensures.value []) in
+    let none = rw c.in-None.is at (c.default_of.ensures.body []) in
+    let at1 = env_of c.items_in.new.at in
+    let l2 = list_of c.items_in.new.cells in
+    let tries = c.in_ok-rest.ensures.tries files in
+    case-does scope cells e items c.items_form-c.result c.args.off c.in_ok-subject.subject c.in_ok-rest.rest (env_of c.args.at.now) at1 at1 (list_of c.args.cells.now) (list_of c.compile_in.new.cells) l2 l2 is c.requires.fits c.requires.off.there
+    (c.in_ok-subject.ensures.gives files) tries
+    (subst (λ (z : Stm). Does names (stm_count cells z) (exec scope z) c.in_ok-rest.rest at1 at1 l2 l2) none (does-nop names scope c.in_ok-rest.rest at1 l2 tries.fits))
+
+pub case_in-returns-in-Some-clause-does : goal.case_in-returns-in-Some-clause-does
+case_in-returns-in-Some-clause-does g t c =
+    let ctx = c.args.self.now in
+    let names = names_of ctx in
+    let cells = body_of ctx in
+    let e = exp_of c.args.subject.now in
+    let items = items_of [] c.args.items.now in
+    let is = rw c.form_of.ensures.value at (c.items_form-c.ensures.value []) in
+    let x = c.index-items-number.result in
+    let there = rw c.in-Some.is at c.default_of.ensures.there in
+    let body = rw c.in-Some.is at (c.default_of.ensures.body []) in
+    let same = sym (body-is [] c.args.items.now c.in-Some.number x there c.index-items-number.is) ∙ body in
+    let at1 = env_of c.items_in.new.at in
+    let at2 = env_of c.statement_in.new.at in
+    let l2 = list_of c.items_in.new.cells in
+    let l3 = list_of c.statement_in.new.cells in
+    let a = stm_of [] x.body in
+    on_ok_weaker c.statement_in.result
+    (λ (d : (files : List File) → Does names (stm_count cells a) (exec (scope_of ctx files) a) c.in_ok-rest.rest at1 at2 l2 l3) files.
+    case-does (scope_of ctx files) cells e items c.items_form-c.result c.args.off c.in_ok-subject.subject c.in_ok-rest.rest (env_of c.args.at.now) at1 at2 (list_of c.args.cells.now) (list_of c.compile_in.new.cells) l2 l3 is c.requires.fits c.requires.off.there
+    (c.in_ok-subject.ensures.gives files) (c.in_ok-rest.ensures.tries files)
+    (subst (λ (z : Stm). Does names (stm_count cells z) (exec (scope_of ctx files) z) c.in_ok-rest.rest at1 at2 l2 l3) same (d files)))
+    (rw (← c.index-items-number.is) at c.statement_in.ensures.does)
+
+pub list_in-loop-item-preserved : goal.list_in-loop-item-preserved
+list_in-loop-item-preserved g t c =
+    let names = names_of c.args.self.now in
+    let body = body_of c.args.self.now in
+    let list = c.args.list.now in
+    let i = c.loop-item.item-index in
+    let x = c.item-item.result in
+    let l = c.loop-item.invariant in
+    let e = then-more list i x c.loop-item-test.true c.item-item.is in
+    let s = rw e at l.sound in
+    let n = rw e at l.net in
+    let w = rw e at l.apart in
+    let d = c.in_ok-statement_in.ensures.does in
+    let g = c.in_ok-statement_in.ensures.grows in
+    let l0 = list_of c.loop-item.cells in
+    let l1 = list_of c.statement_in.new.cells in
+    let a = stm_of [] x in
+    let rest = then_of [] (drop (i + 1) list) in
+    record {
+      grows = grows-then (list_of c.args.cells.now) l0 l1 l.grows g;
+      fits = (d []).fits;
+      off = is-slot-stays l0 l1 c.args.off 1 g l.off;
+      sound = s.1;
+      net = n.1;
+      apart = apart-at c.loop-item.at.first c.statement_in.new.at.first rest (d []).keeps.first (none-right _ _ w);
+      leads = λ files at new h. l.leads files at new (rw e (does-then names (scope_of c.args.self.now files) (stm_count body a) (stm_count body rest) c.args.off a rest (env_of c.loop-item.at) (env_of c.statement_in.new.at) at l0 l1 new l.off.there (d files) h));
+    }
+
+pub list_in-returns-clause-does : goal.list_in-returns-clause-does
+list_in-returns-clause-does g t c = λ files.
+    let l = c.loop-item.invariant in
+    let none = drop_all c.loop-item.item-index c.args.list.now c.loop-item-test.false in
+    l.leads files (env_of c.loop-item.at) (list_of c.loop-item.cells) (rw none (does-nop (names_of c.args.self.now) (scope_of c.args.self.now files) c.args.off (env_of c.loop-item.at) (list_of c.loop-item.cells) l.fits))
+
+pub if_in-branches-requires-clause-test : goal.if_in-branches-requires-clause-test
+if_in-branches-requires-clause-test g t c = (c.in_ok-test.ensures.gives []).slot.there
+
+pub if_in-branches-requires-clause-never : goal.if_in-branches-requires-clause-never
+if_in-branches-requires-clause-never g t c = (fits-stays (names_of c.args.self.now) (list_of c.args.cells.now) (list_of c.own_in.new.cells) (env_of c.args.at.now) c.in_ok-test.ensures.grows c.requires.fits).is_away
+
+pub if_in-returns-clause-does : goal.if_in-returns-clause-does
+if_in-returns-clause-does g t c =
+    let names = names_of c.args.self.now in
+    let body = body_of c.args.self.now in
+    let a = stm_of [] c.args.first.now in
+    let b = stm_of [] c.args.second.now in
+    let t = exp_of c.args.test.now in
+    let at0 = env_of c.args.at.now in
+    let at1 = env_of c.statement_in.new.at in
+    let at2 = env_of c.statement_in-2.new.at in
+    let l3 = list_of c.statement_in.new.cells in
+    let l4 = list_of c.statement_in-2.new.cells in
+    on_ok_weaker c.statement_in-2.result
+    (λ (d : (files : List File) → Does names (stm_count body b) (exec (scope_of c.args.self.now files) b) c.in_ok-yes.no at1 at2 l3 l4) files.
+    let value = c.in_ok-test.ensures.gives files in
+    does-if (scope_of c.args.self.now files) t a b (exp_count body t) (stm_count body a) (stm_count body b) c.args.off c.in_ok-test.test c.in_ok-yes.yes c.in_ok-yes.no at0 at1 at2
+    (list_of c.args.cells.now) (list_of c.own_in.new.cells) (list_of c.branches.new.cells) l3 l4 c.requires.fits c.requires.off.there value.longer value.slot.there value.value
+    c.in_ok-yes.ensures.first c.in_ok-yes.ensures.second (c.in_ok-statement_in.ensures.does files) (d files))
+    c.statement_in-2.ensures.does
+
+pub statement_in-set_in-requires-clause-target : goal.statement_in-set_in-requires-clause-target
+statement_in-set_in-requires-clause-target g t c =
+    let e = set-net [] c.args.a.now c.in-Set.target c.in-Set.source c.in-Set.is c.requires.net in
+    let s = rw e at c.requires.sound in
+    s.0
+
+pub statement_in-set_in-requires-clause-source : goal.statement_in-set_in-requires-clause-source
+statement_in-set_in-requires-clause-source g t c =
+    let e = set-net [] c.args.a.now c.in-Set.target c.in-Set.source c.in-Set.is c.requires.net in
+    let s = rw e at c.requires.sound in
+    s.1
+
+pub statement_in-set_in-requires-clause-plain : goal.statement_in-set_in-requires-clause-plain
+statement_in-set_in-requires-clause-plain g t c =
+    let e = set-net [] c.args.a.now c.in-Set.target c.in-Set.source c.in-Set.is c.requires.net in
+    let s = rw e at c.requires.net in
+    s
+
+pub statement_in-set_in-requires-clause-apart : goal.statement_in-set_in-requires-clause-apart
+statement_in-set_in-requires-clause-apart g t c =
+    let e = set-net [] c.args.a.now c.in-Set.target c.in-Set.source c.in-Set.is c.requires.net in
+    let s = rw e at c.requires.apart in
+    s
+
+pub statement_in-returns-in-Nop-clause-does : goal.statement_in-returns-in-Nop-clause-does
+statement_in-returns-in-Nop-clause-does g t c =
+    λ files. rw c.in-Nop.is (does-nop (names_of c.args.self.now) (scope_of c.args.self.now files) c.args.off (env_of c.args.at.now) (list_of c.args.cells.now) c.requires.fits)
+
+pub statement_in-returns-in-Seq-clause-does : goal.statement_in-returns-in-Seq-clause-does
+statement_in-returns-in-Seq-clause-does g t c =
+    let e = stm_of-Seq [] c.args.a.now c.in-Seq.list c.in-Seq.is in
+    let done = rw c.deref.ensures.value at c.list_in.ensures.does in
+    rw e done
+
+pub statement_in-returns-in-If-clause-does : goal.statement_in-returns-in-If-clause-does
+statement_in-returns-in-If-clause-does g t c =
+    let e = if-net [] c.args.a.now c.in-If.test c.in-If.first c.in-If.second c.in-If.is c.requires.net in
+    let done = rw (c.deref-in-If.ensures, c.deref-in-If-2.ensures) at c.if_in.ensures.does in
+    rw e done
+
+pub statement_in-returns-in-Case-clause-does : goal.statement_in-returns-in-Case-clause-does
+statement_in-returns-in-Case-clause-does g t c =
+    let e = case-of [] c.args.a.now c.in-Case.subject c.in-Case.items c.in-Case.field-2 c.in-Case.is in
+    let done = rw c.deref-in-Case.ensures.value at c.case_in.ensures.does in
+    rw e done
+
+pub statement_in-returns-in-Set-clause-does : goal.statement_in-returns-in-Set-clause-does
+statement_in-returns-in-Set-clause-does g t c =
+    let e = set-net [] c.args.a.now c.in-Set.target c.in-Set.source c.in-Set.is c.requires.net in
+    rw e c.set_in.ensures.does
+
+pub item_in-statement_in-requires : goal.item_in-statement_in-requires
+item_in-statement_in-requires g t c =
+    let m : 4 * stm_size (stm_of [] c.args.item.now.body) + 2 ≡ t = c.decreases in
+    let more = grows-then (list_of c.args.cells.now) (list_of c.labels_in.new.cells) (list_of c.taken.new.cells) c.in_ok-behind.ensures.grows c.in_ok-path.ensures.grows in
+    let fits = fits-stays (names_of c.args.self.now) (list_of c.args.cells.now) (list_of c.taken.new.cells) (env_of c.args.at.now) more c.requires.fits in
+    let slot = gives-slot Nothing 1 (list_of c.labels_in.new.cells) (list_of c.taken.new.cells) c.in_ok-path.path 1 _ c.in_ok-path.ensures.gives in
+    λ κs lives. (omega (arith, m), (lives, (c.requires.functions, (c.requires.sound, (c.requires.net, (c.requires.apart, (fits, slot)))))))
+
+pub try_in-item_in-requires : goal.try_in-item_in-requires
+try_in-item_in-requires g t c =
+    let m : 4 * stm_size (stm_of [] c.args.item.now.body) + 3 ≡ t = c.decreases in
+    let r = c.requires in
+    λ κs lives. (omega (arith, m), (lives, (r.functions, (r.subject, (r.context, (r.rest, (r.labels, (r.within, (r.sound, (r.net, (r.apart, r.fits)))))))))))
+
+pub items_in-try_in-requires : goal.items_in-try_in-requires
+items_in-try_in-requires g t c =
+    let m : 4 * items_size (items_of [] c.args.items.now) + 2 ≡ t = c.decreases in
+    let names = names_of c.args.self.now in
+    let items = c.args.items.now in
+    let i = c.loop-item.item-index in
+    let x = c.item-item.result in
+    let l = c.loop-item.invariant in
+    let p = item-part [] items i x c.loop-item-test.true c.item-item.is in
+    let e = items-more [] items i x c.loop-item-test.true c.item-item.is in
+    let es = seen.exps_of x.labels.items in
+    let a = stm_of [] x.body in
+    let others = items_of [] (drop (i + 1) items) in
+    let s = item-sound names es a others (rw e at l.sound) in
+    let n = item-net es a others (rw e at l.net) in
+    let w = item-apart c.loop-item.at.first es a others (rw e at l.apart) in
+    let within = labels-within-more names c.args.c.width items i x c.loop-item-test.true c.item-item.is l.within in
+    λ κs lives. (omega (arith, m, p), (lives, (c.requires.functions, (l.subject, (c.requires.context, (l.path, (s.0, (within.0, (s.1, (n.0, (w.0, l.fits)))))))))))
+
+pub case_in-items_in-requires : goal.case_in-items_in-requires
+case_in-items_in-requires g t c =
+    let m : 4 * (exp_size (exp_of c.args.subject.now) + items_size (items_of [] c.args.items.now)) + 3 ≡ t = c.decreases in
+    let names = names_of c.args.self.now in
+    let l0 = list_of c.args.cells.now in
+    let l1 = list_of c.compile_in.new.cells in
+    let is = rw c.form_of.ensures.value at (c.items_form-c.ensures.value []) in
+    let within : AreLabelsWithin names c.items_form-c.result.width c.args.items.now = rw is (items-within names [] (form names (exp_of c.args.subject.now)) c.args.items.now) in
+    let fits = fits-stays names l0 l1 (env_of c.args.at.now) c.in_ok-subject.ensures.grows c.requires.fits in
+    let off = is-slot-stays l0 l1 c.args.off 1 c.in_ok-subject.ensures.grows c.requires.off in
+    λ κs lives. (omega (arith, m), (lives, (c.requires.functions, ((c.in_ok-subject.ensures.gives []).slot, (c.items_form-c.ensures.width, (off, (c.requires.sound, (within, (c.requires.net, (c.requires.apart, fits))))))))))
+
+pub case_in-statement_in-requires : goal.case_in-statement_in-requires
+case_in-statement_in-requires g t c =
+    let m : 4 * (exp_size (exp_of c.args.subject.now) + items_size (items_of [] c.args.items.now)) + 3 ≡ t = c.decreases in
+    let names = names_of c.args.self.now in
+    let items = c.args.items.now in
+    let x = c.index-items-number.result in
+    let there = rw c.in-Some.is at c.default_of.ensures.there in
+    let body = rw c.in-Some.is at (c.default_of.ensures.body []) in
+    let p = item-part [] items c.in-Some.number x there c.index-items-number.is in
+    let same = sym (body-is [] items c.in-Some.number x there c.index-items-number.is) ∙ body in
+    let tries = c.in_ok-rest.ensures.tries [] in
+    let sound = subst (IsSoundStm names) (sym same) (default-sound names (items_of [] items) c.requires.sound) in
+    let net = subst IsNet (sym same) (default-net (items_of [] items) c.requires.net) in
+    let apart = subst (λ (z : Stm). stm_writes (λ k. nat_lt k c.items_in.new.at.first) z ≡ false) (sym same)
+    (apart-at c.args.at.now.first c.items_in.new.at.first (default_body (items_of [] items)) tries.keeps.first (default-apart c.args.at.now.first (items_of [] items) c.requires.apart)) in
+    rw (← c.index-items-number.is) (λ κs lives. (omega (arith, m, p), (lives, (c.requires.functions, (sound, (net, (apart, (tries.fits, tries.slot))))))))
+
+pub list_in-statement_in-requires : goal.list_in-statement_in-requires
+list_in-statement_in-requires g t c =
+    let m : 4 * stm_size (then_of [] c.args.list.now) ≡ t = c.decreases in
+    let i = c.loop-item.item-index in
+    let x = c.item-item.result in
+    let l = c.loop-item.invariant in
+    let p = stm-part [] c.args.list.now i x c.loop-item-test.true c.item-item.is in
+    let e = then-more c.args.list.now i x c.loop-item-test.true c.item-item.is in
+    let s = rw e at l.sound in
+    let n = rw e at l.net in
+    let w = rw e at l.apart in
+    λ κs lives. (omega (arith, m, p), (lives, (c.requires.functions, (s.0, (n.0, (none-left _ _ w, (l.fits, l.off)))))))
+
+pub if_in-statement_in-requires : goal.if_in-statement_in-requires
+if_in-statement_in-requires g t c =
+    let m : 4 * (exp_size (exp_of c.args.test.now) + (stm_size (stm_of [] c.args.first.now) + stm_size (stm_of [] c.args.second.now))) + 3 ≡ t = c.decreases in
+    let l1 = list_of c.own_in.new.cells in
+    let l2 = list_of c.branches.new.cells in
+    let more = grows-then (list_of c.args.cells.now) l1 l2 c.in_ok-test.ensures.grows c.in_ok-yes.ensures.grows in
+    let fits = fits-stays (names_of c.args.self.now) (list_of c.args.cells.now) l2 (env_of c.args.at.now) more c.requires.fits in
+    let s = c.requires.sound in
+    let n = c.requires.net in
+    λ κs lives. (omega (arith, m), (lives, (c.requires.functions, (s.1, (n.0, (none-left _ _ c.requires.apart, (fits, gives-slot Nothing 2 l1 l2 c.in_ok-yes.yes 1 _ c.in_ok-yes.ensures.first)))))))
+
+pub if_in-statement_in-requires-2 : goal.if_in-statement_in-requires-2
+if_in-statement_in-requires-2 g t c =
+    let m : 4 * (exp_size (exp_of c.args.test.now) + (stm_size (stm_of [] c.args.first.now) + stm_size (stm_of [] c.args.second.now))) + 3 ≡ t = c.decreases in
+    let d = c.in_ok-statement_in.ensures.does [] in
+    let l1 = list_of c.own_in.new.cells in
+    let l2 = list_of c.branches.new.cells in
+    let l3 = list_of c.statement_in.new.cells in
+    let off = is-slot-stays l2 l3 c.in_ok-yes.no 1 c.in_ok-statement_in.ensures.grows (gives-slot Nothing 2 l1 l2 c.in_ok-yes.no 1 _ c.in_ok-yes.ensures.second) in
+    let s = c.requires.sound in
+    let n = c.requires.net in
+    let apart = apart-at c.args.at.now.first c.statement_in.new.at.first (stm_of [] c.args.second.now) d.keeps.first (none-right _ _ c.requires.apart) in
+    λ κs lives. (omega (arith, m), (lives, (c.requires.functions, (s.2, (n.1, (apart, (d.fits, off)))))))
+
+pub statement_in-list_in-requires : goal.statement_in-list_in-requires
+statement_in-list_in-requires g t c =
+    let e = stm_of-Seq [] c.args.a.now c.in-Seq.list c.in-Seq.is in
+    let m = rw e at c.decreases in
+    let s = rw e at c.requires.sound in
+    let n = rw e at c.requires.net in
+    let w = rw e at c.requires.apart in
+    rw c.deref.ensures.value (λ κs lives. (omega (arith, m), (lives, (c.requires.functions, (s, (n, (w, (c.requires.fits, c.requires.off))))))))
+
+pub statement_in-if_in-requires : goal.statement_in-if_in-requires
+statement_in-if_in-requires g t c =
+    let e = if-net [] c.args.a.now c.in-If.test c.in-If.first c.in-If.second c.in-If.is c.requires.net in
+    let m = rw e at c.decreases in
+    let s = rw e at c.requires.sound in
+    let n = rw e at c.requires.net in
+    let w = rw e at c.requires.apart in
+    rw (c.deref-in-If.ensures, c.deref-in-If-2.ensures) (λ κs lives. (omega (arith, m), (lives, (c.requires.functions, (s, (n, (w, (c.requires.fits, c.requires.off))))))))
+
+pub statement_in-case_in-requires : goal.statement_in-case_in-requires
+statement_in-case_in-requires g t c =
+    let e = case-of [] c.args.a.now c.in-Case.subject c.in-Case.items c.in-Case.field-2 c.in-Case.is in
+    let m = rw e at c.decreases in
+    let s = rw e at c.requires.sound in
+    let n = rw e at c.requires.net in
+    let w = rw e at c.requires.apart in
+    rw c.deref-in-Case.ensures.value (λ κs lives. (omega (arith, m), (lives, (c.requires.functions, (s.0, (s.1, (n, (w, (c.requires.fits, c.requires.off)))))))))

@@ -1,0 +1,66 @@
+use Rattle.std.proofs.Common.{◌∙◌, ◌+◌, [], drop, sym}
+use Rattle.std.proofs.lemmas.List.{drop_all}
+use Rattle.vl_design.specs.Trees.{exp_of, exps_of}
+use Rattle.vl_eval.proofs.Rows.{exps-more}
+use Rattle.cell_form.specs.Views.{list_of}
+use Rattle.cell_steps.specs.Slots.{Nothing, width_at}
+use Rattle.cell_steps.proofs.Frames.{grows-then}
+use Rattle.cell_paths.specs.Envs.{env_of}
+use Rattle.cell_paths.proofs.Casing.{compares-none}
+use Rattle.cell_paths.proofs.Staying.{fits-stays, is-slot-stays, gives-slot}
+use Rattle.cell_expr.specs.Contexts.{names_of, scope_of, body_of}
+use Rattle.cell_expr.specs.Counts.{exp_count, labels_count}
+use Rattle.cell_expr.proofs.Labelling.{label-compares}
+use Rattle.cell_expr.proofs.context.Context.labels_in.Goals as goal
+
+pub differs-requires-clause-label : goal.differs-requires-clause-label
+differs-requires-clause-label g c = (c.in_ok-slot.ensures.gives []).slot.there
+
+pub differs-requires-clause-one_width : goal.differs-requires-clause-one_width
+differs-requires-clause-one_width g c =
+    (is-slot-stays (list_of c.loop-label.cells) (list_of c.compile_in.new.cells) c.args.subject c.args.c.width c.in_ok-slot.ensures.grows c.loop-label.invariant.subject).width
+    ∙ sym (c.in_ok-slot.ensures.gives []).slot.width
+
+pub open_behind-requires-clause-never : goal.open_behind-requires-clause-never
+open_behind-requires-clause-never g c =
+    let l0 = list_of c.loop-label.cells in
+    let l1 = list_of c.compile_in.new.cells in
+    let l2 = list_of c.differs.new.cells in
+    (fits-stays (names_of c.args.self.now) l0 l2 (env_of c.args.at.now) (grows-then l0 l1 l2 c.in_ok-slot.ensures.grows c.in_ok-apart.ensures.grows) c.loop-label.invariant.fits).is_away
+
+pub loop-label-preserved : goal.loop-label-preserved
+loop-label-preserved g c =
+    let names = names_of c.args.self.now in
+    let body = body_of c.args.self.now in
+    let labels = c.args.labels.now in
+    let i = c.loop-label.label-index in
+    let x = c.label-item.result in
+    let l = c.loop-label.invariant in
+    let e = exps-more labels i x c.loop-label-test.true c.label-item.is in
+    let s = rw e at l.sound in
+    let w = rw e at l.within in
+    let at = env_of c.args.at.now in
+    let l0 = list_of c.loop-label.cells in
+    let l1 = list_of c.compile_in.new.cells in
+    let l2 = list_of c.differs.new.cells in
+    let l3 = list_of c.open_behind.new.cells in
+    let g02 = grows-then l0 l1 l2 c.in_ok-slot.ensures.grows c.in_ok-apart.ensures.grows in
+    let g03 = grows-then l0 l2 l3 g02 c.in_ok-left.ensures.grows in
+    let rest = exps_of (drop (i + 1) labels) in
+    record {
+      grows = grows-then (list_of c.args.cells.now) l0 l3 l.grows g03;
+      fits = fits-stays names l0 l3 at g03 l.fits;
+      subject = is-slot-stays l0 l3 c.args.subject c.args.c.width g03 l.subject;
+      path = gives-slot Nothing 1 l2 l3 c.in_ok-left.left 1 _ c.in_ok-left.ensures.gives;
+      sound = s.1;
+      within = w.1;
+      leads = λ files r new h. l.leads files r new (rw e (label-compares (scope_of c.args.self.now files) c.args.c (exp_count body (exp_of x)) (labels_count body rest) c.args.subject c.in_ok-slot.slot c.in_ok-apart.apart c.loop-label.left c.in_ok-left.left r
+          (width_at l1 c.args.subject) c.care_of-care.result (exp_of x) rest at l0 l1 l2 l3 new l.fits l.subject.there l.path.there c.care_of-care.ensures (c.in_ok-slot.ensures.gives files) c.in_ok-apart.ensures.gives c.in_ok-left.ensures.gives h));
+    }
+
+pub returns-clause-compares : goal.returns-clause-compares
+returns-clause-compares g c = λ files.
+    let l = c.loop-label.invariant in
+    let none = drop_all c.loop-label.label-index c.args.labels.now c.loop-label-test.false in
+    let cells = list_of c.loop-label.cells in
+    l.leads files c.loop-label.left cells (rw none (compares-none (names_of c.args.self.now) (scope_of c.args.self.now files) c.args.c c.args.subject c.loop-label.left (env_of c.args.at.now) cells l.path))

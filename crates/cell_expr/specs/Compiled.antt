@@ -1,0 +1,25 @@
+-- What it means that cells compute an expression (IEEE 1364-2005, clause 5).
+use Rattle.std.specs.Prelude.{◌≡◌, ℕ, Option, Some, None}
+use Rattle.vl_design.specs.declared.design.Form.{Form}
+use Rattle.vl_design.specs.Syntax.{Exp}
+use Rattle.vl_design.specs.Value.{Sample, value}
+use Rattle.vl_design.specs.Width.{Names, Scope}
+use Rattle.cell_form.specs.Data.{ListData, BankData}
+use Rattle.cell_form.specs.Sound.{Shape}
+use Rattle.cell_steps.specs.Slots.{held, width_at, AreSound, Longer}
+use Rattle.cell_paths.specs.Envs.{Env, IsSlot, HasMemories, Stands}
+
+-- with at most n cells more, a slot of w bits holds what f says of what is read
+pub record Holds (names : Names) (n : ℕ) (at : Env) (old new : ListData) (r w : ℕ) (f : Sample → ℕ) : Type 0 where
+  pub longer : Longer (HasMemories names at) n old new
+  pub slot : IsSlot new r w
+  pub value : (s : Shape) (b : BankData) (x : Sample) → AreSound s old → Stands names b old at x → held b new r ≡ f x
+
+-- with at most n cells more, a slot holds the value of an expression in a context
+abbrev pub Compiles : Names → Scope → ℕ → Exp → Form → Env → ListData → ListData → ℕ → Type 0
+Compiles names scope n e c at old new r = Holds names n at old new r c.width (λ x. value scope x e c)
+
+-- the width of a slot, or none where there is no slot
+abbrev pub width_or : ListData → Option ℕ → ℕ
+width_or l None = 0
+width_or l (Some r) = width_at l r

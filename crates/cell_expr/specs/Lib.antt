@@ -1,0 +1,10 @@
+pub mod Bodies
+pub mod Callers
+pub mod Compiled
+pub mod Contexts
+pub mod Counts
+pub mod Items
+pub mod Labels
+pub mod Passes
+pub mod Spots
+pub mod Words

@@ -1,0 +1,13 @@
+//! Expressions, calls of functions and statements as cells.
+#![tactic(auto)]
+
+mod body;
+mod call;
+mod case;
+pub mod compile;
+mod context;
+mod expression;
+mod leaf;
+mod spot;
+mod statement;
+mod target;

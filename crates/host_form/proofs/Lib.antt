@@ -1,0 +1,14 @@
+pub mod Plans
+pub mod Once
+pub mod Verdicts
+pub mod Whole
+pub mod Told
+pub mod Lone
+pub mod Moving
+pub mod Tight
+pub mod Stopping
+pub mod Greeting
+pub mod Resuming
+pub mod Ends
+pub mod Times
+pub mod Ordered

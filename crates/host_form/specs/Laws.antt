@@ -1,0 +1,39 @@
+-- Words of the laws.
+use Rattle.std.specs.Prelude.{◌≡◌, ℕ, ◌≤◌, Bool, ◌&&◌, ◌==◌, length, filter, List, [], ◌∷◌, Option, Some, ⊤}
+use Rattle.std.specs.List.{AllByRecursion}
+use Rattle.vl_design.specs.Alone.{Errand}
+use Rattle.report_text.specs.declared.block.Block.{Block}
+use Rattle.report_text.specs.declared.block.Block.TheVariants as b
+use Rattle.report_text.specs.Readable.{IsReadable, IsReply}
+use Rattle.script_text.specs.declared.script.Script.{Script}
+use Rattle.host_form.specs.Origins.{Source, Tenant}
+use Rattle.host_form.specs.Histories.{Visit}
+use Rattle.host_form.specs.Orders.{Answered}
+use Rattle.host_form.specs.Runs.{Outcome}
+use Rattle.host_form.specs.Reports.{blocks_of}
+
+-- no tick is below one before it
+abbrev pub AreAscending : List Errand → Type 0
+AreAscending [] = ⊤
+AreAscending (e ∷ es) = AllByRecursion (λ f. e.tick ≤ f.tick) es × AreAscending es
+
+-- what texts are judged to be, where a function says it
+abbrev pub Judges : (List ℕ → Option Source) → List ℕ → Source → Type 0
+Judges judge text x = judge text ≡ Some x
+
+-- the tenant of which a block tells
+abbrev pub name_of : Block → List ℕ
+name_of (b.Ran a) = a.name
+name_of (b.Refused a) = a.name
+
+-- the words of a report are words, and its numbers have 64 bits
+pub record IsTellable (s : Script) (tenants : List Tenant) (outcomes : List Outcome) (answers : List Answered) : Type 0 where
+  pub blocks : AllByRecursion IsReadable (blocks_of s tenants outcomes)
+  pub replies : AllByRecursion (λ a. IsReply a.reply) answers
+
+abbrev pub is_same : Visit → Visit → Bool
+is_same v w = (v.fabric == w.fabric) && (v.from == w.from) && (v.to == w.to)
+
+-- how often a stay is in a list
+abbrev pub times : Visit → List Visit → ℕ
+times v visits = length (filter (is_same v) visits)

@@ -1,0 +1,9 @@
+pub mod Origins
+pub mod Histories
+pub mod Orders
+pub mod Runs
+pub mod Replies
+pub mod Reports
+pub mod Saves
+pub mod Laws
+pub mod Examples

@@ -1,0 +1,101 @@
+//! What follows from the definitions alone.
+
+ghost use Rattle.std.specs.Prelude.{◌≡◌, ◌≤◌, ◌⊎◌, ℕ, true, List, [], Option, Some, map, slice_get};
+ghost use Rattle.std.specs.List.{AllByRecursion};
+ghost use Rattle.vl_base.specs.declared.place.Place.{Place};
+ghost use Rattle.vl_design.specs.declared.design.End.TheVariants.{Stopped};
+ghost use Rattle.vl_design.specs.Cost.{Cost};
+ghost use Rattle.vl_design.specs.Alone.{Origin, first_tick, stop_at, save_names};
+ghost use Rattle.script_text.specs.declared.script.FabricLine.{FabricLine};
+ghost use Rattle.script_text.specs.declared.script.Script.{Script};
+ghost use Rattle.script_text.specs.declared.script.TenantLine.{TenantLine};
+ghost use Rattle.script_text.specs.Laws.{AreOrdered as AreSorted};
+ghost use Rattle.host_form.specs.Histories.{Histories, Visit, visits_on, AreOrdered, Chain, AreVisits};
+ghost use Rattle.host_form.specs.Laws.{AreAscending, Judges, name_of, IsTellable, times};
+ghost use Rattle.fab_io.specs.Outside.{Files};
+ghost use Rattle.host_form.specs.Origins.{Source, Tenant, IsRead, IsOrigin, IsRefused, is_planned, errand_of, plan_of};
+ghost use Rattle.host_form.specs.Orders.{Answered, stop_of};
+ghost use Rattle.host_form.specs.Runs.{Run, IsRun};
+ghost use Rattle.host_form.specs.Reports.{IsReport, blocks_of};
+ghost use Rattle.host_form.specs.Saves.{LeavesFiles};
+
+/// A plan has the errands of the script in their order, which is that of ticks, but for moves to fabrics that are too
+/// small: all of them where no move is to one, and none where there are none.
+pub fn a_plan_keeps_the_order_of_errands()
+    ensures order { (fabrics : List FabricLine) (c : Cost) (t : TenantLine) → AreSorted t.errands → AreAscending (plan_of fabrics c t).errands }
+    ensures all { (fabrics : List FabricLine) (c : Cost) (t : TenantLine) → AllByRecursion (λ e. is_planned fabrics c e.due ≡ true) t.errands →
+        (plan_of fabrics c t).errands ≡ map errand_of t.errands }
+    ensures none { (fabrics : List FabricLine) (c : Cost) (t : TenantLine) → t.errands ≡ [] → (plan_of fabrics c t).errands ≡ [] }
+{}
+
+/// Moves that are not planned change neither when a run stops nor which snapshots are due.
+pub fn unplanned_moves_change_no_stop_and_no_save()
+    ensures stops { (fabrics : List FabricLine) (c : Cost) (t : TenantLine) (k : ℕ) → stop_at k (plan_of fabrics c t).errands ≡ stop_at k (map errand_of t.errands) }
+    ensures saves { (fabrics : List FabricLine) (c : Cost) (t : TenantLine) (k : ℕ) → save_names k (plan_of fabrics c t).errands ≡ save_names k (map errand_of t.errands) }
+{}
+
+/// A line of a script is read as one tenant at most.
+pub fn a_line_is_read_in_one_way()
+    ensures { (judge : List ℕ → Option Source) (told : Files) (line : TenantLine) (t u : Tenant) →
+        IsRead (Judges judge) told line t → IsRead (Judges judge) told line u → t ≡ u }
+{}
+
+/// A tenant at a fabric of the script has one origin or is refused in one way, and never both.
+pub fn a_tenant_has_one_origin_or_one_refusal()
+    ensures either { (fabrics : List FabricLine) (fabric : FabricLine) (t : Tenant) → slice_get fabrics t.line.fabric ≡ Some fabric →
+        ((o : Origin) × IsOrigin fabrics t o) ⊎ ((place : Place) × (kind : List ℕ) × IsRefused fabrics t place kind) }
+    ensures one_origin { (fabrics : List FabricLine) (t : Tenant) (o u : Origin) → IsOrigin fabrics t o → IsOrigin fabrics t u → o ≡ u }
+    ensures one_refusal { (fabrics : List FabricLine) (t : Tenant) (place at : Place) (kind why : List ℕ) →
+        IsRefused fabrics t place kind → IsRefused fabrics t at why → (place ≡ at) × (kind ≡ why) }
+    ensures not_both { (fabrics : List FabricLine) (t : Tenant) (o : Origin) (place : Place) (kind : List ℕ) →
+        IsOrigin fabrics t o → IsRefused fabrics t place kind → ⊥ }
+{}
+
+/// The stays of a tenant are listed in one way.
+pub fn stays_are_listed_in_one_way()
+    ensures { (histories : Histories) (tenant from to : ℕ) (visits others : List Visit) →
+        AreVisits histories tenant from to visits → AreVisits histories tenant from to others → visits ≡ others }
+{}
+
+/// Stays that chain and are those of a tenant's histories, each as often, are the tenant's stays once they are put in order.
+pub fn stays_are_known_by_how_often_each_is_there()
+    ensures { (histories : Histories) (tenant from to : ℕ) (trail visits : List Visit) →
+        Chain from trail to → AllByRecursion (λ v. v.from ≤ v.to) trail → ((v : Visit) → times v trail ≡ times v (visits_on histories tenant v.fabric)) →
+        ((g : ℕ) → AreOrdered (visits_on histories tenant g)) → AreOrdered visits → ((v : Visit) → times v visits ≡ times v trail) →
+        AreVisits histories tenant from to visits }
+{}
+
+/// For these files, these histories, and these replies to its free orders, a script has one report at most, and leaves one set of
+/// files.
+pub fn a_script_has_one_report_at_most()
+    ensures report { (judge : List ℕ → Option Source) (told : Files) (s : Script) (histories : Histories) (bytes others : List ℕ) →
+        (a : IsReport (Judges judge) told s histories bytes) (b : IsReport (Judges judge) told s histories others) → a.answers ≡ b.answers → bytes ≡ others }
+    ensures files { (judge : List ℕ → Option Source) (told : Files) (s : Script) (histories : Histories) (bytes others : List ℕ) →
+        (a : IsReport (Judges judge) told s histories bytes) (b : IsReport (Judges judge) told s histories others) → a.answers ≡ b.answers →
+        (left right : Files) → LeavesFiles (Judges judge) told s histories bytes a left → LeavesFiles (Judges judge) told s histories others b right → left ≡ right }
+{}
+
+/// A tenant runs from its first tick on, and not past its budget.
+pub fn ticks_stay_within_the_budget()
+    ensures { (fabrics : List FabricLine) (histories : Histories) (answers : List Answered) (n : ℕ) (t : Tenant) (r : Run) → IsRun fabrics histories answers n t r →
+        (first_tick r.origin.resume ≤ r.tick) × (r.tick ≤ t.line.budget) }
+{}
+
+/// A tenant that is stopped has a stop at that tick: by a free order, or in the script.
+pub fn a_stopped_tenant_has_a_stop()
+    ensures { (fabrics : List FabricLine) (histories : Histories) (answers : List Answered) (n : ℕ) (t : Tenant) (r : Run) → IsRun fabrics histories answers n t r →
+        r.reason ≡ Stopped → (stop_of n answers ≡ Some r.tick) ⊎ (stop_at r.tick (map errand_of t.line.errands) ≡ true) }
+{}
+
+/// A report has a block for each tenant, in the order of the script.
+pub fn tenants_are_reported_in_order()
+    ensures { (judge : List ℕ → Option Source) (told : Files) (s : Script) (histories : Histories) (bytes : List ℕ) →
+        (r : IsReport (Judges judge) told s histories bytes) → map name_of (blocks_of s r.tenants r.outcomes) ≡ map (λ t. t.name) s.tenants }
+{}
+
+/// The bytes of a report tell the replies to the free orders of a script.
+pub fn the_bytes_tell_the_replies()
+    ensures { (judge : List ℕ → Option Source) (told : Files) (s : Script) (histories : Histories) (bytes : List ℕ) →
+        (a b : IsReport (Judges judge) told s histories bytes) → IsTellable s a.tenants a.outcomes a.answers → IsTellable s b.tenants b.outcomes b.answers →
+        a.answers ≡ b.answers }
+{}

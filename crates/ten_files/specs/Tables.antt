@@ -10,7 +10,7 @@ use Rattle.ten_files.specs.declared.row.Row.{Row}
 abbrev pub name_at : List File → ℕ → List ℕ
 name_at files number = unwrap_or (option_map (λ f. f.name) (slice_get files number)) []
 
--- its bytes
+-- its bytes, which are found by the name
 abbrev pub bytes_at : List File → ℕ → List ℕ
 bytes_at files number = unwrap_or (contents files (name_at files number)) []
 

@@ -1,6 +1,7 @@
 //! The table of a tenant's open files.
 #![tactic(auto)]
 
+pub mod laws;
 mod reading;
 pub mod row;
 mod slots;

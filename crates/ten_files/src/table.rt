@@ -33,7 +33,7 @@ impl Model for Table {
 impl Table {
     /// A table without open files.
     pub fn new() -> Table
-        ensures open { (files : List File) → open_files files result ≡ [] }
+        ensures none { (files : List File) → open_files files result ≡ [] }
         ensures fits { (files : List File) → IsTableOf files result }
     {
         Table { rows: [None; 16] }
@@ -132,7 +132,7 @@ impl Table {
     pub fn row(&self, slot: u8) -> Option<(u32, u64, bool)>
         requires { slot < 16 }
         ensures row { slice_get self.now slot ≡ Some (option_map row_of result) }
-        ensures open { (files : List File) → f.open_file (open_files files self.now) (f.descriptor slot) ≡ option_map (λ told. open_row files slot (row_of told)) result }
+        ensures file { (files : List File) → f.open_file (open_files files self.now) (f.descriptor slot) ≡ option_map (λ told. open_row files slot (row_of told)) result }
         ensures slots { length self.now ≡ 16 }
     {
         match self.rows[slot as usize] {

@@ -6,8 +6,8 @@ use Rattle.ten_files.specs.Tables.{open_files, open_row}
 use Rattle.ten_files.proofs.Rows.{open_file-at}
 use Rattle.ten_files.proofs.table.Table.row.Goals as goal
 
-pub returns-in-None-clause-open : goal.returns-in-None-clause-open
-returns-in-None-clause-open c =
+pub returns-in-None-clause-file : goal.returns-in-None-clause-file
+returns-in-None-clause-file c =
     let slot = c.args.slot in
     let full : length c.self.inside.rows ≡ 16 = search rules in
     λ files.
@@ -23,8 +23,8 @@ returns-in-Some-clause-row c =
     ∙ slice_get-get_or c.self.inside.rows slot None (omega (arith, full, c.requires))
     ∙ ap (λ row. Some row) c.in-Some.is
 
-pub returns-in-Some-clause-open : goal.returns-in-Some-clause-open
-returns-in-Some-clause-open c =
+pub returns-in-Some-clause-file : goal.returns-in-Some-clause-file
+returns-in-Some-clause-file c =
     let slot = c.args.slot in
     let full : length c.self.inside.rows ≡ 16 = search rules in
     λ files.

@@ -479,8 +479,15 @@ def nested(maker):
             yield maker.expression(names, depth), maker.target()
 
 
-parts = [("each operator", operators), ("ends of the range", edges), ("selects", selects), ("left sides", left_sides), ("nested expressions", nested)]
-made = [(title, [case_of(source, side) for source, side in part(Maker(title))]) for title, part in parts]
-head = "# Expressions of mixed widths and signs, made by tools/width_rows.py: a line says each assignment and what is printed.\n"
-TABLE.write_text(head + "".join(f"\n# ---- {title}\n---\n" + "\n---\n".join(cases) + "\n---\n" for title, cases in made))
-print(", ".join(f"{len(cases)} of {title}" for title, cases in made), "-", sum(len(cases) for _, cases in made), "rows")
+PARTS = [("each operator", operators), ("ends of the range", edges), ("selects", selects), ("left sides", left_sides), ("nested expressions", nested)]
+
+
+def main():
+    made = [(title, [case_of(source, side) for source, side in part(Maker(title))]) for title, part in PARTS]
+    head = "# Expressions of mixed widths and signs, made by tools/width_rows.py: a line says each assignment and what is printed.\n"
+    TABLE.write_text(head + "".join(f"\n# ---- {title}\n---\n" + "\n---\n".join(cases) + "\n---\n" for title, cases in made))
+    print(", ".join(f"{len(cases)} of {title}" for title, cases in made), "-", sum(len(cases) for _, cases in made), "rows")
+
+
+if __name__ == "__main__":
+    main()

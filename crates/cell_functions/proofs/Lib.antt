@@ -1,0 +1,3 @@
+mod Sites
+mod Nets
+mod Whole

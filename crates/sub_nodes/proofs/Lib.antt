@@ -1,0 +1,9 @@
+pub mod Holding
+pub mod Steps
+pub mod Coded
+pub mod Unrolled
+pub mod Acts
+pub mod Beginning
+pub mod Cycles
+pub mod Runs
+pub mod Moving

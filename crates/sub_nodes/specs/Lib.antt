@@ -1,0 +1,6 @@
+pub mod Nodes
+pub mod Implements
+pub mod Code
+pub mod Cycles
+pub mod Stands
+pub mod Samples

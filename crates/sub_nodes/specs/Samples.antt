@@ -1,0 +1,95 @@
+-- Small designs as tables, worked by hand, and their runs by so many moves (own).
+use Rattle.std.specs.Prelude.{◌≡◌, ℕ, zero, suc, Bool, true, false, List, [], ◌∷◌, if◌then◌else◌, slice_set, Option, Some, None, codes}
+use Rattle.vl_base.specs.declared.bits.BinOp.TheVariants.{Add}
+use Rattle.vl_base.specs.Display.{LeastDecimal, Decimal}
+use Rattle.vl_design.specs.declared.design.SigKind.TheVariants.{Var}
+use Rattle.vl_design.specs.Syntax.{Num, Sig, Bin, LastAnswer, NoExps, MoreExps, Whole, Shown, Literal, Print, Finish, Fopen, Fread, Feof, Task, Stm, Nop, Then, If, Case, Set, Later, Sys, Labelled, Default, NoItems, Flat}
+use Rattle.vl_design.specs.Value.{words_of}
+use Rattle.vl_design.specs.State.{State}
+use Rattle.vl_design.specs.Functions.{scope_of}
+use Rattle.vl_design.specs.Alone.{Origin}
+use Rattle.vl_design.specs.Examples.{row, flat, rise, seq, show, number}
+use Rattle.sub_nodes.specs.Nodes.{Segment, Way, Go, Branch, Switch, Commit, Node, Run, Trap, Apply, Wave, Table}
+use Rattle.sub_nodes.specs.Cycles.{Stage, cycle, served}
+use Rattle.sub_nodes.specs.Stands.{at_trap, first_stage, Comes}
+
+-- ---- runs
+
+-- a run has come to this stage after so many acts
+pub record Reached : Type 0 where
+  pub acts : ℕ
+  pub stage : Stage
+
+module _ (o : Origin) (T : Table) (nets : State → List (List ℕ)) where
+  -- a cycle, or at a trap the call is done
+  abbrev pub moved : Reached → Reached
+  moved r =
+      if at_trap T r.stage then record { acts = suc r.acts; stage = served (scope_of o.flat o.files) T.nodes r.stage }
+      else
+      let i = cycle o.flat o.files nets T.nodes r.stage in
+      record { acts = if at_trap T i then r.acts else suc r.acts; stage = i }
+
+  -- so many moves; none once the run has finished
+  abbrev pub moved_by : ℕ → Reached → Reached
+  moved_by zero r = r
+  moved_by (suc n) r = moved_by n (if r.stage.state.finished then r else moved r)
+
+  abbrev pub run_by : ℕ → Reached
+  run_by n = moved_by n (record { acts = 0; stage = first_stage o T nets o.resume })
+
+  -- the run of the table comes to this node, has done so many acts and printed these bytes
+  pub record Shows (node acts : ℕ) (bytes : List ℕ) : Type 0 where
+    pub stage : Stage
+    pub comes : Comes o T nets acts stage
+    pub there : stage.node ≡ node
+    pub printed : stage.state.printed ≡ bytes
+
+-- no net
+abbrev pub no_nets : State → List (List ℕ)
+no_nets s = s.values
+
+-- assign w = x, where x is signal 1 and w is signal 2
+abbrev pub w_is_x : State → List (List ℕ)
+w_is_x s = slice_set s.values 2 (words_of s.values 1)
+
+-- ---- tables
+
+abbrev pub started : List Stm → Segment
+started statements = record { rises = true; statements = statements }
+
+abbrev pub plain : List Stm → Segment
+plain statements = record { rises = false; statements = statements }
+
+abbrev pub text : List ℕ → Task
+text bytes = Print (Literal bytes ∷ []) true
+
+-- c <= c + 1
+abbrev pub more : Stm
+more = Later (Whole 1) (Bin Add (Sig 1) (number 1))
+
+-- reg [7:0] c; always @(posedge clk) begin if (c) begin c <= 0; $display("A"); end else ; c <= c + 1; $display("B"); end
+abbrev pub branching : Flat
+branching = flat (row (codes "m.c") Var 8 false ∷ [])
+    (rise (seq (If (Sig 1) (seq (Later (Whole 1) (number 0) ∷ show (Literal (codes "A") ∷ []) ∷ [])) Nop ∷ more ∷ show (Literal (codes "B") ∷ []) ∷ [])) ∷ [])
+
+-- what stands behind the `if` stands once behind each branch
+abbrev pub branching_table : Table
+branching_table = record {
+  nodes =
+      Apply 2 ∷ Apply 2
+      -- the rise, and the choice
+      ∷ Run (started []) (Branch (Sig 1) 3 8)
+      -- the first branch
+      ∷ Run (plain (Later (Whole 1) (number 0) ∷ [])) (Go 4) ∷ Trap (text (codes "A")) 5
+      ∷ Run (plain (more ∷ [])) (Go 6) ∷ Trap (text (codes "B")) 7
+      ∷ Run (plain []) (Commit 1)
+      -- the second
+      ∷ Run (plain (more ∷ [])) (Go 9) ∷ Trap (text (codes "B")) 10
+      ∷ Run (plain []) (Commit 1)
+      -- time zero
+      ∷ Run (plain []) (Commit 0)
+      ∷ [];
+  zero = record { first = 11; update = 0 };
+  rise = record { first = 2; update = 1 };
+  fall = record { first = 12; update = 11 };
+}

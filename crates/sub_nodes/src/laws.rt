@@ -1,0 +1,62 @@
+//! What holds of the tables of designs whose loops are unrolled.
+
+ghost use Rattle.std.specs.Prelude.{◌≡◌, ◌↔◌, ℕ, suc, Bool, true, false, List, slice_get};
+ghost use Rattle.vl_design.specs.Syntax.{Flat, Stm, Task};
+ghost use Rattle.vl_design.specs.State.{State};
+ghost use Rattle.vl_design.specs.Functions.{scope_of};
+ghost use Rattle.vl_design.specs.Alone.{Origin};
+ghost use Rattle.vl_design.specs.Acts.{Point, After, Before, state_at, at_boundary};
+ghost use Rattle.sub_nodes.specs.Nodes.{Node, Segment, Table};
+ghost use Rattle.sub_nodes.specs.Implements.{Impls, IsTableOf};
+ghost use Rattle.sub_nodes.specs.Code.{codes, HasFrom, table_of};
+ghost use Rattle.sub_nodes.specs.Cycles.{Stage, cycle, served, rises};
+ghost use Rattle.sub_nodes.specs.Stands.{Stands, StandsAtTrap, CanRun, Comes, IsAt, at_trap};
+
+/// The nodes that are made of statements implement them.
+pub fn nodes_made_of_statements_implement_them()
+    ensures { (nodes : List Node) (update : ℕ) (rest : List Stm) (g : Segment) (n : ℕ) →
+        HasFrom nodes n (codes update rest g n) → Impls nodes update rest g n }
+{}
+
+/// The table that is made of a design is a table of it.
+pub fn a_table_made_of_a_design_is_one_of_it()
+    ensures { (d : Flat) → IsTableOf d (table_of d) }
+{}
+
+/// One cycle of a table does the next act of the run alone; or, just where this is a call, it comes to the trap right before
+/// it.
+pub fn a_cycle_is_an_act()
+    ensures act { (o : Origin) (T : Table) (nets : State → List (List ℕ)) (c : ℕ) (p : Point) (i : Stage) → CanRun o T nets → After o c p →
+        (state_at p).finished ≡ false → Stands T i p → at_trap T (cycle o.flat o.files nets T.nodes i) ≡ false →
+        (r : Point) × After o (suc c) r × Stands T (cycle o.flat o.files nets T.nodes i) r }
+    ensures trap { (o : Origin) (T : Table) (nets : State → List (List ℕ)) (c : ℕ) (p : Point) (i : Stage) → CanRun o T nets → After o c p →
+        (state_at p).finished ≡ false → Stands T i p → at_trap T (cycle o.flat o.files nets T.nodes i) ≡ true →
+        (task : Task) × (r : Point) × Before o (suc c) task r × StandsAtTrap T task (cycle o.flat o.files nets T.nodes i) r }
+    ensures exactly { (o : Origin) (T : Table) (nets : State → List (List ℕ)) (c : ℕ) (p : Point) (i : Stage) → CanRun o T nets → After o c p →
+        (state_at p).finished ≡ false → Stands T i p →
+        (at_trap T (cycle o.flat o.files nets T.nodes i) ≡ true) ↔ ((task : Task) × (r : Point) × Before o (suc c) task r) }
+{}
+
+/// Serving the call of a trap does its act.
+pub fn serving_a_trap_is_its_act()
+    ensures { (o : Origin) (T : Table) (c : ℕ) (task : Task) (p : Point) (i : Stage) → Before o c task p → StandsAtTrap T task i p →
+        (r : Point) × After o c r × Stands T (served (scope_of o.flat o.files) T.nodes i) r }
+{}
+
+/// At each moment the run of a table stands for the run alone after as many acts, or is at a trap right before the next.
+pub fn a_run_of_a_table_stands_for_the_run_alone()
+    ensures { (o : Origin) (T : Table) (nets : State → List (List ℕ)) (c : ℕ) (i : Stage) → CanRun o T nets → Comes o T nets c i → IsAt o T c i }
+{}
+
+/// The run of a table comes to each point of the run alone.
+pub fn a_run_of_a_table_comes_to_each_point()
+    ensures { (o : Origin) (T : Table) (nets : State → List (List ℕ)) (c : ℕ) (p : Point) → CanRun o T nets → After o c p →
+        (i : Stage) × Comes o T nets c i × Stands T i p }
+{}
+
+/// The clock rises next just where the run is at a boundary; and at no point is it at a trap.
+pub fn the_clock_rises_behind_a_boundary()
+    ensures rises { (d : Flat) (T : Table) (i : Stage) (p : Point) → IsTableOf d T → Stands T i p →
+        rises (slice_get T.nodes i.node) ≡ at_boundary p }
+    ensures none { (d : Flat) (T : Table) (i : Stage) (p : Point) → IsTableOf d T → Stands T i p → at_trap T i ≡ false }
+{}

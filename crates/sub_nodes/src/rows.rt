@@ -1,0 +1,26 @@
+//! Worked rows of tables of nodes.
+
+ghost use Rattle.std.specs.Prelude.{◌≡◌, [], ◌∷◌, codes};
+ghost use Rattle.vl_design.specs.Examples.{tried, late_net, two_blocks, finishes};
+ghost use Rattle.sub_nodes.specs.Code.{table_of};
+ghost use Rattle.sub_nodes.specs.Samples.{Shows, no_nets, w_is_x, branching, branching_table};
+
+/// What stands behind an `if` with a call stands once behind each of its branches.
+pub fn a_stretch_behind_a_choice_stands_behind_each_branch()
+    ensures { table_of branching ≡ branching_table }
+{}
+
+/// A net keeps its value until the wave has ended, while a later block reads what was assigned.
+pub fn nets_wait_for_the_end_of_the_wave()
+    ensures { Shows (tried [] late_net) (table_of late_net) w_is_x 2 8 (codes "1 0\n2 1\n") }
+{}
+
+/// The blocks of a wave run in text order.
+pub fn blocks_run_in_text_order()
+    ensures { Shows (tried [] two_blocks) (table_of two_blocks) no_nets 2 6 (codes "A\nB\n") }
+{}
+
+/// Behind a `$finish` nothing is done.
+pub fn nothing_is_done_behind_a_finish()
+    ensures { Shows (tried [] finishes) (table_of finishes) no_nets 4 3 [] }
+{}

@@ -1,24 +1,18 @@
 -- A cycle of a design's table is one act, or comes to the trap of a call; and serving the trap is the act.
-use Rattle.std.proofs.Common.{◌≡◌, ℕ, suc, ◌+◌, Bool, true, false, List, [], ◌∷◌, ◌++◌, map, Option, Some, None, refl, sym, ◌∙◌, ap, subst, ◌⊎◌, inl, inr}
-use Rattle.std.specs.Prelude.{◌≢◌, ◌||◌, All, slice_get, if◌then◌else◌}
+use Rattle.std.proofs.Common.{◌≡◌, ℕ, Bool, true, false, List, [], ◌∷◌, ◌++◌, refl, ◌∙◌}
+use Rattle.std.specs.Prelude.{◌||◌, if◌then◌else◌}
 use Rattle.vl_base.specs.declared.files.File.{File}
-use Rattle.vl_design.specs.Syntax.{Exp, Task, Stm, Nop, Then, If, Case, For, Repeat, Set, Later, Sys, Items, Proc, Flat}
+use Rattle.vl_design.specs.Syntax.{Stm, Nop, Then, If, Case, For, Repeat, Set, Later, Sys, Proc, Flat}
 use Rattle.vl_design.specs.Width.{Scope}
-use Rattle.vl_design.specs.State.{State, sample, counted}
-use Rattle.vl_design.specs.Tasks.{called}
+use Rattle.vl_design.specs.State.{State, sample}
 use Rattle.vl_design.specs.Exec.{exec, is_true, holds, items_hold, asks}
 use Rattle.vl_design.specs.Functions.{scope_of}
 use Rattle.vl_design.specs.Queue as queue
 use Rattle.vl_design.specs.Queue.{Queue, Phase, Ended, Updated, is_init, is_rise, is_fall, with_updates, wave_ended, updates_done}
-use Rattle.vl_design.specs.Alone.{Origin, risen, blocks, falls}
-use Rattle.vl_design.specs.Acts as act
-use Rattle.vl_design.specs.Acts.{Pause, Through, AtCall, AtChoice, branch_of, upto, uptos, Point, Between, Inside, state_at, committed_at, queue_at, at_boundary, is_last, entered, entered_by, Reached, Completes, Calls, Chooses, with_block, by_pause, through_blocks, reach, Calms, Did, Act, of_wave, updates, After, acts, NextIs, Before, before}
-use Rattle.vl_design.specs.Laws.{IsUnrolledStm, IsUnrolled}
-use Rattle.sub_nodes.specs.Nodes.{Segment, still, rising, Way, WayOn, Go, Branch, Switch, Commit, Node, Run, Trap, Apply, Table}
-use Rattle.sub_nodes.specs.Implements.{Impls, bodies, behind_rise, IsTableOf}
-use Rattle.sub_nodes.specs.Cycles.{Stage, ticked, segment_done, settled, goes_on, cycled, cycle, served, served_by, is_trap, rises}
-use Rattle.sub_nodes.proofs.Steps.{Steps, Leads, step}
-use Rattle.sub_nodes.proofs.Unrolled.{statements, run_unrolled}
+use Rattle.vl_design.specs.Acts.{Pause, Through, AtCall, AtChoice, branch_of, upto, uptos, Point, Between, Inside, state_at, committed_at, queue_at, Reached, Completes, Calls, Chooses, with_block, by_pause, through_blocks, reach}
+use Rattle.sub_nodes.specs.Implements.{bodies}
+use Rattle.sub_nodes.proofs.Steps.{step}
+use Rattle.sub_nodes.proofs.Unrolled.{statements}
 
 -- ---- how far a wave goes, as one list of statements
 

@@ -1,16 +1,16 @@
 -- The node that implements statements is a segment; and what nodes of a point are.
-use Rattle.std.proofs.Common.{◌≡◌, ℕ, Bool, true, false, List, [], ◌∷◌, ◌++◌, Option, Some, None, refl, sym, ◌∙◌, ap, subst}
-use Rattle.std.specs.Prelude.{◌||◌, slice_get}
-use Rattle.vl_design.specs.Syntax.{Exp, Task, Stm, Nop, Then, If, Case, For, Repeat, Set, Later, Sys, Items, Proc, Flat}
+use Rattle.std.proofs.Common.{◌≡◌, ℕ, Bool, true, false, List, [], ◌∷◌, ◌++◌, Some, sym, ap, subst}
+use Rattle.std.specs.Prelude.{slice_get}
+use Rattle.vl_design.specs.Syntax.{Task, Stm, Nop, Then, If, Case, For, Repeat, Set, Later, Sys, Proc, Flat}
 use Rattle.vl_design.specs.Queue as queue
 use Rattle.vl_design.specs.Queue.{Queue, Phase, Ended, Updated, is_rise}
 use Rattle.vl_design.specs.Alone.{blocks}
 use Rattle.vl_design.specs.Acts.{Point, Between, Inside, at_boundary, is_last}
 use Rattle.vl_design.specs.Laws.{can_act}
-use Rattle.sub_nodes.specs.Nodes.{Segment, still, rising, and_then, Way, WayOn, Go, Branch, Switch, Commit, Node, Run, Trap, Apply, Table}
-use Rattle.sub_nodes.specs.Implements.{Whether, Impl, ImplItems, ImplDefault, Impls, bodies, IsTableOf}
+use Rattle.sub_nodes.specs.Nodes.{Segment, still, rising, and_then, WayOn, Go, Branch, Switch, Commit, Node, Run, Apply, Table}
+use Rattle.sub_nodes.specs.Implements.{Whether, Impl, Impls, bodies, IsTableOf}
 use Rattle.sub_nodes.specs.Cycles.{Stage, is_trap, rises}
-use Rattle.sub_nodes.specs.Stands.{Begins, Updates, Goes, GoesBetween, GoesFrom, Stands, StandsAtTrap}
+use Rattle.sub_nodes.specs.Stands.{Begins, GoesBetween, GoesFrom, Stands, StandsAtTrap}
 
 whether : {A B C : Type 0} (held : Bool) → (A → C) → (B → C) → Whether held A B → C
 whether true f g h = f h

@@ -1,22 +1,21 @@
 -- The splitter's nodes implement the statements, and its table the design.
-use Rattle.std.proofs.Common.{◌≡◌, ℕ, ◌+◌, ◌<◌, Bool, true, false, List, [], ◌∷◌, ◌++◌, length, Option, Some, None, refl, sym, ◌∙◌, ap, subst, arith, append_assoc, append-nil, length-append}
-use Rattle.std.specs.Prelude.{◌≢◌, ⊤, ◌||◌, slice_get, if◌then◌else◌}
+use Rattle.std.proofs.Common.{◌≡◌, ℕ, ◌+◌, ◌<◌, Bool, true, false, List, [], ◌∷◌, ◌++◌, length, Some, refl, ◌∙◌, ap, subst, arith, append_assoc, append-nil, length-append}
+use Rattle.std.specs.Prelude.{◌≢◌, if◌then◌else◌}
 use Rattle.std.proofs.Math.Seq.{get_or-append_seam}
 use Rattle.std.proofs.lemmas.Option.{slice_get-get_or}
-use Rattle.vl_design.specs.Syntax.{Exp, Exps, Task, Stm, Nop, Then, If, Case, For, Repeat, Set, Later, Sys, Items, NoItems, Labelled, Default, Proc, Flat}
-use Rattle.vl_design.specs.Exec.{asks}
+use Rattle.vl_design.specs.Syntax.{Stm, Nop, Then, If, Case, For, Repeat, Set, Later, Sys, Items, NoItems, Labelled, Default, Proc, Flat}
 use Rattle.vl_design.specs.Queue.{is_init, is_rise, is_fall}
 use Rattle.vl_design.specs.Alone.{blocks}
-use Rattle.vl_design.specs.Laws.{can_act, items_can_act}
-use Rattle.sub_nodes.specs.Nodes.{Segment, still, rising, and_then, Way, WayOn, Go, Branch, Switch, Commit, Node, Run, Trap, Apply, Table}
+use Rattle.vl_design.specs.Laws.{can_act}
+use Rattle.sub_nodes.specs.Nodes.{Segment, still, rising, and_then, Node, Apply}
 use Rattle.sub_nodes.specs.Implements.{Whether, Impl, ImplItems, ImplDefault, Impls, bodies, behind_rise, IsWave, IsTableOf}
 use Rattle.sub_nodes.specs.Code.{branches, items_nodes, code, ways, item_codes, default_code, codes, HasFrom, fall_nodes, table_of}
 
-has_front : (nodes : List Node) (n : ℕ) (a b : List Node) → HasFrom nodes n (a ++ b) → HasFrom nodes n a
+pub has_front : (nodes : List Node) (n : ℕ) (a b : List Node) → HasFrom nodes n (a ++ b) → HasFrom nodes n a
 has_front nodes n [] b h = tt
 has_front nodes n (x ∷ a) b h = (h.0, has_front nodes (n + 1) a b h.1)
 
-has_back : (nodes : List Node) (n : ℕ) (a b : List Node) → HasFrom nodes n (a ++ b) → HasFrom nodes (n + length a) b
+pub has_back : (nodes : List Node) (n : ℕ) (a b : List Node) → HasFrom nodes n (a ++ b) → HasFrom nodes (n + length a) b
 has_back nodes n [] b h = let e : n ≡ n + 0 = omega arith in subst (λ m. HasFrom nodes m b) e h
 has_back nodes n (x ∷ a) b h =
     let e : n + 1 + length a ≡ n + length (x ∷ a) = omega arith in
@@ -79,7 +78,7 @@ module _ (nodes : List Node) (u : ℕ) where
 -- ---- a design's table
 
 -- three lists of nodes behind two nodes
-three : (x y : Node) (a b c : List Node) → HasFrom (x ∷ y ∷ (a ++ (b ++ c))) 2 a × HasFrom (x ∷ y ∷ (a ++ (b ++ c))) (2 + length a) b × HasFrom (x ∷ y ∷ (a ++ (b ++ c))) (2 + length a + length b) c
+pub three : (x y : Node) (a b c : List Node) → HasFrom (x ∷ y ∷ (a ++ (b ++ c))) 2 a × HasFrom (x ∷ y ∷ (a ++ (b ++ c))) (2 + length a) b × HasFrom (x ∷ y ∷ (a ++ (b ++ c))) (2 + length a + length b) c
 three x y a b c =
     let all : HasFrom (x ∷ y ∷ (a ++ (b ++ c))) 2 (a ++ (b ++ c)) = subst (λ l. HasFrom (x ∷ y ∷ l) 2 (a ++ (b ++ c))) (append-nil (a ++ (b ++ c))) (has_all (a ++ (b ++ c)) (x ∷ y ∷ []) []) in
     let behind = has_back (x ∷ y ∷ (a ++ (b ++ c))) 2 a (b ++ c) all in

@@ -1,9 +1,7 @@
 -- A cycle of a design's table is one act, or comes to the trap of a call; and serving the trap is the act.
-use Rattle.std.proofs.Common.{◌≡◌, ℕ, suc, ◌+◌, Bool, true, false, List, [], ◌∷◌, ◌++◌, map, Option, Some, None, refl, sym, ◌∙◌, ap, subst, ◌⊎◌, inl, inr}
-use Rattle.std.specs.Prelude.{◌≢◌, All, slice_get, if◌then◌else◌}
-use Rattle.vl_base.specs.declared.files.File.{File}
-use Rattle.vl_design.specs.Syntax.{Exp, Task, Stm, Proc, Flat}
-use Rattle.vl_design.specs.Width.{Scope}
+use Rattle.std.proofs.Common.{◌≡◌, ℕ, suc, false, List, [], ◌∷◌, refl, sym, ◌∙◌, ap, subst, ◌⊎◌, inl, inr}
+use Rattle.std.specs.Prelude.{◌≢◌, All}
+use Rattle.vl_design.specs.Syntax.{Task, Stm, Proc, Flat}
 use Rattle.vl_design.specs.State.{State, counted}
 use Rattle.vl_design.specs.Tasks.{called}
 use Rattle.vl_design.specs.Functions.{scope_of}
@@ -13,11 +11,11 @@ use Rattle.vl_design.specs.Alone.{Origin, risen, blocks, falls}
 use Rattle.vl_design.specs.Acts.{Point, Between, Inside, state_at, committed_at, queue_at, uptos, entered, entered_by, Reached, Completes, Calls, Chooses, reach, Did, of_wave, updates, After, acts, NextIs, Before, before}
 use Rattle.vl_design.specs.Laws.{IsUnrolledStm, IsUnrolled}
 use Rattle.vl_design.proofs.OncePerAct.{after_once}
-use Rattle.sub_nodes.specs.Nodes.{Segment, still, rising, WayOn, Go, Branch, Switch, Commit, Node, Run, Trap, Apply, Table}
+use Rattle.sub_nodes.specs.Nodes.{Segment, still, rising, WayOn, Go, Branch, Switch, Commit, Table}
 use Rattle.sub_nodes.specs.Implements.{Impls, bodies, behind_rise, IsWave, IsTableOf}
 use Rattle.sub_nodes.specs.Cycles.{Stage, ticked, segment_done, settled, goes_on, cycled, cycle, served, served_by}
-use Rattle.sub_nodes.specs.Stands.{Begins, Updates, Goes, GoesBetween, GoesFrom, Stands, StandsAtTrap, AreNets}
-use Rattle.sub_nodes.proofs.Steps.{Steps, Leads, step}
+use Rattle.sub_nodes.specs.Stands.{Begins, Updates, GoesBetween, Stands, StandsAtTrap, AreNets}
+use Rattle.sub_nodes.proofs.Steps.{Leads, step}
 use Rattle.sub_nodes.proofs.Unrolled.{statements, run_unrolled}
 use Rattle.sub_nodes.proofs.Acts.{left_of, as_pause, InWave, reach_is, reach_in}
 
@@ -65,22 +63,35 @@ module _ (o : Origin) (T : Table) (nets : State → List (List ℕ)) (n : AreNet
   wave_goes_on {c} {p} left u ahead kept s (Commit m) (Completes q) x f ph e w up l =
       let calm = n.ended c p left q x f ph e in
       let z : Point = Between (record (wave_ended q) { state = settled o.flat o.files nets (wave_ended q).state; pending = calm.0 }) in
-      inl (z, acts x f (of_wave left ph (subst (λ r. Did o.flat o.files r z) (sym e) (_, calm.1, refl))),
+      inl (
+        z,
+        acts x f (of_wave left ph (subst (λ r. Did o.flat o.files r z) (sym e) (_, calm.1, refl))),
         record { state = ap (λ t. settled o.flat o.files nets (counted t)) l.0; committed = ap (λ t. nets (counted t)) l.0; goes = subst (λ a. Updates T a m) (sym w) (subst (λ k. Updates T ahead k) (sym l.1) up) },
-        in_wave left (Completes q) x ph e completes)
+        in_wave left (Completes q) x ph e completes,
+      )
   wave_goes_on left u ahead kept s (Go m) (Calls task q rest from committed) x f ph e w up l =
-      inr (task, Inside q rest from committed, before task q rest from committed x (record { left = left; alive = f; in_wave = ph; next = e }),
-        record { to = l.1.0; state = l.0; committed = w.2; trap = l.1.1; goes = (left_of q.phase, w.0, (u, l.1.2, subst (λ a. Updates T a u) (sym w.1) up)) })
+      inr (
+        task,
+        Inside q rest from committed,
+        before task q rest from committed x (record { left = left; alive = f; in_wave = ph; next = e }),
+        record { to = l.1.0; state = l.0; committed = w.2; trap = l.1.1; goes = (left_of q.phase, w.0, (u, l.1.2, subst (λ a. Updates T a u) (sym w.1) up)) },
+      )
   wave_goes_on left u ahead kept s (Branch t m k) (Chooses q rest from committed) x f ph e w up l =
       let z : Point = Inside (record q { state = counted q.state }) rest from committed in
-      inl (z, acts x f (of_wave left ph (subst (λ r. Did o.flat o.files r z) (sym e) refl)),
+      inl (
+        z,
+        acts x f (of_wave left ph (subst (λ r. Did o.flat o.files r z) (sym e) refl)),
         record { state = ap counted l.0; committed = w.2; goes = (left_of q.phase, w.0, (u, l.1, subst (λ a. Updates T a u) (sym w.1) up)) },
-        in_wave left (Chooses q rest from committed) x ph e chooses)
+        in_wave left (Chooses q rest from committed) x ph e chooses,
+      )
   wave_goes_on left u ahead kept s (Switch t ways other) (Chooses q rest from committed) x f ph e w up l =
       let z : Point = Inside (record q { state = counted q.state }) rest from committed in
-      inl (z, acts x f (of_wave left ph (subst (λ r. Did o.flat o.files r z) (sym e) refl)),
+      inl (
+        z,
+        acts x f (of_wave left ph (subst (λ r. Did o.flat o.files r z) (sym e) refl)),
         record { state = ap counted l.0; committed = w.2; goes = (left_of q.phase, w.0, (u, l.1, subst (λ a. Updates T a u) (sym w.1) up)) },
-        in_wave left (Chooses q rest from committed) x ph e chooses)
+        in_wave left (Chooses q rest from committed) x ph e chooses,
+      )
   wave_goes_on left u ahead kept s (Go m) (Completes q) x f ph e w up l = absurd l
   wave_goes_on left u ahead kept s (Branch t m k) (Completes q) x f ph e w up l = absurd l
   wave_goes_on left u ahead kept s (Switch t ways other) (Completes q) x f ph e w up l = absurd l
@@ -135,6 +146,8 @@ module _ (o : Origin) (T : Table) where
   pub serve_steps : {c : ℕ} {task : Task} {p : Point} (i : Stage) → Before o c task p → StandsAtTrap T task i p → (r : Point) × After o c r × Stands T (served (scope_of o.flat o.files) T.nodes i) r
   serve_steps i (before task q rest from committed x m) s =
       let scope = scope_of o.flat o.files in
-      let z : Point = Inside (record q { state = called scope task q.state }) rest from committed in
-      (z, acts x m.alive (of_wave m.left m.in_wave (subst (λ r. Did o.flat o.files r z) (sym m.next) refl)),
-        subst (λ w. Stands T (served_by scope w i) z) (sym s.trap) (record { state = ap (called scope task) s.state; committed = s.committed; goes = s.goes }))
+      let z : Point = Inside (record q { state = called scope task q.state }) rest from committed in (
+        z,
+        acts x m.alive (of_wave m.left m.in_wave (subst (λ r. Did o.flat o.files r z) (sym m.next) refl)),
+        subst (λ w. Stands T (served_by scope w i) z) (sym s.trap) (record { state = ap (called scope task) s.state; committed = s.committed; goes = s.goes }),
+      )

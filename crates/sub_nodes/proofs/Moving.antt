@@ -1,12 +1,12 @@
 -- A run by so many moves is a run.
-use Rattle.std.proofs.Common.{◌≡◌, ℕ, zero, suc, Bool, true, false, List, refl, sym, ap, subst}
+use Rattle.std.proofs.Common.{◌≡◌, ℕ, zero, suc, Bool, true, false, List, refl, subst}
 use Rattle.std.specs.Prelude.{if◌then◌else◌}
 use Rattle.vl_design.specs.State.{State}
 use Rattle.vl_design.specs.Functions.{scope_of}
 use Rattle.vl_design.specs.Alone.{Origin}
 use Rattle.sub_nodes.specs.Nodes.{Table}
 use Rattle.sub_nodes.specs.Cycles.{Stage, cycle, served}
-use Rattle.sub_nodes.specs.Stands.{at_trap, first_stage, Comes}
+use Rattle.sub_nodes.specs.Stands.{at_trap, Comes}
 use Rattle.sub_nodes.specs.Samples.{Reached, moved, moved_by, run_by, Shows}
 
 module _ (o : Origin) (T : Table) (nets : State → List (List ℕ)) where

@@ -1,15 +1,15 @@
 -- A cycle of a node that implements statements goes as far as these go before their next act.
-use Rattle.std.proofs.Common.{◌≡◌, ℕ, Bool, true, false, List, [], ◌∷◌, ◌++◌, Option, Some, None, refl, sym, ◌∙◌, ap, subst}
-use Rattle.std.specs.Prelude.{◌||◌, All, slice_get, if◌then◌else◌}
+use Rattle.std.proofs.Common.{◌≡◌, ℕ, Bool, true, false, List, [], ◌∷◌, ◌++◌, Some, refl, sym, ◌∙◌, ap, subst}
+use Rattle.std.specs.Prelude.{All, slice_get, if◌then◌else◌}
 use Rattle.std.proofs.lemmas.List.Elements.{All-head, All-tail}
 use Rattle.vl_design.specs.declared.design.Form.{Form}
-use Rattle.vl_design.specs.Syntax.{Exp, Exps, Task, Stm, Nop, Then, If, Case, For, Repeat, Set, Later, Sys, Items, NoItems, Labelled, Default}
+use Rattle.vl_design.specs.Syntax.{Exp, Stm, Nop, Then, If, Case, For, Repeat, Set, Later, Sys, Items, NoItems, Labelled, Default}
 use Rattle.vl_design.specs.Width.{Names, Scope, form}
 use Rattle.vl_design.specs.Value.{Sample, value}
 use Rattle.vl_design.specs.State.{State, sample}
 use Rattle.vl_design.specs.Exec.{exec, is_true, items_form, labels_form, some_match}
 use Rattle.vl_design.specs.Acts.{Pause, Through, AtCall, AtChoice, default_body, chosen_body, branch_of, upto, uptos}
-use Rattle.vl_design.specs.Laws.{IsUnrolledStm, can_act, items_can_act}
+use Rattle.vl_design.specs.Laws.{IsUnrolledStm, can_act}
 use Rattle.sub_nodes.specs.Nodes.{Segment, still, and_then, Way, WayOn, Go, Branch, Switch, Commit, Node, Run, Trap}
 use Rattle.sub_nodes.specs.Implements.{Whether, Impl, ImplItems, ImplDefault, Impls}
 use Rattle.sub_nodes.specs.Cycles.{ticked, ways_form, way_of, switched, execs, segment_done}

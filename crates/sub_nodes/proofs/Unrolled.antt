@@ -1,10 +1,9 @@
 -- In a run of an unrolled design each statement that is left is unrolled.
-use Rattle.std.proofs.Common.{◌≡◌, ℕ, List, [], ◌∷◌, ◌++◌, refl, subst}
+use Rattle.std.proofs.Common.{◌≡◌, ℕ, List, ◌++◌, subst}
 use Rattle.std.specs.Prelude.{⊤, All}
 use Rattle.std.proofs.lemmas.List.Elements.{All-map, All-append}
 use Rattle.vl_base.specs.declared.files.File.{File}
-use Rattle.vl_design.specs.Syntax.{Exp, Stm, Then, If, Case, Items, NoItems, Labelled, Default, Proc, Flat}
-use Rattle.vl_design.specs.State.{State}
+use Rattle.vl_design.specs.Syntax.{Stm, Items, NoItems, Labelled, Default, Proc, Flat}
 use Rattle.vl_design.specs.Queue.{Wave}
 use Rattle.vl_design.specs.Alone.{Origin}
 use Rattle.vl_design.specs.Acts.{Point, Between, Inside, queue_at, entered, After}

@@ -1,6 +1,6 @@
 -- What it means that nodes implement statements, and a table a design (own).
-use Rattle.std.specs.Prelude.{◌≡◌, ◌≢◌, ℕ, Bool, true, false, ◌||◌, List, [], ◌∷◌, map, slice_get, Option, Some, None, ⊤}
-use Rattle.vl_design.specs.Syntax.{Exp, Task, Stm, Nop, Then, If, Case, For, Repeat, Set, Later, Sys, Items, NoItems, Labelled, Default, Proc, Flat}
+use Rattle.std.specs.Prelude.{◌≡◌, ◌≢◌, ℕ, Bool, true, false, ◌||◌, List, [], ◌∷◌, map, slice_get, Some, ⊤}
+use Rattle.vl_design.specs.Syntax.{Stm, Nop, Then, If, Case, For, Repeat, Set, Later, Sys, Items, NoItems, Labelled, Default, Proc, Flat}
 use Rattle.vl_design.specs.Exec.{asks}
 use Rattle.vl_design.specs.Queue.{is_init, is_rise, is_fall}
 use Rattle.vl_design.specs.Alone.{blocks}

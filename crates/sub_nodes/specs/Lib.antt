@@ -3,4 +3,5 @@ pub mod Implements
 pub mod Code
 pub mod Cycles
 pub mod Stands
+pub mod Shape
 pub mod Samples

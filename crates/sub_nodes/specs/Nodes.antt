@@ -46,7 +46,8 @@ pub record Wave : Type 0 where
   pub first : ℕ
   pub update : ℕ
 
--- nodes by their numbers from 0, and those of the waves of time zero, of a rise and of a fall
+-- nodes by their numbers from 0, and the waves of time zero, of a rise and of a fall; where no block waits for a fall, its
+-- wave means nothing
 pub record Table : Type 0 where
   pub nodes : List Node
   pub zero : Wave

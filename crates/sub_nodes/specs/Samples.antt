@@ -1,15 +1,14 @@
 -- Small designs as tables, worked by hand, and their runs by so many moves (own).
-use Rattle.std.specs.Prelude.{◌≡◌, ℕ, zero, suc, Bool, true, false, List, [], ◌∷◌, if◌then◌else◌, slice_set, Option, Some, None, codes}
+use Rattle.std.specs.Prelude.{◌≡◌, ℕ, zero, suc, true, false, List, [], ◌∷◌, if◌then◌else◌, slice_set, codes}
 use Rattle.vl_base.specs.declared.bits.BinOp.TheVariants.{Add}
-use Rattle.vl_base.specs.Display.{LeastDecimal, Decimal}
 use Rattle.vl_design.specs.declared.design.SigKind.TheVariants.{Var}
-use Rattle.vl_design.specs.Syntax.{Num, Sig, Bin, LastAnswer, NoExps, MoreExps, Whole, Shown, Literal, Print, Finish, Fopen, Fread, Feof, Task, Stm, Nop, Then, If, Case, Set, Later, Sys, Labelled, Default, NoItems, Flat}
+use Rattle.vl_design.specs.Syntax.{Sig, Bin, NoExps, MoreExps, Whole, Literal, Print, Task, Stm, Nop, If, Case, Later, Labelled, Default, NoItems, Flat}
 use Rattle.vl_design.specs.Value.{words_of}
 use Rattle.vl_design.specs.State.{State}
 use Rattle.vl_design.specs.Functions.{scope_of}
 use Rattle.vl_design.specs.Alone.{Origin}
 use Rattle.vl_design.specs.Examples.{row, flat, rise, seq, show, number}
-use Rattle.sub_nodes.specs.Nodes.{Segment, Way, Go, Branch, Switch, Commit, Node, Run, Trap, Apply, Wave, Table}
+use Rattle.sub_nodes.specs.Nodes.{Segment, Go, Branch, Switch, Commit, Run, Trap, Apply, Table}
 use Rattle.sub_nodes.specs.Cycles.{Stage, cycle, served}
 use Rattle.sub_nodes.specs.Stands.{at_trap, first_stage, Comes}
 
@@ -92,4 +91,29 @@ branching_table = record {
   zero = record { first = 11; update = 0 };
   rise = record { first = 2; update = 1 };
   fall = record { first = 12; update = 11 };
+}
+
+-- reg [1:0] c; always @(posedge clk) begin case (c) 0: $display("A"); default: ; 1, 2: c <= 0; endcase c <= c + 1; end
+abbrev pub switching : Flat
+switching = flat (row (codes "m.c") Var 2 false ∷ [])
+    (rise (seq (Case (Sig 1) (Labelled (MoreExps (number 0) NoExps) (show (Literal (codes "A") ∷ []))
+    (Default Nop (Labelled (MoreExps (number 1) (MoreExps (number 2) NoExps)) (Later (Whole 1) (number 0)) NoItems))) ∷ more ∷ [])) ∷ [])
+
+abbrev pub switching_table : Table
+switching_table = record {
+  nodes =
+      Apply 2 ∷ Apply 2
+      ∷ Run (started []) (Switch (Sig 1)
+      (record { labels = MoreExps (number 0) NoExps; to = 3 } ∷ record { labels = MoreExps (number 1) (MoreExps (number 2) NoExps); to = 6 } ∷ []) 7)
+      -- the first item
+      ∷ Run (plain []) (Go 4) ∷ Trap (text (codes "A")) 5 ∷ Run (plain (more ∷ [])) (Commit 1)
+      -- the second
+      ∷ Run (plain (Later (Whole 1) (number 0) ∷ more ∷ [])) (Commit 1)
+      -- the default
+      ∷ Run (plain (more ∷ [])) (Commit 1)
+      ∷ Run (plain []) (Commit 0)
+      ∷ [];
+  zero = record { first = 8; update = 0 };
+  rise = record { first = 2; update = 1 };
+  fall = record { first = 9; update = 8 };
 }

@@ -10,7 +10,7 @@ use Rattle.vl_design.specs.Snapshots.{Snapshot}
 use Rattle.vl_design.specs.Alone.{Origin, start, resumed}
 use Rattle.vl_design.specs.Acts.{Point, Between, Inside, queue_at, state_at, committed_at, entered, Completes, reach, Calms, After, Before}
 use Rattle.vl_design.specs.Laws.{IsUnrolled}
-use Rattle.sub_nodes.specs.Nodes.{still, Node, Trap, Apply, Table}
+use Rattle.sub_nodes.specs.Nodes.{still, Trap, Apply, Table}
 use Rattle.sub_nodes.specs.Implements.{Impls, bodies, IsTableOf}
 use Rattle.sub_nodes.specs.Cycles.{Stage, committed_in, settled, cycle, served, is_trap}
 

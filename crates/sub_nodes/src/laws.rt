@@ -1,16 +1,19 @@
 //! What holds of the tables of designs whose loops are unrolled.
 
-ghost use Rattle.std.specs.Prelude.{◌≡◌, ◌↔◌, ℕ, suc, Bool, true, false, List, slice_get};
+ghost use Rattle.std.specs.Prelude.{◌≡◌, ◌≢◌, ◌↔◌, ◌+◌, ℕ, suc, Bool, true, false, List, [], length, slice_get, All};
 ghost use Rattle.vl_design.specs.Syntax.{Flat, Stm, Task};
 ghost use Rattle.vl_design.specs.State.{State};
 ghost use Rattle.vl_design.specs.Functions.{scope_of};
-ghost use Rattle.vl_design.specs.Alone.{Origin};
+ghost use Rattle.vl_design.specs.Queue.{is_comb, is_fall};
+ghost use Rattle.vl_design.specs.Alone.{Origin, blocks};
 ghost use Rattle.vl_design.specs.Acts.{Point, After, Before, state_at, at_boundary};
 ghost use Rattle.sub_nodes.specs.Nodes.{Node, Segment, Table};
 ghost use Rattle.sub_nodes.specs.Implements.{Impls, IsTableOf};
 ghost use Rattle.sub_nodes.specs.Code.{codes, HasFrom, table_of};
 ghost use Rattle.sub_nodes.specs.Cycles.{Stage, cycle, served, rises};
-ghost use Rattle.sub_nodes.specs.Stands.{Stands, StandsAtTrap, CanRun, Comes, IsAt, at_trap};
+ghost use Rattle.sub_nodes.specs.Shape.{IsClosed};
+ghost use Rattle.sub_nodes.specs.Stands.{Stands, StandsAtTrap, AreNets, CanRun, Comes, IsAt, at_trap};
+ghost use Rattle.sub_nodes.specs.Samples.{no_nets};
 
 /// The nodes that are made of statements implement them.
 pub fn nodes_made_of_statements_implement_them()
@@ -21,6 +24,17 @@ pub fn nodes_made_of_statements_implement_them()
 /// The table that is made of a design is a table of it.
 pub fn a_table_made_of_a_design_is_one_of_it()
     ensures { (d : Flat) → IsTableOf d (table_of d) }
+{}
+
+/// The nodes of a wave lead to nodes of the wave alone, and past its end to its update; and to a trap just the node before it
+/// leads. So it is of nodes made of statements, and of the three waves of a table made of a design.
+pub fn the_nodes_of_a_wave_are_closed()
+    ensures statements { (nodes : List Node) (update : ℕ) (rest : List Stm) (g : Segment) (n : ℕ) →
+        HasFrom nodes n (codes update rest g n) → IsClosed nodes update n (n + length (codes update rest g n)) }
+    ensures zero { (d : Flat) → IsClosed (table_of d).nodes (table_of d).zero.update (table_of d).zero.first (length (table_of d).nodes) }
+    ensures rise { (d : Flat) → IsClosed (table_of d).nodes (table_of d).rise.update (table_of d).rise.first (table_of d).fall.update }
+    ensures fall { (d : Flat) → blocks is_fall d.procs ≢ [] →
+        IsClosed (table_of d).nodes (table_of d).fall.update (table_of d).fall.first (table_of d).zero.first }
 {}
 
 /// One cycle of a table does the next act of the run alone; or, just where this is a call, it comes to the trap right before
@@ -59,4 +73,9 @@ pub fn the_clock_rises_behind_a_boundary()
     ensures rises { (d : Flat) (T : Table) (i : Stage) (p : Point) → IsTableOf d T → Stands T i p →
         rises (slice_get T.nodes i.node) ≡ at_boundary p }
     ensures none { (d : Flat) (T : Table) (i : Stage) (p : Point) → IsTableOf d T → Stands T i p → at_trap T i ≡ false }
+{}
+
+/// Where a design has no combinational process, no net settles: its runs are those of its table.
+pub fn a_design_without_nets_settles_nothing()
+    ensures { (o : Origin) → All (λ p. is_comb p.kind ≡ false) o.flat.procs → AreNets o no_nets }
 {}

@@ -71,26 +71,27 @@ abbrev pub branching : Flat
 branching = flat (row (codes "m.c") Var 8 false ∷ [])
     (rise (seq (If (Sig 1) (seq (Later (Whole 1) (number 0) ∷ show (Literal (codes "A") ∷ []) ∷ [])) Nop ∷ more ∷ show (Literal (codes "B") ∷ []) ∷ [])) ∷ [])
 
--- what stands behind the `if` stands once behind each branch
+-- the stretch behind the `if` stands once behind each branch, and what stands behind its call once
 abbrev pub branching_table : Table
 branching_table = record {
   nodes =
-      Apply 2 ∷ Apply 2
-      -- the rise, and the choice
-      ∷ Run (started []) (Branch (Sig 1) 3 8)
+      Apply 9 ∷ Apply 9
+      -- the end of the wave
+      ∷ Run (plain []) (Commit 1)
+      -- behind the first branch's call
+      ∷ Run (plain (more ∷ [])) (Go 4) ∷ Trap (text (codes "B")) 2
       -- the first branch
-      ∷ Run (plain (Later (Whole 1) (number 0) ∷ [])) (Go 4) ∷ Trap (text (codes "A")) 5
-      ∷ Run (plain (more ∷ [])) (Go 6) ∷ Trap (text (codes "B")) 7
-      ∷ Run (plain []) (Commit 1)
-      -- the second
-      ∷ Run (plain (more ∷ [])) (Go 9) ∷ Trap (text (codes "B")) 10
-      ∷ Run (plain []) (Commit 1)
+      ∷ Run (plain (Later (Whole 1) (number 0) ∷ [])) (Go 6) ∷ Trap (text (codes "A")) 3
+      -- the second branch
+      ∷ Run (plain (more ∷ [])) (Go 8) ∷ Trap (text (codes "B")) 2
+      -- the rise, and the choice
+      ∷ Run (started []) (Branch (Sig 1) 5 7)
       -- time zero
       ∷ Run (plain []) (Commit 0)
       ∷ [];
-  zero = record { first = 11; update = 0 };
-  rise = record { first = 2; update = 1 };
-  fall = record { first = 12; update = 11 };
+  zero = record { first = 10; update = 0 };
+  rise = record { first = 9; update = 1 };
+  fall = record { first = 10; update = 2 };
 }
 
 -- reg [1:0] c; always @(posedge clk) begin case (c) 0: $display("A"); default: ; 1, 2: c <= 0; endcase c <= c + 1; end
@@ -102,18 +103,21 @@ switching = flat (row (codes "m.c") Var 2 false ∷ [])
 abbrev pub switching_table : Table
 switching_table = record {
   nodes =
-      Apply 2 ∷ Apply 2
-      ∷ Run (started []) (Switch (Sig 1)
-      (record { labels = MoreExps (number 0) NoExps; to = 3 } ∷ record { labels = MoreExps (number 1) (MoreExps (number 2) NoExps); to = 6 } ∷ []) 7)
-      -- the first item
-      ∷ Run (plain []) (Go 4) ∷ Trap (text (codes "A")) 5 ∷ Run (plain (more ∷ [])) (Commit 1)
-      -- the second
+      Apply 7 ∷ Apply 7
+      -- behind the first item's call, and the item
+      ∷ Run (plain (more ∷ [])) (Commit 1)
+      ∷ Run (plain []) (Go 4) ∷ Trap (text (codes "A")) 2
+      -- the second item
       ∷ Run (plain (Later (Whole 1) (number 0) ∷ more ∷ [])) (Commit 1)
       -- the default
       ∷ Run (plain (more ∷ [])) (Commit 1)
+      -- the rise, and the choice
+      ∷ Run (started []) (Switch (Sig 1)
+        (record { labels = MoreExps (number 0) NoExps; to = 3 } ∷ record { labels = MoreExps (number 1) (MoreExps (number 2) NoExps); to = 5 } ∷ []) 6)
+      -- time zero
       ∷ Run (plain []) (Commit 0)
       ∷ [];
   zero = record { first = 8; update = 0 };
-  rise = record { first = 2; update = 1 };
-  fall = record { first = 9; update = 8 };
+  rise = record { first = 7; update = 1 };
+  fall = record { first = 8; update = 2 };
 }

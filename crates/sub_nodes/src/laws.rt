@@ -9,32 +9,21 @@ ghost use Rattle.vl_design.specs.Alone.{Origin, blocks};
 ghost use Rattle.vl_design.specs.Acts.{Point, After, Before, state_at, at_boundary};
 ghost use Rattle.sub_nodes.specs.Nodes.{Node, Segment, Table};
 ghost use Rattle.sub_nodes.specs.Implements.{Impls, IsTableOf};
-ghost use Rattle.sub_nodes.specs.Code.{codes, HasFrom, table_of};
+ghost use Rattle.sub_nodes.specs.Code.{HasFrom, wave_nodes, wave_first, table_of};
 ghost use Rattle.sub_nodes.specs.Cycles.{Stage, cycle, served, rises};
 ghost use Rattle.sub_nodes.specs.Shape.{IsClosed};
 ghost use Rattle.sub_nodes.specs.Stands.{Stands, StandsAtTrap, AreNets, CanRun, Comes, IsAt, at_trap};
 ghost use Rattle.sub_nodes.specs.Samples.{no_nets};
 
-/// The nodes that are made of statements implement them.
-pub fn nodes_made_of_statements_implement_them()
-    ensures { (nodes : List Node) (update : ℕ) (rest : List Stm) (g : Segment) (n : ℕ) →
-        HasFrom nodes n (codes update rest g n) → Impls nodes update rest g n }
+/// The nodes that statements of a wave are split into implement them.
+pub fn the_nodes_of_statements_implement_them()
+    ensures { (nodes : List Node) (from update : ℕ) (xs : List Stm) (g : Segment) → HasFrom nodes from (wave_nodes from update xs g) →
+        Impls nodes update xs g (wave_first from update xs) }
 {}
 
 /// The table that is made of a design is a table of it.
 pub fn a_table_made_of_a_design_is_one_of_it()
     ensures { (d : Flat) → IsTableOf d (table_of d) }
-{}
-
-/// The nodes of a wave lead to nodes of the wave alone, and past its end to its update; and to a trap just the node before it
-/// leads. So it is of nodes made of statements, and of the three waves of a table made of a design.
-pub fn the_nodes_of_a_wave_are_closed()
-    ensures statements { (nodes : List Node) (update : ℕ) (rest : List Stm) (g : Segment) (n : ℕ) →
-        HasFrom nodes n (codes update rest g n) → IsClosed nodes update n (n + length (codes update rest g n)) }
-    ensures zero { (d : Flat) → IsClosed (table_of d).nodes (table_of d).zero.update (table_of d).zero.first (length (table_of d).nodes) }
-    ensures rise { (d : Flat) → IsClosed (table_of d).nodes (table_of d).rise.update (table_of d).rise.first (table_of d).fall.update }
-    ensures fall { (d : Flat) → blocks is_fall d.procs ≢ [] →
-        IsClosed (table_of d).nodes (table_of d).fall.update (table_of d).fall.first (table_of d).zero.first }
 {}
 
 /// One cycle of a table does the next act of the run alone; or, just where this is a call, it comes to the trap right before

@@ -4,6 +4,7 @@ pub mod Coded
 pub mod Unrolled
 pub mod Acts
 pub mod Beginning
+pub mod Closing
 pub mod Cycles
 pub mod Runs
 pub mod Moving

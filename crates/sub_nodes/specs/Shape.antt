@@ -1,7 +1,7 @@
 -- How the nodes of a wave lead on (own).
 use Rattle.std.specs.Prelude.{◌≡◌, ℕ, ◌+◌, ◌<◌, ◌≤◌, ◌==◌, Bool, true, List, [], ◌∷◌, map, slice_get, Some}
 use Rattle.std.specs.List.{list_any}
-use Rattle.sub_nodes.specs.Nodes.{Segment, Go, Branch, Switch, Commit, Node, Run, Trap, Apply}
+use Rattle.sub_nodes.specs.Nodes.{Segment, Go, Branch, Switch, Commit, Node, Run, Trap, Apply, Wave}
 use Rattle.sub_nodes.specs.Cycles.{is_trap}
 
 -- the nodes that a node leads to, but past the end of a wave
@@ -26,3 +26,11 @@ pub record IsClosed (nodes : List Node) (update low high : ℕ) : Type 0 where
   pub ends : (n to : ℕ) (g : Segment) → low ≤ n → n < high → slice_get nodes n ≡ Some (Run g (Commit to)) → to ≡ update
   -- and none is an update
   pub none : (n to : ℕ) → low ≤ n → n < high → slice_get nodes n ≡ Some (Apply to) → ⊥
+
+-- some nodes, among them its first one, are the wave's
+pub record IsApart (nodes : List Node) (wave : Wave) : Type 0 where
+  pub low : ℕ
+  pub high : ℕ
+  pub above : low ≤ wave.first
+  pub below : wave.first < high
+  pub closed : IsClosed nodes wave.update low high

@@ -11,7 +11,7 @@ ghost use Rattle.sub_nodes.specs.Nodes.{Node, Segment, Table};
 ghost use Rattle.sub_nodes.specs.Implements.{Impls, IsTableOf};
 ghost use Rattle.sub_nodes.specs.Code.{HasFrom, wave_nodes, wave_first, table_of};
 ghost use Rattle.sub_nodes.specs.Cycles.{Stage, cycle, served, rises};
-ghost use Rattle.sub_nodes.specs.Shape.{IsClosed};
+ghost use Rattle.sub_nodes.specs.Shape.{IsClosed, IsApart};
 ghost use Rattle.sub_nodes.specs.Stands.{Stands, StandsAtTrap, AreNets, CanRun, Comes, IsAt, at_trap};
 ghost use Rattle.sub_nodes.specs.Samples.{no_nets};
 
@@ -24,6 +24,16 @@ pub fn the_nodes_of_statements_implement_them()
 /// The table that is made of a design is a table of it.
 pub fn a_table_made_of_a_design_is_one_of_it()
     ensures { (d : Flat) → IsTableOf d (table_of d) }
+{}
+
+/// The nodes of a wave lead to nodes of the wave alone, and past its end to its update; to a trap just the node before it leads.
+/// So it is where statements of a wave are split, and of the waves of a table that is made of a design.
+pub fn the_nodes_of_a_wave_are_closed()
+    ensures statements { (nodes : List Node) (from update : ℕ) (xs : List Stm) (g : Segment) → HasFrom nodes from (wave_nodes from update xs g) →
+        IsClosed nodes update from (from + length (wave_nodes from update xs g)) }
+    ensures zero { (d : Flat) → IsApart (table_of d).nodes (table_of d).zero }
+    ensures rise { (d : Flat) → IsApart (table_of d).nodes (table_of d).rise }
+    ensures fall { (d : Flat) → blocks is_fall d.procs ≢ [] → IsApart (table_of d).nodes (table_of d).fall }
 {}
 
 /// One cycle of a table does the next act of the run alone; or, just where this is a call, it comes to the trap right before

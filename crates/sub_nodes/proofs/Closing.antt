@@ -1,6 +1,6 @@
 -- The nodes of a wave lead to nodes of the wave, and to a trap just the one before it.
 use Rattle.std.proofs.Common.{◌≡◌, ◌≢◌, ℕ, ◌+◌, ◌<◌, ◌≤◌, Bool, true, false, List, [], ◌∷◌, ◌++◌, map, length, Some, refl, sym, ◌∙◌, ap, subst, arith, length-append, ◌⊎◌, inl, inr}
-use Rattle.std.specs.Prelude.{⊤, ◌||◌, ◌==◌, slice_get, if◌then◌else◌}
+use Rattle.std.specs.Prelude.{⊤, ◌||◌, ◌==◌, slice_get}
 use Rattle.std.specs.List.{list_any}
 use Rattle.std.proofs.lemmas.Bool.{eqb-true, eq-eqb}
 use Rattle.vl_design.specs.Syntax.{Exp, Task, Stm, Nop, Then, If, Case, For, Repeat, Set, Later, Sys, Items, NoItems, Labelled, Default, Proc, Flat}
@@ -8,8 +8,8 @@ use Rattle.vl_design.specs.Queue.{is_init, is_rise, is_fall}
 use Rattle.vl_design.specs.Alone.{blocks}
 use Rattle.vl_design.specs.Laws.{can_act}
 use Rattle.vl_design.proofs.Running.{some_is}
-use Rattle.sub_nodes.specs.Nodes.{Segment, still, rising, and_then, Way, WayOn, Go, Branch, Switch, Commit, Node, Run, Trap, Apply}
-use Rattle.sub_nodes.specs.Implements.{bodies, behind_rise}
+use Rattle.sub_nodes.specs.Nodes.{Segment, still, rising, Way, WayOn, Go, Branch, Switch, Commit, Node, Run, Trap, Apply}
+use Rattle.sub_nodes.specs.Implements.{bodies}
 use Rattle.sub_nodes.specs.Code.{HasFrom, Next, Calls, Leads, Head, and_all, next_nodes, head_nodes, Made, before, leading, number, placed, chosen, switching, split, split_items, split_default, split_all, wave_made, wave_nodes, wave_first, fall_nodes, updates, table_of}
 use Rattle.sub_nodes.specs.Cycles.{is_trap}
 use Rattle.sub_nodes.specs.Shape.{leads_to, IsClosed, IsApart}

@@ -1,16 +1,15 @@
 -- The nodes that statements are split into implement them, and a design's table the design.
-use Rattle.std.proofs.Common.{◌≡◌, ℕ, ◌+◌, ◌<◌, Bool, true, false, List, [], ◌∷◌, ◌++◌, length, Option, Some, None, refl, sym, ◌∙◌, ap, subst, arith, append_assoc, append-nil, length-append}
-use Rattle.std.specs.Prelude.{◌≢◌, ⊤, ◌||◌, slice_get, if◌then◌else◌}
+use Rattle.std.proofs.Common.{◌≡◌, ℕ, ◌+◌, ◌<◌, Bool, true, false, List, [], ◌∷◌, ◌++◌, length, Some, refl, sym, ◌∙◌, ap, subst, arith, append_assoc, append-nil, length-append}
+use Rattle.std.specs.Prelude.{◌≢◌, slice_get, if◌then◌else◌}
 use Rattle.std.proofs.Math.Seq.{get_or-append_seam}
 use Rattle.std.proofs.lemmas.Option.{slice_get-get_or}
-use Rattle.vl_design.specs.Syntax.{Exp, Exps, Task, Stm, Nop, Then, If, Case, For, Repeat, Set, Later, Sys, Items, NoItems, Labelled, Default, Proc, Flat}
-use Rattle.vl_design.specs.Exec.{asks}
+use Rattle.vl_design.specs.Syntax.{Stm, Nop, Then, If, Case, For, Repeat, Set, Later, Sys, Items, NoItems, Labelled, Default, Proc, Flat}
 use Rattle.vl_design.specs.Queue.{is_init, is_rise, is_fall}
 use Rattle.vl_design.specs.Alone.{blocks}
-use Rattle.vl_design.specs.Laws.{can_act, items_can_act}
-use Rattle.sub_nodes.specs.Nodes.{Segment, still, rising, and_then, Way, WayOn, Go, Branch, Switch, Commit, Node, Run, Trap, Apply, Table}
-use Rattle.sub_nodes.specs.Implements.{Whether, Impl, ImplItems, ImplDefault, Impls, bodies, behind_rise, IsWave, IsTableOf}
-use Rattle.sub_nodes.specs.Code.{HasFrom, Next, Calls, Leads, Head, and_all, next_nodes, head_nodes, Made, before, leading, number, placed, chosen, switching, split, split_items, split_default, split_all, wave_made, wave_nodes, wave_first, fall_nodes, updates, table_of}
+use Rattle.vl_design.specs.Laws.{can_act}
+use Rattle.sub_nodes.specs.Nodes.{Segment, still, rising, and_then, Commit, Node, Apply}
+use Rattle.sub_nodes.specs.Implements.{Whether, Impl, ImplItems, ImplDefault, Impls, bodies, behind_rise, IsTableOf}
+use Rattle.sub_nodes.specs.Code.{HasFrom, Head, head_nodes, Made, before, leading, number, placed, chosen, switching, split, split_items, split_default, split_all, wave_made, wave_nodes, wave_first, fall_nodes, updates, table_of}
 
 pub has_front : (nodes : List Node) (n : ℕ) (a b : List Node) → HasFrom nodes n (a ++ b) → HasFrom nodes n a
 has_front nodes n [] b h = tt
@@ -101,19 +100,26 @@ module _ (nodes : List Node) (from : ℕ) where
         let y = split from b m' in
         by_test (λ z. Has z.nodes × HasFrom nodes n (head_nodes z.head g n)) (can_act (If t a b)) (chosen from t x.head y) (before (If t a b) m)
         (λ k. (let first = has_front nodes from (placed from y.nodes x.head) _ k.0 in
-        let second = has_front nodes from y.nodes _ first in
-        (number from y.nodes, number from (placed from y.nodes x.head), k.1.0,
-        placed_heads y.nodes x.head (Impl nodes a K) first (split_heads a K m (earlier from Has (has_front nodes from) b m' second) f),
-        placed_heads (placed from y.nodes x.head) y.head (Impl nodes b K) k.0 (split_heads b K m' second f))))
+        let second = has_front nodes from y.nodes _ first in (
+          number from y.nodes,
+          number from (placed from y.nodes x.head),
+          k.1.0,
+          placed_heads y.nodes x.head (Impl nodes a K) first (split_heads a K m (earlier from Has (has_front nodes from) b m' second) f),
+          placed_heads (placed from y.nodes x.head) y.head (Impl nodes b K) k.0 (split_heads b K m' second f),
+        )))
         (λ k. f (and_then g (If t a b)) n k.1) (e, h)
     split_heads (Case s items) K m e f g n h =
         let i = split_items from items m in
         let m' : Made = record m { nodes = i.nodes } in
         let y = split_default from items m' in
         by_test (λ z. Has z.nodes × HasFrom nodes n (head_nodes z.head g n)) (can_act (Case s items)) (switching from s i.ways y) (before (Case s items) m)
-        (λ k. (let first = has_front nodes from y.nodes _ k.0 in
-        (i.ways, number from y.nodes, k.1.0, items_head items K m (default_earlier from Has (has_front nodes from) items m' first) f,
-        default_heads items K m' (number from y.nodes) first f (has_back nodes from y.nodes _ k.0))))
+        (λ k. (let first = has_front nodes from y.nodes _ k.0 in (
+          i.ways,
+          number from y.nodes,
+          k.1.0,
+          items_head items K m (default_earlier from Has (has_front nodes from) items m' first) f,
+          default_heads items K m' (number from y.nodes) first f (has_back nodes from y.nodes _ k.0),
+        )))
         (λ k. f (and_then g (Case s items)) n k.1) (e, h)
     split_heads (For v start test step a) K m e f g n h = f (and_then g (For v start test step a)) n h
     split_heads (Repeat k a) K m e f g n h = f (and_then g (Repeat k a)) n h

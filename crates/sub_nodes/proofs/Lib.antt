@@ -5,6 +5,7 @@ pub mod Unrolled
 pub mod Acts
 pub mod Beginning
 pub mod Closing
+pub mod Counting
 pub mod Cycles
 pub mod Runs
 pub mod Moving

@@ -7,7 +7,7 @@ use Rattle.vl_design.specs.Queue.{is_init, is_rise, is_fall}
 use Rattle.vl_design.specs.Alone.{blocks}
 use Rattle.vl_design.specs.Laws.{can_act, items_can_act}
 use Rattle.sub_nodes.specs.Nodes.{Segment, still, rising, and_then, Way, WayOn, Go, Branch, Switch, Commit, Node, Run, Trap, Apply, Table}
-use Rattle.sub_nodes.specs.Implements.{bodies, behind_rise}
+use Rattle.sub_nodes.specs.Implements.{bodies}
 
 -- these nodes stand from number n on
 abbrev pub HasFrom : List Node → ℕ → List Node → Type 0

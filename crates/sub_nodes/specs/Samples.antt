@@ -113,7 +113,7 @@ switching_table = record {
       ∷ Run (plain (more ∷ [])) (Commit 1)
       -- the rise, and the choice
       ∷ Run (started []) (Switch (Sig 1)
-        (record { labels = MoreExps (number 0) NoExps; to = 3 } ∷ record { labels = MoreExps (number 1) (MoreExps (number 2) NoExps); to = 5 } ∷ []) 6)
+      (record { labels = MoreExps (number 0) NoExps; to = 3 } ∷ record { labels = MoreExps (number 1) (MoreExps (number 2) NoExps); to = 5 } ∷ []) 6)
       -- time zero
       ∷ Run (plain []) (Commit 0)
       ∷ [];

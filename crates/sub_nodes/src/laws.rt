@@ -1,6 +1,6 @@
 //! What holds of the tables of designs whose loops are unrolled.
 
-ghost use Rattle.std.specs.Prelude.{◌≡◌, ◌≢◌, ◌↔◌, ◌+◌, ℕ, suc, Bool, true, false, List, [], length, slice_get, All};
+ghost use Rattle.std.specs.Prelude.{◌≡◌, ◌≢◌, ◌↔◌, ◌+◌, ◌*◌, ◌≤◌, ℕ, suc, Bool, true, false, List, [], length, slice_get, All};
 ghost use Rattle.vl_design.specs.Syntax.{Flat, Stm, Task};
 ghost use Rattle.vl_design.specs.State.{State};
 ghost use Rattle.vl_design.specs.Functions.{scope_of};
@@ -11,7 +11,7 @@ ghost use Rattle.sub_nodes.specs.Nodes.{Node, Segment, Table};
 ghost use Rattle.sub_nodes.specs.Implements.{Impls, IsTableOf};
 ghost use Rattle.sub_nodes.specs.Code.{HasFrom, wave_nodes, wave_first, table_of};
 ghost use Rattle.sub_nodes.specs.Cycles.{Stage, cycle, served, rises};
-ghost use Rattle.sub_nodes.specs.Shape.{IsClosed, IsApart};
+ghost use Rattle.sub_nodes.specs.Shape.{IsClosed, IsApart, all_cuts};
 ghost use Rattle.sub_nodes.specs.Stands.{Stands, StandsAtTrap, AreNets, CanRun, Comes, IsAt, at_trap};
 ghost use Rattle.sub_nodes.specs.Samples.{no_nets};
 
@@ -34,6 +34,12 @@ pub fn the_nodes_of_a_wave_are_closed()
     ensures zero { (d : Flat) → IsApart (table_of d).nodes (table_of d).zero }
     ensures rise { (d : Flat) → IsApart (table_of d).nodes (table_of d).rise }
     ensures fall { (d : Flat) → blocks is_fall d.procs ≢ [] → IsApart (table_of d).nodes (table_of d).fall }
+{}
+
+/// The nodes of a wave are at most two for each of its calls and for each branch of a choice that holds one, and two: what
+/// stands behind a choice isn't multiplied.
+pub fn the_nodes_of_a_wave_are_few()
+    ensures { (from update : ℕ) (xs : List Stm) (g : Segment) → length (wave_nodes from update xs g) ≤ 2 * all_cuts xs + 2 }
 {}
 
 /// One cycle of a table does the next act of the run alone; or, just where this is a call, it comes to the trap right before

@@ -8,5 +8,6 @@ pub mod Closing
 pub mod Counting
 pub mod Cycles
 pub mod Runs
+pub mod Boundaries
 pub mod Moving
 pub mod Netless

@@ -4,8 +4,9 @@ ghost use Rattle.std.specs.Prelude.{◌≡◌, ◌≢◌, ◌↔◌, ◌+◌, �
 ghost use Rattle.vl_design.specs.Syntax.{Flat, Stm, Task};
 ghost use Rattle.vl_design.specs.State.{State};
 ghost use Rattle.vl_design.specs.Functions.{scope_of};
-ghost use Rattle.vl_design.specs.Queue.{is_comb, is_fall};
-ghost use Rattle.vl_design.specs.Alone.{Origin, blocks};
+ghost use Rattle.vl_design.specs.Queue.{Queue, is_comb, is_fall};
+ghost use Rattle.vl_design.specs.Alone.{Origin, Boundary, blocks};
+ghost use Rattle.vl_design.specs.Laws.{HasQuietNets};
 ghost use Rattle.vl_design.specs.Acts.{Point, After, Before, state_at, at_boundary};
 ghost use Rattle.sub_nodes.specs.Nodes.{Node, Segment, Table};
 ghost use Rattle.sub_nodes.specs.Implements.{Impls, IsTableOf};
@@ -71,6 +72,13 @@ pub fn a_run_of_a_table_stands_for_the_run_alone()
 pub fn a_run_of_a_table_comes_to_each_point()
     ensures { (o : Origin) (T : Table) (nets : State → List (List ℕ)) (c : ℕ) (p : Point) → CanRun o T nets → After o c p →
         (i : Stage) × Comes o T nets c i × Stands T i p }
+{}
+
+/// At each boundary the run of a table is in the state of the run alone, after as many acts as this has counted, and the clock
+/// rises next unless the run has finished; where no combinational process holds a system call.
+pub fn a_run_of_a_table_comes_to_each_boundary()
+    ensures { (o : Origin) (T : Table) (nets : State → List (List ℕ)) (k : ℕ) (q : Queue) → CanRun o T nets → HasQuietNets o.flat → Boundary o k q →
+        (i : Stage) × Comes o T nets q.state.count i × (i.state ≡ q.state) × (q.state.finished ≡ false → rises (slice_get T.nodes i.node) ≡ true) }
 {}
 
 /// The clock rises next just where the run is at a boundary; and at no point is it at a trap.

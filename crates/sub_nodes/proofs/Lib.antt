@@ -6,6 +6,7 @@ pub mod Acts
 pub mod Beginning
 pub mod Closing
 pub mod Counting
+pub mod Rising
 pub mod Cycles
 pub mod Runs
 pub mod Boundaries

@@ -88,6 +88,12 @@ pub fn the_clock_rises_behind_a_boundary()
     ensures none { (d : Flat) (T : Table) (i : Stage) (p : Point) → IsTableOf d T → Stands T i p → at_trap T i ≡ false }
 {}
 
+/// Of a table that is made of a design just one node rises, the first one of a rise's wave: so a run is at a boundary where
+/// this is next.
+pub fn one_node_rises()
+    ensures { (d : Flat) (n : ℕ) → (rises (slice_get (table_of d).nodes n) ≡ true) ↔ (n ≡ (table_of d).rise.first) }
+{}
+
 /// Where a design has no combinational process, no net settles: its runs are those of its table.
 pub fn a_design_without_nets_settles_nothing()
     ensures { (o : Origin) → All (λ p. is_comb p.kind ≡ false) o.flat.procs → AreNets o no_nets }

@@ -1,10 +1,10 @@
 -- Of a table that is made of a design one node rises.
-use Rattle.std.proofs.Common.{◌≡◌, ℕ, zero, suc, ◌+◌, Bool, true, false, List, [], ◌∷◌, ◌++◌, length, Option, Some, None, refl, sym, ◌∙◌, ap, subst, arith}
-use Rattle.std.specs.Prelude.{⊤, slice_get, if◌then◌else◌}
-use Rattle.vl_design.specs.Syntax.{Exp, Exps, Stm, Nop, Then, If, Case, For, Repeat, Set, Later, Sys, Items, NoItems, Labelled, Default, Proc, Flat}
+use Rattle.std.proofs.Common.{◌≡◌, ℕ, zero, suc, ◌+◌, true, false, List, [], ◌∷◌, ◌++◌, length, Some, refl, sym, ◌∙◌, subst, arith}
+use Rattle.std.specs.Prelude.{⊤, slice_get}
+use Rattle.vl_design.specs.Syntax.{Stm, Nop, Then, If, Case, For, Repeat, Set, Later, Sys, Items, NoItems, Labelled, Default, Proc, Flat}
 use Rattle.vl_design.specs.Queue.{is_init, is_rise, is_fall}
 use Rattle.vl_design.specs.Alone.{blocks}
-use Rattle.vl_design.specs.Laws.{can_act, items_can_act}
+use Rattle.vl_design.specs.Laws.{can_act}
 use Rattle.sub_nodes.specs.Nodes.{Segment, still, rising, and_then, Node, Commit}
 use Rattle.sub_nodes.specs.Implements.{bodies}
 use Rattle.sub_nodes.specs.Code.{Next, Calls, Leads, Head, and_all, next_nodes, head_nodes, Made, before, leading, number, placed, chosen, switching, split, split_items, split_default, split_all, wave_made, wave_nodes, wave_first, fall_nodes, updates, table_of}
@@ -128,7 +128,7 @@ rises_once d n h =
     let over = updates falls k T.fall.first in
     let e : 0 + length over ≡ from = (let f = updates_many falls k T.fall.first in omega (arith, f)) in
     let rest : OnlyAt k from (up ++ (down ++ first)) =
-        only_both k from up (down ++ first) (wave_only from 1 ups rising) (calm_only k _ (down ++ first) (calm_both down first (fall_calm (from + length up) falls) (wave_calm (from + length up + length down) 0 inits))) in
+    only_both k from up (down ++ first) (wave_only from 1 ups rising) (calm_only k _ (down ++ first) (calm_both down first (fall_calm (from + length up) falls) (wave_calm (from + length up + length down) 0 inits))) in
     let all : OnlyAt k 0 T.nodes = only_both k 0 over (up ++ (down ++ first)) (calm_only k 0 over (updates_calm falls k T.fall.first)) (subst (λ j. OnlyAt k j (up ++ (down ++ first))) (sym e) rest) in
     let at = only_there k 0 T.nodes n all h in
     omega (arith, at)

@@ -1,0 +1,14 @@
+pub mod Holding
+pub mod Steps
+pub mod Coded
+pub mod Unrolled
+pub mod Acts
+pub mod Beginning
+pub mod Closing
+pub mod Counting
+pub mod Rising
+pub mod Cycles
+pub mod Runs
+pub mod Boundaries
+pub mod Moving
+pub mod Netless

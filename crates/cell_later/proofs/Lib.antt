@@ -1,0 +1,3 @@
+pub mod Masking
+pub mod Keeping
+pub mod Delaying

@@ -1,12 +1,11 @@
 -- One update that is made pending (IEEE 1364-2005, clause 9.2.2).
-use Rattle.std.proofs.Common.{◌≡◌, ◌≢◌, ℕ, ◌+◌, ◌-◌, ◌%◌, ◌^◌, ◌<◌, ◌≤◌, Bool, true, false, List, [], ◌∷◌, ◌++◌, length, Option, Some, None, refl, sym, ap, ◌∙◌, arith, subst}
-use Rattle.std.specs.Prelude.{ℤ, ◌==◌, if◌then◌else◌, slice_index, slice_set}
+use Rattle.std.proofs.Common.{◌≡◌, ◌≢◌, ℕ, ◌-◌, ◌%◌, ◌^◌, ◌<◌, ◌≤◌, Bool, true, false, List, [], ◌∷◌, ◌++◌, length, Option, Some, refl, sym, ap, ◌∙◌, arith, subst}
+use Rattle.std.specs.Prelude.{◌==◌, if◌then◌else◌, slice_index, slice_set}
 use Rattle.std.proofs.lemmas.List.{length-set}
 use Rattle.vl_base.specs.Selects.{placed}
-use Rattle.vl_design.specs.Syntax.{Row}
 use Rattle.vl_design.specs.Width.{Names, signal_form}
 use Rattle.vl_design.specs.Value.{words_of, value_of}
-use Rattle.vl_design.specs.Sound.{IsSignal, IsMemory}
+use Rattle.vl_design.specs.Sound.{IsSignal}
 use Rattle.vl_design.specs.State.{Update, with_update, all_updated}
 use Rattle.vl_design.specs.Laws.{IsFine}
 use Rattle.vl_design.proofs.Kept.{words_other}
@@ -14,18 +13,17 @@ use Rattle.vl_design.proofs.Ranging.{updates_in_range}
 use Rattle.vl_design.proofs.Shaping.{all_shape, shape_on}
 use Rattle.cell_form.specs.Cycle.{masked}
 use Rattle.cell_form.specs.Data.{ListData, BankData}
-use Rattle.cell_form.specs.Sound.{Shape}
-use Rattle.cell_steps.specs.Slots.{held, width_at, IsIn, AreSound, Grows, Longer, Gives, Nothing}
+use Rattle.cell_steps.specs.Slots.{held, width_at, IsIn, Grows, Gives, Nothing}
 use Rattle.cell_steps.proofs.Frames.{held-fits, held-stays, width-stays, longer-grows, longer-then, grows-then, gives-as}
-use Rattle.cell_paths.specs.Envs.{IsSlot, IsEntry, held_or, HasOneWord}
+use Rattle.cell_paths.specs.Envs.{IsSlot, IsEntry, held_or}
 use Rattle.cell_paths.specs.Paths.{Low, IsLow, low_in, update_in, written_in}
 use Rattle.cell_paths.proofs.Staying.{is-slot-stays, held-or-stays, memory-other}
 use Rattle.cell_paths.proofs.Walking.{low-stays}
 use Rattle.cell_paths.proofs.Assigning.{one-long, updated-value, same-placed, is-or-not}
-use Rattle.cell_later.specs.Pendings.{PendingSlots, slot_of, ArePending, settled, stored, Pends}
-use Rattle.cell_later.specs.Delays.{IsDelayable, with_later, Delays}
+use Rattle.cell_later.specs.Pendings.{PendingSlots, slot_of, ArePending, settled, Pends}
+use Rattle.cell_later.specs.Delays.{IsDelayable, Delays}
 use Rattle.cell_later.proofs.Masking.{masked-placed, cut-ones}
-use Rattle.cell_later.proofs.Keeping.{pending-stays, stored-stay, settled-stays, pends-stays, updated-more, slot-here, slot-other}
+use Rattle.cell_later.proofs.Keeping.{pending-stays, stored-stay, settled-stays, updated-more, slot-here, slot-other}
 
 -- what is written, said of earlier slots
 written-stays : (b : BankData) (old new : ListData) (w : ℕ) (e : Option ℕ) (low : Low) (part off : ℕ) → Grows old new → IsEntry old w e → IsLow old low → IsIn old part → IsIn old off →

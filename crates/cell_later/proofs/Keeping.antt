@@ -1,18 +1,17 @@
 -- What stays of pending updates when cells are added, and what one update more makes of values.
-use Rattle.std.proofs.Common.{◌≡◌, ◌≢◌, ℕ, zero, suc, ◌+◌, ◌-◌, ◌^◌, ◌<◌, ◌≤◌, Bool, true, false, List, [], ◌∷◌, ◌++◌, length, Option, Some, None, refl, sym, ap, ◌∙◌, arith, subst}
-use Rattle.std.specs.Prelude.{All, ◌==◌, not, ◌&&◌, if◌then◌else◌, slice_index, slice_index_or, slice_set, nat_eq}
+use Rattle.std.proofs.Common.{◌≡◌, ◌≢◌, ℕ, zero, suc, ◌<◌, List, [], ◌∷◌, ◌++◌, length, Option, Some, None, refl, sym, ap, ◌∙◌, arith}
+use Rattle.std.specs.Prelude.{All, ◌==◌, not, ◌&&◌, if◌then◌else◌, slice_index, slice_index_or, slice_set}
 use Rattle.std.proofs.lemmas.List.{get_or-set_same, get_or-set_other}
 use Rattle.vl_design.specs.Syntax.{Row}
 use Rattle.vl_design.specs.Width.{Names, signal_form}
 use Rattle.vl_design.specs.Value.{words_of, value_of}
-use Rattle.vl_design.specs.Sound.{IsSignal, IsMemory}
+use Rattle.vl_design.specs.Sound.{IsSignal}
 use Rattle.vl_design.specs.State.{Update, with_update, all_updated}
-use Rattle.vl_design.specs.Laws.{IsFine}
 use Rattle.cell_form.specs.Cycle.{masked}
 use Rattle.cell_form.specs.Data.{ListData, BankData}
 use Rattle.cell_steps.specs.Slots.{held, Grows}
 use Rattle.cell_steps.proofs.Frames.{held-stays}
-use Rattle.cell_paths.specs.Envs.{IsEntry, held_or}
+use Rattle.cell_paths.specs.Envs.{held_or}
 use Rattle.cell_paths.proofs.Staying.{is-slot-stays, entry-stays, held-or-stays}
 use Rattle.cell_later.specs.declared.pending.Site.{Site}
 use Rattle.cell_later.specs.Pendings.{PendingSlots, slot_of, IsSite, ArePending, settled, hits, stored, Pends}

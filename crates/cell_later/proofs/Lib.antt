@@ -1,3 +1,4 @@
 pub mod Masking
 pub mod Keeping
 pub mod Delaying
+pub mod Leaving

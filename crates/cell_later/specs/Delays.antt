@@ -1,13 +1,16 @@
 -- That cells make updates pending where a path is taken (IEEE 1364-2005, clause 9.2.2).
-use Rattle.std.specs.Prelude.{◌≡◌, ℕ, ◌<◌, ◌==◌, if◌then◌else◌, false, List, [], ◌∷◌, ◌++◌, length}
-use Rattle.vl_design.specs.Width.{Names, signal_form}
+use Rattle.std.specs.Prelude.{◌≡◌, ℕ, ◌<◌, ◌==◌, if◌then◌else◌, false, List, ◌++◌, length}
+use Rattle.vl_design.specs.declared.design.Form.{Form}
+use Rattle.vl_design.specs.Syntax.{Items}
+use Rattle.vl_design.specs.Width.{Names, Scope, signal_form}
 use Rattle.vl_design.specs.Sound.{IsSignal}
 use Rattle.vl_design.specs.State.{State, Update, sample}
 use Rattle.cell_form.specs.Data.{ListData, BankData}
 use Rattle.cell_form.specs.Sound.{Shape}
 use Rattle.cell_steps.specs.Slots.{held, AreSound, Longer, Nothing}
 use Rattle.cell_paths.specs.Envs.{Env, HasOneWord, Stands}
-use Rattle.cell_paths.specs.Paths.{on, Low, update_in}
+use Rattle.cell_paths.specs.Paths.{on}
+use Rattle.cell_paths.specs.Cases.{Went}
 use Rattle.cell_later.specs.Pendings.{PendingSlots, ArePending, Pends}
 
 -- a signal of so many bits that has an entry
@@ -35,3 +38,11 @@ pub record Leaves (names : Names) (f : State → State) (off : ℕ) (at : Env) (
   pub many : length p'.update ≡ length p.update
   pub later : (s : Shape) (b : BankData) (t : State) → AreSound s old → t.finished ≡ false → Stands names b old at (sample t) → Pends names b old p t.later →
       Pends names b new p' (on (held b old off) (f t) t).later
+
+-- the same of labelled items of a case, where the path before them is taken; behind them both what is read and what is pending
+-- stands in slots
+pub record LeavesItems (names : Names) (scope : Scope) (c : Form) (subject : ℕ) (items : Items) (before behind : ℕ) (at at' : Env) (p p' : PendingSlots) (old new : ListData) : Type 0 where
+  pub pending : ArePending names new p'
+  pub many : length p'.update ≡ length p.update
+  pub went : (s : Shape) (b : BankData) (t : State) → AreSound s old → t.finished ≡ false → Stands names b old at (sample t) → Pends names b old p t.later →
+      Went scope c (held b old subject) items (held b old before) (held b new behind) (λ u. Stands names b new at' (sample u) × Pends names b new p' u.later) t

@@ -8,7 +8,7 @@ use Rattle.vl_design.specs.Laws.{IsFine}
 use Rattle.cell_form.specs.Cycle.{masked}
 use Rattle.cell_form.specs.Data.{ListData, BankData}
 use Rattle.cell_steps.specs.Slots.{held}
-use Rattle.cell_paths.specs.Envs.{IsSlot, IsEntry, HasOneWord, held_or}
+use Rattle.cell_paths.specs.Envs.{IsSlot, IsEntry, held_or}
 use Rattle.cell_later.specs.declared.pending.Site.{Site}
 use Rattle.cell_later.specs.declared.pending.Pending.{Pending}
 

@@ -1,4 +1,4 @@
-use Rattle.std.proofs.Common.{◌≡◌, ◌<◌, ℕ, List, Option, ap, sym, ◌∙◌, subst, length, arith}
+use Rattle.std.proofs.Common.{sym, ◌∙◌, subst, arith}
 use Rattle.cell_form.specs.Views.{list_of}
 use Rattle.cell_steps.specs.Slots.{Gives, Nothing}
 use Rattle.cell_steps.proofs.Frames.{grows-then}
@@ -6,7 +6,6 @@ use Rattle.cell_paths.specs.Envs.{IsEntry}
 use Rattle.cell_paths.specs.Paths.{low_of, written_in}
 use Rattle.cell_paths.proofs.Staying.{always-stays, entry-stays}
 use Rattle.cell_later.specs.Pendings.{slot_of, slots_of}
-use Rattle.cell_later.specs.Delays.{IsDelayable}
 use Rattle.cell_later.proofs.Keeping.{slot-read}
 use Rattle.cell_later.proofs.Delaying.{delays-one}
 use Rattle.cell_later.proofs.delay.delay.Goals as goal

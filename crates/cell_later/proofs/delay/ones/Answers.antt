@@ -1,7 +1,4 @@
-use Rattle.std.proofs.Common.{◌≡◌, ◌-◌, ◌%◌, ◌^◌, ap, ◌∙◌, refl, subst}
 use Rattle.cell_form.specs.Views.{list_of}
-use Rattle.cell_steps.specs.Slots.{width_at, Nothing}
-use Rattle.cell_steps.proofs.Frames.{gives-as}
 use Rattle.cell_steps.proofs.Newest.{ok-gives}
 use Rattle.cell_later.proofs.Delaying.{gives-ones}
 use Rattle.cell_later.proofs.delay.ones.Goals as goal

@@ -1,15 +1,15 @@
 -- That cells make updates pending where a path is taken (IEEE 1364-2005, clause 9.2.2).
-use Rattle.std.specs.Prelude.{◌≡◌, ℕ, ◌<◌, ◌==◌, if◌then◌else◌, false, List, ◌++◌, length}
+use Rattle.std.specs.Prelude.{◌≡◌, ℕ, ◌<◌, ◌==◌, if◌then◌else◌, false, List, [], ◌∷◌, ◌++◌, length}
 use Rattle.vl_design.specs.declared.design.Form.{Form}
 use Rattle.vl_design.specs.Syntax.{Items}
 use Rattle.vl_design.specs.Width.{Names, Scope, signal_form}
-use Rattle.vl_design.specs.Sound.{IsSignal}
+use Rattle.vl_design.specs.Sound.{IsSignal, IsMemory}
 use Rattle.vl_design.specs.State.{State, Update, sample}
 use Rattle.cell_form.specs.Data.{ListData, BankData}
 use Rattle.cell_form.specs.Sound.{Shape}
-use Rattle.cell_steps.specs.Slots.{held, AreSound, Longer, Nothing}
+use Rattle.cell_steps.specs.Slots.{held, width_at, AreSound, Longer, Nothing}
 use Rattle.cell_paths.specs.Envs.{Env, HasOneWord, Stands}
-use Rattle.cell_paths.specs.Paths.{on}
+use Rattle.cell_paths.specs.Paths.{on, Low, low_in}
 use Rattle.cell_paths.specs.Cases.{Went}
 use Rattle.cell_later.specs.Pendings.{PendingSlots, ArePending, Pends}
 
@@ -31,6 +31,17 @@ pub record Delays (names : Names) (n : ℕ) (us : BankData → List Update) (off
   pub pending : ArePending names new p'
   pub many : length p'.update ≡ length p.update
   pub later : (s : Shape) (b : BankData) (later : List Update) → AreSound s old → Pends names b old p later → Pends names b new p' (with_later (held b old off) later (us b))
+
+-- a memory of words of so many bits
+pub record IsStorable (names : Names) (l : ListData) (p : PendingSlots) (memory wide : ℕ) : Type 0 where
+  pub pending : ArePending names l p
+  pub is_memory : IsMemory names memory
+  pub width : (signal_form names.rows memory).width ≡ wide
+
+-- the update of a part in a slot to the word of a memory that a slot names, where another slot isn't 0
+abbrev pub stored_in : BankData → ListData → ℕ → ℕ → ℕ → Low → ℕ → List Update
+stored_in b l memory enable word low part =
+    if held b l enable == 0 then [] else record { signal = memory; word = held b l word; low = low_in b l low; width = width_at l part; value = held b l part } ∷ []
 
 -- what is pending behind cells that do what f does where the path is taken
 pub record Leaves (names : Names) (f : State → State) (off : ℕ) (at : Env) (p p' : PendingSlots) (old new : ListData) : Type 0 where

@@ -18,9 +18,9 @@ ghost use Rattle.cell_form.specs.Views.{list_of};
 ghost use Rattle.cell_steps.specs.Slots.{held, width_at, IsIn, AreSound, Grows, Gives, Nothing};
 
 use cell_form::cell::CellList;
-use cell_nodes::reads::{read, slice};
 use cell_later::delay::delay;
 use cell_later::pending::Pending;
+use cell_nodes::reads::{read, slice};
 use cell_paths::assign::assign;
 use cell_paths::at::At;
 use cell_paths::place::Place;
@@ -170,7 +170,17 @@ pub fn delay_all(
         below -= u32::from(spot.width);
         let part = part_of(alloc, cells, at.here, value, below, spot.width)?;
         let wide = signal_form(room, spot.signal).width as u8;
-        delay(alloc, cells, pending, at.here, spot.signal, wide, spot.low, part, off)?;
+        delay(
+            alloc,
+            cells,
+            pending,
+            at.here,
+            spot.signal,
+            wide,
+            spot.low,
+            part,
+            off,
+        )?;
     }
     Ok(())
 }

@@ -182,12 +182,12 @@ delays-word names p m w here enable word low part set rv rm l0 l1 l2 l3 can hl h
     let slot-v : IsSlot l3 rv w = is-slot-stays l2 l3 rv w g23 (record { there = gu.there; width = gu.width }) in
     let slot-m : IsSlot l3 rm w = record { there = gm.there; width = gm.width } in
     let site : IsSite names l3 x = record {
-          memory = can.is_memory;
-          enable = is-slot-stays l0 l3 enable 1 g03 ke;
-          word = is-slot-stays l0 l3 word 32 g03 kw;
-          value = record { there = slot-v.there; width = slot-v.width ∙ sym can.width };
-          mask = record { there = slot-m.there; width = slot-m.width ∙ sym can.width };
-        } in
+      memory = can.is_memory;
+      enable = is-slot-stays l0 l3 enable 1 g03 ke;
+      word = is-slot-stays l0 l3 word 32 g03 kw;
+      value = record { there = slot-v.there; width = slot-v.width ∙ sym can.width };
+      mask = record { there = slot-m.there; width = slot-m.width ∙ sym can.width };
+    } in
     record {
       longer = longer-then Nothing 5 4 l0 l2 l3 (longer-then Nothing 1 4 l0 l1 l2 gs.longer gu.longer) gm.longer;
       pending = pending-site names p m w x l0 l3 g03 can refl site;

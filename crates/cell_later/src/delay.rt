@@ -56,8 +56,26 @@ pub fn delay(
 {
     let number = signal as usize;
     let set = ones(alloc, cells, part)?;
-    let update = assigned(alloc, cells, here, pending.update[number], wide, low, part, off)?;
-    let mask = assigned(alloc, cells, here, pending.mask[number], wide, low, set, off)?;
+    let update = assigned(
+        alloc,
+        cells,
+        here,
+        pending.update[number],
+        wide,
+        low,
+        part,
+        off,
+    )?;
+    let mask = assigned(
+        alloc,
+        cells,
+        here,
+        pending.mask[number],
+        wide,
+        low,
+        set,
+        off,
+    )?;
     pending.update[number] = Some(update);
     pending.mask[number] = Some(mask);
     Ok(())

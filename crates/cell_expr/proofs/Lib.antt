@@ -19,3 +19,4 @@ pub mod Trying
 pub mod Walking
 pub mod Wording
 pub mod Words
+pub mod Delaying

@@ -19,7 +19,8 @@ use Rattle.vl_design.specs.Rows.{row_of}
 use Rattle.vl_run.specs.Lists.{targets_of}
 use Rattle.vl_run.proofs.Spotting.{targets-more}
 use Rattle.cell_form.specs.Data.{ListData, BankData}
-use Rattle.cell_steps.specs.Slots.{held, width_at, IsIn, Grows, Longer, Gives, Nothing}
+use Rattle.cell_form.specs.Sound.{Shape}
+use Rattle.cell_steps.specs.Slots.{held, width_at, IsIn, AreSound, Grows, Longer, Gives, Nothing}
 use Rattle.cell_steps.proofs.Frames.{held-stays, in-stays, longer-grows, longer-then, gives-weaken, gives-as}
 use Rattle.cell_nodes.specs.Counts.{resizes}
 use Rattle.cell_paths.proofs.Assigning.{one-word}
@@ -112,6 +113,23 @@ width-bits : (b : BankData) (l : ListData) (ps : List Spot) → t.spots_width (m
 width-bits b l [] = refl
 width-bits b l (p ∷ ps) = ap (λ z. p.width + z) (width-bits b l ps)
 
+-- the update of the first spot, and those of the others
+pub first-and-others : (names : Names) (first value part : ℕ) (p : Spot) (ps : List Spot) (b : BankData) (s : Shape) (l0 l1 l2 : ListData) → IsIn l0 value → All (IsSpot names first l0) (p ∷ ps) → Grows l0 l2 → AreSound s l0 →
+    Gives Nothing 1 l0 l1 part p.width (λ b. held b l0 value / 2 ^ bits_of ps % 2 ^ p.width) →
+    update_in b l1 p.signal (low_of p.low) part ∷ t.updates_at (map (spot_in b l2) ps) (held b l2 value) ≡ t.updates_at (map (spot_in b l0) (p ∷ ps)) (held b l0 value)
+first-and-others names first value part p ps b s l0 l1 l2 there spots g02 sound g =
+    let g01 = longer-grows Nothing 1 l0 l1 g.longer in
+    let rest : All (IsSpot names first l0) ps = λ i d l. spots (suc i) d (omega arith) in
+    let low-is = low-stays b l0 l1 (low_of p.low) g01 (spots 0 p (omega arith)).low in
+    let one : update_in b l1 p.signal (low_of p.low) part ≡ t.update_at (spot_in b l0 p) (held b l0 value / 2 ^ t.spots_width (map (spot_in b l0) ps)) =
+    ap (λ z. record { signal = p.signal; word = 0; low = z; width = width_at l1 part; value = held b l1 part }) low-is
+    ∙ ap (λ w. record { signal = p.signal; word = 0; low = low_in b l0 (low_of p.low); width = w; value = held b l1 part }) g.width
+    ∙ ap (λ v. record { signal = p.signal; word = 0; low = low_in b l0 (low_of p.low); width = p.width; value = v }) (g.value s b sound ∙ ap (λ n. held b l0 value / 2 ^ n % 2 ^ p.width) (sym (width-bits b l0 ps))) in
+    let others : t.updates_at (map (spot_in b l2) ps) (held b l2 value) ≡ t.updates_at (map (spot_in b l0) ps) (held b l0 value) =
+    ap (λ zs. t.updates_at zs (held b l2 value)) (spots-stay names first b l0 l2 ps g02 rest) ∙ ap (t.updates_at (map (spot_in b l0) ps)) (held-stays b l0 l2 value g02 there) in
+    ap (λ z. z ∷ t.updates_at (map (spot_in b l2) ps) (held b l2 value)) one
+    ∙ ap (λ zs. t.update_at (spot_in b l0 p) (held b l0 value / 2 ^ t.spots_width (map (spot_in b l0) ps)) ∷ zs) others
+
 pub updates-spot : (names : Names) (m value off part : ℕ) (p : Spot) (ps : List Spot) (at0 at1 at2 : Env) (l0 l1 l2 l3 : ListData) → Fits names l0 at0 → IsIn l0 off → IsIn l0 value → All (IsSpot names at0.first l0) (p ∷ ps) →
     Gives Nothing 1 l0 l1 part p.width (λ b. held b l0 value / 2 ^ bits_of ps % 2 ^ p.width) →
     Assigns names 4 p.signal (low_of p.low) part off at0 at1 l1 l2 →
@@ -119,25 +137,11 @@ pub updates-spot : (names : Names) (m value off part : ℕ) (p : Spot) (ps : Lis
     Updates names (5 + m) (λ b. t.updates_at (map (spot_in b l0) (p ∷ ps)) (held b l0 value)) off at0 at2 l0 l3
 updates-spot names m value off part p ps at0 at1 at2 l0 l1 l2 l3 fits k there spots g a u =
     let g01 = longer-grows Nothing 1 l0 l1 g.longer in
-    let l02 = longer-then Nothing 1 4 l0 l1 l2 g.longer a.longer in
-    let g02 = longer-grows Nothing 5 l0 l2 l02 in
-    let rest : All (IsSpot names at0.first l0) ps = λ i d l. spots (suc i) d (omega arith) in
-    let first = spots 0 p (omega arith) in
+    let g02 = longer-grows Nothing 5 l0 l2 (longer-then Nothing 1 4 l0 l1 l2 g.longer a.longer) in
     let F : BankData → List Update = λ b. update_in b l1 p.signal (low_of p.low) part ∷ t.updates_at (map (spot_in b l2) ps) (held b l2 value) in
     let G : BankData → List Update = λ b. t.updates_at (map (spot_in b l0) (p ∷ ps)) (held b l0 value) in
     updates-wider names (1 + (4 + m)) (5 + m) G off at0 at2 l0 l3 (omega arith)
-    (updates-as names (1 + (4 + m)) F G off at0 at2 l0 l3
-    (λ s b sound. (
-    let part-is = g.value s b sound in
-    let low-is = low-stays b l0 l1 (low_of p.low) g01 first.low in
-    let one : update_in b l1 p.signal (low_of p.low) part ≡ t.update_at (spot_in b l0 p) (held b l0 value / 2 ^ t.spots_width (map (spot_in b l0) ps)) =
-    ap (λ z. record { signal = p.signal; word = 0; low = z; width = width_at l1 part; value = held b l1 part }) low-is
-    ∙ ap (λ w. record { signal = p.signal; word = 0; low = low_in b l0 (low_of p.low); width = w; value = held b l1 part }) g.width
-    ∙ ap (λ v. record { signal = p.signal; word = 0; low = low_in b l0 (low_of p.low); width = p.width; value = v }) (part-is ∙ ap (λ n. held b l0 value / 2 ^ n % 2 ^ p.width) (sym (width-bits b l0 ps))) in
-    let others : t.updates_at (map (spot_in b l2) ps) (held b l2 value) ≡ t.updates_at (map (spot_in b l0) ps) (held b l0 value) =
-    ap (λ zs. t.updates_at zs (held b l2 value)) (spots-stay names at0.first b l0 l2 ps g02 rest) ∙ ap (t.updates_at (map (spot_in b l0) ps)) (held-stays b l0 l2 value g02 there) in
-    ap (λ z. z ∷ t.updates_at (map (spot_in b l2) ps) (held b l2 value)) one
-    ∙ ap (λ zs. t.update_at (spot_in b l0 p) (held b l0 value / 2 ^ t.spots_width (map (spot_in b l0) ps)) ∷ zs) others))
+    (updates-as names (1 + (4 + m)) F G off at0 at2 l0 l3 (λ s b sound. first-and-others names at0.first value part p ps b s l0 l1 l2 there spots g02 sound g)
     (updates-behind names 1 (4 + m) off F at0 at2 l0 l1 l3 fits k g.longer
     (updates-more names 4 m p.signal (low_of p.low) part off (λ b. t.updates_at (map (spot_in b l2) ps) (held b l2 value)) at0 at1 at2 l1 l2 l3 (in-stays l0 l1 off g01 k) a u)))
 

@@ -1,12 +1,14 @@
 //! The spots that assignments write (IEEE 1364-2005, clauses 9.2 and 5.1.14).
 
-ghost use Rattle.std.specs.Prelude.{◌≡◌, ◌≤◌, ◌<◌, ◌%◌, ◌/◌, ◌^◌, false, map, All, IfOk, OnOk};
+ghost use Rattle.std.specs.Prelude.{◌≡◌, ◌≤◌, ◌<◌, ◌*◌, ◌%◌, ◌/◌, ◌^◌, false, length, map, All, IfOk, OnOk};
 ghost use Rattle.vl_design.specs.Sound.{IsSoundTarget, IsWidth};
 ghost use Rattle.vl_design.specs.Targets as targets;
 ghost use Rattle.vl_eval.specs.Rooms as rooms;
 ghost use Rattle.vl_design.specs.Syntax as y;
 ghost use Rattle.cell_paths.specs.Envs.{env_of, Fits, IsSlot};
 ghost use Rattle.cell_paths.specs.Paths.{Updates};
+ghost use Rattle.cell_later.specs.Delays.{Delays};
+ghost use Rattle.cell_later.specs.Pendings.{slots_of, ArePending};
 ghost use Rattle.cell_expr.specs.Spots as sp;
 ghost use Rattle.vl_design.specs.Trees.{target_of};
 ghost use Rattle.vl_paths.specs.Nets.{IsBase};
@@ -16,6 +18,8 @@ ghost use Rattle.cell_form.specs.Views.{list_of};
 ghost use Rattle.cell_steps.specs.Slots.{held, width_at, IsIn, AreSound, Grows, Gives, Nothing};
 
 use cell_form::cell::CellList;
+use cell_later::delay::delay;
+use cell_later::pending::Pending;
 use cell_nodes::reads::{read, slice};
 use cell_paths::assign::assign;
 use cell_paths::at::At;
@@ -132,6 +136,51 @@ pub fn assign_all(
         let part = part_of(alloc, cells, at.here, value, left, spot.width)?;
         let wide = signal_form(room, spot.signal).width as u8;
         assign(alloc, cells, at, spot.signal, wide, spot.low, part, off)?;
+    }
+    Ok(())
+}
+
+/// Makes the updates of a value to spots pending where a path is taken (IEEE 1364-2005, clause 9.2.2): the first takes the highest
+/// bits.
+pub fn delay_all(
+    alloc: Global,
+    cells: &mut CellList,
+    room: &Room<'_>,
+    at: &At,
+    pending: &mut Pending,
+    spots: &[Spot],
+    value: u32,
+    off: u32,
+) -> Result<(), AllocError>
+    requires fits { Fits (rooms.names_of room.now) (list_of cells.old) (env_of at.now) }
+    requires pending { ArePending (rooms.names_of room.now) (list_of cells.old) (slots_of pending.old) }
+    requires many { length pending.old.update.items ≡ length (rooms.names_of room.now).rows }
+    requires spots { All (sp.IsSpot (rooms.names_of room.now) at.now.first (list_of cells.old)) spots.now }
+    requires value { IsIn (list_of cells.old) value }
+    requires within { sp.bits_of spots.now ≤ width_at (list_of cells.old) value }
+    requires narrow { width_at (list_of cells.old) value ≤ 128 }
+    requires off { IsSlot (list_of cells.old) off 1 }
+    ensures grows { Grows (list_of cells.old) (list_of cells.new) }
+    ensures delays { OnOk result (Delays (rooms.names_of room.now) (2 * sp.cells_of spots.now)
+        (λ b. targets.updates_at (map (sp.spot_in b (list_of cells.old)) spots.now) (held b (list_of cells.old) value))
+        off (slots_of pending.old) (slots_of pending.new) (list_of cells.old) (list_of cells.new)) }
+{
+    let mut below = bits_of(spots);
+    for spot in spots {
+        below -= u32::from(spot.width);
+        let part = part_of(alloc, cells, at.here, value, below, spot.width)?;
+        let wide = signal_form(room, spot.signal).width as u8;
+        delay(
+            alloc,
+            cells,
+            pending,
+            at.here,
+            spot.signal,
+            wide,
+            spot.low,
+            part,
+            off,
+        )?;
     }
     Ok(())
 }

@@ -126,7 +126,7 @@ entry-read at k n d many first last = of (nat_lt k at.first) refl
     of true e = let i = ltb-true k at.first e in absurd (omega arith)
     of false e = any at.slots (k - at.first) (omega arith)
 
-is-or-not : (P : ℕ → Type 0) (j k : ℕ) → P k → (j ≢ k → P j) → P j
+pub is-or-not : (P : ℕ → Type 0) (j k : ℕ) → P k → (j ≢ k → P j) → P j
 is-or-not P j k here other = of (nat_eq j k) refl
   where
     of : (b : Bool) → nat_eq j k ≡ b → P j
@@ -183,10 +183,10 @@ module _ (names : Names) (old new : ListData) (at : Env) (k w r : ℕ) (g : Grow
 
 -- ---- an update
 
-updated-fine : (rows : List Row) (values : List (List ℕ)) (u : Update) → IsFine rows values → IsFine rows (with_update rows values u)
+pub updated-fine : (rows : List Row) (values : List (List ℕ)) (u : Update) → IsFine rows values → IsFine rows (with_update rows values u)
 updated-fine rows values u f = record { range = updates_in_range rows (u ∷ []) values f.range; shape = shape_on (all_shape rows (u ∷ []) values) f.shape }
 
-updated-value : (rows : List Row) (values : List (List ℕ)) (u : Update) → u.word ≡ 0 → length (words_of values u.signal) ≡ 1 →
+pub updated-value : (rows : List Row) (values : List (List ℕ)) (u : Update) → u.word ≡ 0 → length (words_of values u.signal) ≡ 1 →
     value_of (with_update rows values u) u.signal ≡ placed (signal_form rows u.signal).width (value_of values u.signal) u.low u.width u.value
 updated-value rows values u zeroth one =
     let words = words_of values u.signal in
@@ -260,7 +260,7 @@ pub low-index : (b : BankData) (l : ListData) (index : ℕ) (signed : Bool) (fro
     slots.lowest_bit (record { signed = signed; taken = from.taken }) from.constant (slot b l index) ≡ v.lowest_bit from (reading signed (width_at l index) (held b l index))
 low-index b l index signed from = ap (λ w. v.lowest_bit from (reading signed w (held b l index))) (slot-width b l index)
 
-same-placed : (w w' x x' : ℕ) (low low' : ℤ) (n n' p p' : ℕ) → w ≡ w' → x ≡ x' → low ≡ low' → n ≡ n' → p ≡ p' → placed w x low n p ≡ placed w' x' low' n' p'
+pub same-placed : (w w' x x' : ℕ) (low low' : ℤ) (n n' p p' : ℕ) → w ≡ w' → x ≡ x' → low ≡ low' → n ≡ n' → p ≡ p' → placed w x low n p ≡ placed w' x' low' n' p'
 same-placed w w' x x' low low' n n' p p' ew ex el en ep =
     ap (λ z. placed z x low n p) ew ∙ ap (λ z. placed w' z low n p) ex ∙ ap (λ z. placed w' x' z n p) el ∙ ap (λ z. placed w' x' low' z p) en ∙ ap (placed w' x' low' n') ep
 

@@ -12,7 +12,7 @@ use Rattle.vl_design.specs.State.{State, sample}
 use Rattle.vl_design.specs.Exec.{exec, exec_items, exec_default, items_form, items_hold, label_matches, some_match, counted_if}
 use Rattle.cell_form.specs.Data.{ListData, BankData}
 use Rattle.cell_form.specs.Sound.{Shape}
-use Rattle.cell_steps.specs.Slots.{held, width_at, IsIn, AreSound, Longer, Gives, Nothing}
+use Rattle.cell_steps.specs.Slots.{held, width_at, IsIn, AreSound, Grows, Longer, Gives, Nothing}
 use Rattle.cell_steps.proofs.Frames.{held-fits, held-stays, longer-grows, longer-same, longer-then, longer-weaken, met-nothing, gives-as, gives-behind}
 use Rattle.cell_paths.specs.Differs.{differing}
 use Rattle.cell_paths.specs.Envs.{Env, IsSlot, HasMemories, Fits, Stands}
@@ -137,9 +137,14 @@ tries-none names scope c subject rest at l fits slot = record {
   went = λ s b t sound alive st. of s b t st (one-bit s b l rest sound slot);
 }
   where
-    of : (s : Shape) (b : BankData) (t : State) → Stands names b l at (sample t) → (held b l rest ≡ 0) ⊎ (held b l rest ≡ 1) → Went names scope c (held b l subject) NoItems (held b l rest) (held b l rest) b l at t
+    of : (s : Shape) (b : BankData) (t : State) → Stands names b l at (sample t) → (held b l rest ≡ 0) ⊎ (held b l rest ≡ 1) → Went scope c (held b l subject) NoItems (held b l rest) (held b l rest) (λ u. Stands names b l at (sample u)) t
     of s b t st (inl h) = Missed h h (λ d. refl) st
     of s b t st (inr h) = Away h h st
+
+pub went-default : (scope : Scope) (c : Form) (v : ℕ) (a : Stm) (others : Items) (o behind : ℕ) (R : State → Type 0) (t : State) → Went scope c v others o behind R t → Went scope c v (Default a others) o behind R t
+went-default scope c v a others o behind R t (Missed x y z st) = Missed x y z st
+went-default scope c v a others o behind R t (Hit u x y z k st) = Hit u x y z k st
+went-default scope c v a others o behind R t (Away x y st) = Away x y st
 
 pub tries-default : (names : Names) (n : ℕ) (scope : Scope) (c : Form) (subject : ℕ) (a : Stm) (others : Items) (before behind : ℕ) (at at' : Env) (old new : ListData) →
     Tries names n scope c subject others before behind at at' old new → Tries names n scope c subject (Default a others) before behind at at' old new
@@ -149,44 +154,45 @@ tries-default names n scope c subject a others before behind at at' old new t = 
   keeps = t.keeps;
   slot = t.slot;
   alive = t.alive;
-  went = λ s b u sound alive st. of b u (t.went s b u sound alive st);
+  went = λ s b u sound alive st. went-default scope c (held b old subject) a others (held b old before) (held b new behind) (λ x. Stands names b new at' (sample x)) u (t.went s b u sound alive st);
 }
-  where
-    of : (b : BankData) (u : State) → Went names scope c (held b old subject) others (held b old before) (held b new behind) b new at' u → Went names scope c (held b old subject) (Default a others) (held b old before) (held b new behind) b new at' u
-    of b u (Missed x y z st) = Missed x y z st
-    of b u (Hit u' x y z k st) = Hit u' x y z k st
-    of b u (Away x y st) = Away x y st
 
 -- an item whose labels match or not, on a path that is taken or not
-went-item : (names : Names) (scope : Scope) (c : Form) (v : ℕ) (es : Exps) (a : Stm) (others : Items) (o behind : ℕ) (b : BankData) (new : ListData) (at : Env) (t : State) (m : Bool) → some_match scope (sample t) c v es ≡ m → t.finished ≡ false →
+pub went-item : (scope : Scope) (c : Form) (v : ℕ) (es : Exps) (a : Stm) (others : Items) (o behind : ℕ) (R : State → Type 0) (t : State) (m : Bool) → some_match scope (sample t) c v es ≡ m → t.finished ≡ false →
     (exec scope a t).finished ≡ false → (o ≡ 0) ⊎ (o ≡ 1) →
-    Went names scope c v others (if m then 1 else o) behind b new at (on (if (if m then 1 else o) == 0 then 1 else o) (exec scope a t) t) →
-    Went names scope c v (Labelled es a others) o behind b new at t
-went-item names scope c v es a others o behind b new at t true e alive after (inl h) (Missed x y z st) = absurd (omega arith)
-went-item names scope c v es a others o behind b new at t true e alive after (inl h) (Hit u x y z k st) = absurd (omega arith)
-went-item names scope c v es a others o behind b new at t true e alive after (inl h) (Away x y st) =
-    Hit (exec scope a t) h y (λ d. rw e refl) after (subst (λ z. Stands names b new at (sample (on z (exec scope a t) t))) h st)
-went-item names scope c v es a others o behind b new at t true e alive after (inr h) (Missed x y z st) = absurd (omega arith)
-went-item names scope c v es a others o behind b new at t true e alive after (inr h) (Hit u x y z k st) = absurd (omega arith)
-went-item names scope c v es a others o behind b new at t true e alive after (inr h) (Away x y st) = Away h y (subst (λ z. Stands names b new at (sample (on z (exec scope a t) t))) h st)
-went-item names scope c v es a others o behind b new at t false e alive after (inl h) w = passed w
+    Went scope c v others (if m then 1 else o) behind R (on (if (if m then 1 else o) == 0 then 1 else o) (exec scope a t) t) →
+    Went scope c v (Labelled es a others) o behind R t
+went-item scope c v es a others o behind R t true e alive after (inl h) (Missed x y z st) = absurd (omega arith)
+went-item scope c v es a others o behind R t true e alive after (inl h) (Hit u x y z k st) = absurd (omega arith)
+went-item scope c v es a others o behind R t true e alive after (inl h) (Away x y st) = Hit (exec scope a t) h y (λ d. rw e refl) after (subst (λ z. R (on z (exec scope a t) t)) h st)
+went-item scope c v es a others o behind R t true e alive after (inr h) (Missed x y z st) = absurd (omega arith)
+went-item scope c v es a others o behind R t true e alive after (inr h) (Hit u x y z k st) = absurd (omega arith)
+went-item scope c v es a others o behind R t true e alive after (inr h) (Away x y st) = Away h y (subst (λ z. R (on z (exec scope a t) t)) h st)
+went-item scope c v es a others o behind R t false e alive after (inl h) w = passed w
   where
     stays : (on (if o == 0 then 1 else o) (exec scope a t) t) ≡ t
     stays = rw h refl
 
-    passed : Went names scope c v others o behind b new at (on (if o == 0 then 1 else o) (exec scope a t) t) → Went names scope c v (Labelled es a others) o behind b new at t
-    passed (Missed x y z st) = Missed h y (λ d. rw e (subst (λ u. exec_items scope v c others d u ≡ d) stays (z d))) (subst (λ u. Stands names b new at (sample u)) stays st)
+    passed : Went scope c v others o behind R (on (if o == 0 then 1 else o) (exec scope a t) t) → Went scope c v (Labelled es a others) o behind R t
+    passed (Missed x y z st) = Missed h y (λ d. rw e (subst (λ u. exec_items scope v c others d u ≡ d) stays (z d))) (subst R stays st)
     passed (Hit u x y z k st) = Hit u h y (λ d. rw e (subst (λ s. exec_items scope v c others d s ≡ u) stays (z d))) k st
     passed (Away x y st) = absurd (omega arith)
-went-item names scope c v es a others o behind b new at t false e alive after (inr h) w = passed w
+went-item scope c v es a others o behind R t false e alive after (inr h) w = passed w
   where
     stays : (on (if o == 0 then 1 else o) (exec scope a t) t) ≡ t
     stays = rw h refl
 
-    passed : Went names scope c v others o behind b new at (on (if o == 0 then 1 else o) (exec scope a t) t) → Went names scope c v (Labelled es a others) o behind b new at t
+    passed : Went scope c v others o behind R (on (if o == 0 then 1 else o) (exec scope a t) t) → Went scope c v (Labelled es a others) o behind R t
     passed (Missed x y z st) = absurd (omega arith)
     passed (Hit u x y z k st) = absurd (omega arith)
-    passed (Away x y st) = Away h y (subst (λ u. Stands names b new at (sample u)) stays st)
+    passed (Away x y st) = Away h y (subst R stays st)
+
+-- the path of an item whose labels match or not
+pub taken-path : (b : BankData) (s : Shape) (before left taken : ℕ) (match : Bool) (l0 l1 l2 : ListData) → Grows l0 l1 → IsIn l0 before → AreSound s l1 → held b l1 left ≡ (if match then 1 else held b l0 before) →
+    Gives Nothing 1 l1 l2 taken 1 (λ b. if held b l1 left == 0 then 1 else held b l1 before) → held b l2 taken ≡ (if (if match then 1 else held b l0 before) == 0 then 1 else held b l0 before)
+taken-path b s before left taken match l0 l1 l2 g k sound is gives =
+    gives.value s b sound ∙ ap (λ z. if z == 0 then 1 else held b l1 before) is
+    ∙ ap (λ z. if (if match then 1 else held b l0 before) == 0 then 1 else z) (held-stays b l0 l1 before g k)
 
 pub tries-labelled : (names : Names) (scope : Scope) (c : Form) (n0 n m subject before left taken behind : ℕ) (es : Exps) (a : Stm) (others : Items) (at0 at1 at2 : Env) (l0 l1 l2 l3 l4 : ListData) → Fits names l0 at0 → IsIn l0 subject → IsSlot l0 before 1 →
     Compares names n0 scope c subject es before left at0 l0 l1 → Gives Nothing 1 l1 l2 taken 1 (λ b. if held b l1 left == 0 then 1 else held b l1 before) →
@@ -213,18 +219,17 @@ tries-labelled names scope c n0 n m subject before left taken behind es a others
           let sound3 = sound-behind names at0 n sound2.shape l2 l3 d.longer sound2.sound in
           let st2 = stands-stays names b l0 l2 at0 (sample t) (longer-grows H (n0 + 1) l0 l2 l02) fits st in
           let left_is : held b l1 left ≡ (if match then 1 else o) = labels.value s b (sample t) sound st in
-          let before_is = held-stays b l0 l1 before (longer-grows H n0 l0 l1 labels.longer) slot.there in
-          let taken_is : held b l2 taken ≡ (if (if match then 1 else o) == 0 then 1 else o) =
-          g.value sound1.shape b sound1.sound ∙ ap (λ z. if z == 0 then 1 else held b l1 before) left_is ∙ ap (λ z. if (if match then 1 else o) == 0 then 1 else z) before_is in
+          let taken_is = taken-path b sound1.shape before left taken match l0 l1 l2 (longer-grows H n0 l0 l1 labels.longer) slot.there sound1.sound left_is g in
           let left3 = held-stays b l1 l3 left (longer-grows H (1 + n) l1 l3 l13) labels.slot.there ∙ left_is in
           let subject3 = held-stays b l0 l3 subject (longer-grows H (n0 + 1 + n) l0 l3 l03) ks in
           let t1 = on (held b l2 taken) (exec scope a t) t in
           let after = d.alive t alive in
           let w = more.went sound3.shape b t1 sound3.sound (on-alive (held b l2 taken) (exec scope a t) t after alive) (d.does sound2.shape b t sound2.sound alive st2) in
-          went-item names scope c v es a others o (held b l4 behind) b l4 at2 t match refl alive after (one-bit s b l0 before sound slot)
-          (subst (λ z. Went names scope c v others (if match then 1 else o) (held b l4 behind) b l4 at2 (on z (exec scope a t) t)) taken_is
-          (subst (λ z. Went names scope c v others z (held b l4 behind) b l4 at2 t1) left3
-          (subst (λ z. Went names scope c z others (held b l3 left) (held b l4 behind) b l4 at2 t1) subject3 w)));
+          let R : State → Type 0 = λ u. Stands names b l4 at2 (sample u) in
+          went-item scope c v es a others o (held b l4 behind) R t match refl alive after (one-bit s b l0 before sound slot)
+          (subst (λ z. Went scope c v others (if match then 1 else o) (held b l4 behind) R (on z (exec scope a t) t)) taken_is
+          (subst (λ z. Went scope c v others z (held b l4 behind) R t1) left3
+          (subst (λ z. Went scope c z others (held b l3 left) (held b l4 behind) R t1) subject3 w)));
     }
   where
     chosen : (z : Bool) (u v : State) → u.finished ≡ false → v.finished ≡ false → (if z then u else v).finished ≡ false
@@ -233,15 +238,14 @@ tries-labelled names scope c n0 n m subject before left taken behind es a others
 
 -- ---- the whole case: the default is executed on the path behind the items, wherever it stands
 
-went-on : (names : Names) (scope : Scope) (c : Form) (v : ℕ) (items : Items) (o behind : ℕ) (b : BankData) (l2 l3 : ListData) (at1 at2 : Env) (t' t u : State) → sample t' ≡ sample t → t'.finished ≡ false → u ≡ exec_default scope items t' →
-    ((s : State) → s.finished ≡ false → Stands names b l2 at1 (sample s) → Stands names b l3 at2 (sample (on behind (exec_default scope items s) s))) →
-    Went names scope c v items o behind b l2 at1 t' → Stands names b l3 at2 (sample (on o (exec_items scope v c items u t') t))
-went-on names scope c v items o behind b l2 l3 at1 at2 t' t u same alive e does (Missed x y z st) =
-    subst (λ s. Stands names b l3 at2 (sample s)) (ap (λ r. on r (exec_default scope items t') t') y ∙ sym e ∙ sym (z u) ∙ sym (ap (λ r. on r (exec_items scope v c items u t') t) x)) (does t' alive st)
-went-on names scope c v items o behind b l2 l3 at1 at2 t' t u same alive e does (Hit s x y z k st) =
-    subst (λ s. Stands names b l3 at2 (sample s)) (ap (λ r. on r (exec_default scope items s) s) y ∙ sym (z u) ∙ sym (ap (λ r. on r (exec_items scope v c items u t') t) x)) (does s k st)
-went-on names scope c v items o behind b l2 l3 at1 at2 t' t u same alive e does (Away x y st) =
-    subst (Stands names b l3 at2) (ap (λ r. sample (on r (exec_default scope items t') t')) y ∙ same ∙ sym (ap (λ r. sample (on r (exec_items scope v c items u t') t)) x)) (does t' alive st)
+pub went-on : (scope : Scope) (c : Form) (v : ℕ) (items : Items) (o behind : ℕ) (R S : State → Type 0) (t' t u : State) → (S t' → S t) → t'.finished ≡ false → u ≡ exec_default scope items t' →
+    ((s : State) → s.finished ≡ false → R s → S (on behind (exec_default scope items s) s)) → Went scope c v items o behind R t' → S (on o (exec_items scope v c items u t') t)
+went-on scope c v items o behind R S t' t u back alive e does (Missed x y z st) =
+    subst S (ap (λ r. on r (exec_default scope items t') t') y ∙ sym e ∙ sym (z u) ∙ sym (ap (λ r. on r (exec_items scope v c items u t') t) x)) (does t' alive st)
+went-on scope c v items o behind R S t' t u back alive e does (Hit s x y z k st) =
+    subst S (ap (λ r. on r (exec_default scope items s) s) y ∙ sym (z u) ∙ sym (ap (λ r. on r (exec_items scope v c items u t') t) x)) (does s k st)
+went-on scope c v items o behind R S t' t u back alive e does (Away x y st) =
+    subst S (sym (ap (λ r. on r (exec_items scope v c items u t') t) x)) (back (subst S (ap (λ r. on r (exec_default scope items t') t') y) (does t' alive st)))
 
 pub does-case : (scope : Scope) (e : Exp) (items : Items) (n0 n m off subject behind : ℕ) (at0 at1 at2 : Env) (l0 l1 l2 l3 : ListData) → Fits scope.names l0 at0 → IsIn l0 off →
     Longer (HasMemories scope.names at0) n0 l0 l1 → ((s : Shape) (b : BankData) (x : Sample) → AreSound s l0 → Stands scope.names b l0 at0 x → held b l1 subject ≡ value scope x e (items_form scope.names (form scope.names e) items)) →
@@ -271,8 +275,9 @@ does-case scope e items n0 n m off subject behind at0 at1 at2 l0 l1 l2 l3 fits k
           let sound2 = sound-behind names at0 (n0 + n) s l0 l2 l02 sound in
           let st1 = subst (Stands names b l1 at0) (sym same) (stands-stays names b l0 l1 at0 (sample t) g01 fits st) in
           let w = tries.went sound1.shape b t' sound1.sound alive' st1 in
-          went-on names scope c v items (held b l0 off) (held b l2 behind) b l2 l3 at1 at2 t' t (exec_default scope items t') same alive' refl
-          (λ u h i. d.does sound2.shape b u sound2.sound h i)
-          (subst (λ z. Went names scope c v items z (held b l2 behind) b l2 at1 t') (held-stays b l0 l1 off g01 k)
-          (subst (λ z. Went names scope c z items (held b l1 off) (held b l2 behind) b l2 at1 t') (is s b (sample t) sound st) w));
+          let R : State → Type 0 = λ u. Stands names b l2 at1 (sample u) in
+          let S : State → Type 0 = λ u. Stands names b l3 at2 (sample u) in
+          went-on scope c v items (held b l0 off) (held b l2 behind) R S t' t (exec_default scope items t') (λ z. subst (Stands names b l3 at2) same z) alive' refl (λ u h i. d.does sound2.shape b u sound2.sound h i)
+          (subst (λ z. Went scope c v items z (held b l2 behind) R t') (held-stays b l0 l1 off g01 k)
+          (subst (λ z. Went scope c z items (held b l1 off) (held b l2 behind) R t') (is s b (sample t) sound st) w));
     }

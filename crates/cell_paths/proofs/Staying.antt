@@ -42,7 +42,7 @@ gives-slot Has n old new r w f g = record { there = g.there; width = g.width }
 
 -- ---- environments
 
-entry-stays : (old new : ListData) (w : ℕ) (e : Option ℕ) → Grows old new → IsEntry old w e → IsEntry new w e
+pub entry-stays : (old new : ListData) (w : ℕ) (e : Option ℕ) → Grows old new → IsEntry old w e → IsEntry new w e
 entry-stays old new w None g h = tt
 entry-stays old new w (Some r) g h = is-slot-stays old new r w g h
 

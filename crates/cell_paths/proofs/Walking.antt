@@ -55,7 +55,7 @@ does-nop names scope off at l f = does-nothing names off at l f
 pub does-no-default : (names : Names) (scope : Scope) (off : ℕ) (at : Env) (l : ListData) → Fits names l at → Does names 0 (exec_default scope NoItems) off at at l l
 does-no-default names scope off at l f = does-nothing names off at l f
 
-both : (o : ℕ) (f g : State → State) (t : State) → on o (g (on o (f t) t)) (on o (f t) t) ≡ on o (g (f t)) t
+pub both : (o : ℕ) (f g : State → State) (t : State) → on o (g (on o (f t) t)) (on o (f t) t) ≡ on o (g (f t)) t
 both o f g t = of (o == 0)
   where
     of : (b : Bool) → (if b then g (if b then f t else t) else (if b then f t else t)) ≡ (if b then g (f t) else t)
@@ -141,7 +141,7 @@ update-stays b old new signal low part g k h =
 
 -- ---- a blocking assignment
 
-going : {A : Type 0} (b : Bool) (x y : A) → b ≡ false → (if b then x else y) ≡ y
+pub going : {A : Type 0} (b : Bool) (x y : A) → b ≡ false → (if b then x else y) ≡ y
 going true x y e = let z : ⊥ = cc in absurd z
 going false x y e = refl
 

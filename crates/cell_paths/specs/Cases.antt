@@ -20,16 +20,15 @@ pub record Compares (names : Names) (n : ℕ) (scope : Scope) (c : Form) (subjec
   pub value : (s : Shape) (b : BankData) (x : Sample) → AreSound s old → Stands names b old at x →
       held b new behind ≡ (if some_match scope x c (held b old subject) labels then 1 else held b old before)
 
--- what items do to a state, where two paths hold these numbers: that before the items, and that behind them
-pub data Went (names : Names) (scope : Scope) (c : Form) (v : ℕ) (items : Items) (before behind : ℕ) (b : BankData) (new : ListData) (at' : Env) (t : State) : Type 0 where
+-- what items do to a state, where two paths hold these numbers: that before the items, and that behind them; R holds of the state
+-- behind them
+pub data Went (scope : Scope) (c : Form) (v : ℕ) (items : Items) (before behind : ℕ) (R : State → Type 0) (t : State) : Type 0 where
   -- no label matches
-  Missed : before ≡ 0 → behind ≡ 0 → ((d : State) → exec_items scope v c items d t ≡ d) → Stands names b new at' (sample t) →
-      Went names scope c v items before behind b new at' t
+  Missed : before ≡ 0 → behind ≡ 0 → ((d : State) → exec_items scope v c items d t ≡ d) → R t → Went scope c v items before behind R t
   -- a label matches, and its item is executed
-  Hit : (t' : State) → before ≡ 0 → behind ≡ 1 → ((d : State) → exec_items scope v c items d t ≡ t') → t'.finished ≡ false → Stands names b new at' (sample t') →
-      Went names scope c v items before behind b new at' t
+  Hit : (t' : State) → before ≡ 0 → behind ≡ 1 → ((d : State) → exec_items scope v c items d t ≡ t') → t'.finished ≡ false → R t' → Went scope c v items before behind R t
   -- the items aren't looked at
-  Away : before ≡ 1 → behind ≡ 1 → Stands names b new at' (sample t) → Went names scope c v items before behind b new at' t
+  Away : before ≡ 1 → behind ≡ 1 → R t → Went scope c v items before behind R t
 
 -- with at most n cells more, they do what labelled items do where the path before them is taken; behind them it is taken where none
 -- was executed
@@ -40,4 +39,4 @@ pub record Tries (names : Names) (n : ℕ) (scope : Scope) (c : Form) (subject :
   pub slot : IsSlot new behind 1
   pub alive : (v : ℕ) (d t : State) → d.finished ≡ false → t.finished ≡ false → (exec_items scope v c items d t).finished ≡ false
   pub went : (s : Shape) (b : BankData) (t : State) → AreSound s old → t.finished ≡ false → Stands names b old at (sample t) →
-      Went names scope c (held b old subject) items (held b old before) (held b new behind) b new at' t
+      Went scope c (held b old subject) items (held b old before) (held b new behind) (λ u. Stands names b new at' (sample u)) t

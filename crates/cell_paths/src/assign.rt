@@ -167,8 +167,9 @@ fn partly(
     on_path(alloc, cells, here, off, before, after)
 }
 
-/// The slot of a signal that is assigned to: at most four cells.
-fn assigned(
+/// The slot of what a signal of a width holds behind a part that is assigned to it where a path is taken: at most four cells. `here`
+/// is a slot that holds 0.
+pub fn assigned(
     alloc: Global,
     cells: &mut CellList,
     here: u32,

@@ -61,5 +61,5 @@ returns-clause-passes c =
     let body : stm_of x.path x.body ≡ (proc_at d i).body = ap (λ p. p.body) (sym proc) in
     on_ok_weaker c.statement.result
     (λ h. passes-evaluated d i at at' l0 l1 c.requires.checked c.requires.fits kind
-        (λ (files : List File). subst (λ (a : Stm). Does (names_of d) (stm_count (body_cells d) a) (exec (scope_of d files) a) at.here at at' l0 l1) body (h files x.path)))
+    (λ (files : List File). subst (λ (a : Stm). Does (names_of d) (stm_count (body_cells d) a) (exec (scope_of d files) a) at.here at at' l0 l1) body (h files x.path)))
     c.statement.ensures.does

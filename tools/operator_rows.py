@@ -2,6 +2,11 @@
 
 import pathlib
 import random
+import sys
+
+sys.dont_write_bytecode = True
+
+from values import corners, ones, signed, some
 
 WIDTHS = [1, 2, 7, 8, 31, 32, 33, 63, 64, 65, 127, 128]
 FOLDER = pathlib.Path(__file__).resolve().parent.parent / "crates" / "operator_rows"
@@ -9,16 +14,6 @@ FOLDER = pathlib.Path(__file__).resolve().parent.parent / "crates" / "operator_r
 random.seed(20051364)
 rows = []
 answers = []
-
-
-def ones(width):
-    """The greatest value of a width."""
-    return (1 << width) - 1
-
-
-def signed(value, width):
-    """The signed reading of a value."""
-    return value - (1 << width) if value >> (width - 1) else value
 
 
 def quotient(x, y):
@@ -60,15 +55,6 @@ def shifted(value, places):
     if abs(places) > 300:
         return 0 if value >= 0 or places > 0 else -1
     return value << places if places >= 0 else value >> -places
-
-
-def corners(width):
-    return sorted({0, 1, ones(width), 1 << (width - 1), (1 << (width - 1)) - 1})
-
-
-def some(width):
-    """A value at random, of which half have few bits."""
-    return random.getrandbits(random.randint(1, width) if random.random() < 0.5 else width)
 
 
 def put(kind, operands, results):

@@ -2,6 +2,11 @@
 
 import pathlib
 import random
+import sys
+
+sys.dont_write_bytecode = True
+
+from values import corners, ones, signed, some
 
 WIDTHS = [1, 7, 8, 31, 32, 33, 64, 127, 128]
 FOLDER = pathlib.Path(__file__).resolve().parent.parent / "crates" / "text_rows"
@@ -9,16 +14,6 @@ FOLDER = pathlib.Path(__file__).resolve().parent.parent / "crates" / "text_rows"
 random.seed(20051364)
 rows = []
 answers = []
-
-
-def ones(width):
-    """The greatest value of a width."""
-    return (1 << width) - 1
-
-
-def signed(value, width):
-    """The signed reading of a value."""
-    return value - (1 << width) if value >> (width - 1) else value
 
 
 def decimal(value, width, least, is_signed):
@@ -69,15 +64,6 @@ def put(letters, width, value):
     row = f"{letters} {width:x} {value:x}"
     rows.append(row)
     answers.append(row + " = " + shown(b"".join(b"[" + t + b"]" for t in texts if t is not None)))
-
-
-def corners(width):
-    return sorted({0, 1, ones(width), 1 << (width - 1), (1 << (width - 1)) - 1})
-
-
-def some(width):
-    """A value at random, of which half have few bits."""
-    return random.getrandbits(random.randint(1, width) if random.random() < 0.5 else width)
 
 
 def word(width):

@@ -3,11 +3,12 @@
 ghost use Rattle.vl_design.specs.Seen.{placed};
 ghost use Rattle.vl_checked.specs.Fit.{IsFit};
 
-use crate::words::{accepted, numbered, plain};
+use crate::words::{costs, numbered, plain};
 use cell_accept::accept::accept;
 use cell_accept::fault::Fault;
 use std::alloc::{AllocError, Global};
 use vl_base::place::Place;
+use vl_cost::cost::cost;
 use vl_design::design::Design;
 use vl_design::stop::Stop;
 use vl_fit::laws::an_elaborated_design_is_fit_to_be_judged;
@@ -22,7 +23,7 @@ fn answer_to_design(alloc: Global, design: &Design) -> Result<String, AllocError
     requires { IsFit (placed design.now) }
 {
     match accept(alloc, design) {
-        Ok(_) => accepted(alloc),
+        Ok(accepted) => costs(alloc, cost(alloc, &accepted.design)?),
         Err(Fault::Construct(place, number)) => numbered(alloc, "construct", number, place),
         Err(Fault::Limit(place, number)) => numbered(alloc, "limit", number, place),
         Err(Fault::Loop(place)) => plain(alloc, "loop", place),
@@ -51,7 +52,7 @@ fn answer_to_tokens(alloc: Global, tokens: &[Token]) -> Result<String, AllocErro
     }
 }
 
-/// The answer to a source: its first fault, or that it is accepted.
+/// The answer to a source: its first fault, or the cost of the design that is accepted.
 fn answer(alloc: Global, source: &str) -> Result<String, AllocError> {
     match lex(alloc, source.as_bytes()) {
         Ok(tokens) => answer_to_tokens(alloc, &tokens),
@@ -61,10 +62,15 @@ fn answer(alloc: Global, source: &str) -> Result<String, AllocError> {
     }
 }
 
+/// An answer is the wanted one; each cost is that of a design that is accepted.
+fn meets(answer: &str, wanted: &str) -> bool {
+    answer == wanted || (wanted == "accepted" && answer.starts_with("cost "))
+}
+
 /// `ok` where the answer is the wanted one, else both, and the source.
 pub fn compared(alloc: Global, wanted: &str, source: &str) -> Result<String, AllocError> {
     let answer = answer(alloc, source)?;
-    if answer.as_str() == wanted {
+    if meets(answer.as_str(), wanted) {
         return String::from_str(alloc, "ok");
     }
     format!(in alloc; "{wanted} is wanted, {answer} came: {source}")

@@ -1,6 +1,6 @@
 //! Reads sources, each behind a line `= ` of what is wanted, and prints whether it is what the front end answers: the first
 //! fault of the tokens, the grammar, the names, the flat design, its uses, the limits of its loops, what it leaves
-//! unassigned, and its loops of processes; or that the source is accepted.
+//! unassigned, and its loops of processes; or that the source is accepted, or `cost` and the three numbers of its cost.
 #![tactic(auto)]
 
 mod judge;

@@ -1,11 +1,12 @@
-//! Faults in words.
+//! Faults and costs in words.
 
 use std::alloc::{AllocError, Global};
 use vl_base::place::Place;
+use vl_cost::capacity::Cost;
 
-/// What a source without faults is.
-pub fn accepted(alloc: Global) -> Result<String, AllocError> {
-    String::from_str(alloc, "accepted")
+/// A cost by its three numbers.
+pub fn costs(alloc: Global, cost: Cost) -> Result<String, AllocError> {
+    format!(in alloc; "cost {} {} {}", cost.regs, cost.cells, cost.mem)
 }
 
 /// A fault of a kind that has no numbers, at its place.

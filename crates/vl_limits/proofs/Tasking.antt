@@ -18,10 +18,10 @@ use Rattle.vl_design.specs.Trees.{arg_of}
 use Rattle.vl_design.proofs.TreeLemmas.{args-map}
 use Rattle.vl_design.specs.Seen as seen
 use Rattle.vl_design.specs.Syntax.{Exp, Sig, Task, Print, Finish, Fgetc, Feof, Fclose}
-use Rattle.vl_turns.specs.Limits.{Counted, exp_count, task_count, call_count}
+use Rattle.vl_turns.specs.Limits.{Counted, task_count, call_count}
 use Rattle.vl_limits.specs.declared.tasks.Kind.{Kind}
 use Rattle.vl_limits.specs.declared.tasks.Kind.TheVariants as k
-use Rattle.vl_limits.specs.Tasks.{is_signal, is_value, kind_by, kind_count}
+use Rattle.vl_limits.specs.Tasks.{is_signal, is_value, kind_by, kind_task, CountsTaken}
 
 -- ---- the tree of a call
 
@@ -36,44 +36,52 @@ sys-of x call h =
 
 -- ---- kinds
 
-module _ (c : Counted) where
-  named-same : (given : List Arg) → task_count c (fopen_of given) ≡ task_count c (save_of given)
+module _ (all : Task → ℕ) (c : CountsTaken all) where
+  named-same : (given : List Arg) → all (fopen_of given) ≡ all (save_of given)
   named-same [] = refl
   named-same (Null ∷ given) = refl
-  named-same (Str text ∷ given) = refl
+  named-same (Str text ∷ given) = c.fopen text
   named-same (Value e ∷ given) = refl
 
-  file-same : (make : Exp → Task) → ((e : Exp) → task_count c (make e) ≡ exp_count c e) → (given : List Arg) → task_count c (file_of make given) ≡ task_count c (file_of Fgetc given)
+  file-same : (make : Exp → Task) → ((e : Exp) → all (make e) ≡ all (Fgetc e)) → (given : List Arg) → all (file_of make given) ≡ all (file_of Fgetc given)
   file-same make h [] = refl
   file-same make h (Null ∷ given) = refl
   file-same make h (Str text ∷ given) = refl
   file-same make h (Value e ∷ given) = h e
 
-  pub kind-is : (name : List ℕ) (given : List Arg) → task_count c (task_of [] name given) ≡ kind_count c (kind_by name) given
+  kind-is : (name : List ℕ) (given : List Arg) → all (task_of [] name given) ≡ all (kind_task (kind_by name) given)
   kind-is name given = at (bytes_eq name (codes "$display")) (bytes_eq name (codes "$write")) (bytes_eq name (codes "$finish")) (bytes_eq name (codes "$save")) (bytes_eq name (codes "$fopen"))
       (bytes_eq name (codes "$fread")) (bytes_eq name (codes "$fgetc")) (bytes_eq name (codes "$feof")) (bytes_eq name (codes "$fclose")) (bytes_eq name (codes "$readmemh"))
     where
       late : (f g h i j : Bool) →
-          task_count c (if f then fread_of given else if g then file_of Fgetc given else if h then file_of Feof given else if i then file_of Fclose given else if j then read_hex_of given else Print [] false)
-          ≡ kind_count c (if f then k.Reads else if g || (h || i) then k.Asks else if j then k.Loads else k.Unknown) given
+          all (if f then fread_of given else if g then file_of Fgetc given else if h then file_of Feof given else if i then file_of Fclose given else if j then read_hex_of given else Print [] false)
+          ≡ all (kind_task (if f then k.Reads else if g || (h || i) then k.Asks else if j then k.Loads else k.Unknown) given)
       late true g h i j = refl
       late false true h i j = refl
-      late false false true i j = file-same Feof (λ e. refl) given
-      late false false false true j = file-same Fclose (λ e. refl) given
+      late false false true i j = file-same Feof c.feof given
+      late false false false true j = file-same Fclose c.fclose given
       late false false false false true = refl
       late false false false false false = refl
 
       at : (a b d e o f g h i j : Bool) →
-          task_count c (if a then Print (pieces_from [] 0 given) true else if b then Print (pieces_from [] 0 given) false else if d then Finish (finish_of given) else if e then save_of given else if o then fopen_of given
+          all (if a then Print (pieces_from [] 0 given) true else if b then Print (pieces_from [] 0 given) false else if d then Finish (finish_of given) else if e then save_of given else if o then fopen_of given
           else if f then fread_of given else if g then file_of Fgetc given else if h then file_of Feof given else if i then file_of Fclose given else if j then read_hex_of given else Print [] false)
-          ≡ kind_count c (if a || b then k.Shows else if d then k.Finishes else if e || o then k.Names else if f then k.Reads else if g || (h || i) then k.Asks else if j then k.Loads else k.Unknown) given
-      at true b d e o f g h i j = refl
+          ≡ all (kind_task (if a || b then k.Shows else if d then k.Finishes else if e || o then k.Names else if f then k.Reads else if g || (h || i) then k.Asks else if j then k.Loads else k.Unknown) given)
+      at true b d e o f g h i j = c.newline (pieces_from [] 0 given)
       at false true d e o f g h i j = refl
       at false false true e o f g h i j = refl
       at false false false true o f g h i j = refl
       at false false false false true f g h i j = named-same given
       at false false false false false f g h i j = late f g h i j
 
+  pub taken-is : (name n : List ℕ) (xs ys : List SysArg) (kind : Kind) → kind ≡ kind_by n → n ≡ name → ys ≡ xs → all (kind_task kind (map arg_of ys)) ≡ all (task_of [] name (plain.args (seen.args_of xs)))
+  taken-is name n xs ys kind h e f =
+      ap (λ z. all (kind_task z (map arg_of ys))) (h ∙ ap kind_by e)
+      ∙ (ap (λ z. all (kind_task (kind_by name) (map arg_of z))) f
+      ∙ (ap (λ z. all (kind_task (kind_by name) z)) (sym (args-map xs))
+      ∙ sym (kind-is name (plain.args (seen.args_of xs)))))
+
+module _ (c : Counted) where
   -- ---- the first arguments
 
   pub read-count : (a b : Arg) (given : List Arg) → is_signal a ≡ true → is_value b ≡ true → task_count c (fread_of (a ∷ b ∷ given)) ≡ c.node + task_count c (file_of Fgetc (b ∷ given))
@@ -87,12 +95,8 @@ module _ (c : Counted) where
 -- ---- calls
 
 module _ (c : Counted) where
-  pub task-is : (name n : List ℕ) (xs ys : List SysArg) (kind : Kind) → kind ≡ kind_by n → n ≡ name → ys ≡ xs → kind_count c kind (map arg_of ys) ≡ task_count c (task_of [] name (plain.args (seen.args_of xs)))
-  task-is name n xs ys kind h e f =
-      ap (λ z. kind_count c z (map arg_of ys)) (h ∙ ap kind_by e)
-      ∙ (ap (λ z. kind_count c (kind_by name) (map arg_of z)) f
-      ∙ (ap (kind_count c (kind_by name)) (sym (args-map xs))
-      ∙ sym (kind-is c name (plain.args (seen.args_of xs)))))
+  pub task-is : (name n : List ℕ) (xs ys : List SysArg) (kind : Kind) → kind ≡ kind_by n → n ≡ name → ys ≡ xs → task_count c (kind_task kind (map arg_of ys)) ≡ task_count c (task_of [] name (plain.args (seen.args_of xs)))
+  task-is name n xs ys kind h e f = taken-is (task_count c) (record { newline = λ ps. refl; fopen = λ name. refl; feof = λ e. refl; fclose = λ e. refl }) name n xs ys kind h e f
 
   pub call-sys : (x : Expr) (call : SysCall) → x.node ≡ d.Sys call → call_count c (seen.exp_of x) ≡ task_count c (task_of [] call.name (plain.args (seen.args_of call.args.items)))
   call-sys x call h = ap (call_count c) (sys-of x call h)

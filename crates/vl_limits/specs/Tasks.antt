@@ -1,10 +1,9 @@
 -- How a system call takes its arguments, by its name (IEEE 1364-2005, clause 17).
-use Rattle.std.specs.Prelude.{ℕ, Bool, true, false, ◌||◌, if◌then◌else◌, List, [], codes}
+use Rattle.std.specs.Prelude.{◌≡◌, ℕ, Bool, true, false, ◌||◌, if◌then◌else◌, List, [], codes}
 use Rattle.std.specs.Str.{bytes_eq}
 use Rattle.vl_design.specs.Calls.{finish_of, save_of, fread_of, read_hex_of, file_of}
 use Rattle.vl_design.specs.Formats.{Arg, Str, Value, pieces_from}
-use Rattle.vl_design.specs.Syntax.{Sig, Fgetc}
-use Rattle.vl_turns.specs.Limits.{Counted, exps_count, pieces_count, task_count}
+use Rattle.vl_design.specs.Syntax.{Exp, Sig, Piece, Task, Print, Finish, Save, Fopen, Fgetc, Feof, Fclose}
 use Rattle.vl_limits.specs.declared.tasks.Kind.{Kind}
 use Rattle.vl_limits.specs.declared.tasks.Kind.TheVariants as k
 
@@ -34,12 +33,19 @@ kind_by name =
     else if bytes_eq name (codes "$save") || bytes_eq name (codes "$fopen") then k.Names
     else other_kind name
 
--- what arguments count that are taken so
-abbrev pub kind_count : Counted → Kind → List Arg → ℕ
-kind_count c k.Shows given = pieces_count c (pieces_from [] 0 given)
-kind_count c k.Finishes given = exps_count c (finish_of given)
-kind_count c k.Names given = task_count c (save_of given)
-kind_count c k.Reads given = task_count c (fread_of given)
-kind_count c k.Asks given = task_count c (file_of Fgetc given)
-kind_count c k.Loads given = task_count c (read_hex_of given)
-kind_count c k.Unknown given = 0
+-- a call that takes its arguments so
+abbrev pub kind_task : Kind → List Arg → Task
+kind_task k.Shows given = Print (pieces_from [] 0 given) false
+kind_task k.Finishes given = Finish (finish_of given)
+kind_task k.Names given = save_of given
+kind_task k.Reads given = fread_of given
+kind_task k.Asks given = file_of Fgetc given
+kind_task k.Loads given = read_hex_of given
+kind_task k.Unknown given = Print [] false
+
+-- a count of calls by what they take alone
+pub record CountsTaken (all : Task → ℕ) : Type 0 where
+  pub newline : (pieces : List Piece) → all (Print pieces true) ≡ all (Print pieces false)
+  pub fopen : (name : List ℕ) → all (Fopen name) ≡ all (Save name)
+  pub feof : (fd : Exp) → all (Feof fd) ≡ all (Fgetc fd)
+  pub fclose : (fd : Exp) → all (Fclose fd) ≡ all (Fgetc fd)

@@ -95,7 +95,7 @@ fn after(mode: Mode, byte: u8) -> Next
 }
 
 /// How many arguments the items of a format take.
-pub(crate) fn items_in(text: &[u8]) -> usize
+pub fn items_in(text: &[u8]) -> usize
     ensures { result ≡ items_in text.now }
 {
     let mut mode = Mode::InText;

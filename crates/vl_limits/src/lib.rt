@@ -5,8 +5,8 @@
 mod bodies;
 mod displays;
 mod expressions;
-mod formats;
+pub mod formats;
 pub mod limits;
 mod statements;
 mod sums;
-mod tasks;
+pub mod tasks;

@@ -11,7 +11,7 @@ ghost use Rattle.vl_design.specs.Syntax.{Fgetc};
 ghost use Rattle.vl_design.specs.Trees.{arg_of, exp_of};
 ghost use Rattle.vl_turns.specs.Limits.{exps_count, task_count, call_count, whole_count};
 ghost use Rattle.vl_limits.specs.Tallies.{counted_of};
-ghost use Rattle.vl_limits.specs.Tasks.{is_signal, is_text, is_value, kind_by, kind_count, other_kind};
+ghost use Rattle.vl_limits.specs.Tasks.{is_signal, is_text, is_value, kind_by, kind_task, other_kind};
 
 use crate::displays::display_sum;
 use crate::expressions::exp_sum;
@@ -21,7 +21,7 @@ use vl_design::design::{Expr, ExprNode, SysArg, SysCall};
 
 /// How a system call takes its arguments.
 #[derive(Clone, Copy)]
-enum Kind {
+pub enum Kind {
     /// It shows them.
     Shows,
     /// Each expression among them counts.
@@ -64,7 +64,7 @@ fn other_kind(name: &[u8]) -> Kind
 }
 
 /// How a system call of this name takes its arguments.
-fn kind_of(name: &[u8]) -> Kind
+pub fn kind_of(name: &[u8]) -> Kind
     ensures { result ≡ kind_by name.now }
 {
     if is_word(name, b"$display".as_slice()) || is_word(name, b"$write".as_slice()) {
@@ -125,7 +125,7 @@ fn name_sum(tally: &Tally<'_>, sum: u32, given: &[SysArg]) -> u32
 }
 
 /// Whether an argument is the name of a signal.
-fn is_signal(a: &SysArg) -> bool
+pub fn is_signal(a: &SysArg) -> bool
     ensures { result ≡ is_signal (arg_of a.now) }
 {
     match a {
@@ -142,7 +142,7 @@ fn is_signal(a: &SysArg) -> bool
 }
 
 /// Whether an argument is an expression.
-fn is_value(a: &SysArg) -> bool
+pub fn is_value(a: &SysArg) -> bool
     ensures { result ≡ is_value (arg_of a.now) }
 {
     match a {
@@ -152,7 +152,7 @@ fn is_value(a: &SysArg) -> bool
 }
 
 /// Whether an argument is a string.
-fn is_text(a: &SysArg) -> bool
+pub fn is_text(a: &SysArg) -> bool
     ensures { result ≡ is_text (arg_of a.now) }
 {
     match a {
@@ -196,7 +196,7 @@ fn load_sum(tally: &Tally<'_>, sum: u32, given: &[SysArg]) -> u32
 
 /// A sum with what the arguments of a call of this kind count.
 fn kind_sum(tally: &Tally<'_>, sum: u32, kind: Kind, given: &[SysArg]) -> u32
-    ensures { result ≡ min tally.now.cap (sum + kind_count (counted_of tally.now) kind (map arg_of given.now)) }
+    ensures { result ≡ min tally.now.cap (sum + task_count (counted_of tally.now) (kind_task kind (map arg_of given.now))) }
 {
     match kind {
         Kind::Shows => display_sum(tally, sum, given),

@@ -1,0 +1,9 @@
+use Rattle.std.proofs.Common.{ℕ, ap, sym, ◌∙◌}
+use Rattle.std.specs.Prelude.{slice_index}
+use Rattle.vl_cost.specs.Costs.{saturated}
+use Rattle.vl_cost.proofs.Tasking.{called-sys}
+use Rattle.vl_cost.proofs.tasks.called_cells.Goals as goal
+
+pub returns-in-Sys : goal.returns-in-Sys
+returns-in-Sys c = c.task_cells.ensures
+    ∙ sym (ap saturated (called-sys (λ (f : ℕ). slice_index c.args.bodies.now f) c.args.e.now c.in-Sys.call c.in-Sys.is))

@@ -18,7 +18,8 @@ use Rattle.cell_form.specs.Sound.{Shape}
 use Rattle.cell_steps.specs.Slots.{Grows}
 use Rattle.cell_paths.specs.Envs.{Env, entry, IsEntry, IsThere, Fits, HasMemories, held_or, word_or, HasWords, Stands}
 use Rattle.cell_paths.proofs.Staying.{fits-stays, stands-stays}
-use Rattle.cell_begin.specs.Begins.{is_computed, is_computed_row, computed_at, Mixes, Joins}
+use Rattle.vl_settle.specs.Computed.{is_computed, is_computed_row, computed_at}
+use Rattle.cell_begin.specs.Begins.{Mixes, Joins}
 
 -- ---- one entry after another
 

@@ -1,30 +1,15 @@
 -- What the cells of a state begin with: variables as they are, and nets over the values committed last (IEEE 1364-2005, clauses 6.1 and
 -- 11.3; own).
-use Rattle.std.specs.Prelude.{◌≡◌, ℕ, Bool, true, false, List, slice_get, Option, Some, None, length}
-use Rattle.vl_design.specs.declared.design.SigKind.{SigKind}
-use Rattle.vl_design.specs.declared.design.SigKind.TheVariants.{Net, Comb}
+use Rattle.std.specs.Prelude.{◌≡◌, ℕ, true, false, List, length}
 use Rattle.vl_design.specs.Syntax.{Row}
 use Rattle.vl_design.specs.Width.{Names}
 use Rattle.vl_design.specs.Value.{value_of, words_of}
 use Rattle.vl_design.specs.Sound.{IsSignal, IsMemory}
 use Rattle.vl_design.specs.Laws.{IsFine}
+use Rattle.vl_settle.specs.Computed.{computed_at}
 use Rattle.cell_form.specs.Sound.{Shape}
 use Rattle.cell_paths.specs.Envs.{Env, entry}
 use Rattle.cell_reads.specs.Reads.{HasPlaces}
-
--- signals of the kind are computed, by combinational processes
-abbrev pub is_computed : SigKind → Bool
-is_computed Net = true
-is_computed Comb = true
-is_computed kind = false
-
-abbrev pub is_computed_row : Option Row → Bool
-is_computed_row None = false
-is_computed_row (Some r) = is_computed r.kind
-
--- the signal of a number is computed
-abbrev pub computed_at : List Row → ℕ → Bool
-computed_at rows k = is_computed_row (slice_get rows k)
 
 -- values of which those of computed signals are these, and the others those
 pub record Mixes (names : Names) (nets others values : List (List ℕ)) : Type 0 where

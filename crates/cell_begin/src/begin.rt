@@ -8,6 +8,7 @@ ghost use Rattle.vl_design.specs.Trees.{flat_of, row_of};
 ghost use Rattle.vl_design.specs.Width.{names_of};
 ghost use Rattle.settling.specs.Nets as settling;
 ghost use Rattle.vl_settle.specs.Checked.{IsChecked};
+ghost use Rattle.vl_settle.specs.Computed as c;
 ghost use Rattle.vl_settle.specs.Nets.{run};
 ghost use Rattle.cell_form.specs.Data.{BankData};
 ghost use Rattle.cell_form.specs.Sound.{Shape};
@@ -26,16 +27,16 @@ use cell_reads::reads::reads;
 use std::alloc::{AllocError, Global};
 use vl_design::design::{Design, SigKind, Signal};
 
-/// Whether signals of a kind are computed.
-fn is_computed(kind: SigKind) -> bool
-    ensures { result ≡ s.is_computed kind }
+/// Whether signals of a kind are computed, by combinational processes.
+pub fn is_computed(kind: SigKind) -> bool
+    ensures { result ≡ c.is_computed kind }
 {
     matches!(kind, SigKind::Net | SigKind::Comb)
 }
 
 /// The entry of a signal of a kind: that of a net where it is computed, else the other.
 fn entry_of(kind: SigKind, net: Option<u32>, other: Option<u32>) -> Option<u32>
-    ensures { result ≡ (if s.is_computed kind then net else other) }
+    ensures { result ≡ (if c.is_computed kind then net else other) }
 {
     if is_computed(kind) { net } else { other }
 }

@@ -2,3 +2,4 @@ pub mod Nets
 pub mod Checked
 pub mod Runs
 pub mod Sample
+pub mod Computed

@@ -3,7 +3,7 @@ use Rattle.std.specs.Prelude.{if◌then◌else◌}
 use Rattle.std.proofs.lemmas.List.{length-map, get_or_default}
 use Rattle.vl_design.specs.Trees.{row_of}
 use Rattle.cell_paths.specs.Envs.{env_of}
-use Rattle.cell_begin.specs.Begins.{is_computed}
+use Rattle.vl_settle.specs.Computed.{is_computed}
 use Rattle.cell_begin.proofs.Joining.{joining-none, joining-more, joining-all, computed-kind}
 use Rattle.cell_begin.proofs.begin.join.Goals as goal
 

@@ -1,0 +1,2 @@
+//! System calls of a design as traps: what their slots hold, and what serving them does.
+#![tactic(auto)]

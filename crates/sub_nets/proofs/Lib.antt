@@ -1,1 +1,9 @@
 mod Passes
+mod Cleared
+mod Writes
+mod Holding
+mod Calls
+mod Starting
+mod Tidy
+mod Parts
+mod Regions

@@ -1,6 +1,6 @@
 -- Nets over the values committed last: a computed signal has no register, and what it is follows from the others (IEEE 1364-2005,
 -- clauses 6.1 and 11.3; own).
-use Rattle.std.specs.Prelude.{◌≡◌, ℕ, ◌<◌, Bool, true, false, List, [], ◌∷◌, length, map, if◌then◌else◌, slice_get, Option, Some, None}
+use Rattle.std.specs.Prelude.{◌≡◌, ℕ, ◌+◌, ◌<◌, Bool, true, false, List, [], ◌∷◌, length, map, if◌then◌else◌, slice_get, Option, Some, None}
 use Rattle.vl_base.specs.declared.files.File.{File}
 use Rattle.vl_design.specs.declared.design.SigKind.{SigKind}
 use Rattle.vl_design.specs.declared.design.SigKind.TheVariants.{Net, Comb}
@@ -8,10 +8,14 @@ use Rattle.vl_design.specs.Syntax.{Row, Flat}
 use Rattle.vl_design.specs.Value.{value_of}
 use Rattle.vl_design.specs.State.{State}
 use Rattle.vl_design.specs.Reads.{stm_writes}
-use Rattle.vl_design.specs.Queue.{proc_at}
+use Rattle.vl_design.specs.Queue.{proc_at, is_rise, is_fall}
+use Rattle.vl_design.specs.Alone.{blocks}
 use Rattle.vl_paths.specs.Graph.{drives}
 use Rattle.settling.specs.Nets.{pass}
 use Rattle.vl_settle.specs.Nets.{Place, bit_at, comb_at, run}
+use Rattle.sub_nodes.specs.Nodes.{rising, WayOn, Commit}
+use Rattle.sub_nodes.specs.Implements.{bodies}
+use Rattle.sub_nodes.specs.Code.{updates, wave_nodes, fall_nodes}
 use Rattle.sub_nodes.specs.Cycles.{Stage}
 
 -- signals of the kind are computed, by combinational processes
@@ -55,3 +59,16 @@ RestIsZero d values =
 -- no process but a combinational one writes a computed signal, also by reading a file
 pub record WritesNoNets (d : Flat) : Type 0 where
   pub others : (i : ℕ) → comb_at d i ≡ false → stm_writes (computed_at d.rows) (proc_at d i).body ≡ false
+
+-- behind the segment the wave ends
+abbrev pub ends_wave : WayOn → Bool
+ends_wave (Commit to) = true
+ends_wave on = false
+
+-- the number of the first node of time zero's wave, which stands behind all others
+abbrev pub zero_low : Flat → ℕ
+zero_low d =
+    let falls = blocks is_fall d.procs in
+    let from = length (updates falls 0 0) in
+    let up = wave_nodes from 1 (bodies (blocks is_rise d.procs)) rising in
+    from + length up + length (fall_nodes (from + length up) falls)

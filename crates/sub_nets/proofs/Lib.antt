@@ -7,3 +7,9 @@ mod Starting
 mod Tidy
 mod Parts
 mod Regions
+mod Comb
+mod Cycles
+mod Ways
+mod Coming
+mod Memories
+mod Narrow

@@ -17,7 +17,7 @@ use Rattle.sub_nodes.proofs.Closing.{wave_closed}
 use Rattle.sub_nets.specs.Nets.{zero_low}
 use Rattle.sub_nets.proofs.Parts.{NodeHas, AllHave, wave_has, falls_have, has_at}
 
-below_or_not : (n a : ℕ) → (n < a) ⊎ (a ≤ n)
+pub below_or_not : (n a : ℕ) → (n < a) ⊎ (a ≤ n)
 below_or_not n a = grind arith
 
 -- ---- the first node of a wave is one of it
@@ -143,11 +143,15 @@ module _ (d : Flat) where
     updates = λ to k. absurd (c.none n to l r (e ∙ ap Some k));
   }
 
+  pub rise_low : T.rise.first < zero_low d
+  rise_low = let r = first_within from 1 ups rising in omega (arith, r)
+
+  pub zero_high : zero_low d ≤ T.zero.first
+  zero_high = omega arith
+
   update_low : (n : ℕ) (x : Node) → n < from → slice_get T.nodes n ≡ Some x → Applies (zero_low d) x
   update_low n x l e =
-      let r = first_within from 1 ups rising in
-      let rise : T.rise.first < zero_low d = omega (arith, r) in
-      applies (zero_low d) T.rise.first T.fall.first fallers (up ++ (down ++ first)) n x rise (λ f. fall_within (from + length up) fallers f) l e
+      applies (zero_low d) T.rise.first T.fall.first fallers (up ++ (down ++ first)) n x rise_low (λ f. fall_within (from + length up) fallers f) l e
 
   pub is_low : (n : ℕ) (x : Node) → n < zero_low d → slice_get T.nodes n ≡ Some x → IsLow x
   is_low n x l e = at (below_or_not n from)

@@ -12,7 +12,7 @@ use Rattle.vl_design.specs.Queue.{proc_at, is_rise, is_fall}
 use Rattle.vl_design.specs.Alone.{blocks}
 use Rattle.vl_paths.specs.Graph.{drives}
 use Rattle.settling.specs.Nets.{pass}
-use Rattle.vl_settle.specs.Nets.{Place, bit_at, comb_at, run}
+use Rattle.vl_settle.specs.Nets.{Place, bit_at, is_memory, comb_at, run}
 use Rattle.sub_nodes.specs.Nodes.{rising, WayOn, Commit}
 use Rattle.sub_nodes.specs.Implements.{bodies}
 use Rattle.sub_nodes.specs.Code.{updates, wave_nodes, fall_nodes}
@@ -55,6 +55,10 @@ pub record NetsAreZero (d : Flat) (i : Stage) : Type 0 where
 abbrev pub RestIsZero : Flat → List (List ℕ) → Type 0
 RestIsZero d values =
     (b : Place) → computed_at d.rows b.0.signal ≡ true → ((i : ℕ) → i < length d.procs → drives d i b.0 ≡ false) → bit_at values b ≡ 0
+
+-- a computed signal has one word
+pub record HasNarrowNets (d : Flat) : Type 0 where
+  pub words : (k : ℕ) → computed_at d.rows k ≡ true → is_memory d.rows k ≡ false
 
 -- no process but a combinational one writes a computed signal, also by reading a file
 pub record WritesNoNets (d : Flat) : Type 0 where

@@ -6,7 +6,7 @@ use Rattle.vl_base.specs.Files as file
 use Rattle.vl_design.specs.Syntax.{Task, Print, Finish, Save, Fopen, Fread, Fgetc, Feof, Fclose, ReadHex, Row, Flat}
 use Rattle.vl_design.specs.Width.{Scope}
 use Rattle.vl_design.specs.Value.{words_of}
-use Rattle.vl_design.specs.State.{State, Update}
+use Rattle.vl_design.specs.State.{State}
 use Rattle.vl_design.specs.Tasks.{called, memory_read}
 use Rattle.vl_design.specs.Functions.{scope_of}
 use Rattle.vl_design.specs.Reads.{task_writes}
@@ -49,7 +49,7 @@ call_alive scope (Fclose fd) s h = h
 call_alive scope (ReadHex name m) s h = rw (← memory_finished m (slice_get scope.names.rows m) (file.contents scope.files name) s) h
 
 module _ (p : ℕ → Bool) (k : ℕ) (marked : p k ≡ true) where
-  apart : (j : ℕ) → p j ≡ false → k ≢ j
+  pub apart : (j : ℕ) → p j ≡ false → k ≢ j
   apart j h e = let z : p k ≡ p j = ap p e in cc (marked, h, z)
 
   memory_keeps : (m : ℕ) → p m ≡ false → (r : Option Row) (text : Option (List ℕ)) (s : State) → words_of s.values k ≡ words_of (memory_read m r text s).values k

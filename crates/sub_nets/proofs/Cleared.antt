@@ -1,5 +1,5 @@
 -- Values of which those of computed signals are cleared.
-use Rattle.std.proofs.Common.{◌≡◌, ℕ, zero, suc, ◌/◌, ◌%◌, ◌^◌, ◌<◌, Bool, true, false, List, [], ◌∷◌, length, map, refl, sym, ap, ◌∙◌, subst}
+use Rattle.std.proofs.Common.{◌≡◌, ℕ, zero, suc, ◌%◌, ◌^◌, ◌<◌, Bool, true, false, List, [], ◌∷◌, length, map, refl, sym, ap, ◌∙◌, subst}
 use Rattle.std.specs.Prelude.{All, pos, slice_index, if◌then◌else◌}
 use Rattle.std.proofs.Math.Nat.{zero-div}
 use Rattle.std.proofs.lemmas.Nat.{pow_pos}
@@ -11,7 +11,7 @@ use Rattle.vl_design.specs.Width.{signal_form}
 use Rattle.vl_design.specs.Value.{words_of}
 use Rattle.vl_design.specs.Laws.{IsFine}
 use Rattle.vl_settle.specs.Nets.{Place, bit_at}
-use Rattle.sub_nets.specs.Nets.{is_computed, computed_at, cleared}
+use Rattle.sub_nets.specs.Nets.{computed_at, cleared}
 
 pub of_words : (v w : List (List ℕ)) (b : Place) → words_of v b.0.signal ≡ words_of w b.0.signal → bit_at v b ≡ bit_at w b
 of_words v w b e = ap (λ ws. bit_of (slice_index ws b.1) (pos b.0.place)) e

@@ -1,6 +1,6 @@
 -- Blocks of a design whose processes write no nets, and whose clocked blocks set no memories.
 use Rattle.std.proofs.Common.{◌≡◌, ℕ, Bool, true, false, refl}
-use Rattle.std.specs.Prelude.{◌||◌, All}
+use Rattle.std.specs.Prelude.{All}
 use Rattle.vl_design.specs.declared.design.ProcKind.{ProcKind}
 use Rattle.vl_design.specs.declared.design.ProcKind.TheVariants.{Init, Rise, Fall, Comb, Assign}
 use Rattle.vl_design.specs.Syntax.{Stm, Items, NoItems, Labelled, Default, Flat}

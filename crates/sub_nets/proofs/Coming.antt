@@ -1,12 +1,11 @@
 -- The nets of a run of a table: 0 in time zero's wave, and from its end on what one pass makes of the committed values.
-use Rattle.std.proofs.Common.{◌≡◌, ℕ, ◌<◌, ◌≤◌, Bool, true, false, List, [], Option, Some, None, refl, sym, ap, ◌∙◌, subst, arith, ◌⊎◌, inl, inr}
-use Rattle.std.specs.Prelude.{All, slice_get}
+use Rattle.std.proofs.Common.{◌≡◌, ℕ, ◌<◌, ◌≤◌, true, false, List, Option, Some, None, refl, sym, ◌∙◌, arith, ◌⊎◌, inl, inr}
+use Rattle.std.specs.Prelude.{slice_get}
 use Rattle.std.proofs.lemmas.List.Elements.{All-nil}
 use Rattle.vl_base.specs.declared.files.File.{File}
 use Rattle.vl_design.specs.Syntax.{Flat}
-use Rattle.vl_design.specs.State.{State, Update, counted}
+use Rattle.vl_design.specs.State.{State, Update}
 use Rattle.vl_design.specs.Functions.{scope_of}
-use Rattle.vl_design.specs.Queue.{with_updates}
 use Rattle.vl_design.specs.Snapshots.{Snapshot}
 use Rattle.vl_design.specs.Alone.{Origin, resumed}
 use Rattle.vl_design.specs.Laws.{StartsFine}
@@ -14,7 +13,7 @@ use Rattle.vl_design.proofs.Fine.{zeros_fine}
 use Rattle.vl_settle.specs.Checked.{IsChecked, IsOrder}
 use Rattle.sub_nodes.specs.Nodes.{Segment, WayOn, Go, Branch, Switch, Commit, Node, Run, Trap, Apply, Table}
 use Rattle.sub_nodes.specs.Code.{table_of}
-use Rattle.sub_nodes.specs.Cycles.{Stage, committed_in, segment_done, settled, goes_on, cycled, served_by}
+use Rattle.sub_nodes.specs.Cycles.{Stage, segment_done, goes_on, cycled, served_by}
 use Rattle.sub_nodes.specs.Shape.{leads_to}
 use Rattle.sub_nodes.specs.Stands.{first_stage, Comes, cycles, serves}
 use Rattle.sub_nets.specs.Nets.{computed_at, nets_of, HoldNets, NetsAreZero, WritesNoNets, ends_wave, zero_low}
@@ -81,6 +80,12 @@ module _ (d : Flat) (w : WritesNoNets d) where
       at (inl a) = low_has d (KeepsNets d w) (parts d w) (rises_keep d w) (falls_keep d w) n x a e
       at (inr a) = high_has d (KeepsNets d w) (parts d w) (inits_keep d w) n x a e
 
+  pub tidy_served : (files : List File) (x : Option Node) (i : Stage) → slice_get (T d).nodes i.node ≡ x → IsTidy d i → IsTidy d (served_by (scope_of d files) x i)
+  tidy_served files None i e t = t
+  tidy_served files (Some (Run g on)) i e t = t
+  tidy_served files (Some (Trap task to)) i e t = tidy_call d files task (node_keeps i.node (Trap task to) e) i to t
+  tidy_served files (Some (Apply to)) i e t = t
+
   module _ (checked : IsChecked d) (order : List ℕ) (o : IsOrder d order) (files : List File) where
     abbrev nets : State → List (List ℕ)
     nets = nets_of d files order
@@ -95,12 +100,6 @@ module _ (d : Flat) (w : WritesNoNets d) where
     tidy_cycled (Some (Run g on)) i e t = tidy_goes d files checked order o on (done g i) (tidy_segment d files g (node_keeps i.node (Run g on) e) i t)
     tidy_cycled (Some (Trap task to)) i e t = t
     tidy_cycled (Some (Apply to)) i e t = tidy_update d files checked order o i to t
-
-    pub tidy_served : (x : Option Node) (i : Stage) → slice_get (T d).nodes i.node ≡ x → IsTidy d i → IsTidy d (served_by (scope_of d files) x i)
-    tidy_served None i e t = t
-    tidy_served (Some (Run g on)) i e t = t
-    tidy_served (Some (Trap task to)) i e t = tidy_call d files task (node_keeps i.node (Trap task to) e) i to t
-    tidy_served (Some (Apply to)) i e t = t
 
     -- ---- nets
 
@@ -182,7 +181,7 @@ module _ (o : Origin) (w : WritesNoNets o.flat) (checked : IsChecked o.flat) (or
   pub comes_tidy : {c : ℕ} {i : Stage} → Comes o (table_of o.flat) all_nets c i → IsTidy o.flat i
   comes_tidy Comes.begins = first_tidy o.resume fine
   comes_tidy (cycles {i = i} x f h) = tidy_cycled o.flat w checked order ord o.files _ i refl (comes_tidy x)
-  comes_tidy (serves {i = i} x h) = tidy_served o.flat w checked order ord o.files _ i refl (comes_tidy x)
+  comes_tidy (serves {i = i} x h) = tidy_served o.flat w o.files _ i refl (comes_tidy x)
 
   pub comes_nets : {c : ℕ} {i : Stage} → Comes o (table_of o.flat) all_nets c i → Nets o.flat w checked order ord o.files i
   comes_nets Comes.begins = first_nets o.resume fine

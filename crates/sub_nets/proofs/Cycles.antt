@@ -1,9 +1,8 @@
 -- One cycle of a table, and one served call: nets that hold do so on, and where they settle they hold.
-use Rattle.std.proofs.Common.{◌≡◌, ℕ, Bool, true, false, List, Option, Some, None, refl, sym, ap, ◌∙◌, subst}
+use Rattle.std.proofs.Common.{◌≡◌, ℕ, false, List, Some, refl, sym, subst}
 use Rattle.std.specs.Prelude.{All, slice_get}
 use Rattle.vl_base.specs.declared.files.File.{File}
 use Rattle.vl_design.specs.Syntax.{Task, Sys, Flat}
-use Rattle.vl_design.specs.Value.{words_of}
 use Rattle.vl_design.specs.State.{State, counted}
 use Rattle.vl_design.specs.Tasks.{called}
 use Rattle.vl_design.specs.Functions.{scope_of}

@@ -1,16 +1,16 @@
 -- Where nets settle they hold over the committed values, and they hold on where no computed signal is written.
-use Rattle.std.proofs.Common.{◌≡◌, ℕ, Bool, true, false, List, [], ◌∷◌, refl, sym, ap, ◌∙◌, subst}
-use Rattle.std.specs.Prelude.{All, slice_index}
+use Rattle.std.proofs.Common.{◌≡◌, ℕ, Bool, true, false, List, [], ◌∷◌, refl, sym, ap, ◌∙◌}
+use Rattle.std.specs.Prelude.{slice_index}
 use Rattle.vl_base.specs.declared.files.File.{File}
 use Rattle.vl_design.specs.Syntax.{Flat}
 use Rattle.vl_design.specs.Value.{words_of, value_of}
-use Rattle.vl_design.specs.State.{State, counted, all_updated}
+use Rattle.vl_design.specs.State.{State}
 use Rattle.vl_design.specs.Queue.{with_updates}
 use Rattle.vl_design.specs.Laws.{IsFine}
 use Rattle.vl_design.proofs.Kept.{OfUpdates, updates_keep}
 use Rattle.settling.specs.Nets.{pass}
 use Rattle.settling.proofs.Settle.{one_pass_solves, one_pass_keeps, pass_fine}
-use Rattle.vl_settle.specs.Nets.{Place, bit_at, run, AreSolved, SameOthers}
+use Rattle.vl_settle.specs.Nets.{bit_at, run, AreSolved, SameOthers}
 use Rattle.vl_settle.specs.Checked.{IsChecked, IsOrder}
 use Rattle.vl_settle.proofs.Steady.{IsAccepted, Laws}
 use Rattle.vl_settle.proofs.Checks.{accepted}

@@ -4,6 +4,7 @@ mod Writes
 mod Holding
 mod Calls
 mod Starting
+mod Fine
 mod Tidy
 mod Parts
 mod Regions
@@ -13,3 +14,5 @@ mod Ways
 mod Coming
 mod Memories
 mod Narrow
+mod Signals
+mod Sample

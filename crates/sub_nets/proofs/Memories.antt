@@ -1,5 +1,5 @@
 -- Memories stay as they are in the committed values from the end of time zero's wave on.
-use Rattle.std.proofs.Common.{◌≡◌, ◌≢◌, ℕ, ◌<◌, ◌≤◌, Bool, true, false, List, [], ◌∷◌, Option, Some, None, refl, sym, ap, ◌∙◌, subst, arith}
+use Rattle.std.proofs.Common.{◌≡◌, ℕ, ◌<◌, Bool, true, false, List, [], ◌∷◌, Option, Some, None, refl, sym, ◌∙◌}
 use Rattle.std.specs.Prelude.{⊤, ◌||◌, All, slice_get, if◌then◌else◌}
 use Rattle.std.proofs.lemmas.List.Elements.{All-head, All-tail}
 use Rattle.vl_base.specs.declared.files.File.{File}
@@ -7,7 +7,6 @@ use Rattle.vl_design.specs.Syntax.{Stm, Nop, Then, If, Case, For, Repeat, Set, L
 use Rattle.vl_design.specs.Width.{Scope}
 use Rattle.vl_design.specs.Value.{words_of}
 use Rattle.vl_design.specs.State.{State, sample}
-use Rattle.vl_design.specs.Tasks.{called}
 use Rattle.vl_design.specs.Exec.{exec}
 use Rattle.vl_design.specs.Functions.{scope_of}
 use Rattle.vl_design.specs.Reads.{target_writes, task_writes}
@@ -22,9 +21,9 @@ use Rattle.sub_nodes.specs.Cycles.{Stage, ticked, execs, segment_done, goes_on, 
 use Rattle.sub_nodes.specs.Stands.{first_stage, Comes, cycles, serves}
 use Rattle.sub_nets.specs.Nets.{ends_wave, zero_low}
 use Rattle.sub_nets.specs.Memories.{memory_at, stm_sets, items_set, SetsNoMemories, MemoriesHold}
-use Rattle.sub_nets.proofs.Calls.{call_keeps}
+use Rattle.sub_nets.proofs.Calls.{apart, call_keeps}
 use Rattle.sub_nets.proofs.Parts.{NodeHas}
-use Rattle.sub_nets.proofs.Regions.{zero_high, low_has}
+use Rattle.sub_nets.proofs.Regions.{low_has}
 use Rattle.sub_nets.proofs.Comb.{SetsNone, parts_set_none, rises_set_none, falls_set_none}
 use Rattle.sub_nets.proofs.Ways.{goes_to, leads_trap}
 use Rattle.sub_nets.proofs.Coming.{run_stays}
@@ -54,9 +53,6 @@ module _ (p : ℕ → Bool) where
     items_set_none (Default a others) h = let g = or_false (stm_sets p a) (items_set p others) h in (sets_none a g.0, items_set_none others g.1)
 
   module _ (k : ℕ) (marked : p k ≡ true) (scope : Scope) where
-    apart : (j : ℕ) → p j ≡ false → k ≢ j
-    apart j h e = let z : p k ≡ p j = ap p e in cc (marked, h, z)
-
     abbrev Keeps : State → State → Type 0
     Keeps s t = words_of s.values k ≡ words_of t.values k
 
@@ -68,7 +64,7 @@ module _ (p : ℕ → Bool) where
       sets = λ t e s h f. assignment_keeps p k marked scope (sample s) t e h s.values;
       delays = λ t e s h f. refl;
       calls = λ task s h f. call_keeps p k marked scope task s h;
-      restores = λ j before s h f. f ∙ sym (words_other s.values j k _ (apart j h));
+      restores = λ j before s h f. f ∙ sym (words_other s.values j k _ (apart p k marked j h));
     }
 
     execs_set : (xs : List Stm) → All (SetsNone p) xs → (s : State) → words_of s.values k ≡ words_of (execs scope xs s).values k

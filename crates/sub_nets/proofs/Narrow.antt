@@ -1,5 +1,5 @@
 -- Where computed signals have one word each, what no process drives is 0 in nets that hold.
-use Rattle.std.proofs.Common.{◌≡◌, ℕ, zero, suc, ◌<◌, ◌≤◌, Bool, true, false, List, length, refl, sym, ap, ◌∙◌, subst, arith}
+use Rattle.std.proofs.Common.{◌≡◌, ℕ, zero, suc, ◌<◌, ◌≤◌, true, false, List, length, refl, sym, ap, ◌∙◌, arith}
 use Rattle.std.specs.Prelude.{pos, slice_index}
 use Rattle.std.proofs.lemmas.Bool.{ltb-false}
 use Rattle.std.proofs.lemmas.List.{get_or_past}
@@ -7,19 +7,18 @@ use Rattle.vl_base.specs.declared.files.File.{File}
 use Rattle.vl_base.specs.Selects.{bit_of}
 use Rattle.vl_design.specs.Syntax.{Flat}
 use Rattle.vl_design.specs.Value.{words_of, value_of}
-use Rattle.vl_design.specs.State.{State}
 use Rattle.vl_design.specs.Functions.{zeros}
 use Rattle.vl_design.specs.Laws.{IsFine}
 use Rattle.vl_paths.specs.Graph.{drives}
 use Rattle.settling.specs.Nets.{pass}
 use Rattle.settling.proofs.Settle.{one_pass_keeps}
-use Rattle.vl_settle.specs.Nets.{Place, bit_at, is_memory, run}
+use Rattle.vl_settle.specs.Nets.{Place, bit_at, run}
 use Rattle.vl_settle.specs.Checked.{IsChecked, IsOrder}
 use Rattle.vl_settle.proofs.Checks.{accepted}
 use Rattle.vl_settle.proofs.Instance.{lawful, placed_order}
 use Rattle.sub_nodes.specs.Cycles.{Stage}
 use Rattle.sub_nets.specs.Nets.{computed_at, cleared, HoldNets, NetsAreZero, RestIsZero, HasNarrowNets}
-use Rattle.sub_nets.proofs.Cleared.{no_bit, zero_bit, cleared_zero, cleared_fine}
+use Rattle.sub_nets.proofs.Cleared.{zero_bit, cleared_zero, cleared_fine}
 
 module _ (d : Flat) (narrow : HasNarrowNets d) where
   -- bits of a first word that no process drives

@@ -4,7 +4,7 @@ use Rattle.std.specs.Prelude.{⊤, ◌≢◌, ◌==◌, All, filter, slice_get, 
 use Rattle.std.proofs.lemmas.Bool.{eqb-true, eq-eqb}
 use Rattle.std.proofs.lemmas.List.Elements.{All-nil, All-cons, All-head, All-tail, All-append}
 use Rattle.vl_design.specs.declared.design.ProcKind.{ProcKind}
-use Rattle.vl_design.specs.Syntax.{Exp, Stm, Nop, Then, If, Case, For, Repeat, Set, Later, Sys, Items, NoItems, Labelled, Default, Proc}
+use Rattle.vl_design.specs.Syntax.{Stm, Nop, Then, If, Case, For, Repeat, Set, Later, Sys, Items, NoItems, Labelled, Default, Proc}
 use Rattle.vl_design.specs.Alone.{blocks}
 use Rattle.vl_design.specs.Laws.{can_act}
 use Rattle.vl_design.proofs.Running.{some_is}

@@ -1,5 +1,5 @@
 -- The nodes of time zero's wave lead to such nodes, and past its end to its update; the other nodes never lead there.
-use Rattle.std.proofs.Common.{◌≡◌, ℕ, zero, suc, ◌+◌, ◌<◌, ◌≤◌, Bool, true, false, List, [], ◌∷◌, ◌++◌, length, Some, refl, sym, ◌∙◌, ap, subst, arith, length-append, ◌⊎◌, inl, inr}
+use Rattle.std.proofs.Common.{◌≡◌, ℕ, zero, suc, ◌+◌, ◌<◌, ◌≤◌, true, List, [], ◌∷◌, ◌++◌, length, Some, refl, sym, ◌∙◌, ap, subst, arith, length-append, ◌⊎◌, inl, inr}
 use Rattle.std.specs.Prelude.{◌≢◌, All, slice_get}
 use Rattle.std.proofs.lemmas.Option.{slice_get_within}
 use Rattle.std.proofs.lemmas.List.Elements.{All-nil}
@@ -15,7 +15,7 @@ use Rattle.sub_nodes.specs.Shape.{leads_to, IsClosed}
 use Rattle.sub_nodes.proofs.Coded.{three, updates_many}
 use Rattle.sub_nodes.proofs.Closing.{wave_closed}
 use Rattle.sub_nets.specs.Nets.{zero_low}
-use Rattle.sub_nets.proofs.Parts.{NodeHas, AllHave, wave_has, falls_have, has_at}
+use Rattle.sub_nets.proofs.Parts.{NodeHas, wave_has, falls_have, has_at}
 
 pub below_or_not : (n a : ℕ) → (n < a) ⊎ (a ≤ n)
 below_or_not n a = grind arith

@@ -1,5 +1,5 @@
 -- A run of a table stays tidy.
-use Rattle.std.proofs.Common.{◌≡◌, ℕ, Bool, true, false, List, [], ◌∷◌, Some, refl, sym, ap, ◌∙◌, subst}
+use Rattle.std.proofs.Common.{◌≡◌, ℕ, Bool, true, false, List, [], ◌∷◌, refl, sym, ap, ◌∙◌, subst}
 use Rattle.std.specs.Prelude.{All, if◌then◌else◌}
 use Rattle.std.proofs.lemmas.List.Elements.{All-nil}
 use Rattle.vl_base.specs.declared.files.File.{File}
@@ -21,7 +21,8 @@ use Rattle.sub_nets.specs.Nets.{computed_at, nets_of, RestIsZero}
 use Rattle.sub_nets.specs.Tidy.{IsTidy}
 use Rattle.sub_nets.proofs.Writes.{WritesNone, all_updates, updates_all, segment_keeps, segment_stays, segment_fine}
 use Rattle.sub_nets.proofs.Calls.{call_later, call_keeps, call_fine}
-use Rattle.sub_nets.proofs.Holding.{rest_on, updates_same, nets_fine, nets_rest}
+use Rattle.sub_nets.proofs.Fine.{all_fine}
+use Rattle.sub_nets.proofs.Holding.{rest_on, updates_same, nets_rest}
 
 module _ (d : Flat) (files : List File) where
   -- a run that has finished evaluates nothing
@@ -54,16 +55,16 @@ module _ (d : Flat) (files : List File) where
   }
 
   module _ (checked : IsChecked d) (order : List ℕ) (o : IsOrder d order) where
-    nets_tidy : (s : State) → IsFine d.rows s.values → RestIsZero d s.values → IsFine d.rows (nets_of d files order s) × RestIsZero d (nets_of d files order s)
-    nets_tidy s f r = at s.finished refl
+    rest_tidy : (s : State) → IsFine d.rows s.values → RestIsZero d s.values → RestIsZero d (nets_of d files order s)
+    rest_tidy s f r = at s.finished refl
       where
-        at : (b : Bool) → s.finished ≡ b → IsFine d.rows (nets_of d files order s) × RestIsZero d (nets_of d files order s)
-        at true e = let z : nets_of d files order s ≡ s.values = pass_over s e order s.values in (subst (IsFine d.rows) (sym z) f, subst (RestIsZero d) (sym z) r)
-        at false e = (nets_fine d checked files order o s e f, nets_rest d checked files order o s e f r)
+        at : (b : Bool) → s.finished ≡ b → RestIsZero d (nets_of d files order s)
+        at true e = let z : nets_of d files order s ≡ s.values = pass_over s e order s.values in subst (RestIsZero d) (sym z) r
+        at false e = nets_rest d checked files order o s e f r
 
     pub tidy_settled : (s : State) (to : ℕ) → IsFine d.rows s.values → All (λ u. computed_at d.rows u.signal ≡ false) s.later → RestIsZero d s.values
         → IsTidy d (committed_in to (settled d files (nets_of d files order) s))
-    tidy_settled s to f l r = let n = nets_tidy s f r in record { fine = n.0; committed = n.0; later = l; rest = n.1 }
+    tidy_settled s to f l r = let n = all_fine d files order s f in record { fine = n; committed = n; later = l; rest = rest_tidy s f r }
 
     pub tidy_goes : (on : WayOn) (i : Stage) → IsTidy d i → IsTidy d (goes_on d files (nets_of d files order) on i.state i.committed)
     tidy_goes (Go to) i t = record { fine = t.fine; committed = t.committed; later = t.later; rest = t.rest }

@@ -1,5 +1,5 @@
 -- Where a segment's way on leads.
-use Rattle.std.proofs.Common.{◌≡◌, ℕ, Bool, true, false, List, [], ◌∷◌, refl, arith}
+use Rattle.std.proofs.Common.{◌≡◌, ℕ, Bool, true, false, List, [], ◌∷◌, refl}
 use Rattle.std.specs.Prelude.{◌||◌, ◌==◌, map, if◌then◌else◌}
 use Rattle.std.specs.List.{list_any}
 use Rattle.vl_base.specs.declared.files.File.{File}

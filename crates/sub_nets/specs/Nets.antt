@@ -1,6 +1,6 @@
 -- Nets over the values committed last: a computed signal has no register, and what it is follows from the others (IEEE 1364-2005,
 -- clauses 6.1 and 11.3; own).
-use Rattle.std.specs.Prelude.{◌≡◌, ℕ, ◌+◌, ◌<◌, Bool, true, false, List, [], ◌∷◌, length, map, if◌then◌else◌, slice_get, Option, Some, None}
+use Rattle.std.specs.Prelude.{◌≡◌, ℕ, ◌+◌, ◌<◌, Bool, true, false, List, [], ◌∷◌, length, map, if◌then◌else◌, slice_get, Option, Some, None, All}
 use Rattle.vl_base.specs.declared.files.File.{File}
 use Rattle.vl_design.specs.declared.design.SigKind.{SigKind}
 use Rattle.vl_design.specs.declared.design.SigKind.TheVariants.{Net, Comb}
@@ -13,7 +13,7 @@ use Rattle.vl_design.specs.Alone.{blocks}
 use Rattle.vl_paths.specs.Graph.{drives}
 use Rattle.settling.specs.Nets.{pass}
 use Rattle.vl_settle.specs.Nets.{Place, bit_at, is_memory, comb_at, run}
-use Rattle.sub_nodes.specs.Nodes.{rising, WayOn, Commit}
+use Rattle.sub_nodes.specs.Nodes.{Segment, rising, WayOn, Commit}
 use Rattle.sub_nodes.specs.Implements.{bodies}
 use Rattle.sub_nodes.specs.Code.{updates, wave_nodes, fall_nodes}
 use Rattle.sub_nodes.specs.Cycles.{Stage}
@@ -63,6 +63,10 @@ pub record HasNarrowNets (d : Flat) : Type 0 where
 -- no process but a combinational one writes a computed signal, also by reading a file
 pub record WritesNoNets (d : Flat) : Type 0 where
   pub others : (i : ℕ) → comb_at d i ≡ false → stm_writes (computed_at d.rows) (proc_at d i).body ≡ false
+
+-- nor does a statement of the segment
+abbrev pub LeavesNets : Flat → Segment → Type 0
+LeavesNets d g = All (λ a. stm_writes (computed_at d.rows) a ≡ false) g.statements
 
 -- behind the segment the wave ends
 abbrev pub ends_wave : WayOn → Bool

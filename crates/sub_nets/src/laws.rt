@@ -93,7 +93,7 @@ pub fn nets_where_a_run_begins()
         StartsFine o.flat.rows (Some s) → HoldNets o.flat order o.files (first_stage o T (nets_of o.flat o.files order) (Some s)) }
 {}
 
-/// No process but a combinational one writes a computed signal just where none writes any of them.
+/// That only combinational processes write computed signals can be told signal by signal.
 pub fn computed_signals_are_written_one_by_one()
     ensures { (d : Flat) → WritesNoNets d ↔ ((i k : ℕ) → comb_at d i ≡ false → computed_at d.rows k ≡ true →
         stm_writes (λ x. x == k) (proc_at d i).body ≡ false) }

@@ -1,9 +1,7 @@
 -- Nets over the values committed last: a computed signal has no register, and what it is follows from the others (IEEE 1364-2005,
 -- clauses 6.1 and 11.3; own).
-use Rattle.std.specs.Prelude.{◌≡◌, ℕ, ◌+◌, ◌<◌, Bool, true, false, List, [], ◌∷◌, length, map, if◌then◌else◌, slice_get, Option, Some, None, All}
+use Rattle.std.specs.Prelude.{◌≡◌, ℕ, ◌+◌, ◌<◌, Bool, true, false, List, [], ◌∷◌, length, map, if◌then◌else◌, All}
 use Rattle.vl_base.specs.declared.files.File.{File}
-use Rattle.vl_design.specs.declared.design.SigKind.{SigKind}
-use Rattle.vl_design.specs.declared.design.SigKind.TheVariants.{Net, Comb}
 use Rattle.vl_design.specs.Syntax.{Row, Flat}
 use Rattle.vl_design.specs.Value.{value_of}
 use Rattle.vl_design.specs.State.{State}
@@ -12,25 +10,12 @@ use Rattle.vl_design.specs.Queue.{proc_at, is_rise, is_fall}
 use Rattle.vl_design.specs.Alone.{blocks}
 use Rattle.vl_paths.specs.Graph.{drives}
 use Rattle.settling.specs.Nets.{pass}
+pub use Rattle.vl_settle.specs.Computed.{is_computed, is_computed_row, computed_at}
 use Rattle.vl_settle.specs.Nets.{Place, bit_at, is_memory, comb_at, run}
 use Rattle.sub_nodes.specs.Nodes.{Segment, rising, WayOn, Commit}
 use Rattle.sub_nodes.specs.Implements.{bodies}
 use Rattle.sub_nodes.specs.Code.{updates, wave_nodes, fall_nodes}
 use Rattle.sub_nodes.specs.Cycles.{Stage}
-
--- signals of the kind are computed, by combinational processes
-abbrev pub is_computed : SigKind → Bool
-is_computed Net = true
-is_computed Comb = true
-is_computed kind = false
-
-abbrev pub is_computed_row : Option Row → Bool
-is_computed_row None = false
-is_computed_row (Some r) = is_computed r.kind
-
--- the signal of a number is computed
-abbrev pub computed_at : List Row → ℕ → Bool
-computed_at rows k = is_computed_row (slice_get rows k)
 
 -- the values with each word of a computed signal 0
 abbrev pub cleared : List Row → List (List ℕ) → List (List ℕ)

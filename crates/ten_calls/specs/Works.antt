@@ -12,6 +12,7 @@ use Rattle.vl_settle.specs.Computed.{computed_at}
 use Rattle.cell_form.specs.Data.{BankData}
 use Rattle.cell_form.specs.Sound.{shape_of}
 use Rattle.cell_form.specs.declared.table.Trap.{Trap}
+use Rattle.cell_paths.specs.Envs.{HasOneWord}
 use Rattle.trap_runtime.specs.declared.served.Served.{Served}
 use Rattle.trap_runtime.specs.declared.served.Served.TheVariants as w
 use Rattle.trap_runtime.specs.Served.{Works, served, way_of}
@@ -37,6 +38,7 @@ pub record IsBefore (d : Flat) (files : List File) (task : Task) (slots : ℕ) (
   pub trap : IsTrapOf d task slots t
   pub sound : IsSoundTask (names_of d) task
   pub variable : IsVariableRead d task
+  pub one_word : HasOneWord d.rows
   pub shape : IsFor d slots (shape_of b)
   pub holds : HoldsState d b s committed
   pub fine : IsFine d.rows s.values

@@ -1,0 +1,4 @@
+pub mod Making
+pub mod Pairing
+pub mod Leading
+pub mod Passing

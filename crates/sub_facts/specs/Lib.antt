@@ -1,0 +1,4 @@
+pub mod Pairs
+pub mod Early
+pub mod Passing
+pub mod Size

@@ -3,7 +3,7 @@ mod Cleared
 mod Writes
 mod Holding
 mod Calls
-mod Starting
+pub mod Starting
 mod Fine
 mod Tidy
 mod Parts

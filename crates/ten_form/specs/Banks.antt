@@ -13,10 +13,10 @@ use Rattle.ten_form.specs.Registers.{answer_register, ticks_register, value_regi
 use Rattle.ten_form.specs.Nets.{cleared}
 
 -- a bank for the design, with at least so many slots
-pub record IsFor (d : Flat) (slots : ℕ) (z : Shape) : Type 0 where
+pub record IsFor (d : Flat) (least : ℕ) (z : Shape) : Type 0 where
   pub regs : z.regs ≡ register_count (length d.rows)
   pub mems : z.mems ≡ length d.rows
-  pub slots : slots ≤ z.slots
+  pub slots : least ≤ z.slots
 
 -- the registers hold what is pending: they make of any values what the updates in order make of them, by new values under masks
 -- (IEEE 1364-2005, clause 9.2.2)

@@ -1,0 +1,12 @@
+pub mod Beginning
+pub mod Clearing
+pub mod Copying
+pub mod Ending
+pub mod Lasting
+pub mod Placing
+pub mod Replacing
+pub mod Rising
+pub mod Setting
+pub mod Starting
+pub mod Updating
+pub mod Written

@@ -1,0 +1,42 @@
+use Rattle.std.proofs.Common.{◌≡◌, List, length, ap, ◌∙◌, arith}
+use Rattle.std.proofs.lemmas.List.{length-map}
+use Rattle.vl_design.specs.declared.design.Signal.{Signal}
+use Rattle.vl_design.specs.Trees.{flat_of, row_of}
+use Rattle.cell_form.specs.Views.{list_of}
+use Rattle.cell_steps.proofs.Frames.{grows-then}
+use Rattle.cell_paths.specs.Envs.{env_of}
+use Rattle.cell_waves.proofs.Placing.{places-of, places-many, copies-of}
+use Rattle.cell_waves.proofs.Starting.{begins-early}
+use Rattle.cell_waves.proofs.begin.begun_early.Goals as goal
+
+pub places-requires-clause-few : goal.places-requires-clause-few
+places-requires-clause-few c =
+    let same = ap (λ (ys : List Signal). length ys) c.as_slice-signals.ensures in
+    let long = length-map c.args.design.now.signals row_of in
+    let few = c.requires.few in
+    omega (arith, same, long, few)
+
+pub reads-requires : goal.reads-requires
+reads-requires c = places-many c.args.design.now.signals c.as_slice-signals.result.now c.as_slice.result.now 4 c.as_slice-signals.ensures (c.as_slice.ensures.value ∙ c.in_ok-works.ensures)
+
+pub returns-clause-grows : goal.returns-clause-grows
+returns-clause-grows c = grows-then (list_of c.args.cells.now) (list_of c.reads.new.cells) (list_of c.pending.new.cells) c.in_ok-at.ensures.grows c.in_ok-pending.ensures.grows
+
+pub returns-clause-begins : goal.returns-clause-begins
+returns-clause-begins c order =
+    let xs = c.args.design.now.signals in
+    let signals = c.as_slice-signals.result.now in
+    let same = c.as_slice-signals.ensures in
+    let d = flat_of c.args.design.now in
+    let old = list_of c.args.cells.now in
+    let l1 = list_of c.reads.new.cells in
+    let l2 = list_of c.pending.new.cells in
+    let p = c.in_ok-pending.pending in
+    let e = c.in_ok-pending.ensures in
+    let long = length-map xs row_of in
+    let size = ap (λ (ys : List Signal). length ys) same in
+    let many : length signals ≡ length d.rows = omega (arith, long, size) in
+    let is = places-of xs signals c.as_slice.result.now 4 same (c.as_slice.ensures.value ∙ c.in_ok-works.ensures) in
+    begins-early d order old l1 l2 (env_of c.in_ok-at.at) (length signals) _ _ p.update.items p.mask.items p.sites.items e.sites many c.in_ok-at.ensures.first c.in_ok-at.ensures.fits
+    e.longer (copies-of xs signals 5 l2 p.update.items same e.update) (copies-of xs signals 6 l2 p.mask.items same e.mask)
+    c.as_slice.result.now is c.in_ok-at.ensures.longer c.in_ok-at.ensures.memories c.in_ok-at.ensures.stands

@@ -1,0 +1,57 @@
+-- The update in cells (IEEE 1364-2005, clause 11.4; own).
+use Rattle.std.specs.Prelude.{◌≡◌, ℕ, ◌≤◌, ◌*◌, false, List, [], length, Option, Some, None}
+use Rattle.std.specs.List.{AllByRecursion}
+use Rattle.vl_design.specs.Syntax.{Row, Flat}
+use Rattle.vl_design.specs.Width.{names_of}
+use Rattle.vl_design.specs.Sound.{HasValue, IsWidth, IsSignal, IsMemory}
+use Rattle.vl_design.specs.State.{State, all_updated, sample}
+use Rattle.vl_design.specs.Value.{words_of, value_of}
+use Rattle.vl_settle.specs.Computed.{is_computed, computed_at}
+use Rattle.cell_form.specs.declared.cell.Write.{Write}
+use Rattle.cell_form.specs.Cycle.{written}
+use Rattle.cell_form.specs.Data.{ListData, BankData}
+use Rattle.cell_form.specs.Sound.{Shape, IsWrite, shape_of}
+use Rattle.cell_steps.specs.Slots.{held, AreSound, Grows, Longer, Nothing}
+use Rattle.cell_paths.specs.Envs.{Env, IsSlot, IsEntry, held_or, Stands}
+use Rattle.cell_later.specs.Pendings.{PendingSlots, slot_of, settled, Pends}
+use Rattle.ten_form.specs.Banks.{IsFor, HoldsState}
+use Rattle.cell_waves.specs.Lasts.{last_write, IsRegister}
+
+-- a state behind the update of another: each variable has the bits of its pending updates, and nothing is pending
+pub record IsUpdated (d : Flat) (s t : State) : Type 0 where
+  pub values : (k : ℕ) → IsSignal (names_of d) k → computed_at d.rows k ≡ false → value_of t.values k ≡ value_of (all_updated d.rows s.values s.later) k
+  pub memories : (m : ℕ) → IsMemory (names_of d) m → words_of t.values m ≡ words_of s.values m
+  pub later : t.later ≡ []
+  pub answer : t.answer ≡ s.answer
+  pub ticks : t.ticks ≡ s.ticks
+
+-- other writes of registers leave each register but that of the next state the same
+pub record SameWrites (xs ys : List Write) : Type 0 where
+  pub registers : AllByRecursion IsRegister ys
+  pub same : (r : ℕ) → 1 ≤ r → last_write ys r ≡ last_write xs r
+
+-- cells and writes behind others make the update: whatever cells and writes of the next state come too, the bank then holds the
+-- updated state, committed
+pub record Applies (d : Flat) (at : Env) (p : PendingSlots) (old new : ListData) (before after : List Write) : Type 0 where
+  pub longer : Longer Nothing (6 * length d.rows) old new
+  pub sound : (z : Shape) → IsFor d 0 z → AllByRecursion (IsWrite z new.first (length new.cells)) before → AllByRecursion (IsWrite z new.first (length new.cells)) after
+  pub registers : AllByRecursion IsRegister before → AllByRecursion IsRegister after
+  pub holds : (z : Shape) (b : BankData) (s t : State) (committed : List (List ℕ)) (l : ListData) (sets : List Write) → AreSound z old → IsFor d 0 (shape_of b) → ((r : ℕ) → 1 ≤ r → last_write before r ≡ None) →
+      HoldsState d b s committed → Stands (names_of d) b old at (sample s) → Pends (names_of d) b old p s.later → Grows new l → SameWrites after sets → IsUpdated d s t →
+      HoldsState d (written (held b l) sets b) t t.values
+
+-- ---- one signal
+
+-- the entries of a signal are as wide as it
+pub record AreUpdatable (r : Row) (k : ℕ) (l : ListData) (slots : List (Option ℕ)) (p : PendingSlots) : Type 0 where
+  pub value : HasValue r.kind → IsWidth r.width → IsEntry l r.width (slot_of slots k)
+  pub update : HasValue r.kind → IsWidth r.width → IsEntry l r.width (slot_of p.update k)
+  pub mask : HasValue r.kind → IsWidth r.width → IsEntry l r.width (slot_of p.mask k)
+
+-- an entry has a signal's value behind the update
+abbrev pub HoldsUpdate : ℕ → ℕ → List (Option ℕ) → PendingSlots → ListData → ListData → Option ℕ → Type 0
+HoldsUpdate w k slots p old new None = ⊥
+HoldsUpdate w k slots p old new (Some r) = IsSlot new r w × ((z : Shape) (b : BankData) → AreSound z old → held b new r ≡ settled b old p k (held_or b old (slot_of slots k)))
+
+abbrev pub HasUpdate : Row → ℕ → List (Option ℕ) → PendingSlots → ListData → ListData → Option ℕ → Type 0
+HasUpdate r k slots p old new e = HasValue r.kind → is_computed r.kind ≡ false → IsWidth r.width → HoldsUpdate r.width k slots p old new e

@@ -1,0 +1,35 @@
+-- What a state begins with, in slots (IEEE 1364-2005, clauses 6.1, 9.2.2 and 11.3; own).
+use Rattle.std.specs.Prelude.{◌≡◌, ℕ, Bool, false, List, [], length, slice_index}
+use Rattle.vl_base.specs.declared.files.File.{File}
+use Rattle.vl_design.specs.Syntax.{Flat}
+use Rattle.vl_design.specs.Width.{names_of}
+use Rattle.vl_design.specs.Sound.{IsSignal}
+use Rattle.vl_design.specs.State.{State, sample}
+use Rattle.cell_form.specs.Data.{ListData, BankData}
+use Rattle.cell_form.specs.Sound.{Shape}
+use Rattle.cell_steps.specs.Slots.{AreSound}
+use Rattle.cell_paths.specs.Envs.{Env, held_or, Fits, HasMemories, Stands}
+use Rattle.cell_later.specs.Pendings.{PendingSlots, slot_of, ArePending, Pends}
+use Rattle.ten_form.specs.Registers.{update_register, mask_register}
+use Rattle.ten_form.specs.Nets.{IsTidy}
+use Rattle.ten_form.specs.Banks.{IsFor, HoldsState}
+
+-- slots hold what the registers of pending updates hold
+pub record IsPendingRead (d : Flat) (b : BankData) (l : ListData) (p : PendingSlots) : Type 0 where
+  pub update : (k : ℕ) → IsSignal (names_of d) k → held_or b l (slot_of p.update k) ≡ slice_index b.regs (update_register k)
+  pub mask : (k : ℕ) → IsSignal (names_of d) k → held_or b l (slot_of p.mask k) ≡ slice_index b.regs (mask_register k)
+
+pub record Begins (d : Flat) (order : List ℕ) (early : Bool) (old new : ListData) (at : Env) (p : PendingSlots) : Type 0 where
+  pub first : at.first ≡ 0
+  pub fits : Fits (names_of d) new at
+  pub pending : ArePending (names_of d) new p
+  pub many : length p.update ≡ length d.rows
+  pub sites : p.sites ≡ []
+  -- the cells are well-formed on a bank for the design
+  pub sound : (z : Shape) → IsFor d 0 z → AreSound z old → AreSound z new
+  pub memories : (z : Shape) → IsFor d 0 z → HasMemories (names_of d) at z
+  -- slots hold the state that the bank holds, and what is pending
+  pub stands : (files : List File) (z : Shape) (b : BankData) (s : State) (committed : List (List ℕ)) → AreSound z old → s.finished ≡ false → IsTidy d files order early s committed → HoldsState d b s committed →
+      Stands (names_of d) b new at (sample s)
+  pub pends : (z : Shape) (b : BankData) (s : State) (committed : List (List ℕ)) → AreSound z old → HoldsState d b s committed → Pends (names_of d) b new p s.later
+  pub read : (z : Shape) (b : BankData) (s : State) (committed : List (List ℕ)) → AreSound z old → HoldsState d b s committed → IsPendingRead d b new p

@@ -1,0 +1,6 @@
+pub mod Applies
+pub mod Begins
+pub mod Copies
+pub mod Ends
+pub mod Lasts
+pub mod Rises

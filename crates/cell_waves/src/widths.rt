@@ -1,0 +1,51 @@
+//! Widths of signals.
+
+ghost use Rattle.std.specs.Prelude.{◌≡◌, false, IfSome, Some};
+ghost use Rattle.vl_design.specs.Rows as rows;
+ghost use Rattle.vl_design.specs.Sound.{IsWidth, HasValue};
+ghost use Rattle.vl_design.specs.Trees.{row_of};
+ghost use Rattle.vl_settle.specs.Computed as c;
+
+use cell_begin::begin::is_computed;
+use vl_design::design::{SigKind, Signal};
+
+/// The width of a signal's words in bits, where it is from 1 to 128.
+fn width_of(signal: &Signal) -> Option<u8>
+    ensures there { IsWidth (row_of signal.now).width → result ≡ Some (row_of signal.now).width }
+    ensures within { IfSome result (λ w. (w ≡ (row_of signal.now).width) × IsWidth w) }
+{
+    match u8::try_from(signal.left.abs_diff(signal.right)) {
+        Ok(distance) if distance < 128 => Some(distance + 1),
+        _ => None,
+    }
+}
+
+/// Whether a signal's words have a width from 1 to 128 bits.
+pub fn has_width(signal: &Signal) -> bool
+    ensures { result ≡ rows.has_width (row_of signal.now).width }
+{
+    width_of(signal).is_some()
+}
+
+/// The width of a signal's value in bits: none of a memory, and none where it isn't from 1 to 128.
+pub fn value_width(signal: &Signal) -> Option<u8>
+    ensures there { HasValue (row_of signal.now).kind → IsWidth (row_of signal.now).width → result ≡ Some (row_of signal.now).width }
+    ensures within { IfSome result (λ w. (w ≡ (row_of signal.now).width) × IsWidth w × HasValue (row_of signal.now).kind) }
+{
+    match signal.kind {
+        SigKind::Mem => None,
+        _ => width_of(signal),
+    }
+}
+
+/// The width of a variable's value in bits: none of a signal that is computed.
+pub fn variable_width(signal: &Signal) -> Option<u8>
+    ensures there { HasValue (row_of signal.now).kind → c.is_computed (row_of signal.now).kind ≡ false → IsWidth (row_of signal.now).width → result ≡ Some (row_of signal.now).width }
+    ensures within { IfSome result (λ w. (w ≡ (row_of signal.now).width) × IsWidth w × HasValue (row_of signal.now).kind) }
+{
+    if is_computed(signal.kind) {
+        None
+    } else {
+        value_width(signal)
+    }
+}

@@ -1,0 +1,118 @@
+//! The writes of registers of signals.
+
+ghost use Rattle.std.specs.Prelude.{◌≡◌, ◌≤◌, ◌<◌, ◌+◌, ◌*◌, ◌&&◌, map, length, Some, slice_index_or, None, OnOk};
+ghost use Rattle.vl_design.specs.Trees.{row_of};
+ghost use Rattle.cell_waves.specs.Copies as s;
+
+use crate::widths::has_width;
+use cell_begin::begin::is_computed;
+use cell_form::cell::Write;
+use std::alloc::AllocError;
+use ten_form::places::{WORK, register};
+use vl_design::design::{SigKind, Signal};
+
+/// Whether a signal of a kind has a register of a copy that writes change: a memory has none, and of a computed signal only what is
+/// pending is written.
+fn has_copy(kind: SigKind, copy: u32) -> bool
+    ensures { result ≡ s.has_copy copy kind }
+{
+    match kind {
+        SigKind::Mem => false,
+        _ => copy > WORK || !is_computed(kind),
+    }
+}
+
+/// Whether the register of a copy of a signal is one that writes change.
+fn is_written(signal: &Signal, copy: u32) -> bool
+    ensures { result ≡ s.is_written copy (Some (row_of signal.now)) }
+{
+    has_copy(signal.kind, copy) && has_width(signal)
+}
+
+/// Whether entries differ.
+fn differs(before: Option<u32>, after: Option<u32>) -> bool
+    ensures { result ≡ s.differs before after }
+{
+    match (before, after) {
+        (None, None) => false,
+        (Some(before), Some(after)) => before != after,
+        _ => true,
+    }
+}
+
+/// The entry of a signal by its number; none past the last.
+fn entry(slots: &[Option<u32>], number: usize) -> Option<u32>
+    ensures { result ≡ slice_index_or slots.now number None }
+{
+    match slots.get(number) {
+        None => None,
+        Some(slot) => *slot,
+    }
+}
+
+/// Adds the write of a signal's register of a copy from a slot, where that is wanted and the register is one that writes change.
+fn write_one(
+    signal: &Signal,
+    number: u32,
+    copy: u32,
+    chosen: bool,
+    slot: u32,
+    sets: &mut Vec<Write>,
+) -> Result<(), AllocError>
+    requires few { number < 268435456 }
+    requires copy { copy ≤ 6 }
+    ensures { OnOk result (sets.new.items ≡ s.with_write (s.is_written copy (Some (row_of signal.now)) && chosen) (4 * number + copy) slot sets.old.items) }
+{
+    if is_written(signal, copy) && chosen {
+        sets.push(Write::Reg(register(number, copy), slot))?;
+    }
+    Ok(())
+}
+
+/// Adds writes to the registers `copy` (`VALUE`, `WORK`, `UPDATE` or `MASK`) of signals whose entry isn't what it was. Memories have
+/// none, and of a computed signal only what is pending is written. An entry without a slot is 0: `here` is a slot that holds 0.
+pub fn write_changed(
+    signals: &[Signal],
+    copy: u32,
+    before: &[Option<u32>],
+    after: &[Option<u32>],
+    here: u32,
+    sets: &mut Vec<Write>,
+) -> Result<(), AllocError>
+    requires few { length signals.now ≤ 268435456 }
+    requires copy { copy ≤ 6 }
+    ensures { OnOk result (s.Sets (map row_of signals.now) copy (s.changed before.now after.now) after.now here sets.old.items sets.new.items) }
+{
+    for (number, signal) in signals.iter().enumerate() {
+        let slot = entry(after, number);
+        let chosen = differs(entry(before, number), slot);
+        write_one(
+            signal,
+            number as u32,
+            copy,
+            chosen,
+            slot.unwrap_or(here),
+            sets,
+        )?;
+    }
+    Ok(())
+}
+
+/// Adds writes to the registers `copy` of all signals: as `write_changed`.
+pub fn write_all(
+    signals: &[Signal],
+    copy: u32,
+    after: &[Option<u32>],
+    here: u32,
+    sets: &mut Vec<Write>,
+) -> Result<(), AllocError>
+    requires few { length signals.now ≤ 268435456 }
+    requires copy { copy ≤ 6 }
+    ensures { OnOk result (s.Sets (map row_of signals.now) copy s.each_one after.now here sets.old.items sets.new.items) }
+{
+    for (number, signal) in signals.iter().enumerate() {
+        let slot = entry(after, number).unwrap_or(here);
+        write_one(signal, number as u32, copy, true, slot, sets)?;
+    }
+    Ok(())
+}

@@ -169,7 +169,7 @@ module _ (d : Flat) (b : BankData) (l : ListData) (s t : State) (committed : Lis
   pending-hold = record {
     updates = λ base k fine i. h.pends.values base k fine i ∙ ap (λ x. masked (value_of base k) x (held_or b l (slot_of p1.mask k))) (sym (updates-hold k i))
         ∙ ap (masked (value_of base k) (slice_index behind.regs (update_register k))) (sym (masks-hold k i));
-    words = λ base m fine i. words-kept names b l p1 t.later base m h.pends h.sites fine i;
+    words = λ base m fine i. h.words base m fine i;
     update_fits = λ k i. subst (λ v. v < 2 ^ (signal_form d.rows k).width) (sym (updates-hold k i)) (entry-fits h.shape b l (signal_form d.rows k).width (slot_of p1.update k) h.sound (h.pending.update k i));
     mask_fits = λ k i. subst (λ v. v < 2 ^ (signal_form d.rows k).width) (sym (masks-hold k i)) (entry-fits h.shape b l (signal_form d.rows k).width (slot_of p1.mask k) h.sound (h.pending.mask k i));
   }

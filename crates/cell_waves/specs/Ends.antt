@@ -1,10 +1,11 @@
 -- The writes at the end of a segment, and of a wave (IEEE 1364-2005, clauses 9.2.2 and 11.4; own).
-use Rattle.std.specs.Prelude.{◌≡◌, ℕ, ◌<◌, ◌^◌, Bool, false, if◌then◌else◌, List, [], None}
+use Rattle.std.specs.Prelude.{◌≡◌, ℕ, ◌<◌, ◌^◌, Bool, false, if◌then◌else◌, List, None}
 use Rattle.std.specs.List.{AllByRecursion}
 use Rattle.vl_design.specs.Syntax.{Row, Flat}
 use Rattle.vl_design.specs.Width.{names_of}
 use Rattle.vl_design.specs.Sound.{IsSignal, IsMemory}
-use Rattle.vl_design.specs.State.{State, sample}
+use Rattle.vl_design.specs.Laws.{IsFine}
+use Rattle.vl_design.specs.State.{State, sample, all_updated}
 use Rattle.vl_design.specs.Value.{words_of, value_of}
 use Rattle.vl_settle.specs.Computed.{computed_at}
 use Rattle.cell_form.specs.declared.cell.Write.{Write}
@@ -43,7 +44,7 @@ pub record Leads (d : Flat) (b : BankData) (l : ListData) (s t : State) (committ
   pub pending : ArePending (names_of d) l p1
   pub pends : Pends (names_of d) b l p1 t.later
   -- no word of a memory is updated
-  pub sites : p1.sites ≡ []
+  pub words : (base : List (List ℕ)) (m : ℕ) → IsFine d.rows base → IsMemory (names_of d) m → words_of (all_updated d.rows base t.later) m ≡ words_of base m
   pub zero : held b l none ≡ 0
   pub answer : t.answer ≡ s.answer
   pub few : t.ticks < 2 ^ 32

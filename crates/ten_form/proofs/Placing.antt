@@ -1,11 +1,6 @@
 -- Where signals are: their registers, and the memories of their numbers.
-<<<<<<< HEAD
-use Rattle.std.proofs.Common.{◌≡◌, ℕ, zero, suc, ◌+◌, ◌<◌, List, [], ◌∷◌, ◌++◌, length, map, take, get_or, refl, sym, ap, ◌∙◌, arith}
-use Rattle.std.proofs.lemmas.List.{map_more, length-map, length-take-le, take_all}
-=======
 use Rattle.std.proofs.Common.{◌≡◌, ℕ, suc, ◌+◌, ◌<◌, List, [], ◌∷◌, ◌++◌, length, map, take, get_or, sym, ap, ◌∙◌, arith}
 use Rattle.std.proofs.lemmas.List.{map_more, length-map, length-take-le}
->>>>>>> 1bf7c557dc4e46683cebab1c2f4f987aa0fd6afd
 use Rattle.vl_design.specs.declared.design.Signal.{Signal}
 use Rattle.vl_design.specs.Rows.{row_of}
 use Rattle.vl_design.specs.Syntax.{Row}

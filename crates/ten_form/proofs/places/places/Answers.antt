@@ -1,8 +1,4 @@
-<<<<<<< HEAD
-use Rattle.std.proofs.Common.{◌≡◌, ℕ, ◌+◌, ◌*◌, ◌<◌, ◌≤◌, ◌++◌, [], ◌∷◌, List, length, map, sym, ap, ◌∙◌, arith}
-=======
 use Rattle.std.proofs.Common.{ℕ, ◌+◌, ◌*◌, ◌++◌, [], ◌∷◌, map, sym, ap, ◌∙◌, arith}
->>>>>>> 1bf7c557dc4e46683cebab1c2f4f987aa0fd6afd
 use Rattle.std.proofs.lemmas.List.{take_all}
 use Rattle.vl_design.specs.Trees.{row_of}
 use Rattle.ten_form.specs.Registers as s

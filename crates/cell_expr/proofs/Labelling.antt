@@ -18,6 +18,9 @@ use Rattle.cell_paths.specs.Cases.{Compares, Tries}
 use Rattle.cell_paths.specs.Differs.{differing}
 use Rattle.cell_paths.proofs.Staying.{sound-behind, longer-plain}
 use Rattle.cell_paths.proofs.Casing.{xor-equal, compares-more, tries-labelled, does-case}
+use Rattle.cell_later.specs.Pendings.{PendingSlots, ArePending, Pends}
+use Rattle.cell_later.specs.Delays.{Leaves, LeavesItems}
+use Rattle.cell_later.proofs.Leaving.{leaves-case}
 use Rattle.cell_expr.specs.Compiled.{Compiles}
 use Rattle.cell_expr.specs.Counts.{exp_count, labels_count, stm_count, items_count, default_count}
 use Rattle.cell_expr.specs.Items.{Item}
@@ -73,10 +76,10 @@ default-counts body NoItems = refl
 default-counts body (Labelled es a others) = default-counts body others
 default-counts body (Default a others) = refl
 
-pub item-tries : (scope : Scope) (body : ℕ → ℕ) (c : Form) (m subject before behind behind' : ℕ) (es : Exps) (a : Stm) (others : Items) (at0 at1 at2 : Env) (l0 l1 l2 : ListData) → Fits scope.names l0 at0 → IsIn l0 subject → IsSlot l0 before 1 →
-    Item scope.names scope body c subject es a before behind at0 at1 l0 l1 → Tries scope.names m scope c subject others behind behind' at1 at2 l1 l2 →
+pub item-tries : (scope : Scope) (body : ℕ → ℕ) (c : Form) (m subject before behind behind' : ℕ) (es : Exps) (a : Stm) (others : Items) (at0 at1 at2 : Env) (p0 p1 : PendingSlots) (l0 l1 l2 : ListData) → Fits scope.names l0 at0 → IsIn l0 subject → IsSlot l0 before 1 →
+    Item scope.names scope body c subject es a before behind at0 at1 p0 p1 l0 l1 → Tries scope.names m scope c subject others behind behind' at1 at2 l1 l2 →
     Tries scope.names (labels_count body es + 1 + (stm_count body a + m)) scope c subject (Labelled es a others) before behind' at0 at2 l0 l2
-item-tries scope body c m subject before behind behind' es a others at0 at1 at2 l0 l1 l2 fits ks slot item more =
+item-tries scope body c m subject before behind behind' es a others at0 at1 at2 p0 p1 l0 l1 l2 fits ks slot item more =
     tries-labelled scope.names scope c (labels_count body es) (stm_count body a) m subject before behind item.taken behind' es a others at0 at1 at2 l0 item.compared item.ready l1 l2 fits ks slot item.labels item.path item.does more
 
 -- the whole case
@@ -96,3 +99,18 @@ case-does scope body e items c off subject behind at0 at1 at2 l0 l1 l2 l3 same f
     does-case scope e items (exp_count body e) (items_count body items) (default_count body items) off subject behind at0 at1 at2 l0 l1 l2 l3 fits inside value-is.longer
     (λ s b x sound st. value-is.value s b x sound st ∙ ap (value scope x e) same)
     (subst (λ (f : Form). Tries names (items_count body items) scope f subject items off behind at0 at1 l1 l2) same tries) d'
+
+pub case-leaves : (scope : Scope) (body : ℕ → ℕ) (e : Exp) (items : Items) (c : Form) (off subject behind : ℕ) (at0 at1 : Env) (p0 p1 p2 : PendingSlots) (l0 l1 l2 l3 : ListData) → c ≡ items_form scope.names (form scope.names e) items →
+    Fits scope.names l0 at0 → ArePending scope.names l0 p0 → IsIn l0 off → Compiles scope.names scope (exp_count body e) e c at0 l0 l1 subject → Tries scope.names (items_count body items) scope c subject items off behind at0 at1 l1 l2 →
+    LeavesItems scope.names scope c subject items off behind at0 at1 p0 p1 l1 l2 → Leaves scope.names (exec scope (default_body items)) behind at1 p1 p2 l2 l3 →
+    Leaves scope.names (exec scope (Case e items)) off at0 p0 p2 l0 l3
+case-leaves scope body e items c off subject behind at0 at1 p0 p1 p2 l0 l1 l2 l3 same fits pending inside value-is tries leaves d =
+    let names = scope.names in
+    let d' : Leaves names (exec_default scope items) behind at1 p1 p2 l2 l3 = record {
+      pending = d.pending;
+      many = d.many;
+      later = λ s b t sound alive st before. subst (λ z. Pends names b l3 p2 (on (held b l2 behind) z t).later) (sym (default-does scope items t)) (d.later s b t sound alive st before);
+    } in
+    leaves-case scope e items (exp_count body e) (items_count body items) off subject behind at0 at1 p0 p1 p2 l0 l1 l2 l3 fits pending inside value-is.longer
+    (λ s b x sound st. value-is.value s b x sound st ∙ ap (value scope x e) same)
+    tries.longer (subst (λ (f : Form). LeavesItems names scope f subject items off behind at0 at1 p0 p1 l1 l2) same leaves) d'

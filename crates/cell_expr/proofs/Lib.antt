@@ -16,6 +16,7 @@ pub mod Sizes
 pub mod Spotting
 pub mod Starting
 pub mod Trying
+pub mod Waiting
 pub mod Walking
 pub mod Wording
 pub mod Words

@@ -4,9 +4,11 @@ use Rattle.std.specs.Prelude.{◌||◌}
 use Rattle.vl_design.specs.declared.design.Stmt.{Stmt}
 use Rattle.vl_design.specs.Plainly as plain
 use Rattle.vl_design.specs.Reads.{stm_writes}
-use Rattle.vl_design.specs.Syntax.{Stm, Then}
+use Rattle.vl_design.specs.Syntax.{Stm, Then, Items}
 use Rattle.vl_design.specs.Trees.{stm_of, then_of}
+use Rattle.vl_design.specs.Width.{Names}
 use Rattle.vl_run.proofs.Statements.{stms-more}
+use Rattle.cell_expr.specs.Bodies.{IsSegment, AreSegmentItems, CanWait}
 
 pub then-more : (xs : List Stmt) (i : ℕ) (x : Stmt) → i < length xs → x ≡ get_or xs i x → then_of [] (drop i xs) ≡ Then (stm_of [] x) (then_of [] (drop (i + 1) xs))
 then-more xs i x h e = ap (plain.stms []) (stms-more xs i x h e)
@@ -22,3 +24,10 @@ none-right false b h = h
 -- below a number that is the same
 pub apart-at : (n m : ℕ) (a : Stm) → m ≡ n → stm_writes (λ k. nat_lt k n) a ≡ false → stm_writes (λ k. nat_lt k m) a ≡ false
 apart-at n m a e h = subst (λ z. stm_writes (λ k. nat_lt k z) a ≡ false) (sym e) h
+
+-- as many signals may have updates that are pending
+pub waits-at : (names : Names) (n m : ℕ) (a : Stm) → m ≡ n → IsSegment (CanWait names n) a → IsSegment (CanWait names m) a
+waits-at names n m a e h = subst (λ z. IsSegment (CanWait names z) a) (sym e) h
+
+pub items-wait-at : (names : Names) (n m : ℕ) (items : Items) → m ≡ n → AreSegmentItems (CanWait names n) items → AreSegmentItems (CanWait names m) items
+items-wait-at names n m items e h = subst (λ z. AreSegmentItems (CanWait names z) items) (sym e) h

@@ -16,13 +16,16 @@ use Rattle.vl_run.specs.Scopes.{calls_in}
 use Rattle.vl_run.proofs.Designs.{same-scope}
 use Rattle.cell_expr.specs.Bodies.{IsCellFun}
 use Rattle.cell_expr.specs.Passes.{AreCompiled}
-use Rattle.vl_design.specs.Syntax.{Exp, Stm}
+use Rattle.vl_design.specs.Syntax.{Exp, Exps, Stm}
 use Rattle.vl_design.specs.Width.{Names, Scope}
 use Rattle.cell_form.specs.Data.{ListData}
 use Rattle.cell_paths.specs.Envs.{Env}
 use Rattle.cell_paths.specs.Paths.{Does}
+use Rattle.cell_paths.specs.Cases.{Compares}
+use Rattle.cell_later.specs.Pendings.{PendingSlots}
+use Rattle.cell_later.specs.Delays.{Leaves}
 use Rattle.cell_expr.specs.Compiled.{Compiles}
-use Rattle.cell_expr.specs.Counts.{exp_count, stm_count, body_count, body_cells}
+use Rattle.cell_expr.specs.Counts.{exp_count, labels_count, stm_count, body_count, body_cells}
 
 pub compiles-outside : (names m : Names) (scope s : Scope) (body b : ℕ → ℕ) (e : Exp) (c : Form) (at : Env) (old new : ListData) (r : ℕ) → names ≡ m → scope ≡ s → body ≡ b →
     Compiles names scope (exp_count body e) e c at old new r → Compiles m s (exp_count b e) e c at old new r
@@ -44,6 +47,25 @@ pub statement-outside : {A E : Type 0} (r : Result A E) (names m : Names) (scope
     OnOk r ((files : List File) (path : List ℕ) → Does m (stm_count b (x path)) (exec (s files) (x path)) off at at' old new)
 statement-outside (Ok y) names m scope s body b a x off at at' old new i j k l h = λ files path. does-outside names m (scope files) (s files) body b a (x path) off at at' old new i (j files) k (l path) (h files)
 statement-outside (Err y) names m scope s body b a x off at at' old new i j k l h = h
+
+pub leaves-outside : (names m : Names) (scope s : Scope) (a x : Stm) (off : ℕ) (at : Env) (p p' : PendingSlots) (old new : ListData) → names ≡ m → scope ≡ s → a ≡ x →
+    Leaves names (exec scope a) off at p p' old new → Leaves m (exec s x) off at p p' old new
+leaves-outside names m scope s a x off at p p' old new i j l h =
+    subst (λ (z : Stm). Leaves m (exec s z) off at p p' old new) l
+    (subst (λ (z : Scope). Leaves m (exec z a) off at p p' old new) j
+    (subst (λ (z : Names). Leaves z (exec scope a) off at p p' old new) i h))
+
+pub pending-outside : {A E : Type 0} (r : Result A E) (names m : Names) (scope s : List File → Scope) (a : Stm) (x : List ℕ → Stm) (off : ℕ) (at : Env) (p p' : PendingSlots) (old new : ListData) → names ≡ m → ((files : List File) → scope files ≡ s files) → ((path : List ℕ) → a ≡ x path) →
+    OnOk r ((files : List File) → Leaves names (exec (scope files) a) off at p p' old new) → OnOk r ((files : List File) (path : List ℕ) → Leaves m (exec (s files) (x path)) off at p p' old new)
+pending-outside (Ok y) names m scope s a x off at p p' old new i j l h = λ files path. leaves-outside names m (scope files) (s files) a (x path) off at p p' old new i (j files) (l path) (h files)
+pending-outside (Err y) names m scope s a x off at p p' old new i j l h = h
+
+pub compares-outside : (names m : Names) (scope s : Scope) (body b : ℕ → ℕ) (es : Exps) (c : Form) (subject before behind : ℕ) (at : Env) (old new : ListData) → names ≡ m → scope ≡ s → body ≡ b →
+    Compares names (labels_count body es) scope c subject es before behind at old new → Compares m (labels_count b es) s c subject es before behind at old new
+compares-outside names m scope s body b es c subject before behind at old new i j k h =
+    subst (λ (z : ℕ → ℕ). Compares m (labels_count z es) s c subject es before behind at old new) k
+    (subst (λ (z : Scope). Compares m (labels_count body es) z c subject es before behind at old new) j
+    (subst (λ (z : Names). Compares z (labels_count body es) scope c subject es before behind at old new) i h))
 
 -- ---- a design's own names
 

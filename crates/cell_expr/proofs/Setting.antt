@@ -1,24 +1,32 @@
--- Blocking assignments (IEEE 1364-2005, clause 9.2.1).
-use Rattle.std.proofs.Common.{◌≡◌, ℕ, ◌+◌, List, [], ◌∷◌, ◌++◌, map, refl, sym, ap, ◌∙◌, arith, append_assoc, append-nil}
+-- Assignments (IEEE 1364-2005, clause 9.2).
+use Rattle.std.proofs.Common.{◌≡◌, ℕ, ◌+◌, ◌*◌, List, [], ◌∷◌, ◌++◌, map, refl, sym, ap, ◌∙◌, arith, subst, append_assoc, append-nil}
 use Rattle.std.proofs.lemmas.List.{map-append}
 use Rattle.std.proofs.lemmas.List.Elements.{All-append}
-use Rattle.vl_design.specs.Syntax.{Exp, Target, Set}
+use Rattle.vl_design.specs.Syntax.{Exp, Target, Set, Later}
 use Rattle.vl_design.specs.Targets as t
 use Rattle.vl_design.specs.Exec.{exec}
+use Rattle.vl_design.specs.State.{Update}
 use Rattle.vl_design.specs.Value.{Sample}
 use Rattle.vl_design.specs.Width.{Names, Scope, form, assigned}
-use Rattle.cell_form.specs.Data.{ListData}
+use Rattle.cell_form.specs.Data.{ListData, BankData}
 use Rattle.cell_form.specs.Sound.{Shape}
-use Rattle.cell_steps.specs.Slots.{held, IsIn}
-use Rattle.cell_steps.proofs.Frames.{held-stays, longer-grows, longer-same, longer-then}
-use Rattle.cell_paths.specs.Envs.{Env, Fits, HasMemories}
+use Rattle.cell_steps.specs.Slots.{held, width_at, IsIn, AreSound, Longer}
+use Rattle.cell_steps.proofs.Frames.{held-stays, in-stays, width-stays, longer-grows, longer-same, longer-then}
+use Rattle.cell_paths.specs.Envs.{Env, Fits, HasMemories, Stands}
 use Rattle.cell_paths.specs.Paths.{Does, Updates}
-use Rattle.cell_paths.proofs.Staying.{stands-stays, sound-behind}
+use Rattle.cell_paths.proofs.Staying.{stands-stays, sound-behind, longer-plain}
 use Rattle.cell_paths.proofs.Walking.{does-set}
+use Rattle.cell_later.specs.Pendings.{PendingSlots, ArePending}
+use Rattle.cell_later.specs.Delays.{Delays, Leaves}
+use Rattle.cell_later.proofs.Leaving.{does-later, leaves-later}
 use Rattle.cell_expr.specs.declared.spot.Spot.{Spot}
 use Rattle.cell_expr.specs.Compiled.{Compiles}
-use Rattle.cell_expr.specs.Spots.{IsSpot, spot_in, bits_of, cells_of, Spotted}
-use Rattle.cell_expr.proofs.Spotting.{spots-stay, are-spots-stay}
+use Rattle.cell_expr.specs.Spots.{IsSpot, spot_in, bits_of, cells_of, Spotted, Assigned}
+use Rattle.cell_expr.specs.Counts.{parts_count}
+use Rattle.vl_design.specs.Sound.{IsSoundExp, IsSoundTarget}
+use Rattle.vl_eval.proofs.Widths.{form-width}
+use Rattle.cell_expr.proofs.Adding.{spotted-sound, spotted-bits, spotted-cells, assigned-narrow, assigned-wide}
+use Rattle.cell_expr.proofs.Spotting.{spots-stay, are-spots-stay, target-width}
 
 bits-both : (xs ys : List Spot) → bits_of (xs ++ ys) ≡ bits_of xs + bits_of ys
 bits-both [] ys = omega arith
@@ -69,21 +77,48 @@ spotted-then names n m at old mid new first before after v w p q f g fits a c =
 
 -- ---- the whole assignment
 
-pub set-does : (scope : Scope) (target : Target) (e : Exp) (n m k off slot : ℕ) (spots : List Spot) (at at' : Env) (l0 l1 l2 l3 : ListData) → Fits scope.names l0 at → IsIn l0 off →
+-- a value and the spots of its target behind it
+pub are-assigned : (scope : Scope) (target : Target) (e : Exp) (n m slot : ℕ) (spots : List Spot) (at : Env) (l0 l1 l2 : ListData) → IsSoundTarget scope.names target → IsSoundExp scope.names e → Fits scope.names l0 at →
     Compiles scope.names scope n e (assigned (t.target_width scope.names target) (form scope.names e)) at l0 l1 slot →
-    Spotted scope.names m at l1 l2 [] spots (t.target_width scope.names target) k (λ x. t.spots scope x target) →
-    Updates scope.names k (λ b. t.updates_at (map (spot_in b l2) spots) (held b l2 slot)) off at at' l2 l3 →
-    Does scope.names (n + m + k) (exec scope (Set target e)) off at at' l0 l3
-set-does scope target e n m k off slot spots at at' l0 l1 l2 l3 fits inside value-is spotted updates =
+    Spotted scope.names m at l1 l2 [] spots (t.target_width scope.names target) (parts_count target) (λ x. t.spots scope x target) → Assigned scope (n + m) target e at l0 l2 spots slot
+are-assigned scope target e n m slot spots at l0 l1 l2 kt ke fits value-is spotted =
     let names = scope.names in
     let H : Shape → Type 0 = HasMemories names at in
-    let long = longer-then H n m l0 l1 l2 value-is.longer spotted.longer in
-    let c = assigned (t.target_width names target) (form names e) in
-    does-set scope target e (n + m) k (λ b. t.updates_at (map (spot_in b l2) spots) (held b l2 slot)) off at at' l0 l2 l3 fits inside long
-    (λ s b x sound st. (
-    let behind = sound-behind names at n s l0 l1 value-is.longer sound in
-    let st1 = stands-stays names b l0 l1 at x (longer-grows H n l0 l1 value-is.longer) fits st in
-    ap (λ zs. t.updates_at (map (spot_in b l2) zs) (held b l2 slot)) spotted.are
-    ∙ ap (λ zs. t.updates_at zs (held b l2 slot)) (spotted.value behind.shape b x behind.sound st1)
-    ∙ ap (t.updates_at (t.spots scope x target)) (held-stays b l1 l2 slot (longer-grows H m l1 l2 spotted.longer) value-is.slot.there ∙ value-is.value s b x sound st)))
-    updates
+    let k = parts_count target in
+    let w = t.target_width names target in
+    let f = form names e in
+    let g12 = longer-grows H m l1 l2 spotted.longer in
+    let wide : width_at l2 slot ≡ (assigned w f).width = width-stays l1 l2 slot g12 value-is.slot.there ∙ value-is.slot.width in
+    let bits = spotted-bits names m at l1 l2 [] spots w k (λ x. t.spots scope x target) refl spotted in
+    record {
+      longer = longer-then H n m l0 l1 l2 value-is.longer spotted.longer;
+      sound = spotted-sound names m at l1 l2 [] spots w k (λ x. t.spots scope x target) refl spotted;
+      many = spotted-cells names m at l1 l2 [] spots w k (λ x. t.spots scope x target) refl spotted;
+      there = in-stays l1 l2 slot g12 value-is.slot.there;
+      within = rw (bits, wide) (assigned-wide w f);
+      narrow = rw wide (assigned-narrow w f (target-width names target kt).narrow (form-width names e ke).narrow);
+      updates = λ s b x sound st.
+          let behind = sound-behind names at n s l0 l1 value-is.longer sound in
+          let st1 = stands-stays names b l0 l1 at x (longer-grows H n l0 l1 value-is.longer) fits st in
+          ap (λ zs. t.updates_at (map (spot_in b l2) zs) (held b l2 slot)) spotted.are
+          ∙ ap (λ zs. t.updates_at zs (held b l2 slot)) (spotted.value behind.shape b x behind.sound st1)
+          ∙ ap (t.updates_at (t.spots scope x target)) (held-stays b l1 l2 slot g12 value-is.slot.there ∙ value-is.value s b x sound st);
+    }
+
+module _ (scope : Scope) (target : Target) (e : Exp) (n slot : ℕ) (spots : List Spot) (at : Env) (l0 l1 l2 : ListData) (fits : Fits scope.names l0 at) (given : Assigned scope n target e at l0 l1 spots slot) where
+  abbrev updates : BankData → List Update
+  updates b = t.updates_at (map (spot_in b l1) spots) (held b l1 slot)
+
+  pub set-does : (off : ℕ) (at' : Env) → IsIn l0 off → Updates scope.names (cells_of spots) updates off at at' l1 l2 → Does scope.names (n + parts_count target) (exec scope (Set target e)) off at at' l0 l2
+  set-does off at' inside d =
+      does-set scope target e n (parts_count target) updates off at at' l0 l1 l2 fits inside given.longer given.updates (subst (λ z. Updates scope.names z updates off at at' l1 l2) given.many d)
+
+  pub later-does : (off : ℕ) (p p' : PendingSlots) → Delays scope.names (2 * cells_of spots) updates off p p' l1 l2 → Does scope.names (n + 2 * parts_count target) (exec scope (Later target e)) off at at l0 l2
+  later-does off p p' d =
+      let H : Shape → Type 0 = HasMemories scope.names at in
+      let k = 2 * parts_count target in
+      let many = given.many in
+      does-later scope target e (n + k) off at l0 l2 fits (longer-then H n k l0 l1 l2 given.longer (longer-plain scope.names at (2 * cells_of spots) k l1 l2 (omega (arith, many)) d.longer))
+
+  pub later-leaves : (off : ℕ) (p p' : PendingSlots) → ArePending scope.names l0 p → IsIn l0 off → Delays scope.names (2 * cells_of spots) updates off p p' l1 l2 → Leaves scope.names (exec scope (Later target e)) off at p p' l0 l2
+  later-leaves off p p' pending inside d = leaves-later scope target e n (2 * cells_of spots) updates off at p p' l0 l1 l2 fits pending inside given.longer given.updates d

@@ -1,12 +1,13 @@
 -- Which functions are compiled to cells (IEEE 1364-2005, clause 10.4; own).
-use Rattle.std.specs.Prelude.{◌≡◌, ℕ, ◌≤◌, nat_lt, List, false, length, All}
+use Rattle.std.specs.Prelude.{◌≡◌, ℕ, ◌≤◌, nat_lt, List, [], false, length, All, ⊤}
 use Rattle.vl_design.specs.declared.design.Stmt.{Stmt}
-use Rattle.vl_design.specs.Syntax.{Stm, Fun}
+use Rattle.vl_design.specs.Syntax.{Target, Stm, Nop, Then, If, Case, For, Repeat, Set, Later, Sys, Items, NoItems, Labelled, Default, Fun}
 use Rattle.vl_design.specs.Sound.{IsSoundStm}
 use Rattle.vl_design.specs.Trees.{stm_of}
 use Rattle.vl_design.specs.Width.{Names}
 use Rattle.vl_design.specs.Reads.{stm_writes}
-use Rattle.vl_paths.specs.Nets.{IsNetStm}
+use Rattle.vl_paths.specs.Nets.{IsNetStm, IsPlain}
+use Rattle.cell_later.specs.Pendings.{PendingSlots}
 
 -- only blocking assignments to whole signals or bits of them, tests and cases; of what kind a signal is its row says
 abbrev pub IsNet : Stm → Type 0
@@ -24,3 +25,38 @@ pub record IsCellStm (names : Names) (a : Stmt) : Type 0 where
   pub path : List ℕ
   pub sound : IsSoundStm names (stm_of path a)
   pub net : IsNet (stm_of path a)
+
+-- ---- with nonblocking assignments
+
+module _ (IsLate : Target → Type 0) where
+  abbrev mutual
+    -- blocking assignments to whole signals or bits of them, tests and cases, and nonblocking assignments to such targets
+    pub IsSegment : Stm → Type 0
+    IsSegment Nop = ⊤
+    IsSegment (Then a b) = IsSegment a × IsSegment b
+    IsSegment (If t a b) = IsSegment a × IsSegment b
+    IsSegment (Case e items) = AreSegmentItems items
+    IsSegment (Set t e) = IsPlain (λ k. false) t
+    IsSegment (Later t e) = IsLate t
+    IsSegment (For k start test step a) = ⊥
+    IsSegment (Repeat n a) = ⊥
+    IsSegment (Sys task) = ⊥
+
+    pub AreSegmentItems : Items → Type 0
+    AreSegmentItems NoItems = ⊤
+    AreSegmentItems (Labelled es a others) = IsSegment a × AreSegmentItems others
+    AreSegmentItems (Default a others) = IsSegment a × AreSegmentItems others
+
+-- whole signals or bits of them; of so many entries of what is pending there is one for each signal
+abbrev pub CanWait : Names → ℕ → Target → Type 0
+CanWait names n t = IsPlain (λ k. false) t × (n ≡ length names.rows)
+
+-- there are no entries
+abbrev pub nothing_waits : PendingSlots
+nothing_waits = record { update = []; mask = []; sites = [] }
+
+-- a statement of an instance of some path that is sound and only such; what is assigned are whole signals or bits of them
+pub record IsSegmentStm (names : Names) (a : Stmt) : Type 0 where
+  pub path : List ℕ
+  pub sound : IsSoundStm names (stm_of path a)
+  pub segment : IsSegment (IsPlain (λ k. false)) (stm_of path a)

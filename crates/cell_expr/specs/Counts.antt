@@ -1,5 +1,5 @@
 -- At most how many cells expressions and statements are compiled to (own).
-use Rattle.std.specs.Prelude.{ℕ, zero, suc, ◌+◌, List, length, slice_get, Option, Some, None}
+use Rattle.std.specs.Prelude.{ℕ, zero, suc, ◌+◌, ◌*◌, List, length, slice_get, Option, Some, None}
 use Rattle.vl_design.specs.Syntax.{Exp, Num, Label, Sig, Word, Pick, Slice, Un, Bin, Cond, Cat, Rep, Cast, Call, Time, LastAnswer, Exps, NoExps, MoreExps, Target, Whole, WordAt, PickAt, SliceAt, Several, Targets, NoTargets, MoreTargets, Stm, Nop, Then, If, Case, For, Repeat, Set, Later, Sys, Items, NoItems, Labelled, Default, Fun, Flat}
 
 -- ---- expressions, each extended to its context; body gives the cells of a function's body
@@ -58,7 +58,8 @@ labels_count body NoExps = 0
 labels_count body (MoreExps e es) = exp_count body e + 3 + 1 + labels_count body es
 
 abbrev mutual
-  -- a test has the paths of two branches; loops, tasks and nonblocking assignments aren't compiled here
+  -- a test has the paths of two branches; a nonblocking assignment has its update value and its mask to write; loops and tasks aren't
+  -- compiled here
   pub stm_count : (ℕ → ℕ) → Stm → ℕ
   stm_count body Nop = 0
   stm_count body (Then a b) = stm_count body a + stm_count body b
@@ -67,7 +68,7 @@ abbrev mutual
   stm_count body (For k start test step a) = 0
   stm_count body (Repeat n a) = 0
   stm_count body (Set t e) = exp_count body e + indices_count body t + parts_count t
-  stm_count body (Later t e) = 0
+  stm_count body (Later t e) = exp_count body e + indices_count body t + 2 * parts_count t
   stm_count body (Sys task) = 0
 
   -- items that have labels, each with a path

@@ -1,8 +1,7 @@
 -- What the body of a function begins with in cells (IEEE 1364-2005, clause 10.4.3).
-use Rattle.std.specs.Prelude.{◌≡◌, ℕ, List, All, Some, slice_get}
+use Rattle.std.specs.Prelude.{ℕ, List, All}
 use Rattle.vl_design.specs.Functions.{zeros, fresh, with_inputs}
 use Rattle.vl_design.specs.Sound.{IsSoundFun}
-use Rattle.vl_design.specs.Syntax.{Exp, Call, Exps, NoExps, Fun}
 use Rattle.vl_design.specs.State.{sample}
 use Rattle.vl_design.specs.Value.{Sample}
 use Rattle.vl_design.specs.Width.{Names}
@@ -33,15 +32,3 @@ pub record Passes (names inside : Names) (n : ℕ) (at body body' : Env) (old ne
   pub keeps : Keeps inside body body'
   pub stands : (s : Shape) (b : BankData) (x : Sample) (values : List (List ℕ)) → AreSound s old → Stands names b old at x → Stands inside b old body (sample (fresh values)) →
       Stands inside b new body' (sample (fresh (with_inputs inputs (args x) values)))
-
--- ---- calls
-
-abbrev pub arguments_of : Exp → Exps
-arguments_of (Call f es) = es
-arguments_of e = NoExps
-
--- the expression is a call of this function
-pub record IsCallOf (names : Names) (e : Exp) (g : Fun) : Type 0 where
-  pub function : ℕ
-  pub is : e ≡ Call function (arguments_of e)
-  pub there : slice_get names.funs function ≡ Some g

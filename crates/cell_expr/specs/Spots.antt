@@ -1,15 +1,17 @@
 -- The spots of a target in cells (IEEE 1364-2005, clauses 9.2 and 5.1.14).
 use Rattle.std.specs.Prelude.{◌≡◌, ℕ, ◌≤◌, ◌++◌, ◌+◌, List, [], ◌∷◌, map, All}
 use Rattle.vl_design.specs.Value.{Sample}
-use Rattle.vl_design.specs.Width.{Names}
+use Rattle.vl_design.specs.Syntax.{Exp, Target}
+use Rattle.vl_design.specs.Width.{Names, Scope}
 use Rattle.vl_design.specs.Sound.{IsSignal, IsWidth}
 use Rattle.vl_design.specs.Targets as t
 use Rattle.cell_form.specs.Data.{ListData, BankData}
 use Rattle.cell_form.specs.Sound.{Shape}
-use Rattle.cell_steps.specs.Slots.{AreSound, Longer}
+use Rattle.cell_steps.specs.Slots.{held, width_at, IsIn, AreSound, Longer}
 use Rattle.cell_paths.specs.Envs.{Env, HasMemories, Stands}
 use Rattle.cell_paths.specs.Paths.{IsLow, low_in, low_of}
 use Rattle.cell_expr.specs.declared.spot.Spot.{Spot}
+use Rattle.cell_expr.specs.Counts.{parts_count}
 
 pub record IsSpot (names : Names) (first : ℕ) (l : ListData) (p : Spot) : Type 0 where
   pub signal : IsSignal names p.signal
@@ -40,3 +42,14 @@ pub record Spotted (names : Names) (n : ℕ) (at : Env) (old new : ListData) (be
   pub value : (s : Shape) (b : BankData) (x : Sample) → AreSound s old → Stands names b old at x → map (spot_in b new) more ≡ f x
   pub wide : bits_of more ≡ bits
   pub many : cells_of more ≡ parts
+
+-- with at most n cells more, spots and the slot of a value make the updates of an assignment
+pub record Assigned (scope : Scope) (n : ℕ) (target : Target) (e : Exp) (at : Env) (old new : ListData) (spots : List Spot) (value : ℕ) : Type 0 where
+  pub longer : Longer (HasMemories scope.names at) n old new
+  pub sound : All (IsSpot scope.names at.first new) spots
+  pub many : cells_of spots ≡ parts_count target
+  pub there : IsIn new value
+  pub within : bits_of spots ≤ width_at new value
+  pub narrow : width_at new value ≤ 128
+  pub updates : (s : Shape) (b : BankData) (x : Sample) → AreSound s old → Stands scope.names b old at x →
+      t.updates_at (map (spot_in b new) spots) (held b new value) ≡ t.assignment scope x target e

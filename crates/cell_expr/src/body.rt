@@ -4,24 +4,29 @@ ghost use Rattle.std.specs.Prelude.{◌≡◌, ◌≤◌, ◌<◌, ◌-◌, ℕ,
 ghost use Rattle.vl_base.specs.declared.files.File.{File};
 ghost use Rattle.vl_design.specs.Exec as x;
 ghost use Rattle.vl_design.specs.Reads.{stm_writes};
-ghost use Rattle.vl_design.specs.Sound.{IsSoundExp, IsSoundStm};
+ghost use Rattle.vl_design.specs.Sound.{AreSound, IsSoundExp, IsSoundStm, IsWidth};
 ghost use Rattle.vl_design.specs.Syntax.{Fun};
-ghost use Rattle.vl_design.specs.Trees.{exp_of, fun_of, stm_of};
+ghost use Rattle.vl_design.specs.Trees.{exp_of, exps_of, fun_of, stm_of};
 ghost use Rattle.vl_design.specs.Width as w;
 ghost use Rattle.vl_eval.specs.Rooms.{names_of, scope_at};
+ghost use Rattle.vl_run.specs.Cases.{AreWithin};
 ghost use Rattle.vl_run.specs.Scopes.{calls_in};
 ghost use Rattle.cell_form.specs.Views.{list_of};
 ghost use Rattle.cell_steps.specs.Slots.{Grows};
 ghost use Rattle.cell_paths.specs.Envs.{env_of, Fits, IsSlot};
 ghost use Rattle.cell_paths.specs.Paths.{Does};
-ghost use Rattle.cell_expr.specs.Bodies.{IsNet};
+ghost use Rattle.cell_paths.specs.Cases.{Compares};
+ghost use Rattle.cell_later.specs.Pendings.{slots_of, ArePending};
+ghost use Rattle.cell_later.specs.Delays.{Leaves};
+ghost use Rattle.cell_expr.specs.Bodies.{IsNet, IsSegment, CanWait, nothing_waits};
 ghost use Rattle.cell_expr.specs.Callers.{DoesBody};
 ghost use Rattle.cell_expr.specs.Compiled.{Compiles};
-ghost use Rattle.cell_expr.specs.Counts.{exp_count, stm_count, body_count};
+ghost use Rattle.cell_expr.specs.Counts.{exp_count, labels_count, stm_count, body_count};
 ghost use Rattle.cell_expr.specs.Passes.{AreCompiled};
 
 use crate::context::{Context, inner};
 use cell_form::cell::CellList;
+use cell_later::pending::Pending;
 use cell_paths::at::At;
 use std::alloc::{AllocError, Global};
 use vl_design::design::{Expr, Form, Stmt};
@@ -58,8 +63,20 @@ fn body_in(
     )
 }
 
+/// Nothing is pending, and nothing can be.
+fn nothing_pending(alloc: Global) -> Pending
+    ensures { slots_of result ≡ nothing_waits }
+{
+    Pending {
+        update: Vec::new(alloc),
+        mask: Vec::new(alloc),
+        sites: Vec::new(alloc),
+    }
+}
+
 /// Compiles a statement of a combinational process or of a function, where calls nest at most so deep.
 #[cycle(body)]
+#[tactic(auto, using(crate::proofs::Walking::walking))]
 pub fn statement_at(
     alloc: Global,
     cells: &mut CellList,
@@ -79,6 +96,35 @@ pub fn statement_at(
     ensures does { OnOk result ((files : List File) → Does (names_of room.now) (stm_count (body_count (names_of room.now).funs depth) (stm_of [] a.now))
         (x.exec (scope_at (names_of room.now) files (calls_in (names_of room.now) files depth)) (stm_of [] a.now)) off (env_of at.old) (env_of at.new) (list_of cells.old) (list_of cells.new)) }
 {
+    let mut pending = nothing_pending(alloc);
+    segment_at(alloc, cells, room, depth, at, &mut pending, off, a)
+}
+
+/// Compiles a statement with nonblocking assignments, where calls nest at most so deep.
+#[cycle(body)]
+pub fn segment_at(
+    alloc: Global,
+    cells: &mut CellList,
+    room: &Room<'_>,
+    depth: usize,
+    at: &mut At,
+    pending: &mut Pending,
+    off: u32,
+    a: &Stmt,
+) -> Result<(), AllocError>
+    requires functions { AreCompiled (names_of room.now) }
+    requires sound { IsSoundStm (names_of room.now) (stm_of [] a.now) }
+    requires segment { IsSegment (CanWait (names_of room.now) (length pending.old.update.items)) (stm_of [] a.now) }
+    requires apart { stm_writes (λ k. nat_lt k at.old.first) (stm_of [] a.now) ≡ false }
+    requires fits { Fits (names_of room.now) (list_of cells.old) (env_of at.old) }
+    requires pending { ArePending (names_of room.now) (list_of cells.old) (slots_of pending.old) }
+    requires off { IsSlot (list_of cells.old) off 1 }
+    ensures grows { Grows (list_of cells.old) (list_of cells.new) }
+    ensures does { OnOk result ((files : List File) → Does (names_of room.now) (stm_count (body_count (names_of room.now).funs depth) (stm_of [] a.now))
+        (x.exec (scope_at (names_of room.now) files (calls_in (names_of room.now) files depth)) (stm_of [] a.now)) off (env_of at.old) (env_of at.new) (list_of cells.old) (list_of cells.new)) }
+    ensures leaves { OnOk result ((files : List File) → Leaves (names_of room.now) (x.exec (scope_at (names_of room.now) files (calls_in (names_of room.now) files depth)) (stm_of [] a.now)) off
+        (env_of at.old) (slots_of pending.old) (slots_of pending.new) (list_of cells.old) (list_of cells.new)) }
+{
     let compile_body = |cells: &mut CellList, at: &mut At, function: u32| -> Result<(), AllocError>
         requires deep { 1 ≤ depth }
         requires functions { AreCompiled (names_of room.now) }
@@ -94,7 +140,7 @@ pub fn statement_at(
         depth,
         compile_body,
     };
-    context.statement_in(alloc, cells, at, off, a)
+    context.statement_in(alloc, cells, at, pending, off, a)
 }
 
 /// Compiles an expression in a context, where calls nest at most so deep.
@@ -132,4 +178,45 @@ pub fn expression_at(
         compile_body,
     };
     context.compile_in(alloc, cells, at, e, c)
+}
+
+/// Compiles the labels of an item of a case, where calls nest at most so deep.
+pub fn labels_at(
+    alloc: Global,
+    cells: &mut CellList,
+    room: &Room<'_>,
+    depth: usize,
+    at: &At,
+    subject: u32,
+    c: Form,
+    rest: u32,
+    labels: &[Expr],
+) -> Result<u32, AllocError>
+    requires functions { AreCompiled (names_of room.now) }
+    requires subject { IsSlot (list_of cells.old) subject c.width }
+    requires context { IsWidth c.width }
+    requires rest { IsSlot (list_of cells.old) rest 1 }
+    requires labels { AreSound (names_of room.now) (exps_of labels.now) }
+    requires within { AreWithin (names_of room.now) c.width (exps_of labels.now) }
+    requires fits { Fits (names_of room.now) (list_of cells.old) (env_of at.now) }
+    ensures grows { Grows (list_of cells.old) (list_of cells.new) }
+    ensures compares { IfOk result (λ r. (files : List File) → Compares (names_of room.now) (labels_count (body_count (names_of room.now).funs depth) (exps_of labels.now))
+        (scope_at (names_of room.now) files (calls_in (names_of room.now) files depth)) c subject (exps_of labels.now) rest r (env_of at.now) (list_of cells.old) (list_of cells.new)) }
+{
+    let compile_body = |cells: &mut CellList, at: &mut At, function: u32| -> Result<(), AllocError>
+        requires deep { 1 ≤ depth }
+        requires functions { AreCompiled (names_of room.now) }
+        requires there { function < length room.now.funcs.now }
+        requires fits { (g : Fun) → slice_get (names_of room.now).funs function ≡ Some g → Fits (w.names_in (names_of room.now) g) (list_of cells.old) (env_of at.old) }
+        requires first { at.old.first ≡ length (names_of room.now).signals }
+        ensures grows { Grows (list_of cells.old) (list_of cells.new) }
+        ensures does { OnOk result ((files : List File) (g : Fun) → slice_get (names_of room.entry.now).funs function ≡ Some g → Does (w.names_in (names_of room.entry.now) g) (stm_count (body_count (names_of room.entry.now).funs (depth - 1)) g.body)
+            (x.exec (scope_at (w.names_in (names_of room.entry.now) g) files (calls_in (w.names_in (names_of room.entry.now) g) files (depth - 1))) g.body) at.old.here (env_of at.old) (env_of at.new) (list_of cells.old) (list_of cells.new)) }
+    { body_in(alloc, cells, room, depth - 1, at, function) };
+    let context = Context {
+        room: *room,
+        depth,
+        compile_body,
+    };
+    context.labels_in(alloc, cells, at, subject, c, rest, labels)
 }

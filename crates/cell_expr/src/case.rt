@@ -19,7 +19,7 @@ use vl_form::form::joined;
 
 /// The form of a form and of labels joined.
 #[tactic(auto, using(vl_run::proofs::Casing::labels))]
-fn labels_form(room: &Room<'_>, f: Form, labels: &[Expr]) -> Form
+pub fn labels_form(room: &Room<'_>, f: Form, labels: &[Expr]) -> Form
     requires labels { AreSound (names_of room.now) (exps_of labels.now) }
     requires form { IsWidth f.width }
     ensures value { result ≡ x.labels_form (names_of room.now) f (exps_of labels.now) }

@@ -1,25 +1,33 @@
 //! Expressions and statements of a design's processes as cells (IEEE 1364-2005, clauses 5, 9 and 10.4).
 
-ghost use Rattle.std.specs.Prelude.{◌≡◌, ◌≤◌, ℕ, List, All, IfOk, OnOk};
+ghost use Rattle.std.specs.Prelude.{◌≡◌, ◌≤◌, ℕ, List, All, IfOk, OnOk, length};
 ghost use Rattle.vl_base.specs.declared.files.File.{File};
+ghost use Rattle.vl_design.specs.Exec as x;
 ghost use Rattle.vl_design.specs.Exec.{exec};
 ghost use Rattle.vl_design.specs.Functions.{scope_of};
-ghost use Rattle.vl_design.specs.Sound.{IsSound, IsSoundExp, IsSoundStm};
-ghost use Rattle.vl_design.specs.Trees.{exp_of, flat_of, stm_of};
+ghost use Rattle.vl_design.specs.Sound.{AreSound, IsSound, IsSoundExp, IsSoundStm, IsWidth};
+ghost use Rattle.vl_design.specs.Trees.{exp_of, exps_of, flat_of, stm_of};
 ghost use Rattle.vl_design.specs.Width.{form, names_of};
 ghost use Rattle.cell_form.specs.Views.{list_of};
 ghost use Rattle.cell_steps.specs.Slots.{Grows};
 ghost use Rattle.cell_paths.specs.Envs.{env_of, Fits, IsSlot};
 ghost use Rattle.cell_paths.specs.Paths.{Does};
-ghost use Rattle.cell_expr.specs.Bodies.{IsCellFun, IsCellStm};
+ghost use Rattle.cell_paths.specs.Cases.{Compares};
+ghost use Rattle.vl_run.specs.Cases.{AreWithin};
+ghost use Rattle.cell_later.specs.Pendings.{slots_of, ArePending};
+ghost use Rattle.cell_later.specs.Delays.{Leaves};
+ghost use Rattle.cell_expr.specs.Bodies.{IsCellFun, IsCellStm, IsSegmentStm};
 ghost use Rattle.cell_expr.specs.Compiled.{Compiles};
-ghost use Rattle.cell_expr.specs.Counts.{exp_count, stm_count, body_cells};
+ghost use Rattle.cell_expr.specs.Counts.{exp_count, labels_count, stm_count, body_cells};
 
-use crate::body::{expression_at, statement_at};
+use crate::body::{expression_at, labels_at, segment_at, statement_at};
+use crate::case;
 use cell_form::cell::CellList;
+use cell_later::pending::Pending;
 use cell_paths::at::At;
 use std::alloc::{AllocError, Global};
 use vl_design::design::{Design, Expr, Form, Stmt};
+use vl_eval::form::form_of;
 use vl_run::outer::room_of;
 
 /// Compiles an expression in a context of at most 128 bits, at least as wide as the expression: the new slot, as wide as the
@@ -72,4 +80,97 @@ pub fn statement(
     let room = room_of(design);
     let depth = room.funcs.len();
     statement_at(alloc, cells, &room, depth, at, off, a)
+}
+
+/// Compiles a statement of a block without calls and loops, of an instance of any path, on a path of one bit: as `statement`, and
+/// its nonblocking assignments are pending behind those that were (IEEE 1364-2005, clause 9.2.2).
+pub fn segment(
+    alloc: Global,
+    cells: &mut CellList,
+    design: &Design,
+    at: &mut At,
+    pending: &mut Pending,
+    off: u32,
+    a: &Stmt,
+) -> Result<(), AllocError>
+    requires sound { IsSound (flat_of design.now) }
+    requires functions { All (IsCellFun (names_of (flat_of design.now))) (flat_of design.now).funs }
+    requires statement { IsSegmentStm (names_of (flat_of design.now)) a.now }
+    requires fits { Fits (names_of (flat_of design.now)) (list_of cells.old) (env_of at.old) }
+    requires first { at.old.first ≡ 0 }
+    requires off { IsSlot (list_of cells.old) off 1 }
+    requires pending { ArePending (names_of (flat_of design.now)) (list_of cells.old) (slots_of pending.old) }
+    requires many { length pending.old.update.items ≡ length (flat_of design.now).rows }
+    ensures grows { Grows (list_of cells.old) (list_of cells.new) }
+    ensures does { OnOk result ((files : List File) (path : List ℕ) → Does (names_of (flat_of design.now)) (stm_count (body_cells (flat_of design.now)) (stm_of path a.now))
+        (exec (scope_of (flat_of design.now) files) (stm_of path a.now)) off (env_of at.old) (env_of at.new) (list_of cells.old) (list_of cells.new)) }
+    ensures leaves { OnOk result ((files : List File) (path : List ℕ) → Leaves (names_of (flat_of design.now)) (exec (scope_of (flat_of design.now) files) (stm_of path a.now)) off
+        (env_of at.old) (slots_of pending.old) (slots_of pending.new) (list_of cells.old) (list_of cells.new)) }
+{
+    let room = room_of(design);
+    let depth = room.funcs.len();
+    segment_at(alloc, cells, &room, depth, at, pending, off, a)
+}
+
+/// Compiles an expression in its own form, as for a test or an argument: the new slot, as wide as the expression, holds its value.
+/// An `Err` is want of memory; slots that were there stay then too.
+pub fn own(
+    alloc: Global,
+    cells: &mut CellList,
+    design: &Design,
+    at: &At,
+    e: &Expr,
+) -> Result<u32, AllocError>
+    requires sound { IsSound (flat_of design.now) }
+    requires functions { All (IsCellFun (names_of (flat_of design.now))) (flat_of design.now).funs }
+    requires expression { IsSoundExp (names_of (flat_of design.now)) (exp_of e.now) }
+    requires fits { Fits (names_of (flat_of design.now)) (list_of cells.old) (env_of at.now) }
+    requires first { at.now.first ≡ 0 }
+    ensures grows { Grows (list_of cells.old) (list_of cells.new) }
+    ensures gives { IfOk result (λ r. (files : List File) → Compiles (names_of (flat_of design.now)) (scope_of (flat_of design.now) files)
+        (exp_count (body_cells (flat_of design.now)) (exp_of e.now)) (exp_of e.now) (form (names_of (flat_of design.now)) (exp_of e.now)) (env_of at.now) (list_of cells.old) (list_of cells.new) r) }
+{
+    let c = form_of(&room_of(design), e);
+    compile(alloc, cells, design, at, e, c)
+}
+
+/// Compiles the labels of an item of a case, whose subject stands in a slot in the form in which they are compared: the path on
+/// which none of them matches (IEEE 1364-2005, clause 9.5). An `Err` is want of memory; slots that were there stay then too.
+pub fn labels(
+    alloc: Global,
+    cells: &mut CellList,
+    design: &Design,
+    at: &At,
+    subject: u32,
+    c: Form,
+    rest: u32,
+    labels: &[Expr],
+) -> Result<u32, AllocError>
+    requires sound { IsSound (flat_of design.now) }
+    requires functions { All (IsCellFun (names_of (flat_of design.now))) (flat_of design.now).funs }
+    requires subject { IsSlot (list_of cells.old) subject c.width }
+    requires context { IsWidth c.width }
+    requires rest { IsSlot (list_of cells.old) rest 1 }
+    requires labels { AreSound (names_of (flat_of design.now)) (exps_of labels.now) }
+    requires within { AreWithin (names_of (flat_of design.now)) c.width (exps_of labels.now) }
+    requires fits { Fits (names_of (flat_of design.now)) (list_of cells.old) (env_of at.now) }
+    requires first { at.now.first ≡ 0 }
+    ensures grows { Grows (list_of cells.old) (list_of cells.new) }
+    ensures compares { IfOk result (λ r. (files : List File) → Compares (names_of (flat_of design.now)) (labels_count (body_cells (flat_of design.now)) (exps_of labels.now)) (scope_of (flat_of design.now) files) c
+        subject (exps_of labels.now) rest r (env_of at.now) (list_of cells.old) (list_of cells.new)) }
+{
+    let room = room_of(design);
+    let depth = room.funcs.len();
+    labels_at(alloc, cells, &room, depth, at, subject, c, rest, labels)
+}
+
+/// The form of a form and of labels joined: one item after the other, it makes of the form of a case's subject the form in which
+/// that is compared with labels (IEEE 1364-2005, clause 9.5).
+pub fn labels_form(design: &Design, f: Form, labels: &[Expr]) -> Form
+    requires labels { AreSound (names_of (flat_of design.now)) (exps_of labels.now) }
+    requires form { IsWidth f.width }
+    ensures value { result ≡ x.labels_form (names_of (flat_of design.now)) f (exps_of labels.now) }
+    ensures width { IsWidth result.width }
+{
+    case::labels_form(&room_of(design), f, labels)
 }

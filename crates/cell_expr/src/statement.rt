@@ -1,6 +1,6 @@
 //! Statements as cells (IEEE 1364-2005, clauses 9 and 10.4).
 
-ghost use Rattle.std.specs.Prelude.{◌≡◌, ◌+◌, ◌++◌, ℕ, List, [], ◌∷◌, false, nat_lt, IfOk, OnOk};
+ghost use Rattle.std.specs.Prelude.{◌≡◌, ◌+◌, ◌++◌, ℕ, List, [], ◌∷◌, false, nat_lt, IfOk, OnOk, length};
 ghost use Rattle.vl_base.specs.declared.files.File.{File};
 ghost use Rattle.vl_design.specs.Exec as x;
 ghost use Rattle.vl_design.specs.Reads.{stm_writes, items_write, target_writes, targets_write};
@@ -9,7 +9,7 @@ ghost use Rattle.vl_design.specs.Sound.{AreSound, AreSoundItems, AreSoundTargets
 ghost use Rattle.vl_design.specs.Syntax as y;
 ghost use Rattle.vl_design.specs.Targets as targets;
 ghost use Rattle.vl_design.specs.Trees.{exp_of, exps_of, stm_of, then_of, target_of};
-ghost use Rattle.vl_paths.specs.Nets.{AreNetItems, IsPlain, ArePlain};
+ghost use Rattle.vl_paths.specs.Nets.{IsPlain, ArePlain};
 ghost use Rattle.vl_run.specs.Cases.{items_of, AreWithin, AreLabelsWithin};
 ghost use Rattle.vl_run.specs.Lists.{targets_of};
 ghost use Rattle.cell_form.specs.Views.{list_of};
@@ -18,17 +18,20 @@ ghost use Rattle.cell_paths.specs.Envs.{env_of, Fits, IsSlot};
 ghost use Rattle.cell_paths.specs.declared.place.Place.TheVariants as place;
 ghost use Rattle.cell_paths.specs.Paths.{Does};
 ghost use Rattle.cell_paths.specs.Cases.{Compares, Tries};
-ghost use Rattle.cell_expr.specs.Bodies.{IsNet};
+ghost use Rattle.cell_later.specs.Pendings.{slots_of, ArePending};
+ghost use Rattle.cell_later.specs.Delays.{Leaves, LeavesItems};
+ghost use Rattle.cell_expr.specs.Bodies.{IsSegment, AreSegmentItems, CanWait};
 ghost use Rattle.cell_expr.specs.Contexts.{names_of, scope_of, body_of};
 ghost use Rattle.cell_expr.specs.Counts.{exp_count, labels_count, stm_count, items_count, indices_count, all_indices_count, parts_count, all_parts_count};
 ghost use Rattle.cell_expr.specs.Items.{Item, Tried};
 ghost use Rattle.cell_expr.specs.Callers.{Compilers};
-ghost use Rattle.cell_expr.specs.Spots.{Spotted};
+ghost use Rattle.cell_expr.specs.Spots.{Assigned};
 
 use crate::case::{care_of, default_of, items_form};
 use crate::context::Context;
-use crate::spot::{Spot, assign_all, base_signal, target_width};
+use crate::spot::{Spot, assign_all, base_signal, delay_all, target_width};
 use cell_form::cell::CellList;
+use cell_later::pending::Pending;
 use cell_paths::at::At;
 use cell_paths::paths::{branches, differs, open_behind, taken};
 use cell_paths::place::Place;
@@ -40,7 +43,7 @@ use vl_form::form::assigned;
 impl<F: Fn(&mut CellList, &mut At, u32) -> Result<(), AllocError>> Context<'_, F> {
     /// Compiles the labels of an item of a case: the path on which none of them matches.
     #[tactic(auto, using(crate::proofs::Walking::walking))]
-    fn labels_in(
+    pub fn labels_in(
         &self,
         alloc: Global,
         cells: &mut CellList,
@@ -79,6 +82,7 @@ impl<F: Fn(&mut CellList, &mut At, u32) -> Result<(), AllocError>> Context<'_, F
         alloc: Global,
         cells: &mut CellList,
         at: &mut At,
+        pending: &mut Pending,
         subject: u32,
         c: Form,
         rest: u32,
@@ -91,16 +95,17 @@ impl<F: Fn(&mut CellList, &mut At, u32) -> Result<(), AllocError>> Context<'_, F
         requires labels { AreSound (names_of self.now) (exps_of item.now.labels.items) }
         requires within { AreWithin (names_of self.now) c.width (exps_of item.now.labels.items) }
         requires sound { IsSoundStm (names_of self.now) (stm_of [] item.now.body) }
-        requires net { IsNet (stm_of [] item.now.body) }
+        requires segment { IsSegment (CanWait (names_of self.now) (length pending.old.update.items)) (stm_of [] item.now.body) }
         requires apart { stm_writes (λ k. nat_lt k at.old.first) (stm_of [] item.now.body) ≡ false }
         requires fits { Fits (names_of self.now) (list_of cells.old) (env_of at.old) }
+        requires pending { ArePending (names_of self.now) (list_of cells.old) (slots_of pending.old) }
         ensures grows { Grows (list_of cells.old) (list_of cells.new) }
         ensures does { IfOk result (λ r. (files : List File) → Item (names_of self.now) (scope_of self.now files) (body_of self.now) c subject (exps_of item.now.labels.items) (stm_of [] item.now.body) rest r
-            (env_of at.old) (env_of at.new) (list_of cells.old) (list_of cells.new)) }
+            (env_of at.old) (env_of at.new) (slots_of pending.old) (slots_of pending.new) (list_of cells.old) (list_of cells.new)) }
     {
         let behind = self.labels_in(alloc, cells, &*at, subject, c, rest, &item.labels)?;
         let path = taken(alloc, cells, &*at, rest, behind)?;
-        self.statement_in(alloc, cells, at, path, &item.body)?;
+        self.statement_in(alloc, cells, at, pending, path, &item.body)?;
         Ok(behind)
     }
 
@@ -112,6 +117,7 @@ impl<F: Fn(&mut CellList, &mut At, u32) -> Result<(), AllocError>> Context<'_, F
         alloc: Global,
         cells: &mut CellList,
         at: &mut At,
+        pending: &mut Pending,
         subject: u32,
         c: Form,
         rest: u32,
@@ -124,17 +130,18 @@ impl<F: Fn(&mut CellList, &mut At, u32) -> Result<(), AllocError>> Context<'_, F
         requires labels { AreSound (names_of self.now) (exps_of item.now.labels.items) }
         requires within { AreWithin (names_of self.now) c.width (exps_of item.now.labels.items) }
         requires sound { IsSoundStm (names_of self.now) (stm_of [] item.now.body) }
-        requires net { IsNet (stm_of [] item.now.body) }
+        requires segment { IsSegment (CanWait (names_of self.now) (length pending.old.update.items)) (stm_of [] item.now.body) }
         requires apart { stm_writes (λ k. nat_lt k at.old.first) (stm_of [] item.now.body) ≡ false }
         requires fits { Fits (names_of self.now) (list_of cells.old) (env_of at.old) }
+        requires pending { ArePending (names_of self.now) (list_of cells.old) (slots_of pending.old) }
         ensures grows { Grows (list_of cells.old) (list_of cells.new) }
         ensures tries { IfOk result (λ r. (files : List File) → Tried (names_of self.now) (scope_of self.now files) (body_of self.now) c subject (seen.exps_of item.now.labels.items) (stm_of [] item.now.body) rest r
-            (env_of at.old) (env_of at.new) (list_of cells.old) (list_of cells.new)) }
+            (env_of at.old) (env_of at.new) (slots_of pending.old) (slots_of pending.new) (list_of cells.old) (list_of cells.new)) }
     {
         if item.labels.as_slice().is_empty() {
             Ok(rest)
         } else {
-            self.item_in(alloc, cells, at, subject, c, rest, item)
+            self.item_in(alloc, cells, at, pending, subject, c, rest, item)
         }
     }
 
@@ -146,6 +153,7 @@ impl<F: Fn(&mut CellList, &mut At, u32) -> Result<(), AllocError>> Context<'_, F
         alloc: Global,
         cells: &mut CellList,
         at: &mut At,
+        pending: &mut Pending,
         subject: u32,
         c: Form,
         off: u32,
@@ -157,16 +165,19 @@ impl<F: Fn(&mut CellList, &mut At, u32) -> Result<(), AllocError>> Context<'_, F
         requires off { IsSlot (list_of cells.old) off 1 }
         requires sound { AreSoundItems (names_of self.now) (items_of [] items.now) }
         requires within { AreLabelsWithin (names_of self.now) c.width items.now }
-        requires net { AreNetItems (λ k. false) (items_of [] items.now) }
+        requires segment { AreSegmentItems (CanWait (names_of self.now) (length pending.old.update.items)) (items_of [] items.now) }
         requires apart { items_write (λ k. nat_lt k at.old.first) (items_of [] items.now) ≡ false }
         requires fits { Fits (names_of self.now) (list_of cells.old) (env_of at.old) }
+        requires pending { ArePending (names_of self.now) (list_of cells.old) (slots_of pending.old) }
         ensures grows { Grows (list_of cells.old) (list_of cells.new) }
         ensures tries { IfOk result (λ r. (files : List File) → Tries (names_of self.now) (items_count (body_of self.now) (items_of [] items.now)) (scope_of self.now files) c subject (items_of [] items.now) off r
             (env_of at.old) (env_of at.new) (list_of cells.old) (list_of cells.new)) }
+        ensures leaves { IfOk result (λ r. (files : List File) → LeavesItems (names_of self.now) (scope_of self.now files) c subject (items_of [] items.now) off r
+            (env_of at.old) (env_of at.new) (slots_of pending.old) (slots_of pending.new) (list_of cells.old) (list_of cells.new)) }
     {
         let mut rest = off;
         for item in items {
-            rest = self.try_in(alloc, cells, at, subject, c, rest, item)?;
+            rest = self.try_in(alloc, cells, at, pending, subject, c, rest, item)?;
         }
         Ok(rest)
     }
@@ -179,6 +190,7 @@ impl<F: Fn(&mut CellList, &mut At, u32) -> Result<(), AllocError>> Context<'_, F
         alloc: Global,
         cells: &mut CellList,
         at: &mut At,
+        pending: &mut Pending,
         off: u32,
         subject: &Expr,
         items: &[CaseItem],
@@ -186,21 +198,53 @@ impl<F: Fn(&mut CellList, &mut At, u32) -> Result<(), AllocError>> Context<'_, F
         requires functions { Compilers (names_of self.now) self.now.depth (F.pre self.now.compile_body) (F.post self.now.compile_body) }
         requires subject { IsSoundExp (names_of self.now) (exp_of subject.now) }
         requires sound { AreSoundItems (names_of self.now) (items_of [] items.now) }
-        requires net { AreNetItems (λ k. false) (items_of [] items.now) }
+        requires segment { AreSegmentItems (CanWait (names_of self.now) (length pending.old.update.items)) (items_of [] items.now) }
         requires apart { items_write (λ k. nat_lt k at.old.first) (items_of [] items.now) ≡ false }
         requires fits { Fits (names_of self.now) (list_of cells.old) (env_of at.old) }
+        requires pending { ArePending (names_of self.now) (list_of cells.old) (slots_of pending.old) }
         requires off { IsSlot (list_of cells.old) off 1 }
         ensures grows { Grows (list_of cells.old) (list_of cells.new) }
         ensures does { OnOk result ((files : List File) → Does (names_of self.now) (stm_count (body_of self.now) (y.Case (exp_of subject.now) (items_of [] items.now)))
             (x.exec (scope_of self.now files) (y.Case (exp_of subject.now) (items_of [] items.now))) off (env_of at.old) (env_of at.new) (list_of cells.old) (list_of cells.new)) }
+        ensures leaves { OnOk result ((files : List File) → Leaves (names_of self.now) (x.exec (scope_of self.now files) (y.Case (exp_of subject.now) (items_of [] items.now))) off
+            (env_of at.old) (slots_of pending.old) (slots_of pending.new) (list_of cells.old) (list_of cells.new)) }
     {
         let c = items_form(&self.room, form_of(&self.room, subject), items);
         let subject = self.compile_in(alloc, cells, &*at, subject, c)?;
-        let rest = self.items_in(alloc, cells, at, subject, c, off, items)?;
+        let rest = self.items_in(alloc, cells, at, pending, subject, c, off, items)?;
         match default_of(items) {
             None => Ok(()),
-            Some(number) => self.statement_in(alloc, cells, at, rest, &items[number].body),
+            Some(number) => self.statement_in(alloc, cells, at, pending, rest, &items[number].body),
         }
+    }
+
+    /// Compiles what an assignment is of, and the indices of its target: adds the spots, and answers the slot of the value.
+    #[tactic(auto, using(crate::proofs::Walking::walking))]
+    fn source_in(
+        &self,
+        alloc: Global,
+        cells: &mut CellList,
+        at: &At,
+        target: &Target,
+        source: &Expr,
+        spots: &mut Vec<Spot>,
+    ) -> Result<u32, AllocError>
+        requires functions { Compilers (names_of self.now) self.now.depth (F.pre self.now.compile_body) (F.post self.now.compile_body) }
+        requires target { IsSoundTarget (names_of self.now) (target_of target.now) }
+        requires source { IsSoundExp (names_of self.now) (exp_of source.now) }
+        requires plain { IsPlain (λ k. false) (target_of target.now) }
+        requires apart { target_writes (λ k. nat_lt k at.now.first) (target_of target.now) ≡ false }
+        requires fits { Fits (names_of self.now) (list_of cells.old) (env_of at.now) }
+        requires none { spots.old.items ≡ [] }
+        ensures grows { Grows (list_of cells.old) (list_of cells.new) }
+        ensures assigned { IfOk result (λ r. (files : List File) → Assigned (scope_of self.now files) (exp_count (body_of self.now) (exp_of source.now) + indices_count (body_of self.now) (target_of target.now))
+            (target_of target.now) (exp_of source.now) (env_of at.now) (list_of cells.old) (list_of cells.new) spots.new.items r) }
+    {
+        let width = target_width(&self.room, target);
+        let context = assigned(width, form_of(&self.room, source));
+        let value = self.compile_in(alloc, cells, at, source, context)?;
+        self.spots_in(alloc, cells, at, target, spots)?;
+        Ok(value)
     }
 
     /// Compiles a blocking assignment.
@@ -225,12 +269,41 @@ impl<F: Fn(&mut CellList, &mut At, u32) -> Result<(), AllocError>> Context<'_, F
         ensures does { OnOk result ((files : List File) → Does (names_of self.now) (stm_count (body_of self.now) (y.Set (target_of target.now) (exp_of source.now)))
             (x.exec (scope_of self.now files) (y.Set (target_of target.now) (exp_of source.now))) off (env_of at.old) (env_of at.new) (list_of cells.old) (list_of cells.new)) }
     {
-        let width = target_width(&self.room, target);
-        let context = assigned(width, form_of(&self.room, source));
-        let value = self.compile_in(alloc, cells, &*at, source, context)?;
         let mut spots = Vec::new(alloc);
-        self.spots_in(alloc, cells, &*at, target, &mut spots)?;
+        let value = self.source_in(alloc, cells, &*at, target, source, &mut spots)?;
         assign_all(alloc, cells, &self.room, at, &spots, value, off)
+    }
+
+    /// Compiles a nonblocking assignment.
+    #[tactic(auto, using(crate::proofs::Walking::walking))]
+    fn later_in(
+        &self,
+        alloc: Global,
+        cells: &mut CellList,
+        at: &At,
+        pending: &mut Pending,
+        off: u32,
+        target: &Target,
+        source: &Expr,
+    ) -> Result<(), AllocError>
+        requires functions { Compilers (names_of self.now) self.now.depth (F.pre self.now.compile_body) (F.post self.now.compile_body) }
+        requires target { IsSoundTarget (names_of self.now) (target_of target.now) }
+        requires source { IsSoundExp (names_of self.now) (exp_of source.now) }
+        requires plain { IsPlain (λ k. false) (target_of target.now) }
+        requires apart { target_writes (λ k. nat_lt k at.now.first) (target_of target.now) ≡ false }
+        requires fits { Fits (names_of self.now) (list_of cells.old) (env_of at.now) }
+        requires pending { ArePending (names_of self.now) (list_of cells.old) (slots_of pending.old) }
+        requires many { length pending.old.update.items ≡ length (names_of self.now).rows }
+        requires off { IsSlot (list_of cells.old) off 1 }
+        ensures grows { Grows (list_of cells.old) (list_of cells.new) }
+        ensures does { OnOk result ((files : List File) → Does (names_of self.now) (stm_count (body_of self.now) (y.Later (target_of target.now) (exp_of source.now)))
+            (x.exec (scope_of self.now files) (y.Later (target_of target.now) (exp_of source.now))) off (env_of at.now) (env_of at.now) (list_of cells.old) (list_of cells.new)) }
+        ensures leaves { OnOk result ((files : List File) → Leaves (names_of self.now) (x.exec (scope_of self.now files) (y.Later (target_of target.now) (exp_of source.now))) off
+            (env_of at.now) (slots_of pending.old) (slots_of pending.new) (list_of cells.old) (list_of cells.new)) }
+    {
+        let mut spots = Vec::new(alloc);
+        let value = self.source_in(alloc, cells, at, target, source, &mut spots)?;
+        delay_all(alloc, cells, &self.room, at, pending, &spots, value, off)
     }
 
     /// Compiles statements one after another.
@@ -241,21 +314,25 @@ impl<F: Fn(&mut CellList, &mut At, u32) -> Result<(), AllocError>> Context<'_, F
         alloc: Global,
         cells: &mut CellList,
         at: &mut At,
+        pending: &mut Pending,
         off: u32,
         list: &[Stmt],
     ) -> Result<(), AllocError>
         requires functions { Compilers (names_of self.now) self.now.depth (F.pre self.now.compile_body) (F.post self.now.compile_body) }
         requires sound { IsSoundStm (names_of self.now) (then_of [] list.now) }
-        requires net { IsNet (then_of [] list.now) }
+        requires segment { IsSegment (CanWait (names_of self.now) (length pending.old.update.items)) (then_of [] list.now) }
         requires apart { stm_writes (λ k. nat_lt k at.old.first) (then_of [] list.now) ≡ false }
         requires fits { Fits (names_of self.now) (list_of cells.old) (env_of at.old) }
+        requires pending { ArePending (names_of self.now) (list_of cells.old) (slots_of pending.old) }
         requires off { IsSlot (list_of cells.old) off 1 }
         ensures grows { Grows (list_of cells.old) (list_of cells.new) }
         ensures does { OnOk result ((files : List File) → Does (names_of self.now) (stm_count (body_of self.now) (then_of [] list.now))
             (x.exec (scope_of self.now files) (then_of [] list.now)) off (env_of at.old) (env_of at.new) (list_of cells.old) (list_of cells.new)) }
+        ensures leaves { OnOk result ((files : List File) → Leaves (names_of self.now) (x.exec (scope_of self.now files) (then_of [] list.now)) off
+            (env_of at.old) (slots_of pending.old) (slots_of pending.new) (list_of cells.old) (list_of cells.new)) }
     {
         for item in list {
-            self.statement_in(alloc, cells, at, off, item)?;
+            self.statement_in(alloc, cells, at, pending, off, item)?;
         }
         Ok(())
     }
@@ -268,6 +345,7 @@ impl<F: Fn(&mut CellList, &mut At, u32) -> Result<(), AllocError>> Context<'_, F
         alloc: Global,
         cells: &mut CellList,
         at: &mut At,
+        pending: &mut Pending,
         off: u32,
         test: &Expr,
         first: &Stmt,
@@ -275,21 +353,24 @@ impl<F: Fn(&mut CellList, &mut At, u32) -> Result<(), AllocError>> Context<'_, F
     ) -> Result<(), AllocError>
         requires functions { Compilers (names_of self.now) self.now.depth (F.pre self.now.compile_body) (F.post self.now.compile_body) }
         requires sound { IsSoundStm (names_of self.now) (y.If (exp_of test.now) (stm_of [] first.now) (stm_of [] second.now)) }
-        requires net { IsNet (y.If (exp_of test.now) (stm_of [] first.now) (stm_of [] second.now)) }
+        requires segment { IsSegment (CanWait (names_of self.now) (length pending.old.update.items)) (y.If (exp_of test.now) (stm_of [] first.now) (stm_of [] second.now)) }
         requires apart { stm_writes (λ k. nat_lt k at.old.first) (y.If (exp_of test.now) (stm_of [] first.now) (stm_of [] second.now)) ≡ false }
         requires fits { Fits (names_of self.now) (list_of cells.old) (env_of at.old) }
+        requires pending { ArePending (names_of self.now) (list_of cells.old) (slots_of pending.old) }
         requires off { IsSlot (list_of cells.old) off 1 }
         ensures grows { Grows (list_of cells.old) (list_of cells.new) }
         ensures does { OnOk result ((files : List File) → Does (names_of self.now) (stm_count (body_of self.now) (y.If (exp_of test.now) (stm_of [] first.now) (stm_of [] second.now)))
             (x.exec (scope_of self.now files) (y.If (exp_of test.now) (stm_of [] first.now) (stm_of [] second.now))) off (env_of at.old) (env_of at.new) (list_of cells.old) (list_of cells.new)) }
+        ensures leaves { OnOk result ((files : List File) → Leaves (names_of self.now) (x.exec (scope_of self.now files) (y.If (exp_of test.now) (stm_of [] first.now) (stm_of [] second.now))) off
+            (env_of at.old) (slots_of pending.old) (slots_of pending.new) (list_of cells.old) (list_of cells.new)) }
     {
         let test = self.own_in(alloc, cells, &*at, test)?;
         let (yes, no) = branches(alloc, cells, &*at, test, off)?;
-        self.statement_in(alloc, cells, at, yes, first)?;
-        self.statement_in(alloc, cells, at, no, second)
+        self.statement_in(alloc, cells, at, pending, yes, first)?;
+        self.statement_in(alloc, cells, at, pending, no, second)
     }
 
-    /// Compiles a statement of a combinational process or of a function.
+    /// Compiles a statement.
     #[cycle(statement)]
     #[tactic(auto, using(crate::proofs::Walking::walking))]
     pub fn statement_in(
@@ -297,29 +378,36 @@ impl<F: Fn(&mut CellList, &mut At, u32) -> Result<(), AllocError>> Context<'_, F
         alloc: Global,
         cells: &mut CellList,
         at: &mut At,
+        pending: &mut Pending,
         off: u32,
         a: &Stmt,
     ) -> Result<(), AllocError>
         requires functions { Compilers (names_of self.now) self.now.depth (F.pre self.now.compile_body) (F.post self.now.compile_body) }
         requires sound { IsSoundStm (names_of self.now) (stm_of [] a.now) }
-        requires net { IsNet (stm_of [] a.now) }
+        requires segment { IsSegment (CanWait (names_of self.now) (length pending.old.update.items)) (stm_of [] a.now) }
         requires apart { stm_writes (λ k. nat_lt k at.old.first) (stm_of [] a.now) ≡ false }
         requires fits { Fits (names_of self.now) (list_of cells.old) (env_of at.old) }
+        requires pending { ArePending (names_of self.now) (list_of cells.old) (slots_of pending.old) }
         requires off { IsSlot (list_of cells.old) off 1 }
         ensures grows { Grows (list_of cells.old) (list_of cells.new) }
         ensures does { OnOk result ((files : List File) → Does (names_of self.now) (stm_count (body_of self.now) (stm_of [] a.now))
             (x.exec (scope_of self.now files) (stm_of [] a.now)) off (env_of at.old) (env_of at.new) (list_of cells.old) (list_of cells.new)) }
+        ensures leaves { OnOk result ((files : List File) → Leaves (names_of self.now) (x.exec (scope_of self.now files) (stm_of [] a.now)) off
+            (env_of at.old) (slots_of pending.old) (slots_of pending.new) (list_of cells.old) (list_of cells.new)) }
     {
         match &a.node {
             StmtNode::Nop => Ok(()),
-            StmtNode::Seq(list) => self.list_in(alloc, cells, at, off, list),
+            StmtNode::Seq(list) => self.list_in(alloc, cells, at, pending, off, list),
             StmtNode::If(test, first, second) => {
-                self.if_in(alloc, cells, at, off, test, first, second)
+                self.if_in(alloc, cells, at, pending, off, test, first, second)
             }
             StmtNode::Case(subject, items, _) => self.case_in(
-                alloc, cells, at, off, subject, items,
+                alloc, cells, at, pending, off, subject, items,
             ),
             StmtNode::Set(target, source) => self.set_in(alloc, cells, at, off, target, source),
+            StmtNode::Later(target, source) => {
+                self.later_in(alloc, cells, &*at, pending, off, target, source)
+            }
             _ => unreachable!(),
         }
     }

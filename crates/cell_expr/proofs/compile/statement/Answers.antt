@@ -9,7 +9,7 @@ use Rattle.cell_paths.specs.Envs.{env_of}
 use Rattle.cell_expr.specs.Bodies.{IsNet}
 use Rattle.cell_expr.specs.Counts.{body_cells}
 use Rattle.cell_expr.proofs.Outside.{statement-outside, outer-scope, outer-body, outer-compiled}
-use Rattle.cell_expr.proofs.Nets.{any-path, net-apart}
+use Rattle.cell_expr.proofs.Nets.{net-path, net-apart}
 use Rattle.cell_expr.proofs.compile.statement.Goals as goal
 
 pub statement_at-requires-clause-functions : goal.statement_at-requires-clause-functions
@@ -18,17 +18,17 @@ statement_at-requires-clause-functions c = outer-compiled c.args.design.now c.ro
 pub statement_at-requires-clause-net : goal.statement_at-requires-clause-net
 statement_at-requires-clause-net c =
     let s = c.requires.statement in
-    subst IsNet (any-path s.path [] c.args.a.now s.net) s.net
+    subst IsNet (net-path s.path [] c.args.a.now s.net) s.net
 
 pub statement_at-requires-clause-sound : goal.statement_at-requires-clause-sound
 statement_at-requires-clause-sound c =
     let s = c.requires.statement in
-    subst (λ (n : Names). IsSoundStm n (stm_of [] c.args.a.now)) (sym c.room_of-room.ensures.names) (subst (IsSoundStm (names_of (flat_of c.args.design.now))) (any-path s.path [] c.args.a.now s.net) s.sound)
+    subst (λ (n : Names). IsSoundStm n (stm_of [] c.args.a.now)) (sym c.room_of-room.ensures.names) (subst (IsSoundStm (names_of (flat_of c.args.design.now))) (net-path s.path [] c.args.a.now s.net) s.sound)
 
 pub statement_at-requires-clause-apart : goal.statement_at-requires-clause-apart
 statement_at-requires-clause-apart c =
     let s = c.requires.statement in
-    let net : IsNet (stm_of [] c.args.a.now) = subst IsNet (any-path s.path [] c.args.a.now s.net) s.net in
+    let net : IsNet (stm_of [] c.args.a.now) = subst IsNet (net-path s.path [] c.args.a.now s.net) s.net in
     subst (λ n. stm_writes (λ k. nat_lt k n) (stm_of [] c.args.a.now) ≡ false) (sym c.requires.first) (net-apart (stm_of [] c.args.a.now) net)
 
 pub returns-clause-does : goal.returns-clause-does
@@ -38,6 +38,6 @@ returns-clause-does c =
     let names = c.room_of-room.ensures.names in
     let a = c.args.a.now in
     let s = c.requires.statement in
-    let net : IsNet (stm_of [] a) = subst IsNet (any-path s.path [] a s.net) s.net in
+    let net : IsNet (stm_of [] a) = subst IsNet (net-path s.path [] a s.net) s.net in
     statement-outside c.statement_at.result _ (names_of (flat_of d)) _ (scope_of (flat_of d)) _ (body_cells (flat_of d)) (stm_of [] a) (λ path. stm_of path a)
-    c.args.off (env_of c.args.at.now) (env_of c.statement_at.new.at) (list_of c.args.cells.now) (list_of c.statement_at.new.cells) names (λ files. outer-scope d room files names) (outer-body d room names) (λ path. any-path [] path a net) c.statement_at.ensures.does
+    c.args.off (env_of c.args.at.now) (env_of c.statement_at.new.at) (list_of c.args.cells.now) (list_of c.statement_at.new.cells) names (λ files. outer-scope d room files names) (outer-body d room names) (λ path. net-path [] path a net) c.statement_at.ensures.does

@@ -1,20 +1,21 @@
 use Rattle.cell_expr.proofs.Sizes.{exp_size, stm_size, items_size}
-use Rattle.cell_expr.specs.Bodies.{IsNet}
+use Rattle.cell_expr.specs.Bodies.{IsSegment, AreSegmentItems, CanWait}
 use Rattle.cell_expr.specs.Contexts.{names_of, scope_of, body_of}
 use Rattle.cell_expr.specs.Counts.{items_count, stm_count}
 use Rattle.cell_form.specs.Data.{ListData}
 use Rattle.cell_form.specs.Views.{list_of}
+use Rattle.cell_later.specs.Delays.{Leaves, LeavesItems}
+use Rattle.cell_later.specs.Pendings.{PendingSlots, slots_of, ArePending}
 use Rattle.cell_paths.specs.Cases.{Tries}
 use Rattle.cell_paths.specs.Envs.{Env, env_of, Fits, IsSlot}
 use Rattle.cell_paths.specs.Paths.{Does}
 use Rattle.cell_steps.specs.Slots.{Grows}
-use Rattle.std.proofs.Common.{◌≡◌, ℕ, List, [], drop, false, nat_lt, ◌+◌, ◌*◌}
+use Rattle.std.proofs.Common.{◌≡◌, ℕ, List, [], drop, false, nat_lt, ◌+◌, ◌*◌, length}
 use Rattle.vl_base.specs.declared.files.File.{File}
 use Rattle.vl_design.specs.Exec.{exec}
 use Rattle.vl_design.specs.Reads.{items_write, stm_writes}
 use Rattle.vl_design.specs.Sound.{AreSoundItems, IsSoundStm}
 use Rattle.vl_design.specs.Trees.{then_of, exp_of, stm_of}
-use Rattle.vl_paths.specs.Nets.{AreNetItems}
 use Rattle.vl_run.specs.Cases.{items_of, AreLabelsWithin}
 use Rattle.cell_expr.proofs.context.Context.+statement.Given as goal
 
@@ -52,10 +53,13 @@ invariant-items_in-loop-item g l =
       path : IsSlot cells l.rest 1;
       sound : AreSoundItems names rest;
       within : AreLabelsWithin names l.c.width (drop l.item-index l.items);
-      net : AreNetItems (λ k. false) rest;
+      pending : ArePending names cells (slots_of l.pending);
+      segment : AreSegmentItems (CanWait names (length l.pending.update.items)) rest;
       apart : items_write (λ k. nat_lt k l.at.first) rest ≡ false;
       leads : (files : List File) (r : ℕ) (at : Env) (new : ListData) → Tries names (items_count (body_of l.self) rest) (scope_of l.self files) l.c l.subject rest l.rest r (env_of l.at) at cells new
           → Tries names (items_count (body_of l.self) whole) (scope_of l.self files) l.c l.subject whole l.initial.rest r (env_of l.initial.at) at (list_of l.initial.cells) new;
+      leaves : (files : List File) (r : ℕ) (at : Env) (p : PendingSlots) (new : ListData) → LeavesItems names (scope_of l.self files) l.c l.subject rest l.rest r (env_of l.at) at (slots_of l.pending) p cells new
+          → LeavesItems names (scope_of l.self files) l.c l.subject whole l.initial.rest r (env_of l.initial.at) at (slots_of l.initial.pending) p (list_of l.initial.cells) new;
     }
 
 abbrev pub invariant-list_in-loop-item : goal.invariant-list_in-loop-item
@@ -69,8 +73,11 @@ invariant-list_in-loop-item g l =
       fits : Fits names cells (env_of l.at);
       off : IsSlot cells l.off 1;
       sound : IsSoundStm names rest;
-      net : IsNet rest;
+      pending : ArePending names cells (slots_of l.pending);
+      segment : IsSegment (CanWait names (length l.pending.update.items)) rest;
       apart : stm_writes (λ k. nat_lt k l.at.first) rest ≡ false;
       leads : (files : List File) (at : Env) (new : ListData) → Does names (stm_count (body_of l.self) rest) (exec (scope_of l.self files) rest) l.off (env_of l.at) at cells new
           → Does names (stm_count (body_of l.self) whole) (exec (scope_of l.self files) whole) l.off (env_of l.initial.at) at (list_of l.initial.cells) new;
+      leaves : (files : List File) (p : PendingSlots) (new : ListData) → Leaves names (exec (scope_of l.self files) rest) l.off (env_of l.at) (slots_of l.pending) p cells new
+          → Leaves names (exec (scope_of l.self files) whole) l.off (env_of l.initial.at) (slots_of l.initial.pending) p (list_of l.initial.cells) new;
     }

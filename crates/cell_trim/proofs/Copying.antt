@@ -1,5 +1,6 @@
 -- Copies show what they come from.
-use Rattle.std.proofs.Common.{◌≡◌, inl, inr, ℕ, ◌+◌, ◌-◌, ◌<◌, ◌≤◌, Bool, true, false, List, [], ◌∷◌, ◌++◌, length, map, get_or, refl, sym, ap, ◌∙◌, arith, subst}
+use Rattle.std.proofs.Common.{◌≡◌, inl, inr, ℕ, ◌+◌, ◌-◌, ◌<◌, ◌≤◌, Bool, true, false, List}
+use Rattle.std.proofs.Common.{[], ◌∷◌, ◌++◌, length, map, get_or, refl, sym, ap, ◌∙◌, arith, subst}
 use Rattle.std.specs.Prelude.{slice_index, slice_index_or, if◌then◌else◌}
 use Rattle.std.specs.List.{AllByRecursion}
 use Rattle.std.proofs.lemmas.List.{append-nil, length-map, length_push, get_or_append_left, get_or_default, get_or_past, get_or_push}
@@ -39,7 +40,8 @@ module _ (first : ℕ) (regs : List ℕ) (mems : List (List ℕ)) (cells : List 
 abbrev pub Ready : ℕ → List Bool → ℕ → List ℕ → Type 0
 Ready first marks n slots = AllByRecursion (λ a. a - first < n → on marks (a - first) ≡ true) slots
 
-pub ready-from : (first : ℕ) (marks : List Bool) (n : ℕ) (slots : List ℕ) → ((k : ℕ) → k < n → Names first slots k → on marks k ≡ true) → Ready first marks n slots
+pub ready-from : (first : ℕ) (marks : List Bool) (n : ℕ) (slots : List ℕ) → ((k : ℕ) → k < n → Names first slots k → on marks k ≡ true) →
+    Ready first marks n slots
 ready-from first marks n slots h =
     recursion_from_All (λ a. a - first < n → on marks (a - first) ≡ true) slots
     (λ k d lt below. h (slice_index_or slots k d - first) below (slice_index_or slots k d, Contains-get_or slots k d lt, refl))
@@ -52,7 +54,8 @@ pub all-right : {X : Type 0} (P : X → Type 0) (xs ys : List X) → AllByRecurs
 all-right P [] ys h = h
 all-right P (x ∷ xs) ys h = all-right P xs ys h.1
 
-module _ (first next : ℕ) (marks : List Bool) (cells : List CellData) (numbers : List ℕ) (new : List CellData) (h : Shows first next marks cells numbers new) where
+module _ (first next : ℕ) (marks : List Bool) (cells : List CellData) (numbers : List ℕ) (new : List CellData)
+    (h : Shows first next marks cells numbers new) where
   abbrev number : ℕ → ℕ
   number a = number_of first numbers (next + length new) a
 
@@ -80,13 +83,15 @@ module _ (first next : ℕ) (marks : List Bool) (cells : List CellData) (numbers
       ]
 
   pub operands-same : (regs : List ℕ) (mems : List (List ℕ)) (args : List ℕ) → Ready first marks (length cells) args →
-      operands next (slots_of next regs mems new) (map (number_of first numbers (next + length new)) args) ≡ operands first (slots_of first regs mems cells) args
+      operands next (slots_of next regs mems new) (map (number_of first numbers (next + length new)) args)
+      ≡ operands first (slots_of first regs mems cells) args
   operands-same regs mems [] ready = refl
   operands-same regs mems (a ∷ args) ready =
       ap (λ x. x ∷ operands next (slots_of next regs mems new) (map (number_of first numbers (next + length new)) args)) (slot-same regs mems a ready.0)
       ∙ ap (λ xs. slot_at (slots_of first regs mems cells) (a - first) ∷ xs) (operands-same regs mems args ready.1)
 
-  pub among : (a : ℕ) → (a - first < length cells → on marks (a - first) ≡ true) → IsAmong first (length cells) a → IsAmong next (length new) (number_of first numbers (next + length new) a)
+  pub among : (a : ℕ) → (a - first < length cells → on marks (a - first) ≡ true) → IsAmong first (length cells) a →
+      IsAmong next (length new) (number_of first numbers (next + length new) a)
   among a ready k =
       let low = k.0 in
       let high = k.1 in
@@ -94,13 +99,15 @@ module _ (first next : ℕ) (marks : List Bool) (cells : List CellData) (numbers
       let F : ℕ → Type 0 = λ n. IsAmong next (length new) n in
       subst F (sym (number-there a lt)) (h.there (a - first) lt (ready lt))
 
-  pub all-among : (args : List ℕ) → Ready first marks (length cells) args → AllByRecursion (IsAmong first (length cells)) args → AllByRecursion (IsAmong next (length new)) (map (number_of first numbers (next + length new)) args)
+  pub all-among : (args : List ℕ) → Ready first marks (length cells) args → AllByRecursion (IsAmong first (length cells)) args →
+      AllByRecursion (IsAmong next (length new)) (map (number_of first numbers (next + length new)) args)
   all-among [] ready k = tt
   all-among (a ∷ args) ready k = (among a ready.0 k.0, all-among args ready.1 k.1)
 
   -- the widths of operands
   widths-same : (args : List ℕ) → Ready first marks (length cells) args →
-      map (λ (a : ℕ). slice_index (widths cells) (a - first)) args ≡ map (λ (a : ℕ). slice_index (widths new) (a - next)) (map (number_of first numbers (next + length new)) args)
+      map (λ (a : ℕ). slice_index (widths cells) (a - first)) args
+      ≡ map (λ (a : ℕ). slice_index (widths new) (a - next)) (map (number_of first numbers (next + length new)) args)
   widths-same args ready =
       let moves = map (number_of first numbers (next + length new)) args in
       let was = slots_of first [] [] cells in
@@ -118,7 +125,8 @@ module _ (first next : ℕ) (marks : List Bool) (cells : List CellData) (numbers
         let B : ℕ → Type 0 = λ n. AllByRecursion (IsAmong next n) (map (number_of first numbers (next + length new)) c.args) in
         let M : List ℕ → Type 0 = λ ws. Makes c.op c.width ws in
         record {
-          args = subst B (sym (length-map new (λ (x : CellData). x.width))) (all-among c.args ready (subst A (length-map cells (λ (x : CellData). x.width)) k.args));
+          args = subst B (sym (length-map new (λ (x : CellData). x.width))) (all-among c.args ready
+              (subst A (length-map cells (λ (x : CellData). x.width)) k.args));
           count = length-map c.args (number_of first numbers (next + length new)) ∙ k.count;
           makes = subst M (widths-same c.args ready) k.makes;
           wide = k.wide;
@@ -136,7 +144,8 @@ module _ (first next : ℕ) (marks : List Bool) (cells : List CellData) (numbers
         (pushed-longer l m (next + length new) d p (λ (t : Shape). IsCell t next (widths new) d) (λ t has a. has)).sound s (moved-cell s r.1.0) (h.sound s r.0)
 
     moved-slot : (regs : List ℕ) (mems : List (List ℕ)) →
-        cell_slot next regs mems (slots_of next regs mems new) (moved (number_of first numbers (next + length new)) c) ≡ cell_slot first regs mems (slots_of first regs mems cells) c
+        cell_slot next regs mems (slots_of next regs mems new) (moved (number_of first numbers (next + length new)) c)
+        ≡ cell_slot first regs mems (slots_of first regs mems cells) c
     moved-slot regs mems =
         let F : List Slot → Slot = λ xs. record { value = applied c.op c.width c.low (found c.op regs mems) xs; width = c.width } in
         ap F (operands-same regs mems c.args ready)
@@ -164,7 +173,8 @@ module _ (first next : ℕ) (marks : List Bool) (cells : List CellData) (numbers
     ];
     same = λ regs mems k lt here. elim (cases_lt k (length cells)) [
       | inl low ↦
-          ap (λ n. slot_at (slots_of next regs mems new) (n - next)) (number-before x k low) ∙ h.same regs mems k low here ∙ sym (slot-before first regs mems cells c k low)
+          ap (λ n. slot_at (slots_of next regs mems new) (n - next)) (number-before x k low) ∙ h.same regs mems k low here
+          ∙ sym (slot-before first regs mems cells c k low)
       | inr past ↦ (
           let e : length cells ≡ k = omega (arith, length_push cells c) in
           let F : ℕ → Type 0 = λ z. on marks z ≡ false in
@@ -215,7 +225,8 @@ module _ (first next : ℕ) (marks : List Bool) (cells : List CellData) (numbers
 
   -- a cell more, by its mark
   pub shows-more : (c : CellData) (b : Bool) → on marks (length cells) ≡ b → (b ≡ true → Ready first marks (length cells) c.args) →
-      Shows first next marks (cells ++ c ∷ []) (numbers ++ (next + length new) ∷ []) (new ++ (if b then moved (number_of first numbers (next + length new)) c ∷ [] else []))
+      Shows first next marks (cells ++ c ∷ []) (numbers ++ (next + length new) ∷ [])
+      (new ++ (if b then moved (number_of first numbers (next + length new)) c ∷ [] else []))
   shows-more c true e ready = shows-with c (ready refl)
   shows-more c false e ready =
       let F : List CellData → Type 0 = λ xs. Shows first next marks (cells ++ c ∷ []) (numbers ++ (next + length new) ∷ []) xs in

@@ -62,17 +62,20 @@ marked-then first n xs ys a b c g h = record {
   ];
 }
 
-pub marked-more : (first n : ℕ) (slots : List ℕ) (i d : ℕ) (a b c : List Bool) → i < length slots → Marked first n (take i slots) a b → Marked first n (get_or slots i d ∷ []) b c → Marked first n (take (i + 1) slots) a c
+pub marked-more : (first n : ℕ) (slots : List ℕ) (i d : ℕ) (a b c : List Bool) → i < length slots → Marked first n (take i slots) a b →
+    Marked first n (get_or slots i d ∷ []) b c → Marked first n (take (i + 1) slots) a c
 marked-more first n slots i d a b c lt g h =
     let F : List ℕ → Type 0 = λ ys. Marked first n ys a c in
     subst F (sym (take_more slots i d lt)) (marked-then first n (take i slots) (get_or slots i d ∷ []) a b c g h)
 
 -- by the slots that each of some things has
-pub marked-each : {X : Type 0} (f : X → List ℕ) (first n : ℕ) (xs : List X) (i : ℕ) (d : X) (a b c : List Bool) → i < length xs → Marked first n (flat_map f (take i xs)) a b → Marked first n (f (get_or xs i d)) b c → Marked first n (flat_map f (take (i + 1) xs)) a c
+pub marked-each : {X : Type 0} (f : X → List ℕ) (first n : ℕ) (xs : List X) (i : ℕ) (d : X) (a b c : List Bool) → i < length xs →
+    Marked first n (flat_map f (take i xs)) a b → Marked first n (f (get_or xs i d)) b c → Marked first n (flat_map f (take (i + 1) xs)) a c
 marked-each {X} f first n xs i d a b c lt g h =
     let F : List ℕ → Type 0 = λ ys. Marked first n ys a c in
     let G : List X → Type 0 = λ ys. Marked first n (flat_map f ys) a c in
-    subst G (sym (take_more xs i d lt)) (subst F (flat_map_more f [] (take i xs) (get_or xs i d)) (marked-then first n (flat_map f (take i xs)) (f (get_or xs i d)) a b c g h))
+    subst G (sym (take_more xs i d lt)) (subst F (flat_map_more f [] (take i xs) (get_or xs i d))
+    (marked-then first n (flat_map f (take i xs)) (f (get_or xs i d)) a b c g h))
 
 -- ---- marks of what marked cells need
 
@@ -99,7 +102,8 @@ closes-over first i cells a b off g = record {
 }
 
 -- a cell that is marked
-pub closes-with : (first i : ℕ) (cells : List CellData) (a b c : List Bool) → on b i ≡ true → Closes first (i + 1) cells a b → Marked first i (args_at cells i) b c → Closes first i cells a c
+pub closes-with : (first i : ℕ) (cells : List CellData) (a b c : List Bool) → on b i ≡ true → Closes first (i + 1) cells a b →
+    Marked first i (args_at cells i) b c → Closes first i cells a c
 closes-with first i cells a b c here g h = record {
   long = h.long ∙ g.long;
   stays = λ k e. h.stays k (g.stays k e);
@@ -120,7 +124,8 @@ closes-with first i cells a b c here g h = record {
 
 -- ---- both
 
-pub are-marked : (first : ℕ) (cells : List CellData) (slots : List ℕ) (off a b : List Bool) → length off ≡ length cells → ((k : ℕ) → on off k ≡ false) → Marked first (length cells) slots off a → Closes first 0 cells a b → AreMarked first cells slots b
+pub are-marked : (first : ℕ) (cells : List CellData) (slots : List ℕ) (off a b : List Bool) → length off ≡ length cells → ((k : ℕ) → on off k ≡ false) →
+    Marked first (length cells) slots off a → Closes first 0 cells a b → AreMarked first cells slots b
 are-marked first cells slots off a b long none g h = record {
   long = h.long ∙ g.long ∙ long;
   named = λ k lt m. h.stays k (g.named k lt m);

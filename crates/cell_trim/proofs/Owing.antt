@@ -35,7 +35,8 @@ operand-last slot i new d lt h =
     subst F (sym (drop-append-le (i + 1) new (d ∷ []) (omega arith))) (Any-push P (drop (i + 1) new) d h)
 
 -- a slot that names a cell is found under its new number
-pub renamed : (first next : ℕ) (numbers slots : List ℕ) (past k : ℕ) → k < length numbers → Names first slots k → Contains (map (number_of first numbers past) slots) (slice_index numbers k)
+pub renamed : (first next : ℕ) (numbers slots : List ℕ) (past k : ℕ) → k < length numbers → Names first slots k →
+    Contains (map (number_of first numbers past) slots) (slice_index numbers k)
 renamed first next numbers slots past k lt m =
     let e : number_of first numbers past m.0 ≡ slice_index numbers k = ap (λ z. get_or numbers z past) m.2 ∙ get_or_default numbers k past 0 lt in
     let F : ℕ → Type 0 = λ z. Contains (map (number_of first numbers past) slots) z in
@@ -83,7 +84,8 @@ module _ (first next : ℕ) (slots : List ℕ) (marks : List Bool) (cells : List
 
   -- a cell that is marked
   pub owed-with : (c : CellData) → AreMarked first cells slots marks → args_at cells (length before) ≡ c.args → on marks (length before) ≡ true →
-      AreOwed first next (length before + 1) slots marks cells (numbers ++ (next + length new) ∷ []) (new ++ moved (number_of first numbers (next + length new)) c ∷ [])
+      AreOwed first next (length before + 1) slots marks cells (numbers ++ (next + length new) ∷ [])
+      (new ++ moved (number_of first numbers (next + length new)) c ∷ [])
   owed-with c needs args here = λ i lt.
       let x = next + length new in
       let d = moved (number_of first numbers (next + length new)) c in
@@ -124,7 +126,8 @@ module _ (first next : ℕ) (slots : List ℕ) (marks : List Bool) (cells : List
 
   -- a cell more, by its mark
   pub owed-more : (c : CellData) (b : Bool) → AreMarked first cells slots marks → args_at cells (length before) ≡ c.args → on marks (length before) ≡ b →
-      AreOwed first next (length before + 1) slots marks cells (numbers ++ (next + length new) ∷ []) (new ++ (if b then moved (number_of first numbers (next + length new)) c ∷ [] else []))
+      AreOwed first next (length before + 1) slots marks cells (numbers ++ (next + length new) ∷ [])
+      (new ++ (if b then moved (number_of first numbers (next + length new)) c ∷ [] else []))
   owed-more c true needs args e = owed-with c needs args e
   owed-more c false needs args e =
       let F : List CellData → Type 0 = λ xs. AreOwed first next (length before + 1) slots marks cells (numbers ++ (next + length new) ∷ []) xs in

@@ -56,7 +56,8 @@ module _ (cells : List Cell) (i : ℕ) (x : Cell) (lt : i < length cells) (here 
         (shows-more first next marks (take i (map cell_of cells)) numbers (map cell_of kept) shows (cell_of x) b mark-here (ready-here closed)))))
 
     pub owed-step : (slots : List ℕ) → AreMarked first (map cell_of cells) slots marks →
-        AreOwed first next i slots marks (map cell_of cells) numbers (map cell_of kept) → AreOwed first next (i + 1) slots marks (map cell_of cells) more (map cell_of new)
+        AreOwed first next i slots marks (map cell_of cells) numbers (map cell_of kept) →
+        AreOwed first next (i + 1) slots marks (map cell_of cells) more (map cell_of new)
     owed-step slots needs owed =
         let before = take i (map cell_of cells) in
         let O : ℕ → Type 0 = λ n. AreOwed first next n slots marks (map cell_of cells) numbers (map cell_of kept) in

@@ -38,14 +38,16 @@ wrote-agree value other (w.Mem m enable word new mask) b h =
     ∙ ap (λ v. if other enable == 0 then b else record b { mems = set b.mems m (with_word (get_or b.mems m []) (other word) v (value mask)) }) h.1.1.0
     ∙ ap (λ v. if other enable == 0 then b else record b { mems = set b.mems m (with_word (get_or b.mems m []) (other word) (other new) v) }) h.1.1.1.0
 
-written-moved : (value other number : ℕ → ℕ) (xs : List Write) (b : BankData) → AllByRecursion (λ a. value (number a) ≡ other a) (flat_map sources xs) → written value (map (moved_write number) xs) b ≡ written other xs b
+written-moved : (value other number : ℕ → ℕ) (xs : List Write) (b : BankData) → AllByRecursion (λ a. value (number a) ≡ other a) (flat_map sources xs) →
+    written value (map (moved_write number) xs) b ≡ written other xs b
 written-moved value other number [] b h = refl
 written-moved value other number (x ∷ xs) b h =
     let P : ℕ → Type 0 = λ a. value (number a) ≡ other a in
     written-moved value other number xs (wrote value (moved_write number x) b) (all-right P (sources x) (flat_map sources xs) h)
     ∙ ap (written other xs) (wrote-moved value number x b ∙ wrote-agree (λ a. value (number a)) other x b (all-left P (sources x) (flat_map sources xs) h))
 
-roots-moved : (number : ℕ → ℕ) (sets : List Write) (wanted : List ℕ) → roots (map (moved_write number) sets) (map number wanted) ≡ map number (roots sets wanted)
+roots-moved : (number : ℕ → ℕ) (sets : List Write) (wanted : List ℕ) →
+    roots (map (moved_write number) sets) (map number wanted) ≡ map number (roots sets wanted)
 roots-moved number [] wanted = refl
 roots-moved number (w.Reg r a ∷ sets) wanted = ap (λ xs. number a ∷ xs) (roots-moved number sets wanted)
 roots-moved number (w.Mem m enable word new mask ∷ sets) wanted =
@@ -63,7 +65,8 @@ pub record Trims (old next : ℕ) (cells : List CellData) (sets : List Write) (w
   pub owed : AreOwed old next (length cells) (roots sets wanted) marks cells numbers kept
   pub moves : AreMoved (number_of old numbers (next + length kept)) next kept sets wanted new slots
 
-pub trims-from : (old next : ℕ) (list cells kept : List Cell) (sets : List Write) (wanted : List ℕ) (given marks : List Bool) (numbers : List ℕ) (new : ListData) (slots : List ℕ) →
+pub trims-from : (old next : ℕ) (list cells kept : List Cell) (sets : List Write) (wanted : List ℕ) (given marks : List Bool) (numbers : List ℕ)
+    (new : ListData) (slots : List ℕ) →
     list ≡ cells → given ≡ marks → AreMarked old (map cell_of list) (roots sets wanted) marks →
     Shows old next given (map cell_of list) numbers (map cell_of kept) →
     ((xs : List ℕ) → AreMarked old (map cell_of list) xs given → AreOwed old next (length list) xs given (map cell_of list) numbers (map cell_of kept)) →
@@ -85,7 +88,8 @@ trims-from old next list cells kept sets wanted given marks numbers new slots sa
       moves = subst M (sym (length-map kept cell_of)) moves;
     })
 
-module _ (old next : ℕ) (cells : List CellData) (sets : List Write) (wanted : List ℕ) (new : ListData) (slots : List ℕ) (t : Trims old next cells sets wanted new slots) where
+module _ (old next : ℕ) (cells : List CellData) (sets : List Write) (wanted : List ℕ) (new : ListData) (slots : List ℕ)
+    (t : Trims old next cells sets wanted new slots) where
   abbrev left : ListData
   left = record { first = next; cells = t.kept; sets = map (moved_write (number_of old t.numbers (next + length t.kept))) sets }
 
@@ -114,7 +118,8 @@ module _ (old next : ℕ) (cells : List CellData) (sets : List Write) (wanted : 
   pub trims-there : AllByRecursion (IsAmong old (length cells)) wanted → AllByRecursion (IsIn new) slots
   trims-there h = so (λ l xs. AllByRecursion (IsIn l) xs) (all-among old next t.marks cells t.numbers t.kept t.shows wanted ready-wanted h)
 
-  left-values : (b : BankData) (l : ListData) → l.first ≡ old → l.cells ≡ cells → map (slot b left) (map (number_of old t.numbers (next + length t.kept)) wanted) ≡ map (slot b l) wanted
+  left-values : (b : BankData) (l : ListData) → l.first ≡ old → l.cells ≡ cells →
+      map (slot b left) (map (number_of old t.numbers (next + length t.kept)) wanted) ≡ map (slot b l) wanted
   unfolding slot
   left-values b l e k =
       operands-same old next t.marks cells t.numbers t.kept t.shows b.regs b.mems wanted ready-wanted
@@ -134,7 +139,8 @@ module _ (old next : ℕ) (cells : List CellData) (sets : List Write) (wanted : 
       let Q : ℕ → Type 0 = λ a. value (renumber a) ≡ other a in
       so (λ m xs. written (value_at next (slots_of next b.regs b.mems m.cells)) m.sets c ≡ written other sets c)
       (written-moved value other renumber sets c
-      (all-weaker P Q (flat_map sources sets) (λ a h. ap (λ (x : Slot). x.value) (slot-same old next t.marks cells t.numbers t.kept t.shows b.regs b.mems a h)) ready-sets))
+      (all-weaker P Q (flat_map sources sets) (λ a h. ap (λ (x : Slot). x.value)
+      (slot-same old next t.marks cells t.numbers t.kept t.shows b.regs b.mems a h)) ready-sets))
 
   left-writes : (s : Shape) (xs : List Write) → Ready old t.marks (length cells) (flat_map sources xs) → AllByRecursion (IsWrite s old (length cells)) xs →
       AllByRecursion (IsWrite s next (length t.kept)) (map (moved_write (number_of old t.numbers (next + length t.kept))) xs)
@@ -145,7 +151,8 @@ module _ (old next : ℕ) (cells : List CellData) (sets : List Write) (wanted : 
       let there = among old next t.marks cells t.numbers t.kept t.shows in
       ((h.0.0, there enable r.0 h.0.1, there word r.1.0 h.0.2, there value r.1.1.0 h.0.3, there mask r.1.1.1.0 h.0.4), left-writes s xs r.1.1.1.1 h.1)
 
-  pub trims-sound : (s : Shape) → AreCells s old [] cells → AllByRecursion (IsWrite s old (length cells)) sets → next + length new.cells ≤ s.slots → IsList s new
+  pub trims-sound : (s : Shape) → AreCells s old [] cells → AllByRecursion (IsWrite s old (length cells)) sets → next + length new.cells ≤ s.slots →
+      IsList s new
   trims-sound s h k le =
       so (λ l xs. next + length l.cells ≤ s.slots → IsList s l)
       (λ fits. record { cells = t.shows.sound s h; sets = left-writes s sets ready-sets k; slots = fits }) le
@@ -164,7 +171,8 @@ module _ (old next : ℕ) (cells : List CellData) (sets : List Write) (wanted : 
           | inl m ↦ (
               let below = o.1 in
               let long = t.shows.long in
-              inr (subst F (sym (roots-moved renumber sets wanted)) (subst G o.2 (renamed old next t.numbers (roots sets wanted) (next + length t.kept) o.0 (omega arith) m))))
+              inr (subst F (sym (roots-moved renumber sets wanted)) (subst G o.2 (renamed old next t.numbers (roots sets wanted) (next + length t.kept) o.0
+              (omega arith) m))))
           | inr u ↦ absurd (names-past old o.0 cells u.0 u.1 u.3)
         ]
       ])

@@ -31,7 +31,8 @@ fn put(
     marked: bool,
 ) -> Result<(), AllocError>
     ensures numbers { OnOk result (numbers.new.items ≡ numbers.old.items ++ next ∷ []) }
-    ensures kept { OnOk result (map cell_of kept.new ≡ map cell_of kept.old ++ (if marked then moved (number_of first numbers.old.items next) (cell_of cell.now) ∷ [] else [])) }
+    ensures kept { OnOk result (map cell_of kept.new
+        ≡ map cell_of kept.old ++ (if marked then moved (number_of first numbers.old.items next) (cell_of cell.now) ∷ [] else [])) }
 {
     if marked {
         keep(alloc, kept, numbers.as_slice(), first, next, cell)?;

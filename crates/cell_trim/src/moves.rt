@@ -10,7 +10,7 @@ use std::alloc::{AllocError, Global};
 use vl_base::items::Items;
 
 /// The new number of a slot, and `next` where it isn't in the list.
-pub(crate) fn number(numbers: &[u32], first: u32, next: u32, slot: u32) -> u32
+fn number(numbers: &[u32], first: u32, next: u32, slot: u32) -> u32
     ensures { result ≡ number_of first numbers.now next slot }
 {
     match numbers.get(slot.saturating_sub(first) as usize) {

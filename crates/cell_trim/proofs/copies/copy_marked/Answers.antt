@@ -22,9 +22,11 @@ loop-index-preserved c =
     let slot : ℕ = next + length c.as_slice.result.now in
     let e : slot ≡ next + length kept = ap (λ (xs : List Cell). next + length xs) c.as_slice.ensures in
     record {
-      shows = shows-step cells i x lt c.index-cells-index.is first next marks slot (on marks i) numbers more kept new refl e c.in_ok-put.ensures.numbers c.in_ok-put.ensures.kept
+      shows = shows-step cells i x lt c.index-cells-index.is first next marks slot (on marks i) numbers more kept new refl e c.in_ok-put.ensures.numbers
+          c.in_ok-put.ensures.kept
           c.loop-index.invariant.shows c.requires.closed;
-      owed = λ slots needs. owed-step cells i x lt c.index-cells-index.is first next marks slot (on marks i) numbers more kept new refl e c.in_ok-put.ensures.numbers c.in_ok-put.ensures.kept
+      owed = λ slots needs. owed-step cells i x lt c.index-cells-index.is first next marks slot (on marks i) numbers more kept new refl e
+          c.in_ok-put.ensures.numbers c.in_ok-put.ensures.kept
           c.loop-index.invariant.shows slots needs (c.loop-index.invariant.owed slots needs);
     }
 
@@ -32,5 +34,6 @@ pub returns-clause-owed : goal.returns-clause-owed
 returns-clause-owed c = λ slots needs.
     let cells = c.args.cells.now in
     let e : c.loop-index.index ≡ length cells = omega arith in
-    let F : ℕ → Type 0 = λ n. AreOwed c.args.first c.args.next n slots c.args.marks.now (map cell_of cells) c.loop-index.numbers.items (map cell_of c.loop-index.kept) in
+    let F : ℕ → Type 0 = λ n. AreOwed c.args.first c.args.next n slots c.args.marks.now (map cell_of cells) c.loop-index.numbers.items
+    (map cell_of c.loop-index.kept) in
     subst F e (c.loop-index.invariant.owed slots needs)

@@ -21,4 +21,5 @@ loop-index-preserved-then-index c =
     let F : List ℕ → Type 0 = λ ys. Marked c.args.first i ys marks new in
     let G : ℕ → Type 0 = λ n. Closes c.args.first n (map cell_of cells) c.args.marks.now.items marks in
     closes-with c.args.first i (map cell_of cells) c.args.marks.now.items marks new here (subst G up c.loop-index.invariant)
-    (subst F (c.as_slice.ensures ∙ ap (λ (y : Cell). (cell_of y).args) (sym c.index-cells-index.is) ∙ sym (args-here cells i x lt c.index-cells-index.is)) c.mark_all.ensures)
+    (subst F (c.as_slice.ensures ∙ ap (λ (y : Cell). (cell_of y).args) (sym c.index-cells-index.is) ∙ sym (args-here cells i x lt c.index-cells-index.is))
+    c.mark_all.ensures)

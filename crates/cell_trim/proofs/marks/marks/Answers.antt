@@ -18,5 +18,6 @@ returns c =
     let F : ℕ → Type 0 = λ n. Marked c.args.first n (roots sets wanted) off all in
     are-marked c.args.first (map cell_of cells) (roots sets wanted) off all c.close.new.marks.items
     (c.in_ok-marks.ensures.long ∙ sym (length-map cells cell_of)) c.in_ok-marks.ensures.off
-    (subst F (sym (length-map cells cell_of)) (marked-then c.args.first (length cells) (flat_map sources sets) wanted off some all c.mark_writes.ensures c.mark_all.ensures))
+    (subst F (sym (length-map cells cell_of))
+    (marked-then c.args.first (length cells) (flat_map sources sets) wanted off some all c.mark_writes.ensures c.mark_all.ensures))
     c.close.ensures

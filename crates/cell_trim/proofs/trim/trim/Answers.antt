@@ -18,9 +18,11 @@ returns c =
     let wanted = c.args.wanted.now in
     let copied = c.in_ok-copied.copied in
     let was = map cell_of cells.cells in
-    let trims : (t : Trimmed) → AreMoved (number_of old copied.numbers.items (next + length copied.cells)) next (map cell_of copied.cells) sets wanted (list_of t.cells) t.slots.items →
+    let trims : (t : Trimmed) →
+    AreMoved (number_of old copied.numbers.items (next + length copied.cells)) next (map cell_of copied.cells) sets wanted (list_of t.cells) t.slots.items →
     Trims old next was sets wanted (list_of t.cells) t.slots.items =
-    λ t m. trims-from old next c.as_slice-list.result.now cells.cells copied.cells sets wanted c.as_slice.result.now c.in_ok-marks.marks.items copied.numbers.items (list_of t.cells) t.slots.items
+    λ t m. trims-from old next c.as_slice-list.result.now cells.cells copied.cells sets wanted c.as_slice.result.now c.in_ok-marks.marks.items
+    copied.numbers.items (list_of t.cells) t.slots.items
     c.as_slice-list.ensures c.as_slice.ensures.value c.in_ok-marks.ensures c.in_ok-copied.ensures.shows c.in_ok-copied.ensures.owed m in
     record {
       first = IfOk-weaker c.finish.result _ _ (λ t m. trims-first old next was sets wanted (list_of t.cells) t.slots.items (trims t m)) c.finish.ensures;
@@ -34,8 +36,10 @@ returns c =
           let W : ℕ → Type 0 = λ n. AllByRecursion (IsWrite s old n) sets in
           trims-sound old next was sets wanted (list_of t.cells) t.slots.items (trims t m) s h (subst W (sym (length-map cells.cells cell_of)) k)
           (omega (arith, le, length-map t.cells.cells cell_of))) c.finish.ensures;
-      values = IfOk-weaker c.finish.result _ _ (λ t m. λ b. trims-values old next was sets wanted (list_of t.cells) t.slots.items (trims t m) b (list_of cells) refl refl) c.finish.ensures;
+      values = IfOk-weaker c.finish.result _ _ (λ t m. λ b. trims-values old next was sets wanted (list_of t.cells) t.slots.items (trims t m) b
+          (list_of cells) refl refl) c.finish.ensures;
       writes = IfOk-weaker c.finish.result _ _ (λ t m. trims-writes old next was sets wanted (list_of t.cells) t.slots.items (trims t m)) c.finish.ensures;
       needed = IfOk-weaker c.finish.result _ _
-          (λ t m. λ i lt. trims-needed old next was sets wanted (list_of t.cells) t.slots.items (trims t m) i (omega (arith, lt, length-map t.cells.cells cell_of))) c.finish.ensures;
+          (λ t m. λ i lt. trims-needed old next was sets wanted (list_of t.cells) t.slots.items (trims t m) i
+          (omega (arith, lt, length-map t.cells.cells cell_of))) c.finish.ensures;
     }

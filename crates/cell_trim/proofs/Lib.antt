@@ -1,0 +1,5 @@
+pub mod Copying
+pub mod Marking
+pub mod Owing
+pub mod Stepping
+pub mod Trimming

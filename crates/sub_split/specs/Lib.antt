@@ -1,0 +1,5 @@
+pub mod Marks
+pub mod Views
+pub mod Makes
+pub mod Items
+pub mod Waves

@@ -1,0 +1,2 @@
+mod Nexting
+mod Ways

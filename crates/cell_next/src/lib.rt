@@ -1,0 +1,4 @@
+//! Which state is next, as cells.
+#![tactic(auto)]
+
+pub mod next;

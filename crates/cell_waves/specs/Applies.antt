@@ -34,10 +34,12 @@ pub record SameWrites (xs ys : List Write) : Type 0 where
 -- updated state, committed
 pub record Applies (d : Flat) (at : Env) (p : PendingSlots) (old new : ListData) (before after : List Write) : Type 0 where
   pub longer : Longer Nothing (6 * length d.rows) old new
-  pub sound : (z : Shape) → IsFor d 0 z → AllByRecursion (IsWrite z new.first (length new.cells)) before → AllByRecursion (IsWrite z new.first (length new.cells)) after
+  pub sound : (z : Shape) → IsFor d 0 z → AllByRecursion (IsWrite z new.first (length new.cells)) before →
+      AllByRecursion (IsWrite z new.first (length new.cells)) after
   pub registers : AllByRecursion IsRegister before → AllByRecursion IsRegister after
-  pub holds : (z : Shape) (b : BankData) (s t : State) (committed : List (List ℕ)) (l : ListData) (sets : List Write) → AreSound z old → IsFor d 0 (shape_of b) → ((r : ℕ) → 1 ≤ r → last_write before r ≡ None) →
-      HoldsState d b s committed → Stands (names_of d) b old at (sample s) → Pends (names_of d) b old p s.later → Grows new l → SameWrites after sets → IsUpdated d s t →
+  pub holds : (z : Shape) (b : BankData) (s t : State) (committed : List (List ℕ)) (l : ListData) (sets : List Write) → AreSound z old →
+      IsFor d 0 (shape_of b) → ((r : ℕ) → 1 ≤ r → last_write before r ≡ None) → HoldsState d b s committed → Stands (names_of d) b old at (sample s) →
+      Pends (names_of d) b old p s.later → Grows new l → SameWrites after sets → IsUpdated d s t →
       HoldsState d (written (held b l) sets b) t t.values
 
 -- ---- one signal
@@ -51,7 +53,8 @@ pub record AreUpdatable (r : Row) (k : ℕ) (l : ListData) (slots : List (Option
 -- an entry has a signal's value behind the update
 abbrev pub HoldsUpdate : ℕ → ℕ → List (Option ℕ) → PendingSlots → ListData → ListData → Option ℕ → Type 0
 HoldsUpdate w k slots p old new None = ⊥
-HoldsUpdate w k slots p old new (Some r) = IsSlot new r w × ((z : Shape) (b : BankData) → AreSound z old → held b new r ≡ settled b old p k (held_or b old (slot_of slots k)))
+HoldsUpdate w k slots p old new (Some r) =
+    IsSlot new r w × ((z : Shape) (b : BankData) → AreSound z old → held b new r ≡ settled b old p k (held_or b old (slot_of slots k)))
 
 abbrev pub HasUpdate : Row → ℕ → List (Option ℕ) → PendingSlots → ListData → ListData → Option ℕ → Type 0
 HasUpdate r k slots p old new e = HasValue r.kind → is_computed r.kind ≡ false → IsWidth r.width → HoldsUpdate r.width k slots p old new e

@@ -29,7 +29,8 @@ pub record Begins (d : Flat) (order : List ℕ) (early : Bool) (old new : ListDa
   pub sound : (z : Shape) → IsFor d 0 z → AreSound z old → AreSound z new
   pub memories : (z : Shape) → IsFor d 0 z → HasMemories (names_of d) at z
   -- slots hold the state that the bank holds, and what is pending
-  pub stands : (files : List File) (z : Shape) (b : BankData) (s : State) (committed : List (List ℕ)) → AreSound z old → s.finished ≡ false → IsTidy d files order early s committed → HoldsState d b s committed →
-      Stands (names_of d) b new at (sample s)
-  pub pends : (z : Shape) (b : BankData) (s : State) (committed : List (List ℕ)) → AreSound z old → HoldsState d b s committed → Pends (names_of d) b new p s.later
+  pub stands : (files : List File) (z : Shape) (b : BankData) (s : State) (committed : List (List ℕ)) → AreSound z old → s.finished ≡ false →
+      IsTidy d files order early s committed → HoldsState d b s committed → Stands (names_of d) b new at (sample s)
+  pub pends : (z : Shape) (b : BankData) (s : State) (committed : List (List ℕ)) → AreSound z old → HoldsState d b s committed →
+      Pends (names_of d) b new p s.later
   pub read : (z : Shape) (b : BankData) (s : State) (committed : List (List ℕ)) → AreSound z old → HoldsState d b s committed → IsPendingRead d b new p

@@ -82,5 +82,6 @@ pub record Sets (rows : List Row) (copy : ℕ) (chosen : ℕ → Bool) (after : 
   pub others : (r : ℕ) → ((k : ℕ) → r ≢ 4 * k + copy) → last_write new r ≡ last_write old r
   pub registers : AllByRecursion IsRegister old → AllByRecursion IsRegister new
   -- they may be done on a bank for the design, where the slots are there
-  pub sound : (z : Shape) (l : ListData) → HasSignals (length rows) z → IsIn l here → ((k : ℕ) → is_written copy (slice_get rows k) ≡ true → IsHeld l (slot_of after k)) →
+  pub sound : (z : Shape) (l : ListData) → HasSignals (length rows) z → IsIn l here →
+      ((k : ℕ) → is_written copy (slice_get rows k) ≡ true → IsHeld l (slot_of after k)) →
       AllByRecursion (IsWrite z l.first (length l.cells)) old → AllByRecursion (IsWrite z l.first (length l.cells)) new

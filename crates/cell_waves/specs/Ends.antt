@@ -30,7 +30,8 @@ pub record Ends (rows : List Row) (commits : Bool) (at0 at1 : Env) (p0 p1 : Pend
   pub answer : last_write sets answer_register ≡ None
 
 -- a segment leads from a state that a bank holds to another, and slots hold what they differ in
-pub record Leads (d : Flat) (b : BankData) (l : ListData) (s t : State) (committed : List (List ℕ)) (at0 at1 : Env) (p0 p1 : PendingSlots) (none : ℕ) : Type 0 where
+pub record Leads (d : Flat) (b : BankData) (l : ListData) (s t : State) (committed : List (List ℕ)) (at0 at1 : Env) (p0 p1 : PendingSlots)
+    (none : ℕ) : Type 0 where
   pub shape : Shape
   pub sound : AreSound shape l
   pub bank : IsFor d 0 (shape_of b)

@@ -15,6 +15,7 @@ pub record Rises (at at' : Env) (old new : ListData) (ticks : ℕ) : Type 0 wher
   pub time : IsSlot new at'.time 64
   pub slot : IsSlot new ticks 32
   pub fits : (names : Names) → Fits names old at → Fits names new at'
-  pub stands : (names : Names) (z : Shape) (b : BankData) (s : State) → AreSound z old → Fits names old at → Stands names b old at (sample s) → s.ticks + 1 < 2 ^ 32 →
-      Stands names b new at' (sample (record s { ticks = s.ticks + 1 }))
-  pub counted : (names : Names) (z : Shape) (b : BankData) (s : State) → AreSound z old → Stands names b old at (sample s) → s.ticks + 1 < 2 ^ 32 → held b new ticks ≡ s.ticks + 1
+  pub stands : (names : Names) (z : Shape) (b : BankData) (s : State) → AreSound z old → Fits names old at → Stands names b old at (sample s) →
+      s.ticks + 1 < 2 ^ 32 → Stands names b new at' (sample (record s { ticks = s.ticks + 1 }))
+  pub counted : (names : Names) (z : Shape) (b : BankData) (s : State) → AreSound z old → Stands names b old at (sample s) → s.ticks + 1 < 2 ^ 32 →
+      held b new ticks ≡ s.ticks + 1

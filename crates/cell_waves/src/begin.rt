@@ -64,7 +64,8 @@ pub fn begun_early(
 ) -> Result<Begun, AllocError>
     requires few { length (flat_of design.now).rows ≤ 268435456 }
     ensures grows { Grows (list_of cells.old) (list_of cells.new) }
-    ensures begins { IfOk result (λ x. (order : List ℕ) → Begins (flat_of design.now) order true (list_of cells.old) (list_of cells.new) (env_of x.at) (slots_of x.pending)) }
+    ensures begins { IfOk result (λ x. (order : List ℕ) →
+        Begins (flat_of design.now) order true (list_of cells.old) (list_of cells.new) (env_of x.at) (slots_of x.pending)) }
 {
     let signals = design.signals.as_slice();
     let works = places(alloc, signals, WORK)?;

@@ -25,7 +25,8 @@ fn copy(
 ) -> Result<Option<u32>, AllocError>
     ensures grows { Grows (list_of cells.old) (list_of cells.new) }
     ensures longer { IfOk result (λ e. Longer (λ s. register < s.regs) 1 (list_of cells.old) (list_of cells.new)) }
-    ensures copies { IfOk result (λ e. HasValue (row_of signal.now).kind → IsWidth (row_of signal.now).width → HasCopy (list_of cells.new) (row_of signal.now).width register e) }
+    ensures copies { IfOk result (λ e. HasValue (row_of signal.now).kind → IsWidth (row_of signal.now).width →
+        HasCopy (list_of cells.new) (row_of signal.now).width register e) }
 {
     match value_width(signal) {
         None => Ok(None),
@@ -65,7 +66,8 @@ pub fn pending(
 ) -> Result<Pending, AllocError>
     requires few { length signals.now ≤ 268435456 }
     ensures grows { Grows (list_of cells.old) (list_of cells.new) }
-    ensures longer { IfOk result (λ p. Longer (HasSignals (length signals.now)) (length signals.now + length signals.now) (list_of cells.old) (list_of cells.new)) }
+    ensures longer { IfOk result (λ p.
+        Longer (HasSignals (length signals.now)) (length signals.now + length signals.now) (list_of cells.old) (list_of cells.new)) }
     ensures update { IfOk result (λ p. AreCopies (map row_of signals.now) 5 (list_of cells.new) p.update.items) }
     ensures mask { IfOk result (λ p. AreCopies (map row_of signals.now) 6 (list_of cells.new) p.mask.items) }
     ensures sites { IfOk result (λ p. p.sites.items ≡ []) }

@@ -78,7 +78,8 @@ fn updated(
     requires entries { AreUpdatable (row_of signal.now) number (list_of cells.old) begun.now.at.slots.items (slots_of begun.now.pending) }
     ensures grows { Grows (list_of cells.old) (list_of cells.new) }
     ensures longer { IfOk result (λ e. Longer Nothing 6 (list_of cells.old) (list_of cells.new)) }
-    ensures updates { IfOk result (λ e. HasUpdate (row_of signal.now) number begun.now.at.slots.items (slots_of begun.now.pending) (list_of cells.old) (list_of cells.new) e) }
+    ensures updates { IfOk result (λ e.
+        HasUpdate (row_of signal.now) number begun.now.at.slots.items (slots_of begun.now.pending) (list_of cells.old) (list_of cells.new) e) }
 {
     match variable_width(signal) {
         None => Ok(None),
@@ -110,9 +111,9 @@ pub fn applied(
     requires fits { Fits (names_of (flat_of design.now)) (list_of cells.old) (env_of begun.now.at) }
     requires pending { ArePending (names_of (flat_of design.now)) (list_of cells.old) (slots_of begun.now.pending) }
     requires many { length begun.now.pending.update.items ≡ length (flat_of design.now).rows }
-    requires sites { begun.now.pending.sites.items ≡ [] }
     ensures grows { Grows (list_of cells.old) (list_of cells.new) }
-    ensures applies { OnOk result (Applies (flat_of design.now) (env_of begun.now.at) (slots_of begun.now.pending) (list_of cells.old) (list_of cells.new) sets.old.items sets.new.items) }
+    ensures applies { OnOk result (
+        Applies (flat_of design.now) (env_of begun.now.at) (slots_of begun.now.pending) (list_of cells.old) (list_of cells.new) sets.old.items sets.new.items) }
 {
     let signals = design.signals.as_slice();
     let here = begun.at.here;

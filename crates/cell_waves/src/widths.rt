@@ -40,7 +40,8 @@ pub fn value_width(signal: &Signal) -> Option<u8>
 
 /// The width of a variable's value in bits: none of a signal that is computed.
 pub fn variable_width(signal: &Signal) -> Option<u8>
-    ensures there { HasValue (row_of signal.now).kind → c.is_computed (row_of signal.now).kind ≡ false → IsWidth (row_of signal.now).width → result ≡ Some (row_of signal.now).width }
+    ensures there { HasValue (row_of signal.now).kind → c.is_computed (row_of signal.now).kind ≡ false → IsWidth (row_of signal.now).width →
+        result ≡ Some (row_of signal.now).width }
     ensures within { IfSome result (λ w. (w ≡ (row_of signal.now).width) × IsWidth w × HasValue (row_of signal.now).kind) }
 {
     if is_computed(signal.kind) {

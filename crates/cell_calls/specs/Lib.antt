@@ -1,6 +1,4 @@
-pub mod Asked
-pub mod Traps
+pub mod Counts
+pub mod Calls
 pub mod Displays
 pub mod FileCalls
-pub mod Calls
-pub mod Works

@@ -6,6 +6,5 @@ mod display;
 mod file;
 mod format;
 mod given;
-pub mod laws;
 mod own;
 mod trap;

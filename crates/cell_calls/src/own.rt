@@ -7,7 +7,7 @@ ghost use Rattle.vl_design.specs.Trees.{exp_of, flat_of};
 ghost use Rattle.vl_design.specs.Width.{names_of};
 ghost use Rattle.cell_form.specs.Views.{list_of};
 ghost use Rattle.cell_steps.specs.Slots.{Grows};
-ghost use Rattle.cell_paths.specs.Envs.{Env, env_of};
+ghost use Rattle.cell_paths.specs.Envs.{Env, env_of, Fits};
 ghost use Rattle.cell_calls.specs.Calls.{AsksFile};
 ghost use Rattle.cell_calls.specs.Displays.{IsReady, IsOwn};
 
@@ -67,7 +67,7 @@ pub(crate) fn own(
 /// A value that is not signed.
 pub(crate) fn constant(alloc: Global, cells: &mut CellList, bits: Bits) -> Result<Own, AllocError>
     ensures grows { Grows (list_of cells.old) (list_of cells.new) }
-    ensures gives { IfOk result (λ r. (d : Flat) (at : Env) → IsOwn d (Num bits.value bits.width false) at (list_of cells.old) (list_of cells.new) r) }
+    ensures gives { IfOk result (λ r. (d : Flat) (at : Env) → Fits (names_of d) (list_of cells.old) at → IsOwn d (Num bits.value bits.width false) at (list_of cells.old) (list_of cells.new) r) }
 {
     let slot = number(alloc, cells, bits.value, bits.width, false, bits.width)?;
     Ok(Own {

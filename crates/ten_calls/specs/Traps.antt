@@ -1,5 +1,5 @@
 -- Which trap stands for a system call of a design (IEEE 1364-2005, clause 17; own).
-use Rattle.std.specs.Prelude.{◌≡◌, ℕ, ◌<◌, ℤ, List, [], ◌∷◌, ◌++◌, drop, slice_index, slice_get, All, Option, Some}
+use Rattle.std.specs.Prelude.{◌≡◌, ℕ, ◌<◌, ℤ, List, [], ◌∷◌, ◌++◌, drop, slice_index, slice_get, All, Some}
 use Rattle.vl_base.specs.Display.{item_text}
 use Rattle.vl_design.specs.Rows.{lower_of, range_width}
 use Rattle.vl_design.specs.Syntax.{Piece, Literal, Shown, Task, Print, Finish, Save, Fopen, Fread, Fgetc, Feof, Fclose, ReadHex, Row, Flat}
@@ -10,7 +10,7 @@ use Rattle.cell_form.specs.declared.table.Trap.{Trap}
 use Rattle.cell_form.specs.declared.table.TrapCall.TheVariants as call
 use Rattle.trap_runtime.specs.Served.{parts_text}
 use Rattle.ten_form.specs.Registers.{answer_register, work_register}
-use Rattle.cell_calls.specs.Asked.{shown, own_widths}
+use Rattle.ten_calls.specs.Asked.{shown, own_widths}
 
 -- ---- what is printed
 
@@ -36,8 +36,8 @@ pub record Prints (names : Names) (pieces : List Piece) (parts : List FormatPart
 -- ---- traps
 
 -- a row whose words have so many bits, and these first and last addresses (clause 4.9)
-pub record HasRange (r : Row) (width : ℕ) (first last : ℤ) : Type 0 where
-  pub width : width ≡ r.width
+pub record HasRange (r : Row) (w : ℕ) (first last : ℤ) : Type 0 where
+  pub width : w ≡ r.width
   pub lowest : lower_of first last ≡ r.lowest
   pub words : range_width first last ≡ r.words
 

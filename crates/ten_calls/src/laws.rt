@@ -7,7 +7,7 @@ ghost use Rattle.vl_design.specs.Syntax.{Task, Flat};
 ghost use Rattle.cell_form.specs.Data.{BankData};
 ghost use Rattle.cell_form.specs.declared.table.Trap.{Trap as TrapData};
 ghost use Rattle.trap_runtime.specs.Traps.{IsTrap};
-ghost use Rattle.cell_calls.specs.Works.{HaveBytes, IsBefore, DoesCall};
+ghost use Rattle.ten_calls.specs.Works.{HaveBytes, IsBefore, DoesCall};
 
 /// A trap before which a run is can be served, and served it does its call: the bank then holds the state behind the call, the
 /// open files and what is printed are that state's, and the run ends or wants a snapshot just where the call says so.

@@ -12,13 +12,13 @@ use Rattle.vl_settle.specs.Computed.{computed_at}
 use Rattle.cell_form.specs.Data.{BankData}
 use Rattle.cell_form.specs.Sound.{shape_of}
 use Rattle.cell_form.specs.declared.table.Trap.{Trap}
+use Rattle.cell_paths.specs.Envs.{HasOneWord}
 use Rattle.trap_runtime.specs.declared.served.Served.{Served}
 use Rattle.trap_runtime.specs.declared.served.Served.TheVariants as w
 use Rattle.trap_runtime.specs.Served.{Works, served, way_of}
-use Rattle.trap_runtime.specs.Traps.{IsTrap}
 use Rattle.ten_form.specs.Banks.{IsFor, HoldsState}
-use Rattle.cell_calls.specs.Asked.{asked}
-use Rattle.cell_calls.specs.Traps.{IsTrapOf}
+use Rattle.ten_calls.specs.Asked.{asked}
+use Rattle.ten_calls.specs.Traps.{IsTrapOf}
 
 -- what a call works on, where a run is in a state that a bank holds
 abbrev pub works_of : BankData → State → Works
@@ -38,6 +38,7 @@ pub record IsBefore (d : Flat) (files : List File) (task : Task) (slots : ℕ) (
   pub trap : IsTrapOf d task slots t
   pub sound : IsSoundTask (names_of d) task
   pub variable : IsVariableRead d task
+  pub one_word : HasOneWord d.rows
   pub shape : IsFor d slots (shape_of b)
   pub holds : HoldsState d b s committed
   pub fine : IsFine d.rows s.values

@@ -1,10 +1,9 @@
 -- What the slots of a system call hold (IEEE 1364-2005, clause 17).
-use Rattle.std.specs.Prelude.{ℕ, ◌+◌, List, [], ◌∷◌, map, sum}
+use Rattle.std.specs.Prelude.{ℕ, List, [], ◌∷◌, map}
 use Rattle.vl_design.specs.Syntax.{Exp, Piece, Literal, Shown, Task, Print, Fread, Fgetc, Feof, Fclose}
 use Rattle.vl_design.specs.Tasks.{descriptor_of}
 use Rattle.vl_design.specs.Value.{Sample, own_value}
 use Rattle.vl_design.specs.Width.{Names, Scope, form}
-use Rattle.cell_expr.specs.Counts.{exp_count}
 
 -- the expressions that pieces show, in order (clause 17.1.1)
 abbrev pub shown : List Piece → List Exp
@@ -33,16 +32,3 @@ asked_widths names (Fgetc fd) = 32 ∷ []
 asked_widths names (Feof fd) = 32 ∷ []
 asked_widths names (Fclose fd) = 32 ∷ []
 asked_widths names task = []
-
--- at most how many cells expressions take that are read for themselves
-abbrev pub own_count : (ℕ → ℕ) → List Exp → ℕ
-own_count body es = sum (map (exp_count body) es)
-
--- at most how many cells a call takes: a descriptor is cut to 32 bits by one
-abbrev pub asked_count : (ℕ → ℕ) → Task → ℕ
-asked_count body (Print pieces newline) = own_count body (shown pieces)
-asked_count body (Fread k fd) = exp_count body fd + 1
-asked_count body (Fgetc fd) = exp_count body fd + 1
-asked_count body (Feof fd) = exp_count body fd + 1
-asked_count body (Fclose fd) = exp_count body fd + 1
-asked_count body task = 0

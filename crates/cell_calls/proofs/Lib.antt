@@ -1,0 +1,5 @@
+mod Extending
+mod Owning
+mod Walking
+mod Formatting
+mod Tasking

@@ -1,0 +1,4 @@
+pub mod Below
+pub mod Serving
+pub mod Answering
+pub mod Doing

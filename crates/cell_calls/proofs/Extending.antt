@@ -1,6 +1,7 @@
 -- Parts of displays behind others.
-use Rattle.std.proofs.Common.{◌≡◌, refl, sym, ap, ◌∙◌, arith, ℕ, ◌+◌, Bool, List, [], ◌∷◌, ◌++◌, append_assoc, append-nil, drop, length, length-append}
-use Rattle.std.specs.Prelude.{Some, slice_index}
+use Rattle.std.proofs.Common.{◌≡◌, refl, sym, ap, ◌∙◌, arith, ℕ, ◌+◌, Bool, true, false, List, [], ◌∷◌, ◌++◌, append_assoc, append-nil, drop, length, length-append}
+use Rattle.std.specs.Prelude.{Some, slice_index, ◌==◌}
+use Rattle.std.proofs.lemmas.Bool.Decides.{nat_tests}
 use Rattle.std.proofs.lemmas.List.{drop-drop, length-map}
 use Rattle.vl_base.specs.Display.{Format, format_of, letter_text, item_text, shown as shown_of}
 use Rattle.vl_design.specs.Syntax.{Exp, Piece, Literal, Shown}
@@ -12,6 +13,14 @@ use Rattle.trap_runtime.specs.Served.{parts_text}
 use Rattle.ten_calls.specs.Asked.{shown, own_widths}
 use Rattle.cell_calls.specs.Displays.{Extends, Alike}
 use Rattle.ten_calls.specs.Traps.{shown_text, item_widths}
+
+pub empty-list : (xs : List ℕ) (ys : List ℕ) → ys ≡ xs → (length ys == 0) ≡ true → xs ≡ []
+empty-list [] ys e h = refl
+empty-list (x ∷ xs) ys e h =
+    let n : (length (x ∷ xs) == 0) ≡ false = grind (arith, nat_tests) in
+    let m : (length (x ∷ xs) == 0) ≡ true = ap (λ (z : List ℕ). length z == 0) (sym e) ∙ h in
+    let z : ⊥ = cc in
+    absurd z
 
 -- ---- parts one after another
 

@@ -1,5 +1,7 @@
-mod Extending
-mod Owning
-mod Walking
-mod Formatting
-mod Tasking
+pub mod Extending
+pub mod Owning
+pub mod Formatting
+pub mod Walking
+pub mod Reading
+pub mod Bytes
+pub mod Calling

@@ -6,20 +6,20 @@ use Rattle.vl_design.specs.Formats.{Arg}
 use Rattle.vl_design.specs.Syntax.{Exp, Task, Print, Fgetc, Feof, Fclose}
 use Rattle.cell_form.specs.declared.table.TrapCall.{TrapCall}
 use Rattle.cell_form.specs.declared.table.TrapCall.TheVariants as call
-use Rattle.cell_calls.specs.declared.file.Ask.{Ask}
-use Rattle.cell_calls.specs.declared.file.Ask.TheVariants as a
+use Rattle.cell_calls.specs.declared.file.Query.{Query}
+use Rattle.cell_calls.specs.declared.file.Query.TheVariants as a
 
 -- a call that takes just a descriptor
-abbrev pub ask_task : Ask → Exp → Task
-ask_task a.Character fd = Fgetc fd
-ask_task a.Ended fd = Feof fd
-ask_task a.Close fd = Fclose fd
+abbrev pub query_task : Query → Exp → Task
+query_task a.Character fd = Fgetc fd
+query_task a.Ended fd = Feof fd
+query_task a.Close fd = Fclose fd
 
 -- as that of a trap
-abbrev pub ask_call : Ask → TrapCall
-ask_call a.Character = call.Fgetc
-ask_call a.Ended = call.Feof
-ask_call a.Close = call.Fclose
+abbrev pub query_call : Query → TrapCall
+query_call a.Character = call.Fgetc
+query_call a.Ended = call.Feof
+query_call a.Close = call.Fclose
 
 -- a call on an open file or a memory; one of another name prints nothing
 abbrev pub file_task : List ℕ → List Arg → Task

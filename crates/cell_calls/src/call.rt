@@ -16,7 +16,7 @@ ghost use Rattle.cell_calls.specs.Displays.{IsReady};
 ghost use Rattle.cell_calls.specs.FileCalls.{file_task};
 
 use crate::display::Display;
-use crate::file::{Ask, ask, load, open, read, save};
+use crate::file::{Query, ask, load, open, read, save};
 use crate::format::push_arguments;
 use crate::given::is_word;
 use crate::own::Site;
@@ -30,6 +30,7 @@ use vl_base::items::{Items, Nums, Text};
 use vl_design::design::{Design, SysArg, SysCall};
 
 /// A display, with a newline behind it or without (clause 17.1.1).
+#[tactic(auto, using(crate::proofs::Owning::walking))]
 fn print(
     alloc: Global,
     cells: &mut CellList,
@@ -54,6 +55,7 @@ fn print(
 }
 
 /// A call on an open file or a memory. One of another name prints nothing.
+#[tactic(auto, using(crate::proofs::Owning::walking))]
 fn file_call(
     alloc: Global,
     cells: &mut CellList,
@@ -70,11 +72,11 @@ fn file_call(
     if is_word(name, b"$fread".as_slice()) {
         read(alloc, cells, site, args)
     } else if is_word(name, b"$fgetc".as_slice()) {
-        ask(alloc, cells, site, Ask::Character, args)
+        ask(alloc, cells, site, Query::Character, args)
     } else if is_word(name, b"$feof".as_slice()) {
-        ask(alloc, cells, site, Ask::Ended, args)
+        ask(alloc, cells, site, Query::Ended, args)
     } else if is_word(name, b"$fclose".as_slice()) {
-        ask(alloc, cells, site, Ask::Close, args)
+        ask(alloc, cells, site, Query::Close, args)
     } else if is_word(name, b"$readmemh".as_slice()) {
         load(alloc, cells, site, args)
     } else {
@@ -83,6 +85,7 @@ fn file_call(
 }
 
 /// A call of this name.
+#[tactic(auto, using(crate::proofs::Owning::walking))]
 fn named_call(
     alloc: Global,
     cells: &mut CellList,

@@ -42,7 +42,8 @@ impl Display {
         ensures parts { OnOk result ((names : Names) → Extends names (Literal text.now ∷ []) (parts_in self.old) (parts_in self.new)) }
         ensures slots { OnOk result (self.new.slots.items ≡ self.old.slots.items) }
     {
-        self.text.extend_from_slice(text)
+        self.text.extend_from_slice(text)?;
+        Ok(())
     }
 
     /// Makes the text behind the parts one of them, where there is one.
@@ -51,7 +52,7 @@ impl Display {
         ensures text { OnOk result (self.new.text.items ≡ []) }
         ensures slots { OnOk result (self.new.slots.items ≡ self.old.slots.items) }
     {
-        if self.text.is_empty() {
+        if self.text.as_slice().is_empty() {
             return Ok(());
         }
         let text = replace(&mut self.text, Vec::new(alloc));

@@ -11,7 +11,7 @@ ghost use Rattle.cell_steps.specs.Slots.{Grows};
 ghost use Rattle.cell_paths.specs.Envs.{env_of};
 ghost use Rattle.cell_calls.specs.Calls.{Traps};
 ghost use Rattle.cell_calls.specs.Displays.{IsReady};
-ghost use Rattle.cell_calls.specs.FileCalls.{ask_task, ask_call};
+ghost use Rattle.cell_calls.specs.FileCalls.{query_task, query_call};
 
 use crate::given::{behind, signal_first, text_first, value_first};
 use crate::own::{Site, descriptor};
@@ -38,7 +38,10 @@ pub(crate) fn save(
 {
     match text_first(args) {
         None => Ok(silent(alloc)),
-        Some(name) => Ok(given_nothing(alloc, TrapCall::Save(copy_text(alloc, name)?), None)),
+        Some(name) => {
+            let copy = copy_text(alloc, name)?;
+            Ok(given_nothing(alloc, TrapCall::Save(copy), None))
+        }
     }
 }
 
@@ -53,13 +56,16 @@ pub(crate) fn open(
 {
     match text_first(args) {
         None => Ok(silent(alloc)),
-        Some(name) => Ok(given_nothing(alloc, TrapCall::Fopen(copy_text(alloc, name)?), None)),
+        Some(name) => {
+            let copy = copy_text(alloc, name)?;
+            Ok(given_nothing(alloc, TrapCall::Fopen(copy), None))
+        }
     }
 }
 
 /// Which call takes just a descriptor.
 #[derive(Clone, Copy)]
-pub(crate) enum Ask {
+pub(crate) enum Query {
     /// `$fgetc`.
     Character,
     /// `$feof`.
@@ -69,39 +75,41 @@ pub(crate) enum Ask {
 }
 
 /// The call as that of a trap.
-fn call_of(ask: Ask) -> TrapCall
-    ensures { result ≡ ask_call ask }
+fn call_of(query: Query) -> TrapCall
+    ensures { result ≡ query_call query }
 {
-    match ask {
-        Ask::Character => TrapCall::Fgetc,
-        Ask::Ended => TrapCall::Feof,
-        Ask::Close => TrapCall::Fclose,
+    match query {
+        Query::Character => TrapCall::Fgetc,
+        Query::Ended => TrapCall::Feof,
+        Query::Close => TrapCall::Fclose,
     }
 }
 
 /// A call that takes just a descriptor.
+#[tactic(auto, using(crate::proofs::Owning::walking))]
 pub(crate) fn ask(
     alloc: Global,
     cells: &mut CellList,
     site: Site<'_>,
-    ask: Ask,
+    query: Query,
     args: &[SysArg],
 ) -> Result<Trap, AllocError>
     requires ready { IsReady (flat_of site.design.now) (env_of site.at.now) (list_of cells.old) }
-    requires sound { IsSoundTask (names_of (flat_of site.design.now)) (c.file_of (ask_task ask) (map arg_of args.now)) }
+    requires sound { IsSoundTask (names_of (flat_of site.design.now)) (c.file_of (query_task query) (map arg_of args.now)) }
     ensures grows { Grows (list_of cells.old) (list_of cells.new) }
-    ensures traps { IfOk result (λ t. Traps (flat_of site.entry.design.now) (c.file_of (ask_task ask) (map arg_of args.now)) (env_of site.entry.at.now) (list_of cells.old) (list_of cells.new) t) }
+    ensures traps { IfOk result (λ t. Traps (flat_of site.entry.design.now) (c.file_of (query_task query) (map arg_of args.now)) (env_of site.entry.at.now) (list_of cells.old) (list_of cells.new) t) }
 {
     match value_first(args) {
         None => Ok(silent(alloc)),
         Some(fd) => {
             let slot = descriptor(alloc, cells, site, fd)?;
-            given_file(alloc, call_of(ask), slot, None)
+            given_file(alloc, call_of(query), slot, None)
         }
     }
 }
 
 /// `$fread` to a variable.
+#[tactic(auto, using(crate::proofs::Owning::walking))]
 fn read_to(
     alloc: Global,
     cells: &mut CellList,
@@ -160,10 +168,10 @@ fn load_to(
     ensures { IfOk result (λ t. Traps (flat_of site.entry.design.now) (y.ReadHex name.now memory) (env_of site.entry.at.now) (list_of cells.now) (list_of cells.now) t) }
 {
     let room = room_of(site.design);
-    let width = signal_form(&room, memory).width as u8;
+    let form = signal_form(&room, memory);
     let signal = signal_at(&room, memory);
-    let name = copy_text(alloc, name)?;
-    let call = TrapCall::ReadHex(name, width, signal.first, signal.last);
+    let copy = copy_text(alloc, name)?;
+    let call = TrapCall::ReadHex(copy, form.width as u8, signal.first, signal.last);
     Ok(given_nothing(alloc, call, Some(memory)))
 }
 

@@ -16,7 +16,7 @@ ghost use Rattle.cell_calls.specs.Displays.{IsReady, IsOwn, Adds, Walked};
 
 use crate::display::Display;
 use crate::given::behind;
-use crate::own::{Own, Site, constant, own};
+use crate::own::{Own, Site, constant, own_value};
 use cell_form::cell::CellList;
 use std::alloc::{AllocError, Global};
 use vl_base::bits::Bits;
@@ -38,16 +38,17 @@ fn operand(
     ensures gives { IfOk result (λ r. IsOwn (flat_of site.entry.design.now) (f.operand (map arg_of args.now)) (env_of site.entry.at.now) (list_of cells.old) (list_of cells.new) r) }
 {
     match args {
-        [] => constant(alloc, cells, Bits { value: 0, width: 1 }),
+        [] => constant(alloc, cells, site, Bits { value: 0, width: 1 }),
         [first, ..] => match first {
-            SysArg::Null => constant(alloc, cells, Bits { value: 0, width: 1 }),
-            SysArg::Str(text) => constant(alloc, cells, text_bits(text.as_slice())),
-            SysArg::Value(e) => own(alloc, cells, site, e),
+            SysArg::Null => constant(alloc, cells, site, Bits { value: 0, width: 1 }),
+            SysArg::Str(text) => constant(alloc, cells, site, text_bits(text.as_slice())),
+            SysArg::Value(e) => own_value(alloc, cells, site, e),
         },
     }
 }
 
 /// Adds what an item of this letter shows, with a 0 before it or without, and says how many arguments it takes.
+#[tactic(auto, using(crate::proofs::Owning::walking))]
 fn push_letter(
     alloc: Global,
     cells: &mut CellList,
@@ -74,6 +75,7 @@ fn push_letter(
 }
 
 /// Adds what a byte behind a `%` shows, and says how many arguments it takes.
+#[tactic(auto, using(crate::proofs::Owning::walking))]
 fn push_behind_percent(
     alloc: Global,
     cells: &mut CellList,
@@ -105,6 +107,7 @@ fn push_behind_percent(
 }
 
 /// Adds what a byte of a format shows, and says how many arguments it takes.
+#[tactic(auto, using(crate::proofs::Owning::walking))]
 fn push_byte(
     alloc: Global,
     cells: &mut CellList,
@@ -124,9 +127,10 @@ fn push_byte(
 {
     match mode {
         Mode::InText => {
-            if byte != b'%' {
-                display.push_text(&[byte])?;
+            if byte == b'%' {
+                return Ok(0);
             }
+            display.push_text(&[byte])?;
             Ok(0)
         }
         Mode::Percent => push_behind_percent(alloc, cells, site, byte, args, display),
@@ -135,6 +139,7 @@ fn push_byte(
 }
 
 /// Adds what a format shows, and says how many of the arguments behind it its items take.
+#[tactic(auto, using(crate::proofs::Owning::walking))]
 fn push_format(
     alloc: Global,
     cells: &mut CellList,
@@ -168,6 +173,7 @@ fn push_format(
 }
 
 /// Adds what an argument shows that no item takes, and says how many of those behind it its items take.
+#[tactic(auto, using(crate::proofs::Owning::walking))]
 fn push_argument(
     alloc: Global,
     cells: &mut CellList,
@@ -187,9 +193,12 @@ fn push_argument(
             display.push_text(b" ".as_slice())?;
             Ok(0)
         }
-        SysArg::Str(text) => push_format(alloc, cells, site, text.as_slice(), rest, display),
+        SysArg::Str(text) => {
+            let taken = push_format(alloc, cells, site, text.as_slice(), rest, display)?;
+            Ok(taken)
+        }
         SysArg::Value(e) => {
-            let own = own(alloc, cells, site, e)?;
+            let own = own_value(alloc, cells, site, e)?;
             display.push_item(alloc, b'd', false, own)?;
             Ok(0)
         }
@@ -197,6 +206,7 @@ fn push_argument(
 }
 
 /// Adds what an argument shows where no item takes it, and says how many of those behind it items take.
+#[tactic(auto, using(crate::proofs::Owning::walking))]
 fn push_next(
     alloc: Global,
     cells: &mut CellList,
@@ -220,6 +230,7 @@ fn push_next(
 }
 
 /// Adds what the arguments of a display show.
+#[tactic(auto, using(crate::proofs::Owning::walking))]
 pub(crate) fn push_arguments(
     alloc: Global,
     cells: &mut CellList,

@@ -2,12 +2,12 @@
 
 ghost use Rattle.std.specs.Prelude.{◌≡◌, IfOk, false};
 ghost use Rattle.vl_design.specs.Sound.{IsSoundExp};
-ghost use Rattle.vl_design.specs.Syntax.{Num, Flat};
+ghost use Rattle.vl_design.specs.Syntax.{Num};
 ghost use Rattle.vl_design.specs.Trees.{exp_of, flat_of};
 ghost use Rattle.vl_design.specs.Width.{names_of};
 ghost use Rattle.cell_form.specs.Views.{list_of};
 ghost use Rattle.cell_steps.specs.Slots.{Grows};
-ghost use Rattle.cell_paths.specs.Envs.{Env, env_of, Fits};
+ghost use Rattle.cell_paths.specs.Envs.{env_of};
 ghost use Rattle.cell_calls.specs.Calls.{AsksFile};
 ghost use Rattle.cell_calls.specs.Displays.{IsReady, IsOwn};
 
@@ -44,7 +44,8 @@ pub(crate) struct Own {
 }
 
 /// The value of an expression read for itself.
-pub(crate) fn own(
+#[tactic(auto, using(crate::proofs::Owning::walking))]
+pub(crate) fn own_value(
     alloc: Global,
     cells: &mut CellList,
     site: Site<'_>,
@@ -65,9 +66,15 @@ pub(crate) fn own(
 }
 
 /// A value that is not signed.
-pub(crate) fn constant(alloc: Global, cells: &mut CellList, bits: Bits) -> Result<Own, AllocError>
+pub(crate) fn constant(
+    alloc: Global,
+    cells: &mut CellList,
+    site: Site<'_>,
+    bits: Bits,
+) -> Result<Own, AllocError>
+    requires ready { IsReady (flat_of site.design.now) (env_of site.at.now) (list_of cells.old) }
     ensures grows { Grows (list_of cells.old) (list_of cells.new) }
-    ensures gives { IfOk result (λ r. (d : Flat) (at : Env) → Fits (names_of d) (list_of cells.old) at → IsOwn d (Num bits.value bits.width false) at (list_of cells.old) (list_of cells.new) r) }
+    ensures gives { IfOk result (λ r. IsOwn (flat_of site.entry.design.now) (Num bits.value bits.width false) (env_of site.entry.at.now) (list_of cells.old) (list_of cells.new) r) }
 {
     let slot = number(alloc, cells, bits.value, bits.width, false, bits.width)?;
     Ok(Own {
@@ -78,6 +85,7 @@ pub(crate) fn constant(alloc: Global, cells: &mut CellList, bits: Bits) -> Resul
 }
 
 /// The slot of a descriptor, which is assigned to 32 bits (clause 17.2.1).
+#[tactic(auto, using(crate::proofs::Owning::walking))]
 pub(crate) fn descriptor(
     alloc: Global,
     cells: &mut CellList,
@@ -89,6 +97,6 @@ pub(crate) fn descriptor(
     ensures grows { Grows (list_of cells.old) (list_of cells.new) }
     ensures gives { IfOk result (λ r. AsksFile (flat_of site.entry.design.now) (exp_of fd.now) (env_of site.entry.at.now) (list_of cells.old) (list_of cells.new) r) }
 {
-    let own = own(alloc, cells, site, fd)?;
+    let own = own_value(alloc, cells, site, fd)?;
     read(alloc, cells, own.slot, own.signed, 32)
 }

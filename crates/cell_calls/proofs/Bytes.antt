@@ -1,9 +1,9 @@
 -- What a byte of a format shows alone.
-use Rattle.std.proofs.Common.{◌≡◌, refl, sym, arith, ℕ, Bool, true, false, List, [], ◌∷◌}
-use Rattle.std.specs.Prelude.{◌==◌, if◌then◌else◌}
+use Rattle.std.proofs.Common.{◌≡◌, refl, arith, ℕ, true, false, List, [], ◌∷◌}
+use Rattle.std.specs.Prelude.{◌==◌}
 use Rattle.std.proofs.lemmas.Bool.Decides.{nat_tests}
 use Rattle.vl_base.specs.Display.{format_of, lower_case}
-use Rattle.vl_design.specs.Syntax.{Piece, Literal}
+use Rattle.vl_design.specs.Syntax.{Literal}
 use Rattle.vl_design.specs.Formats.{Arg, InText, Percent, format_pieces, with_item, operand}
 
 equal : (x y : ℕ) → x ≡ y → (x == y) ≡ true

@@ -1,6 +1,6 @@
 -- Traps of calls.
-use Rattle.std.proofs.Common.{◌≡◌, ◌<◌, ◌≤◌, refl, sym, ap, ◌∙◌, subst, arith, ℕ, ◌+◌, Bool, true, false, List, [], ◌∷◌, ◌++◌, append-nil, map, drop, length, Option, Some, None}
-use Rattle.std.specs.Prelude.{ℤ, All, codes, slice_get}
+use Rattle.std.proofs.Common.{◌≡◌, ◌<◌, refl, sym, ap, ◌∙◌, subst, arith, ℕ, Bool, false, List, [], ◌∷◌, ◌++◌, append-nil, drop, Option, Some, None}
+use Rattle.std.specs.Prelude.{ℤ, All, slice_get}
 use Rattle.vl_base.specs.declared.files.File.{File}
 use Rattle.vl_design.specs.Calls.{save_of, fopen_of, fread_of, file_of, read_hex_of}
 use Rattle.vl_design.specs.Formats.{Arg, Null, Str, Value}
@@ -12,7 +12,7 @@ use Rattle.vl_design.specs.Sound.{IsSoundExp, IsSoundTask, IsMemory, IsMem, IsOf
 use Rattle.vl_design.specs.Syntax.{Exp, Exps, Sig, Piece, Row, Task, Print, Finish, Save, Fopen, Fread, Fgetc, Feof, Fclose, ReadHex, Flat}
 use Rattle.vl_design.specs.Value.{Sample}
 use Rattle.vl_design.specs.Width.{Names, names_of, signal_form, row_form}
-use Rattle.vl_run.specs.Arguments.{text_in, value_in, signal_in, signal_of}
+use Rattle.vl_run.specs.Arguments.{text_in, value_in, signal_in}
 use Rattle.cell_form.specs.Data.{ListData}
 use Rattle.cell_form.specs.declared.table.FormatPart.{FormatPart}
 use Rattle.cell_form.specs.declared.table.FormatPart.TheVariants as part
@@ -24,8 +24,8 @@ use Rattle.cell_paths.specs.Envs.{Env, HasMemories}
 use Rattle.cell_expr.specs.Counts.{body_cells}
 use Rattle.ten_form.specs.Registers.{answer_register, work_register}
 use Rattle.ten_calls.specs.Asked.{shown, asked, asked_widths, own_widths}
-use Rattle.ten_calls.specs.Traps.{HasRange, Prints, IsCallOf, IsTrapOf}
-use Rattle.cell_calls.specs.Calls.{AreSlots, AsksFile, Asks, Traps, slots_in}
+use Rattle.ten_calls.specs.Traps.{IsCallOf}
+use Rattle.cell_calls.specs.Calls.{AsksFile, Traps, slots_in}
 use Rattle.cell_calls.specs.Counts.{asked_count}
 use Rattle.cell_calls.specs.declared.display.Display.{Display}
 use Rattle.cell_calls.specs.declared.file.Query.{Query}

@@ -1,12 +1,10 @@
 -- Formats byte by byte, and displays argument by argument.
 use Rattle.std.proofs.Common.{◌≡◌, ◌≤◌, ◌<◌, refl, sym, ap, ◌∙◌, arith, ℕ, zero, suc, ◌+◌, ◌-◌, Bool, true, false, List, [], ◌∷◌, ◌++◌, append_assoc, append-nil, drop, length, length-append, get_or}
 use Rattle.std.specs.Prelude.{Option, Some, None, if◌then◌else◌, ◌==◌}
-use Rattle.std.proofs.lemmas.Bool.Decides.{nat_tests}
 use Rattle.std.proofs.lemmas.List.{at_drop_more, drop-drop, drop_all}
-use Rattle.vl_base.specs.Display.{Format, Decimal, format_of, lower_case}
+use Rattle.vl_base.specs.Display.{Format, format_of, lower_case}
 use Rattle.vl_design.specs.Syntax.{Exp, Piece, Literal, Shown}
-use Rattle.vl_design.specs.Formats.{Arg, Null, Str, Value, FormatPosition, InText, Percent, PercentZero, operand, with_text, behind_item, with_item, format_pieces, taken, pieces_from}
-use Rattle.vl_design.specs.declared.design.SysArg.{SysArg}
+use Rattle.vl_design.specs.Formats.{Arg, FormatPosition, InText, Percent, PercentZero, operand, with_text, behind_item, with_item, format_pieces, taken, pieces_from}
 use Rattle.vl_design.specs.Width.{Names}
 use Rattle.vl_show.specs.Modes.{position_after}
 use Rattle.ten_calls.specs.Asked.{shown}

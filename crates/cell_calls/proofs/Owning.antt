@@ -1,7 +1,7 @@
 -- Slots that hold values of expressions, one behind another.
-use Rattle.std.proofs.Common.{◌≡◌, refl, sym, ap, ◌∙◌, subst, arith, ℕ, ◌+◌, ◌<◌, ◌≤◌, false, List, [], ◌∷◌, ◌++◌, map, length}
+use Rattle.std.proofs.Common.{◌≡◌, refl, sym, ap, ◌∙◌, subst, arith, ℕ, ◌+◌, ◌<◌, false, List, [], ◌∷◌, ◌++◌, map}
 use Rattle.std.specs.Prelude.{All}
-use Rattle.std.specs.List.{AllByRecursion, sum_by}
+use Rattle.std.specs.List.{AllByRecursion}
 use Rattle.std.proofs.lemmas.List.{map-append}
 use Rattle.std.proofs.lemmas.List.Elements.{All-from_recursion}
 use Rattle.std.proofs.lemmas.List.Sums.{sum_by-append}
@@ -11,15 +11,15 @@ use Rattle.vl_design.specs.declared.design.Form.{Form}
 use Rattle.vl_design.specs.Functions.{scope_of}
 use Rattle.vl_design.specs.Syntax.{Exp, Num, Flat}
 use Rattle.vl_design.specs.Tasks.{descriptor_of}
-use Rattle.vl_design.specs.Value.{Sample, value, own_value}
+use Rattle.vl_design.specs.Value.{value, own_value}
 use Rattle.vl_design.specs.Width.{form, names_of}
 use Rattle.cell_form.specs.Data.{ListData, BankData}
 use Rattle.cell_form.specs.Sound.{Shape}
-use Rattle.cell_steps.specs.Slots.{held, width_at, AreSound, Grows, Longer, Gives, Nothing}
+use Rattle.cell_steps.specs.Slots.{held, width_at, Grows, Gives, Nothing}
 use Rattle.vl_eval.proofs.Widths.{form-width}
 use Rattle.cell_steps.proofs.Frames.{held-stays, grows-same, grows-then, longer-grows, longer-same, longer-then, longer-weaken}
 use Rattle.cell_nodes.specs.Counts.{resizes}
-use Rattle.cell_paths.specs.Envs.{Env, IsSlot, Fits, HasMemories, Stands}
+use Rattle.cell_paths.specs.Envs.{Env, IsSlot, Fits, HasMemories}
 use Rattle.cell_paths.proofs.Staying.{is-slot-stays, fits-stays, stands-stays, sound-behind}
 use Rattle.cell_expr.specs.Compiled.{Holds, Compiles}
 use Rattle.cell_expr.specs.Counts.{exp_count, body_cells}
@@ -122,10 +122,10 @@ module _ (d : Flat) (at : Env) where
       let few = resizes-most (width_at l1 own.slot) 32 in
       let node : (files : List File) → Holds names (n + 1) at l0 l2 r 32 (λ x. descriptor_of (scope_of d files) x fd) =
       λ files.
-          holds-wider names at (n + resizes (width_at l1 own.slot) 32) (n + 1) l0 l2 r 32 (λ x. descriptor_of (scope_of d files) x fd) (omega (arith, few))
-          (holds-node names at Nothing n (resizes (width_at l1 own.slot) 32) l0 l1 l2 r 32 (λ b. resized own.signed (width_at l1 own.slot) 32 (held b l1 own.slot)) (λ x. descriptor_of (scope_of d files) x fd)
-          (λ s t. tt) fits h.longer g
-          (λ s t b x sound behind st later. rw (h.slot.width, h.signed, h.value files s b x sound st) refl)) in
+      holds-wider names at (n + resizes (width_at l1 own.slot) 32) (n + 1) l0 l2 r 32 (λ x. descriptor_of (scope_of d files) x fd) (omega (arith, few))
+      (holds-node names at Nothing n (resizes (width_at l1 own.slot) 32) l0 l1 l2 r 32 (λ b. resized own.signed (width_at l1 own.slot) 32 (held b l1 own.slot)) (λ x. descriptor_of (scope_of d files) x fd)
+      (λ s t. tt) fits h.longer g
+      (λ s t b x sound behind st later. rw (h.slot.width, h.signed, h.value files s b x sound st) refl)) in
       record {
         longer = (node []).longer;
         slot = (node []).slot;

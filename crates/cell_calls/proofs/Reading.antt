@@ -1,9 +1,9 @@
 -- A format that is compiled up to a byte.
-use Rattle.std.proofs.Common.{◌≡◌, ◌≤◌, ◌<◌, refl, sym, ap, ◌∙◌, subst, arith, ℕ, ◌+◌, List, [], ◌∷◌, ◌++◌, append-nil, drop, length, get_or}
+use Rattle.std.proofs.Common.{◌≡◌, ◌≤◌, ◌<◌, ◌∙◌, ℕ, ◌+◌, List, [], ◌∷◌, ◌++◌, drop, length, get_or}
 use Rattle.std.specs.Prelude.{All}
-use Rattle.vl_design.specs.Formats.{Arg, Null, Str, Value, FormatPosition, InText, format_pieces, taken, pieces_from}
+use Rattle.vl_design.specs.Formats.{Arg, FormatPosition, InText, format_pieces, taken}
 use Rattle.vl_design.specs.Sound.{IsSoundExp}
-use Rattle.vl_design.specs.Syntax.{Exp, Piece, Flat}
+use Rattle.vl_design.specs.Syntax.{Piece, Flat}
 use Rattle.vl_design.specs.Width.{names_of}
 use Rattle.vl_show.specs.Modes.{position_after}
 use Rattle.cell_form.specs.Data.{ListData}
@@ -12,7 +12,7 @@ use Rattle.cell_steps.proofs.Frames.{grows-same, grows-then}
 use Rattle.cell_paths.specs.Envs.{Env}
 use Rattle.ten_calls.specs.Asked.{shown}
 use Rattle.cell_calls.specs.declared.display.Display.{Display}
-use Rattle.cell_calls.specs.Displays.{IsReady, Adds, Walked}
+use Rattle.cell_calls.specs.Displays.{IsReady, Adds}
 use Rattle.cell_calls.proofs.Extending.{shown-append}
 use Rattle.cell_calls.proofs.Formatting.{Reads, reads-none, byte-shown, reads-more, reads-all}
 use Rattle.cell_calls.proofs.Owning.{ready-stays}

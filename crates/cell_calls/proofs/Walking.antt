@@ -1,5 +1,5 @@
 -- Displays piece by piece.
-use Rattle.std.proofs.Common.{◌≡◌, refl, sym, ap, ◌∙◌, subst, arith, ℕ, ◌+◌, Bool, true, false, List, [], ◌∷◌, ◌++◌, append_assoc, append-nil, map, length}
+use Rattle.std.proofs.Common.{◌≡◌, refl, sym, ap, ◌∙◌, subst, ℕ, Bool, true, false, List, [], ◌∷◌, ◌++◌, append_assoc, append-nil}
 use Rattle.std.specs.Prelude.{All, Option, Some, None, is_some}
 use Rattle.std.specs.List.{AllByRecursion}
 use Rattle.std.proofs.lemmas.List.Elements.{All-from_recursion, recursion_from_All}
@@ -13,7 +13,7 @@ use Rattle.cell_paths.specs.Envs.{Env, Fits}
 use Rattle.ten_calls.specs.Asked.{shown}
 use Rattle.cell_calls.specs.declared.display.Display.{Display}
 use Rattle.cell_calls.specs.declared.own.Own.{Own}
-use Rattle.cell_calls.specs.Displays.{parts_in, Extends, Alike, IsOwn, AreOwn, Adds, Walked}
+use Rattle.cell_calls.specs.Displays.{parts_in, Extends, Alike, IsOwn, Adds, Walked}
 use Rattle.cell_calls.proofs.Extending.{shown-append, extends-none, extends-then, extends-alike}
 use Rattle.cell_calls.proofs.Formatting.{alike-same, alike-then, alike-behind}
 use Rattle.cell_calls.proofs.Owning.{own-none, own-one, own-then}

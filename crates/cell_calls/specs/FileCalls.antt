@@ -1,5 +1,5 @@
 -- Calls on files by their names (IEEE 1364-2005, clause 17.2).
-use Rattle.std.specs.Prelude.{ℕ, true, false, List, [], if◌then◌else◌, codes}
+use Rattle.std.specs.Prelude.{ℕ, false, List, [], if◌then◌else◌, codes}
 use Rattle.std.specs.Str.{bytes_eq}
 use Rattle.vl_design.specs.Calls.{fread_of, file_of, read_hex_of}
 use Rattle.vl_design.specs.Formats.{Arg}

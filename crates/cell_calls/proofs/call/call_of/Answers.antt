@@ -1,4 +1,3 @@
-use Rattle.std.proofs.Common.{map}
 use Rattle.vl_design.proofs.TreeLemmas.{args-map}
 use Rattle.cell_calls.proofs.call.call_of.Goals as goal
 

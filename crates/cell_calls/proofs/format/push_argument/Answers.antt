@@ -1,4 +1,4 @@
-use Rattle.std.proofs.Common.{refl, map, [], ◌∷◌, length}
+use Rattle.std.proofs.Common.{refl, map, [], ◌∷◌}
 use Rattle.vl_base.specs.Display.{Decimal}
 use Rattle.vl_design.specs.Formats.{InText, format_pieces, pieces_from, taken}
 use Rattle.vl_design.specs.Sound.{IsSoundExp}

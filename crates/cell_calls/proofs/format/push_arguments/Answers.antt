@@ -1,4 +1,4 @@
-use Rattle.std.proofs.Common.{◌≡◌, ◌+◌, ap, sym, refl, ◌∙◌, drop, map, ◌∷◌}
+use Rattle.std.proofs.Common.{◌≡◌, ◌+◌, ap, refl, ◌∙◌, drop, map, ◌∷◌}
 use Rattle.std.proofs.lemmas.List.{drop_all}
 use Rattle.vl_design.specs.Formats.{pieces_from}
 use Rattle.vl_design.specs.Trees.{arg_of, flat_of}

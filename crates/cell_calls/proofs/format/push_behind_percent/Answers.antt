@@ -1,16 +1,8 @@
-use Rattle.std.proofs.Common.{◌≡◌, ap, sym, subst, map, [], ◌∷◌, ◌∙◌, refl, List, ℕ}
-use Rattle.std.specs.Prelude.{OnOk, IfOk, All}
-use Rattle.vl_base.specs.Display.{format_of}
-use Rattle.vl_design.specs.Formats.{operand, with_item, taken}
-use Rattle.vl_design.specs.Sound.{IsSoundExp}
-use Rattle.vl_design.specs.Syntax.{Literal}
+use Rattle.std.proofs.Common.{map, [], ◌∷◌}
 use Rattle.vl_design.specs.Trees.{arg_of, flat_of}
-use Rattle.vl_design.specs.Width.{names_of}
 use Rattle.cell_form.specs.Views.{list_of}
 use Rattle.cell_paths.specs.Envs.{env_of}
-use Rattle.ten_calls.specs.Asked.{shown}
-use Rattle.cell_calls.specs.Displays.{Adds}
-use Rattle.cell_calls.proofs.Bytes.{zero-is, twice-is, path-is, letter-is}
+use Rattle.cell_calls.proofs.Bytes.{zero-is, twice-is, path-is}
 use Rattle.cell_calls.proofs.Walking.{adds-none, adds-text}
 use Rattle.cell_calls.proofs.format.push_behind_percent.Goals as goal
 

@@ -1,6 +1,5 @@
 use Rattle.std.proofs.Common.{map}
 use Rattle.vl_design.specs.Trees.{arg_of, flat_of}
-use Rattle.vl_design.specs.Width.{names_of}
 use Rattle.vl_show.specs.Modes.{reading_of}
 use Rattle.cell_form.specs.Views.{list_of}
 use Rattle.cell_paths.specs.Envs.{env_of}

@@ -1,8 +1,6 @@
-use Rattle.std.proofs.Common.{◌≡◌, ◌≤◌, ◌∙◌, ap, sym, refl, arith, ℕ}
-use Rattle.vl_design.specs.declared.design.Form.{Form}
+use Rattle.std.proofs.Common.{◌≡◌, ◌∙◌, ap, refl}
 use Rattle.vl_design.specs.Trees.{exp_of, flat_of}
 use Rattle.vl_design.specs.Width.{form, names_of}
-use Rattle.vl_eval.proofs.Widths.{form-width}
 use Rattle.cell_form.specs.Views.{list_of}
 use Rattle.cell_paths.specs.Envs.{env_of}
 use Rattle.cell_calls.proofs.Owning.{own-compiled}

@@ -1,0 +1,5 @@
+pub mod Grown
+pub mod Joining
+pub mod Laid
+pub mod PartCycles
+pub mod Renumbered

@@ -1,0 +1,4 @@
+pub mod Banks
+pub mod Laid
+pub mod Numbers
+pub mod Parts

@@ -6,3 +6,5 @@ pub mod joined;
 mod numbers;
 mod span;
 mod stepping;
+#[cfg(test)]
+mod tests;

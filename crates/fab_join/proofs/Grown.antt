@@ -1,22 +1,12 @@
 -- Lists that grow, and lists with a part set.
-use Rattle.std.proofs.Common.{◌≡◌, ◌≢◌, ℕ, ◌+◌, ◌-◌, ◌<◌, ◌≤◌, ◌⊎◌, inl, inr, List, [], ◌∷◌, ◌++◌, length, set, get_or, drop, take, map, arith, refl, ap, sym, ◌∙◌, suc, zero, subst}
-use Rattle.std.proofs.lemmas.List.{take-map, drop-map, get_or-drop, take_at, drop_at, take_all, take-append-le, drop-append-le, length-append, length-take, length-take-le, length-drop, drop-drop, drop-take, append_assoc, get_or-map, map-append, length-map, take-take, take-append-drop}
-use Rattle.std.proofs.lemmas.List.Edits.{paste_more, paste_all}
-use lib.Seq.{paste, take-append-add}
+use Rattle.std.proofs.Common.{◌≡◌, ℕ, ◌+◌, ◌-◌, ◌≤◌, inl, inr, List, ◌++◌, length, drop, take, map, arith, refl, ap, sym, ◌∙◌}
+use Rattle.std.proofs.lemmas.List.{take-map, drop-map, take_at, drop_at, take_all, take-append-le, drop-append-le, length-append, length-take-le, length-drop, drop-drop, drop-take, append_assoc, map-append, length-map, take-take}
+use lib.Seq.{take-append-add}
 use Rattle.cell_form.specs.Data.{BankData}
 use Rattle.fab_join.specs.Banks.{pasted, IsClear}
 
 pub part_mapped : {V W : Type 0} (f : V → W) (xs : List V) (a n : ℕ) → map f (take n (drop a xs)) ≡ take n (drop a (map f xs))
 part_mapped f xs a n = sym (take-map f n (drop a xs)) ∙ ap (take n) (sym (drop-map f a xs))
-
--- a list with a part exchanged, one more place
-pub paste_next : {X : Type 0} (d s now left : List X) (a i : ℕ) (x : X) → now ≡ paste d a s i → drop i left ≡ drop i s → a + length s ≤ length d → i < length s → x ≡ get_or left i x → set now (a + i) x ≡ paste d a s (i + 1)
-paste_next d s now left a i x done same le lt read =
-    let here : get_or left i x ≡ get_or s i x = sym (get_or-drop i left 0 x ∙ ap (λ k. get_or left k x) (omega arith)) ∙ ap (λ ys. get_or ys 0 x) same ∙ get_or-drop i s 0 x ∙ ap (λ k. get_or s k x) (omega arith) in
-    ap (λ ys. set ys (a + i) x) done ∙ ap (set (paste d a s i) (a + i)) (read ∙ here) ∙ paste_more d a s i x (omega arith) lt
-
-pub pasted_all : {X : Type 0} (d s : List X) (a : ℕ) → paste d a s (length s) ≡ pasted d a s
-pasted_all d s a = paste_all d a s (length s) refl
 
 drop-append-ge : {X : Type 0} (b : ℕ) (xs ys : List X) (n : ℕ) → length xs ≡ n → n ≤ b → drop b (xs ++ ys) ≡ drop (b - n) ys
 drop-append-ge b xs ys n e le =

@@ -4,7 +4,6 @@ use Rattle.std.specs.Prelude.{slice_index}
 use Rattle.std.specs.List.{All, AllPairs}
 use Rattle.std.proofs.lemmas.List.{get_or-map, get_or_default, length-drop, length-take-le}
 use Rattle.std.proofs.lemmas.Bool.{cases_lt}
-use Rattle.cell_form.specs.declared.bank.Port.{Port}
 use Rattle.cell_form.specs.Data.{BankData, TableData}
 use Rattle.cell_form.specs.Sound.{Shape, shape_of}
 use Rattle.cell_form.specs.States.{table_cycled}
@@ -12,7 +11,7 @@ use Rattle.cell_form.specs.Views.{table_of}
 use Rattle.fab_join.specs.declared.joined.Part.{Part}
 use Rattle.fab_join.specs.Banks.{part, IsClear, IsWithin, AreApart}
 use Rattle.fab_join.specs.Laid.{shape_of_span, part_data, IsPart, PartsApart, IsLaid}
-use Rattle.fab_join.specs.Numbers.{behind, from_first, numbered_table, numbered_port}
+use Rattle.fab_join.specs.Numbers.{from_first, numbered_table, numbered_port}
 use Rattle.fab_join.specs.Parts.{PartData, no_part, part_at, stepped, state_in, with_bank, IsTable}
 use Rattle.fab_join.proofs.Renumbered.{table_back}
 use Rattle.fab_join.proofs.PartCycles.{get_in_part, is_table_moved, table_moved, table_elsewhere, table_shape}

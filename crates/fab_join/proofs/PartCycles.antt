@@ -1,8 +1,8 @@
 -- A table under the numbers of a part does to this part what it does alone, and nothing elsewhere.
-use Rattle.std.proofs.Common.{◌≡◌, ℕ, zero, suc, ◌+◌, ◌-◌, ◌<◌, ◌≤◌, ◌⊎◌, inl, inr, Bool, true, false, Option, Some, None, List, [], ◌∷◌, ◌++◌, length, map, set, get_or, take, drop, refl, sym, ap, ◌∙◌, arith, subst}
+use Rattle.std.proofs.Common.{◌≡◌, ℕ, zero, suc, ◌+◌, ◌-◌, ◌<◌, inl, inr, Bool, true, false, List, [], ◌∷◌, ◌++◌, length, map, set, get_or, take, drop, refl, sym, ap, ◌∙◌, arith, subst}
 use Rattle.std.specs.Prelude.{ℤ, ◌==◌, if◌then◌else◌, slice_get, slice_index}
 use Rattle.std.specs.List.{AllByRecursion}
-use Rattle.std.proofs.lemmas.List.{get_or-take, get_or-drop, drop-set-add, drop-set-lt, take-set-le, length-map, length-set, get_or-map}
+use Rattle.std.proofs.lemmas.List.{get_or-take, get_or-drop, drop-set-add, drop-set-lt, take-set-le, length-map, get_or-map}
 use Rattle.cell_form.specs.declared.cell.CellOp.{CellOp}
 use Rattle.cell_form.specs.declared.cell.CellOp.TheVariants as o
 use Rattle.cell_form.specs.declared.cell.Write.{Write}
@@ -11,7 +11,7 @@ use Rattle.cell_form.specs.Data.{CellData, ListData, BankData, StateData, TableD
 use Rattle.cell_form.specs.Values.{Slot, slot_at, found, applied, operands, cell_slot, slots_behind, slots_of}
 use Rattle.cell_form.specs.Cycle.{with_word, wrote, written, put_at, values_of, filled, value_at, cycled}
 use Rattle.cell_form.specs.Sound.{Shape, shape_of, Names, arity, Makes, IsAmong, IsCell, AreCells, IsWrite, IsList}
-use Rattle.cell_form.specs.States.{present, state_cycled, table_cycled}
+use Rattle.cell_form.specs.States.{state_cycled, table_cycled}
 use Rattle.cell_form.specs.declared.table.State.{State}
 use Rattle.cell_form.specs.Views.{list_of, state_of}
 use Rattle.cell_form.proofs.Cycling.{values-length, same-shape}

@@ -1,5 +1,5 @@
 -- Parts of banks, and banks that grow or in which a part is set (own).
-use Rattle.std.specs.Prelude.{ℕ, ◌≡◌, ◌+◌, ◌≤◌, ◌⊎◌, List, ◌++◌, length, map, take, drop}
+use Rattle.std.specs.Prelude.{ℕ, ◌≡◌, ◌+◌, ◌≤◌, ◌⊎◌, List, ◌++◌, length, take, drop}
 use Rattle.std.specs.Global.{Vec}
 use Rattle.cell_form.specs.Data.{BankData}
 use Rattle.cell_form.specs.Sound.{Shape}

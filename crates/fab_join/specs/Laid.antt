@@ -1,5 +1,5 @@
 -- How parts lie in a joined bank (own).
-use Rattle.std.specs.Prelude.{ℕ, ◌≡◌, List, map, All, AllPairs}
+use Rattle.std.specs.Prelude.{◌≡◌, List, map, All, AllPairs}
 use Rattle.cell_form.specs.declared.bank.Port.{Port}
 use Rattle.cell_form.specs.Data.{TableData, BankData}
 use Rattle.cell_form.specs.Sound.{Shape, shape_of}

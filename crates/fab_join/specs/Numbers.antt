@@ -1,5 +1,5 @@
 -- Cells, writes, traps, states and ports under other numbers for registers, memories and slots (own).
-use Rattle.std.specs.Prelude.{ℕ, ◌+◌, ◌-◌, Bool, if◌then◌else◌, List, map}
+use Rattle.std.specs.Prelude.{ℕ, ◌+◌, ◌-◌, Bool, if◌then◌else◌, map}
 use Rattle.std.specs.Option.{option_map}
 use Rattle.cell_form.specs.declared.bank.Port.{Port}
 use Rattle.cell_form.specs.declared.cell.CellOp.{CellOp}

@@ -2,7 +2,7 @@
 use Rattle.std.specs.Prelude.{ℕ, ◌<◌, List, [], slice_index, slice_index_or}
 use Rattle.std.specs.List.{AllByRecursion}
 use Rattle.cell_form.specs.declared.bank.Port.{Port}
-use Rattle.cell_form.specs.Data.{BankData, StateData, TableData}
+use Rattle.cell_form.specs.Data.{BankData, TableData}
 use Rattle.cell_form.specs.Sound.{Shape, IsList}
 use Rattle.cell_form.specs.States.{table_cycled}
 

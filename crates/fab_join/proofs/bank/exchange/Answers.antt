@@ -1,8 +1,8 @@
-use Rattle.std.proofs.Common.{◌≡◌, map, length, take, drop, ap, sym, ◌∙◌}
+use Rattle.std.proofs.Common.{map, length, take, drop, ap, sym, ◌∙◌}
 use Rattle.std.proofs.lemmas.List.{length-map}
 use Rattle.cell_form.specs.Views.{bank_of}
 use Rattle.cell_form.specs.Sound.{shape_of}
-use Rattle.fab_join.specs.Banks.{pasted, part, with_part, words_of}
+use Rattle.fab_join.specs.Banks.{part, with_part, words_of}
 use Rattle.fab_join.specs.Laid.{shape_of_span}
 use Rattle.fab_join.proofs.Grown.{pasted_mapped, part_mapped, same_bank}
 use Rattle.fab_join.proofs.bank.exchange.Goals as goal

@@ -1,4 +1,4 @@
-use Rattle.std.proofs.Common.{◌≡◌, ◌<◌, length, get_or, ap, ◌∙◌, arith}
+use Rattle.std.proofs.Common.{◌<◌, length, get_or, ap, ◌∙◌, arith}
 use Rattle.cell_form.specs.Sound.{shape_of}
 use Rattle.cell_form.specs.Views.{bank_of}
 use Rattle.fab_join.proofs.PartCycles.{state_may_run}

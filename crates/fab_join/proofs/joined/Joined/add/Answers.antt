@@ -1,7 +1,6 @@
-use Rattle.std.proofs.Common.{◌≡◌, List, ◌++◌, ◌∷◌, [], map, ap, ◌∙◌, sym, subst}
+use Rattle.std.proofs.Common.{List, ◌++◌, ◌∷◌, [], map, ap, ◌∙◌, sym, subst}
 use Rattle.cell_form.specs.Data.{BankData}
 use Rattle.cell_form.specs.Views.{table_of, bank_of}
-use Rattle.fab_join.specs.Banks.{side_by_side}
 use Rattle.fab_join.specs.Laid.{part_data, IsLaid}
 use Rattle.fab_join.specs.Parts.{PartData}
 use Rattle.fab_join.specs.declared.joined.Part.{Part}

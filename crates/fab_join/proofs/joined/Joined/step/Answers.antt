@@ -3,7 +3,6 @@ use Rattle.std.proofs.lemmas.List.{length-map}
 use Rattle.std.specs.Prelude.{slice_index}
 use Rattle.cell_form.specs.Data.{BankData}
 use Rattle.cell_form.specs.Sound.{Shape, shape_of}
-use Rattle.cell_form.specs.States.{table_cycled}
 use Rattle.cell_form.specs.Views.{table_of, bank_of}
 use Rattle.fab_join.specs.Laid.{part_data, IsLaid}
 use Rattle.fab_join.specs.Parts.{PartData, part_at, stepped, state_in}

@@ -1,5 +1,5 @@
 -- A table under the numbers of a part does to this part what it does alone, and nothing elsewhere.
-use Rattle.std.proofs.Common.{◌≡◌, ℕ, zero, suc, ◌+◌, ◌-◌, ◌<◌, inl, inr, Bool, true, false, List, [], ◌∷◌, ◌++◌, length, map, set, get_or, take, drop, refl, sym, ap, ◌∙◌, arith, subst}
+use Rattle.std.proofs.Common.{◌≡◌, ℕ, zero, suc, ◌+◌, ◌-◌, ◌<◌, ◌≤◌, inl, inr, Some, None, Bool, true, false, List, [], ◌∷◌, ◌++◌, length, map, set, get_or, take, drop, refl, sym, ap, ◌∙◌, arith, subst}
 use Rattle.std.specs.Prelude.{ℤ, ◌==◌, if◌then◌else◌, slice_get, slice_index}
 use Rattle.std.specs.List.{AllByRecursion}
 use Rattle.std.proofs.lemmas.List.{get_or-take, get_or-drop, drop-set-add, drop-set-lt, take-set-le, length-map, get_or-map}
@@ -14,6 +14,7 @@ use Rattle.cell_form.specs.Sound.{Shape, shape_of, Names, arity, Makes, IsAmong,
 use Rattle.cell_form.specs.States.{state_cycled, table_cycled}
 use Rattle.cell_form.specs.declared.table.State.{State}
 use Rattle.cell_form.specs.Views.{list_of, state_of}
+use Rattle.std.proofs.lemmas.Option.{slice_get_read, slice_get_past}
 use Rattle.cell_form.proofs.Cycling.{values-length, same-shape}
 use Rattle.cell_form.proofs.Fitting.{all-at}
 use Rattle.fab_join.specs.Banks.{part, IsClear, IsWithin, AreApart}
@@ -328,3 +329,9 @@ module _ (xs : List State) (k : ℕ) (x : State) (lt : k < length xs) (read : x 
   state_may_run s h =
       let P : StateData → Type 0 = λ y. IsList s y.cells in
       subst P same_state (all-at P (map state_of xs) k (state_of x) there h)
+
+  pub state_there : slice_get (map state_of xs) k ≡ Some (state_of x)
+  state_there = slice_get_read (map state_of xs) (length (map state_of xs)) k (state_of x) refl there (sym same_state)
+
+pub state_missing : (xs : List State) (k : ℕ) → length xs ≤ k → slice_get (map state_of xs) k ≡ None
+state_missing xs k past = slice_get_past (map state_of xs) k (rw length-map past)

@@ -2,3 +2,4 @@ pub mod Banks
 pub mod Laid
 pub mod Numbers
 pub mod Parts
+pub mod Traps

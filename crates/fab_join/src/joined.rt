@@ -1,17 +1,24 @@
 //! One bank of several parts.
 
-ghost use Rattle.std.specs.Prelude.{◌≡◌, ◌+◌, ◌<◌, ◌%◌, ◌^◌, ◌++◌, ◌∷◌, [], length, slice_set, IfOk, OnOk, OnErr};
+ghost use Rattle.std.specs.Prelude.{◌≡◌, ◌+◌, ◌<◌, ◌%◌, ◌^◌, ◌++◌, ◌∷◌, [], length, slice_set, IfOk, IfSome, OnOk, OnErr};
 ghost use Rattle.cell_form.specs.Views.{table_of, bank_of};
 ghost use Rattle.cell_form.specs.Sound.{shape_of};
+ghost use Rattle.ten_files.specs.Tables.{open_files, IsTableOf};
+ghost use Rattle.trap_runtime.specs.Traps.{IsTrap};
+ghost use Rattle.fab_join.specs.Traps.{trap_in, part_served, way_of_trap};
 
 use crate::bank::{copy_of, exchange, grow};
 use crate::numbers::{ports_at, table_at};
+use crate::serving::serve_present;
 use crate::span::{Span, extent};
 use crate::stepping::{cycle_present, state_register};
 use cell_form::bank::{Bank, PortMap};
 use cell_form::table::StateTable;
 use std::alloc::{AllocError, Global};
 use std::marker::Model;
+use ten_files::table::Table;
+use trap_runtime::served::Served;
+use vl_base::files::FileSet;
 
 /// A part: its table and its ports with their numbers in the joined bank, and where it stands there.
 #[derive(Drop)]
@@ -135,5 +142,33 @@ impl Joined {
         ensures { self.new ≡ slice_set self.old part (with_bank (part_at self.old part) (bank_of own)) }
     {
         self.swap_part(part, &mut own);
+    }
+
+    /// Serves the trap of the state that a part stands in, on the joined bank itself, so that nothing is copied: its effect on the part
+    /// is that of the trap on the part's own bank, and the others stay. It says how, and does nothing where there is no trap. The
+    /// state register is the caller's. Want of memory leaves all as it was.
+    pub fn serve(
+        &mut self,
+        alloc: Global,
+        part: u32,
+        files: &FileSet,
+        table: &mut Table,
+        out: &mut Vec<u8>,
+    ) -> Result<Served, AllocError>
+        requires there { part < length self.old }
+        requires trap { IfSome (trap_in (part_at self.old part)) (λ t. IsTrap (part_at self.old part).bank t) }
+        requires table { IsTableOf files.now table.old }
+        ensures parts { OnOk result (self.new ≡ slice_set self.old part (with_bank (part_at self.old part) (part_served files.now (part_at self.old part) (open_files files.now table.old) out.old.items).bank)) }
+        ensures opened { OnOk result (open_files files.now table.new ≡ (part_served files.now (part_at self.old part) (open_files files.now table.old) out.old.items).table) }
+        ensures text { OnOk result (out.new.items ≡ (part_served files.now (part_at self.old part) (open_files files.now table.old) out.old.items).printed) }
+        ensures way { IfOk result (λ way. way ≡ way_of_trap (trap_in (part_at self.old part))) }
+        ensures unchanged { OnErr result (self.new ≡ self.old) }
+        ensures files { OnErr result (table.new ≡ table.old) }
+        ensures printed { OnErr result (out.new.items ≡ out.old.items) }
+        ensures fits { IsTableOf files.now table.new }
+    {
+        let states = &self.parts[part as usize].table;
+        let way = serve_present(alloc, states, &mut self.bank, files, table, out)?;
+        Ok(way)
     }
 }

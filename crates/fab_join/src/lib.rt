@@ -4,6 +4,7 @@
 mod bank;
 pub mod joined;
 mod numbers;
+mod serving;
 mod span;
 mod stepping;
 #[cfg(test)]

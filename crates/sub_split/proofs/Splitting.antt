@@ -77,10 +77,6 @@ Leads path xs i behind start marks old here all =
     SplitsItems marks after (item_marks (items_of [] (drop i xs))) here new more (split_items here.from (items_of path (drop i xs)) (made_view here behind)) →
     SplitsItems start after (item_marks (items_of [] xs)) old new (all ++ more) (split_items old.from (items_of path xs) (made_view old behind))
 
-pub leads-first : (path : List ℕ) (xs : List CaseItem) (behind : Head) (marks : List Bool) (nodes : Nodes) (all : List Way) → all ≡ [] → Leads path xs 0 behind marks marks nodes nodes all
-leads-first path xs behind marks nodes all e = λ after new more x.
-    subst (λ v. SplitsItems marks after (item_marks (items_of [] xs)) nodes new (v ++ more) (split_items nodes.from (items_of path xs) (made_view nodes behind))) (sym e) x
-
 pub leads-passed : (path : List ℕ) (xs : List CaseItem) (i : ℕ) (x : CaseItem) (behind : Head) (start marks : List Bool) (old here : Nodes) (all : List Way) → i < length xs → x ≡ get_or xs i x → is_default x ≡ true →
     Leads path xs i behind start marks old here all → Leads path xs (i + 1) behind start marks old here all
 leads-passed path xs i x behind start marks old here all l is d f = λ after new more g.

@@ -1,0 +1,80 @@
+//! What a source is split into.
+
+ghost use Rattle.vl_design.specs.Seen.{placed};
+ghost use Rattle.vl_checked.specs.Fit.{IsFit};
+
+use crate::row::Row;
+use crate::show::{count_text, table_text};
+use cell_accept::accept::accept;
+use cell_accept::fault::Fault;
+use std::alloc::{AllocError, Global};
+use sub_split::split::split;
+use vl_base::place::Place;
+use vl_design::design::Design;
+use vl_design::stop::Stop;
+use vl_fit::laws::an_elaborated_design_is_fit_to_be_judged;
+use vl_flatten::elaborate::elaborate;
+use vl_lex::lex::{LexFault, lex};
+use vl_parse::{ParseFault, parse};
+use vl_source::tree::Source;
+use vl_tree::token::Token;
+
+/// The table of a design whose loops are unrolled, or its number of nodes.
+fn answer_to_unrolled(alloc: Global, wanted: &str, design: &Design) -> Result<String, AllocError> {
+    let table = split(alloc, design)?;
+    if wanted.starts_with("nodes ") {
+        return count_text(alloc, &table);
+    }
+    table_text(alloc, design.signals.as_slice(), &table)
+}
+
+/// The answer to the flat design of a source.
+fn answer_to_design(alloc: Global, wanted: &str, design: &Design) -> Result<String, AllocError>
+    requires { IsFit (placed design.now) }
+{
+    match accept(alloc, design) {
+        Ok(accepted) => answer_to_unrolled(alloc, wanted, &accepted.design),
+        Err(Fault::Memory) => Err(AllocError),
+        Err(_) => String::from_str(alloc, "refused\n"),
+    }
+}
+
+/// The answer to the tree of a source.
+fn answer_to_tree(alloc: Global, wanted: &str, tree: &Source) -> Result<String, AllocError> {
+    an_elaborated_design_is_fit_to_be_judged();
+    match elaborate(alloc, tree) {
+        Ok(design) => answer_to_design(alloc, wanted, &design),
+        Err(Stop::Memory) => Err(AllocError),
+        Err(_) => String::from_str(alloc, "refused\n"),
+    }
+}
+
+/// The answer to the tokens of a source.
+fn answer_to_tokens(alloc: Global, wanted: &str, tokens: &[Token]) -> Result<String, AllocError> {
+    match parse(alloc, tokens, Place { line: 0, column: 0 }) {
+        Ok(tree) => answer_to_tree(alloc, wanted, &tree),
+        Err(ParseFault::Memory) => Err(AllocError),
+        Err(_) => String::from_str(alloc, "no tree\n"),
+    }
+}
+
+/// The answer to a source: the table of its blocks.
+fn answer(alloc: Global, wanted: &str, source: &str) -> Result<String, AllocError> {
+    match lex(alloc, source.as_bytes()) {
+        Ok(tokens) => answer_to_tokens(alloc, wanted, &tokens),
+        Err(LexFault::Memory) => Err(AllocError),
+        Err(_) => String::from_str(alloc, "no tokens\n"),
+    }
+}
+
+/// `ok` and the row's name where its table is the wanted one, else both.
+pub fn compared(alloc: Global, row: &Row) -> Result<String, AllocError> {
+    let answer = answer(alloc, row.wanted.as_str(), row.source.as_str())?;
+    if answer.as_str() == row.wanted.as_str() {
+        return format!(in alloc; "ok {}", row.name);
+    }
+    format!(in alloc;
+        "{}:\n{}is wanted, but this came:\n{answer}",
+        row.name, row.wanted
+    )
+}

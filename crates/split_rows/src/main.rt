@@ -1,0 +1,35 @@
+//! Reads sources, each behind a line `= ` of its name and lines `> ` of the table that is wanted, and prints whether this is the
+//! table of nodes that their blocks are split into; of a long one `> nodes ` and their number is wanted.
+#![tactic(auto)]
+
+mod judge;
+mod row;
+mod show;
+mod writes;
+
+use row::Row;
+use std::io;
+
+/// Prints what came of a row, unless there is none.
+fn answer(rt: &HostRuntime, row: &Row) -> io::Result<()> {
+    if row.source.is_empty() {
+        return Ok(());
+    }
+    let text = judge::compared(rt.alloc(), row)?;
+    println!(rt; "{text}")
+}
+
+fn main(rt: HostRuntime) -> io::Result<()> {
+    let mut row = Row::new(rt.alloc(), "")?;
+    for line in rt.lines(rt.alloc()) {
+        let line = line?;
+        match line.as_str().strip_prefix("= ") {
+            Some(name) => {
+                answer(&rt, &row)?;
+                row = Row::new(rt.alloc(), name)?;
+            }
+            None => row.read(line.as_str())?,
+        }
+    }
+    answer(&rt, &row)
+}

@@ -1,0 +1,55 @@
+//! What holds of the runs of tables.
+
+ghost use Rattle.std.specs.Prelude.{◌≡◌, ℕ, ◌+◌, ◌*◌, ◌<◌, ◌≤◌, true, false, List, [], length, slice_get};
+ghost use Rattle.vl_base.specs.declared.files.File.{File};
+ghost use Rattle.vl_design.specs.declared.design.End.TheVariants.{Finished, Budget};
+ghost use Rattle.vl_design.specs.Syntax.{Flat};
+ghost use Rattle.vl_design.specs.Width.{Scope};
+ghost use Rattle.vl_design.specs.State.{State};
+ghost use Rattle.vl_design.specs.Queue.{Queue};
+ghost use Rattle.vl_design.specs.Alone.{Origin, Ends};
+ghost use Rattle.vl_design.specs.Laws.{HasQuietNets};
+ghost use Rattle.sub_nodes.specs.Nodes.{Table};
+ghost use Rattle.sub_nodes.specs.Code.{table_of};
+ghost use Rattle.sub_nodes.specs.Cycles.{Stage, cycle, served, rises};
+ghost use Rattle.sub_nodes.specs.Stands.{CanRun, Comes, at_trap};
+ghost use Rattle.sub_ends.specs.Left.{left, most_left};
+
+/// Where the run of a table has finished within its budget, and no errand is to be done, the run alone ends in the same state,
+/// at the boundary of as many ticks.
+pub fn a_run_that_has_finished_has_ended()
+    ensures { (o : Origin) (T : Table) (nets : State → List (List ℕ)) (c : ℕ) (i : Stage) → CanRun o T nets → HasQuietNets o.flat →
+        o.plan.errands ≡ [] → Comes o T nets c i → i.state.finished ≡ true → i.state.ticks ≤ o.plan.budget →
+        (q : Queue) × Ends o i.state.ticks Finished q × (q.state ≡ i.state) }
+{}
+
+/// So it ends where the clock would rise next and the budget is spent.
+pub fn a_run_that_has_spent_its_budget_has_ended()
+    ensures { (o : Origin) (T : Table) (nets : State → List (List ℕ)) (c : ℕ) (i : Stage) → CanRun o T nets → HasQuietNets o.flat →
+        o.plan.errands ≡ [] → Comes o T nets c i → i.state.finished ≡ false → rises (slice_get T.nodes i.node) ≡ true →
+        i.state.ticks ≡ o.plan.budget → (q : Queue) × Ends o i.state.ticks Budget q × (q.state ≡ i.state) }
+{}
+
+/// With each cycle but that in which the clock rises, and with each served call, fewer are left before it rises next; and at
+/// most so many are left anywhere. So each tick ends.
+pub fn each_tick_ends()
+    ensures cycle { (d : Flat) (files : List File) (nets : State → List (List ℕ)) (i : Stage) → i.node < length (table_of d).nodes →
+        at_trap (table_of d) i ≡ false → rises (slice_get (table_of d).nodes i.node) ≡ false →
+        left (table_of d) (cycle d files nets (table_of d).nodes i).node < left (table_of d) i.node }
+    ensures serve { (d : Flat) (scope : Scope) (i : Stage) → at_trap (table_of d) i ≡ true →
+        left (table_of d) (served scope (table_of d).nodes i).node < left (table_of d) i.node }
+    ensures most { (d : Flat) (n : ℕ) → left (table_of d) n < most_left (table_of d) }
+    ensures none { (d : Flat) (n : ℕ) → rises (slice_get (table_of d).nodes n) ≡ true → left (table_of d) n ≡ 0 }
+{}
+
+/// A run of a table stays among its nodes.
+pub fn a_run_stays_among_the_nodes()
+    ensures { (o : Origin) (nets : State → List (List ℕ)) (c : ℕ) (i : Stage) → Comes o (table_of o.flat) nets c i →
+        i.node < length (table_of o.flat).nodes }
+{}
+
+/// In each tick, and before the first one, a run does at most so many acts.
+pub fn the_acts_of_a_tick_are_few()
+    ensures { (o : Origin) (nets : State → List (List ℕ)) (c : ℕ) (i : Stage) → Comes o (table_of o.flat) nets c i →
+        c ≤ most_left (table_of o.flat) * (i.state.ticks + 1) }
+{}

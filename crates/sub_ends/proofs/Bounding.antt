@@ -2,7 +2,6 @@
 use Rattle.std.proofs.Common.{◌≡◌, ℕ, zero, suc, ◌+◌, ◌*◌, ◌<◌, ◌≤◌, Bool, true, false, List, [], ◌∷◌, Option, Some, None, refl, sym, ◌∙◌, ap, subst, arith}
 use Rattle.std.specs.Prelude.{All, if◌then◌else◌, length, slice_get}
 use Rattle.std.proofs.Math.Nat.{mul-add, mul-one}
-use Rattle.std.proofs.lemmas.Option.{slice_get_within}
 use Rattle.vl_base.specs.declared.files.File.{File}
 use Rattle.vl_design.specs.Syntax.{Flat}
 use Rattle.vl_design.specs.Width.{Scope}
@@ -31,7 +30,8 @@ there (x ∷ xs) (suc n) h = there xs n (omega arith)
 
 module _ (d : Flat) where
   module _ (files : List File) (nets : State → List (List ℕ)) (i : Stage) (l : i.node < length (table_of d).nodes) (h : at_trap (table_of d) i ≡ false) where
-    cycle_in : (P : ℕ → Type 0) → ((x : Node) → slice_get (table_of d).nodes i.node ≡ Some x → All P (next_of x)) → P (cycle d files nets (table_of d).nodes i).node
+    cycle_in : (P : ℕ → Type 0) → ((x : Node) → slice_get (table_of d).nodes i.node ≡ Some x → All P (next_of x))
+        → P (cycle d files nets (table_of d).nodes i).node
     cycle_in P f =
         let x = there (table_of d).nodes i.node l in
         let plain : is_trap (Some x.0) ≡ false = sym (ap is_trap x.1) ∙ h in
@@ -40,11 +40,13 @@ module _ (d : Flat) where
     pub cycle_within : (cycle d files nets (table_of d).nodes i).node < length (table_of d).nodes
     cycle_within = cycle_in (λ m. m < length (table_of d).nodes) (λ x e. all_within d i.node x e)
 
-    pub cycle_lowers : rises (slice_get (table_of d).nodes i.node) ≡ false → left (table_of d) (cycle d files nets (table_of d).nodes i).node < left (table_of d) i.node
+    pub cycle_lowers : rises (slice_get (table_of d).nodes i.node) ≡ false
+        → left (table_of d) (cycle d files nets (table_of d).nodes i).node < left (table_of d) i.node
     cycle_lowers r = cycle_in (Lowers (table_of d) i.node) (λ x e. each_lowers d i.node x e (sym (ap rises e) ∙ r))
 
   module _ (scope : Scope) (i : Stage) (h : at_trap (table_of d) i ≡ true) where
-    serve_in : (P : ℕ → Type 0) → ((x : Node) → slice_get (table_of d).nodes i.node ≡ Some x → is_trap (Some x) ≡ true → All P (next_of x)) → P (served scope (table_of d).nodes i).node
+    serve_in : (P : ℕ → Type 0) → ((x : Node) → slice_get (table_of d).nodes i.node ≡ Some x → is_trap (Some x) ≡ true → All P (next_of x))
+        → P (served scope (table_of d).nodes i).node
     serve_in P f = at (slice_get (table_of d).nodes i.node) refl h
       where
         at : (x : Option Node) → slice_get (table_of d).nodes i.node ≡ x → is_trap x ≡ true → P (served_by scope x i).node
@@ -114,7 +116,8 @@ module _ (o : Origin) (nets : State → List (List ℕ)) where
         few = subst (λ t. n + left (table_of o.flat) j.node ≤ K * (t + 1)) (sym ticks) many;
       }
 
-  few_serve : (c : ℕ) (i : Stage) → IsFew o.flat c i → at_trap (table_of o.flat) i ≡ true → IsFew o.flat (suc c) (served (scope_of o.flat o.files) (table_of o.flat).nodes i)
+  few_serve : (c : ℕ) (i : Stage) → IsFew o.flat c i → at_trap (table_of o.flat) i ≡ true
+      → IsFew o.flat (suc c) (served (scope_of o.flat o.files) (table_of o.flat).nodes i)
   few_serve c i f h =
       let K : ℕ = most_left (table_of o.flat) in
       let scope = scope_of o.flat o.files in
@@ -131,7 +134,8 @@ module _ (o : Origin) (nets : State → List (List ℕ)) where
   pub comes_few : {c : ℕ} {i : Stage} → Comes o (table_of o.flat) nets c i → IsFew o.flat c i
   comes_few begins = few_first o.resume
   comes_few (cycles {c = c} {i = i} x f h) =
-      few_cycle c i (comes_few x) h (rises (slice_get (table_of o.flat).nodes i.node)) refl _ (counted_most (at_trap (table_of o.flat) (cycle o.flat o.files nets (table_of o.flat).nodes i)) c)
+      few_cycle c i (comes_few x) h (rises (slice_get (table_of o.flat).nodes i.node)) refl _
+      (counted_most (at_trap (table_of o.flat) (cycle o.flat o.files nets (table_of o.flat).nodes i)) c)
   comes_few (serves {c = c} {i = i} x h) = few_serve c i (comes_few x) h
 
   pub acts_few : {c : ℕ} {i : Stage} → Comes o (table_of o.flat) nets c i → c ≤ most_left (table_of o.flat) * (i.state.ticks + 1)

@@ -1,5 +1,5 @@
 -- Where cycles and served calls lead, and that only a rise begins a tick.
-use Rattle.std.proofs.Common.{◌≡◌, ℕ, ◌+◌, Bool, true, false, List, [], ◌∷◌, map, Option, Some, None, refl, sym, ◌∙◌, ap}
+use Rattle.std.proofs.Common.{◌≡◌, ℕ, ◌+◌, Bool, true, false, List, [], ◌∷◌, map, Option, Some, None, refl, sym, ◌∙◌}
 use Rattle.std.specs.Prelude.{All, if◌then◌else◌, slice_get}
 use Rattle.std.proofs.lemmas.List.Elements.{All-head, All-tail}
 use Rattle.vl_base.specs.declared.files.File.{File}
@@ -31,7 +31,8 @@ module _ (P : ℕ → Type 0) where
       (way_in scope s v c ws other f (All-tail P w.to (map (λ w. w.to) ws) g))
 
   -- a cycle leads to one of the nodes with which a run may go on
-  pub next_in : (d : Flat) (files : List File) (nets : State → List (List ℕ)) (x : Node) (i : Stage) → is_trap (Some x) ≡ false → All P (next_of x) → P (cycled d files nets (Some x) i).node
+  pub next_in : (d : Flat) (files : List File) (nets : State → List (List ℕ)) (x : Node) (i : Stage) → is_trap (Some x) ≡ false → All P (next_of x)
+      → P (cycled d files nets (Some x) i).node
   next_in d files nets (Run g (Go to)) i h f = All-head P to [] f
   next_in d files nets (Run g (Branch t a b)) i h f =
       either_in (is_true (scope_of d files) t (segment_done (scope_of d files) g i.state)) a b (All-head P a (b ∷ []) f) (All-head P b [] (All-tail P a (b ∷ []) f))

@@ -1,12 +1,11 @@
 -- The nodes of a wave lead to nodes of smaller numbers, but to a trap right behind.
-use Rattle.std.proofs.Common.{◌≡◌, ℕ, ◌+◌, ◌<◌, ◌≤◌, Bool, true, false, List, [], ◌∷◌, ◌++◌, map, length, refl, subst, arith, length-append}
-use Rattle.std.specs.Prelude.{⊤, All, if◌then◌else◌}
+use Rattle.std.proofs.Common.{◌≡◌, ℕ, ◌+◌, ◌<◌, ◌≤◌, List, [], ◌∷◌, ◌++◌, map, length, subst, arith, length-append}
+use Rattle.std.specs.Prelude.{⊤, All}
 use Rattle.std.proofs.lemmas.List.Elements.{All-nil, All-cons}
 use Rattle.vl_design.specs.Syntax.{Exp, Stm, Nop, Then, If, Case, For, Repeat, Set, Later, Sys, Items, NoItems, Labelled, Default}
 use Rattle.vl_design.specs.Laws.{can_act}
 use Rattle.sub_nodes.specs.Nodes.{Segment, still, Way, WayOn, Go, Branch, Switch, Commit, Node, Run, Trap, Apply}
 use Rattle.sub_nodes.specs.Code.{Next, Calls, Leads, Head, and_all, next_nodes, head_nodes, Made, before, leading, number, placed, chosen, switching, split, split_items, split_default, split_all, wave_made, wave_nodes}
-use Rattle.sub_nodes.specs.Shape.{targets}
 use Rattle.sub_nodes.proofs.Coded.{either_made, earlier, items_earlier, default_earlier}
 
 abbrev pub AllBelow : ℕ → List ℕ → Type 0
@@ -96,7 +95,8 @@ module _ (from : ℕ) where
   two_below : (n a b : ℕ) → a < n → b < n → AllBelow n (a ∷ b ∷ [])
   two_below n a b f g = All-cons (λ m. m < n) a (b ∷ []) f (All-cons (λ m. m < n) b [] g (All-nil (λ m. m < n)))
 
-  choose : (t : Exp) (first : Head) (y : Made) → AllFall from y.nodes → NextFalls (number from y.nodes) first.next → NextFalls (number from y.nodes) y.head.next → Falls (chosen from t first y)
+  choose : (t : Exp) (first : Head) (y : Made) → AllFall from y.nodes → NextFalls (number from y.nodes) first.next
+      → NextFalls (number from y.nodes) y.head.next → Falls (chosen from t first y)
   choose t first y f g h =
       let a = place_more y.nodes first in
       let b = place_more (placed from y.nodes first) y.head in
@@ -142,7 +142,8 @@ module _ (from : ℕ) where
     split_falls (Later t s) m f = record { nodes = f.nodes; next = f.next }
     split_falls (Sys task) m f = record { nodes = place m.nodes m.head f.nodes f.next; next = place_more m.nodes m.head }
 
-    items_fall : (items : Items) (m : Made) → Falls m → AllFall from (split_items from items m).nodes × AllBelow (number from (split_items from items m).nodes) (map (λ w. w.to) (split_items from items m).ways)
+    items_fall : (items : Items) (m : Made) → Falls m
+        → AllFall from (split_items from items m).nodes × AllBelow (number from (split_items from items m).nodes) (map (λ w. w.to) (split_items from items m).ways)
     items_fall NoItems m f = (f.nodes, All-nil (λ k. k < number from m.nodes))
     items_fall (Labelled es a others) m f =
         let x = split from a m in

@@ -1,19 +1,19 @@
 -- With each cycle and each served call of a wave fewer are left.
-use Rattle.std.proofs.Common.{◌≡◌, ◌≢◌, ℕ, zero, suc, ◌+◌, ◌*◌, ◌<◌, ◌≤◌, Bool, true, false, List, [], ◌∷◌, ◌++◌, length, Option, Some, None, refl, sym, ◌∙◌, ap, subst, arith, length-append, ◌⊎◌, inl, inr}
-use Rattle.std.specs.Prelude.{◌||◌, ◌==◌, All, if◌then◌else◌, nat_le, slice_get, slice_index_or}
+use Rattle.std.proofs.Common.{◌≡◌, ℕ, ◌+◌, ◌*◌, ◌<◌, ◌≤◌, Bool, true, false, List, [], ◌∷◌, length, Option, Some, None, refl, sym, ◌∙◌, ap, subst, arith, length-append, ◌⊎◌, inl, inr}
+use Rattle.std.specs.Prelude.{◌==◌, All, if◌then◌else◌, slice_get, slice_index_or}
 use Rattle.std.specs.List.{list_any}
 use Rattle.std.proofs.lemmas.Bool.{lt-leb, le-leb, eq-eqb, ne_eqb, cases_lt}
-use Rattle.std.proofs.lemmas.List.Elements.{All-nil, All-cons, All-head, All-tail}
+use Rattle.std.proofs.lemmas.List.Elements.{All-nil, All-cons}
 use Rattle.std.proofs.lemmas.List.Folds.{list_any_at}
-use Rattle.vl_design.specs.Syntax.{Exp, Stm, Task}
+use Rattle.vl_design.specs.Syntax.{Stm, Task}
 use Rattle.vl_design.proofs.Running.{some_is}
 use Rattle.sub_nodes.specs.Nodes.{Segment, WayOn, Go, Branch, Switch, Commit, Node, Run, Trap, Apply, Table}
-use Rattle.sub_nodes.specs.Code.{HasFrom, Next, Calls, Leads, Head, and_all, next_nodes, head_nodes, number, wave_made, wave_nodes, wave_first}
+use Rattle.sub_nodes.specs.Code.{HasFrom, Next, Calls, Leads, and_all, next_nodes, head_nodes, number, wave_made, wave_nodes, wave_first}
 use Rattle.sub_nodes.specs.Cycles.{is_trap, rises}
 use Rattle.sub_nodes.specs.Shape.{targets, leads_to, IsClosed}
 use Rattle.sub_nodes.proofs.Coded.{has_back}
 use Rattle.sub_facts.specs.Early.{next_of}
-use Rattle.sub_ends.specs.Left.{order, left_at, left, most_left}
+use Rattle.sub_ends.specs.Left.{order, left_at, left}
 use Rattle.sub_ends.proofs.Falling.{AllBelow, NodeFalls, AllFall}
 
 -- ---- lists
@@ -26,7 +26,8 @@ not_true false f = refl
 with_leads : (P Q : ℕ → Type 0) (xs : List ℕ) → All P xs → ((m : ℕ) → list_any (λ k. k == m) xs ≡ true → P m → Q m) → All Q xs
 with_leads P Q xs f g = λ k d l. (let m = slice_index_or xs k d in g m (list_any_at (λ j. j == m) xs k d l (eq-eqb m m refl)) (f k d l))
 
-pub fall_at : (nodes : List Node) (xs : List Node) (n m : ℕ) (x : Node) → HasFrom nodes n xs → AllFall n xs → n ≤ m → m < n + length xs → slice_get nodes m ≡ Some x → NodeFalls m x
+pub fall_at : (nodes : List Node) (xs : List Node) (n m : ℕ) (x : Node) → HasFrom nodes n xs → AllFall n xs → n ≤ m → m < n + length xs
+    → slice_get nodes m ≡ Some x → NodeFalls m x
 fall_at nodes [] n m x h f l r e = let z : ⊥ = omega arith in absurd z
 fall_at nodes (y ∷ xs) n m x h f l r e = at (cases_lt n m) (λ k. fall_at nodes xs (n + 1) m x h.1 f.1 (omega arith) (omega arith) e)
   where
@@ -39,7 +40,8 @@ fall_at nodes (y ∷ xs) n m x h f l r e = at (cases_lt n m) (λ k. fall_at node
 
 -- of the nodes with which a wave begins only the first is a segment's
 module _ (nodes : List Node) where
-  next_run : (next : Next) (g s : Segment) (n k : ℕ) (on : WayOn) → HasFrom nodes n (next_nodes next g n) → k < n + length (next_nodes next g n) → slice_get nodes k ≡ Some (Run s on) → k ≤ n
+  next_run : (next : Next) (g s : Segment) (n k : ℕ) (on : WayOn) → HasFrom nodes n (next_nodes next g n) → k < n + length (next_nodes next g n)
+      → slice_get nodes k ≡ Some (Run s on) → k ≤ n
   next_run (Calls task to) g s n k on h l e = at (cases_lt n k)
     where
       at : (n < k) ⊎ (k ≤ n) → k ≤ n
@@ -51,7 +53,8 @@ module _ (nodes : List Node) where
       at (inr j) = j
   next_run (Leads way) g s n k on h l e = omega arith
 
-  pub run_within : (n u : ℕ) (xs : List Stm) (g s : Segment) (k : ℕ) (on : WayOn) → HasFrom nodes n (wave_nodes n u xs g) → k < n + length (wave_nodes n u xs g) → slice_get nodes k ≡ Some (Run s on) → k ≤ wave_first n u xs
+  pub run_within : (n u : ℕ) (xs : List Stm) (g s : Segment) (k : ℕ) (on : WayOn) → HasFrom nodes n (wave_nodes n u xs g)
+      → k < n + length (wave_nodes n u xs g) → slice_get nodes k ≡ Some (Run s on) → k ≤ wave_first n u xs
   run_within n u xs g s k on h l e =
       let m = wave_made n u xs in
       let f = number n m.nodes in
@@ -125,7 +128,8 @@ module _ (T : Table) where
         plain_left m (slice_get T.nodes m) i.0 i.1 refl plain
 
     -- the branches of a choice
-    choice_lowers : (n : ℕ) (g : Segment) (on : WayOn) → low ≤ n → n < high → slice_get T.nodes n ≡ Some (Run g on) → rises (Some (Run g on)) ≡ false → AllBelow n (targets (Run g on)) → All (Lowers n) (targets (Run g on))
+    choice_lowers : (n : ℕ) (g : Segment) (on : WayOn) → low ≤ n → n < high → slice_get T.nodes n ≡ Some (Run g on) → rises (Some (Run g on)) ≡ false
+        → AllBelow n (targets (Run g on)) → All (Lowers n) (targets (Run g on))
     choice_lowers n g on l r e h f =
         with_leads (λ m. m < n) (Lowers n) (targets (Run g on)) f
         (λ m t b. (let here = run_left n g on h e in
@@ -161,7 +165,8 @@ module _ (T : Table) where
         let there = target_left n to (Trap task to) l r e (self_leads to) (omega arith) in
         omega arith
 
-    end_lowers : (n to : ℕ) (g : Segment) → low ≤ n → n < high → slice_get T.nodes n ≡ Some (Run g (Commit to)) → rises (Some (Run g (Commit to))) ≡ false → Lowers n to
+    end_lowers : (n to : ℕ) (g : Segment) → low ≤ n → n < high → slice_get T.nodes n ≡ Some (Run g (Commit to)) → rises (Some (Run g (Commit to))) ≡ false
+        → Lowers n to
     end_lowers n to g l r e h =
         let here = run_left n g (Commit to) h e in
         let k = w.ends n g (Commit to) l r e in

@@ -10,8 +10,8 @@ use Rattle.vl_design.specs.Alone.{blocks}
 use Rattle.vl_design.proofs.Running.{some_is}
 use Rattle.sub_nodes.specs.Nodes.{Segment, still, rising, Node, Run, Trap, Apply}
 use Rattle.sub_nodes.specs.Implements.{bodies}
-use Rattle.sub_nodes.specs.Code.{HasFrom, wave_nodes, wave_first, fall_nodes, updates, table_of}
-use Rattle.sub_nodes.specs.Cycles.{is_trap, rises}
+use Rattle.sub_nodes.specs.Code.{HasFrom, wave_nodes, fall_nodes, updates, table_of}
+use Rattle.sub_nodes.specs.Cycles.{rises}
 use Rattle.sub_nodes.specs.Shape.{IsClosed}
 use Rattle.sub_nodes.proofs.Coded.{three, updates_many, table_implements}
 use Rattle.sub_nodes.proofs.Beginning.{impls_run}
@@ -42,7 +42,8 @@ record IsUpdate (ps : List Proc) (rise fall : ℕ) (x : Node) : Type 0 where
   pub apply : x ≡ Apply to
   pub behind : (to ≡ rise) ⊎ ((ps ≢ []) × (to ≡ fall))
 
-updates_are : (ps : List Proc) (rise fall n : ℕ) (rest : List Node) (x : Node) → n < length (updates ps rise fall) → slice_get (updates ps rise fall ++ rest) n ≡ Some x → IsUpdate ps rise fall x
+updates_are : (ps : List Proc) (rise fall n : ℕ) (rest : List Node) (x : Node) → n < length (updates ps rise fall)
+    → slice_get (updates ps rise fall ++ rest) n ≡ Some x → IsUpdate ps rise fall x
 updates_are [] rise fall zero rest x l e = record { to = rise; apply = sym (some_is e); behind = inl refl }
 updates_are [] rise fall (suc zero) rest x l e = record { to = rise; apply = sym (some_is e); behind = inl refl }
 updates_are [] rise fall (suc (suc n)) rest x l e = let z : ⊥ = omega arith in absurd z
@@ -112,7 +113,8 @@ module _ (d : Flat) where
       let there = order_other (table_of d) m (omega arith) in
       omega (arith, here, there)
 
-  ends_behind : (u n : ℕ) → slice_get (table_of d).nodes u ≡ Some (Apply (table_of d).rise.first) → (table_of d).rise.first < n → left (table_of d) u ≤ order (table_of d) n
+  ends_behind : (u n : ℕ) → slice_get (table_of d).nodes u ≡ Some (Apply (table_of d).rise.first) → (table_of d).rise.first < n
+      → left (table_of d) u ≤ order (table_of d) n
   ends_behind u n e h =
       let here = order_other (table_of d) n h in
       let update = apply_rise (table_of d) u e in
@@ -167,7 +169,8 @@ module _ (d : Flat) where
       let many = updates_many falls T.rise.first T.fall.first in
       at (updates_are falls T.rise.first T.fall.first n (up ++ (down ++ first)) x (omega (arith, many)) e)
     where
-      to_lowers : (to : ℕ) → slice_get (table_of d).nodes n ≡ Some (Apply to) → (to ≡ (table_of d).rise.first) ⊎ ((falls ≢ []) × (to ≡ (table_of d).fall.first)) → Lowers (table_of d) n to
+      to_lowers : (to : ℕ) → slice_get (table_of d).nodes n ≡ Some (Apply to)
+          → (to ≡ (table_of d).rise.first) ⊎ ((falls ≢ []) × (to ≡ (table_of d).fall.first)) → Lowers (table_of d) n to
       to_lowers to h (inl s) = subst (Lowers (table_of d) n) (sym s) (rise_update n (h ∙ ap (λ k. Some (Apply k)) s))
       to_lowers to h (inr s) = subst (Lowers (table_of d) n) (sym s.1) (fall_update n s.0 (h ∙ ap (λ k. Some (Apply k)) s.1))
 
@@ -176,7 +179,8 @@ module _ (d : Flat) where
           let one = to_lowers u.to (e ∙ ap Some u.apply) u.behind in
           subst (λ y. All (Lowers (table_of d) n) (next_of y)) (sym u.apply) (All-cons (Lowers (table_of d) n) u.to [] one (All-nil (Lowers (table_of d) n)))
 
-  fall_lowers : (n : ℕ) (x : Node) → from + length up ≤ n → n < early_from d → slice_get (table_of d).nodes n ≡ Some x → rises (Some x) ≡ false → All (Lowers (table_of d) n) (next_of x)
+  fall_lowers : (n : ℕ) (x : Node) → from + length up ≤ n → n < early_from d → slice_get (table_of d).nodes n ≡ Some x → rises (Some x) ≡ false
+      → All (Lowers (table_of d) n) (next_of x)
   fall_lowers n x l r e h =
       let s = (sizes d).early in
       let f = some_falls (from + length up) falls (omega arith) in

@@ -32,8 +32,8 @@ pub fn a_run_that_has_spent_its_budget_has_ended()
         i.state.ticks ≡ o.plan.budget → (q : Queue) × Ends o i.state.ticks Budget q × (q.state ≡ i.state) }
 {}
 
-/// With each cycle but that in which the clock rises, and with each served call, fewer are left before it rises next; and at
-/// most so many are left anywhere. So each tick ends.
+/// With each cycle but that in which the clock rises, and with each served call, fewer are left before it rises next; and at no
+/// node more than four for each node of the table. So each tick ends.
 pub fn each_tick_ends()
     ensures cycle { (d : Flat) (files : List File) (nets : State → List (List ℕ)) (i : Stage) → i.node < length (table_of d).nodes →
         at_trap (table_of d) i ≡ false → rises (slice_get (table_of d).nodes i.node) ≡ false →
@@ -50,7 +50,7 @@ pub fn a_run_stays_among_the_nodes()
         i.node < length (table_of o.flat).nodes }
 {}
 
-/// In each tick, and before the first one, a run does at most so many acts.
+/// For each tick that it has begun, and for time zero, a run does at most so many acts.
 pub fn the_acts_of_a_tick_are_few()
     ensures { (o : Origin) (nets : State → List (List ℕ)) (c : ℕ) (i : Stage) → Comes o (table_of o.flat) nets c i →
         c ≤ most_left (table_of o.flat) * (i.state.ticks + 1) }

@@ -30,7 +30,8 @@ module _ (d : Flat) (order : List ℕ) where
     pub trap : has_trap (Some s) ≡ is_trap (Some x)
     pub runs : is_trap (Some x) ≡ false → (z : Shape) → IsFor d (slots_in s.cells) z → IsList z s.cells
 
-  stateful : (early : Bool) (slots : ℕ) (nodes : List Node) (states : List StateData) (x : Node) (s : StateData) → IsStateOf d order early slots nodes states x s → Stateful x s
+  stateful : (early : Bool) (slots : ℕ) (nodes : List Node) (states : List StateData) (x : Node) (s : StateData) →
+      IsStateOf d order early slots nodes states x s → Stateful x s
   stateful early slots nodes states (Run g (Go to)) s h = record { trap = ap is_some h.0.none; runs = λ e. h.0.does.runs }
   stateful early slots nodes states (Run g (Branch t a b)) s h = record { trap = ap is_some h.none; runs = λ e. h.does.runs }
   stateful early slots nodes states (Run g (Switch e ways other)) s h = record { trap = ap is_some h.none; runs = λ e. h.does.runs }
@@ -55,7 +56,8 @@ module _ (d : Flat) (order : List ℕ) where
     pub node : slice_get nodes n ≡ None
     pub state : slice_get states n ≡ None
 
-  pub number : (slots : ℕ) (nodes : List Node) (states : List StateData) (n : ℕ) → AreStates d order (zero_low d) slots nodes states → Both slots nodes states n ⊎ Neither nodes states n
+  pub number : (slots : ℕ) (nodes : List Node) (states : List StateData) (n : ℕ) → AreStates d order (zero_low d) slots nodes states →
+      Both slots nodes states n ⊎ Neither nodes states n
   number slots nodes states n all =
       elim ((slice_get_cases nodes n).1) [
         | inl h ↦ (elim ((slice_get_cases states n).1) [
@@ -68,23 +70,29 @@ module _ (d : Flat) (order : List ℕ) where
         ])
       ]
 
-  both-same : (slots : ℕ) (nodes : List Node) (states : List StateData) (n : ℕ) → Both slots nodes states n → has_trap (slice_get states n) ≡ is_trap (slice_get nodes n)
-  both-same slots nodes states n h = ap has_trap h.has ∙ ((stateful (nat_le (zero_low d) n) slots nodes states h.node h.state h.of).trap ∙ sym (ap is_trap h.is))
+  both-same : (slots : ℕ) (nodes : List Node) (states : List StateData) (n : ℕ) → Both slots nodes states n →
+      has_trap (slice_get states n) ≡ is_trap (slice_get nodes n)
+  both-same slots nodes states n h =
+      ap has_trap h.has ∙ ((stateful (nat_le (zero_low d) n) slots nodes states h.node h.state h.of).trap ∙ sym (ap is_trap h.is))
 
   neither-same : (nodes : List Node) (states : List StateData) (n : ℕ) → Neither nodes states n → has_trap (slice_get states n) ≡ is_trap (slice_get nodes n)
   neither-same nodes states n h = ap has_trap h.state ∙ sym (ap is_trap h.node)
 
-  pub trap-same : (slots : ℕ) (nodes : List Node) (states : List StateData) (n : ℕ) → AreStates d order (zero_low d) slots nodes states → has_trap (slice_get states n) ≡ is_trap (slice_get nodes n)
-  trap-same slots nodes states n all = elim (number slots nodes states n all) [ inl h ↦ both-same slots nodes states n h | inr h ↦ neither-same nodes states n h ]
+  pub trap-same : (slots : ℕ) (nodes : List Node) (states : List StateData) (n : ℕ) → AreStates d order (zero_low d) slots nodes states →
+      has_trap (slice_get states n) ≡ is_trap (slice_get nodes n)
+  trap-same slots nodes states n all =
+      elim (number slots nodes states n all) [ inl h ↦ both-same slots nodes states n h | inr h ↦ neither-same nodes states n h ]
 
   -- the cells of the state of a node that is no call's may run
-  pub may-run : (slots : ℕ) (nodes : List Node) (states : List StateData) (b : BankData) (n : ℕ) (s : StateData) → AreStates d order (zero_low d) slots nodes states → IsFor d slots (shape_of b) → is_trap (slice_get nodes n) ≡ false →
+  pub may-run : (slots : ℕ) (nodes : List Node) (states : List StateData) (b : BankData) (n : ℕ) (s : StateData) →
+      AreStates d order (zero_low d) slots nodes states → IsFor d slots (shape_of b) → is_trap (slice_get nodes n) ≡ false →
       slice_get states n ≡ Some s → IsList (shape_of b) s.cells
   may-run slots nodes states b n s all shape free e =
       elim (number slots nodes states n all) [
         | inl h ↦ (let same : h.state ≡ s = cc in
             subst (λ (x : StateData). IsList (shape_of b) x.cells) same
-            ((stateful (nat_le (zero_low d) n) slots nodes states h.node h.state h.of).runs (sym (ap is_trap h.is) ∙ free) (shape_of b) (for-fewer (slots_in h.state.cells) slots (shape_of b) h.fits shape)))
+            ((stateful (nat_le (zero_low d) n) slots nodes states h.node h.state h.of).runs (sym (ap is_trap h.is) ∙ free) (shape_of b)
+            (for-fewer (slots_in h.state.cells) slots (shape_of b) h.fits shape)))
         | inr h ↦ (let none = h.state in let z : ⊥ = cc in absurd z)
       ]
 
@@ -124,7 +132,9 @@ module _ (o : Origin) (order : List ℕ) (t : TenantData) (c : ℕ) (at : IsAt o
   no-trap w = sym at.waits ∙ w
 
   pub list-there : t.waits ≡ false → (s : StateData) → present table t.bank ≡ Some s → IsList (shape_of t.bank) s.cells
-  list-there w s e = may-run o.flat order at.image.slots nodes (states_of t.image) t.bank at.stage.node s at.image.states at.stands.shape (no-trap w) (sym present-here ∙ e)
+  list-there w s e =
+      may-run o.flat order at.image.slots nodes (states_of t.image) t.bank at.stage.node s at.image.states at.stands.shape (no-trap w)
+      (sym present-here ∙ e)
 
   pub waits-at : (b : BankData) (i : Stage) → Stands b i → has_trap (present table b) ≡ at_trap (table_of o.flat) i
   waits-at b i st = ap has_trap (present-is b i st.stage.node) ∙ trap-same o.flat order at.image.slots nodes (states_of t.image) i.node at.image.states
@@ -132,12 +142,15 @@ module _ (o : Origin) (order : List ℕ) (t : TenantData) (c : ℕ) (at : IsAt o
   -- what the law of one cycle of states says here
   abbrev pub OneCycle : Type 0
   OneCycle =
-      (x : Node) → slice_get nodes at.stage.node ≡ Some x → is_trap (Some x) ≡ false → IsTidy o.flat o.files order (nat_le (zero_low o.flat) at.stage.node) at.stage.state at.stage.committed → at.stage.state.finished ≡ false →
+      (x : Node) → slice_get nodes at.stage.node ≡ Some x → is_trap (Some x) ≡ false →
+      IsTidy o.flat o.files order (nat_le (zero_low o.flat) at.stage.node) at.stage.state at.stage.committed → at.stage.state.finished ≡ false →
       next.state.ticks < 2 ^ 32 → Stands (table_cycled (record { state = state_register; states = states_of t.image }) t.bank) next
 
   module _ (tame : IsTame o order) (w : t.waits ≡ false) (f : t.finished ≡ false) where
     quiet-next : Quiet at.stage.state next.state
-    quiet-next = cycled-quiet o.flat o.files (nets_of o.flat o.files order) (slice_get nodes at.stage.node) at.stage (λ g on e. tame.quiet at.stage.node g on e)
+    quiet-next =
+        cycled-quiet o.flat o.files (nets_of o.flat o.files order) (slice_get nodes at.stage.node) at.stage
+        (λ g on e. tame.quiet at.stage.node g on e)
 
     alive : at.stage.state.finished ≡ false
     alive = sym at.finished ∙ f
@@ -150,15 +163,18 @@ module _ (o : Origin) (order : List ℕ) (t : TenantData) (c : ℕ) (at : IsAt o
         elim (number o.flat order at.image.slots nodes (states_of t.image) at.stage.node at.image.states) [
           | inl h ↦ subst (λ r. Stands (table_cycled (record { state = r; states = states_of t.image }) t.bank) next) (sym at.image.register)
               (law h.node h.is (sym (ap is_trap h.is) ∙ no-trap w) (tame.tidy c at.stage at.comes alive) alive (few-next room))
-          | inr h ↦ subst (λ (i : Stage). Stands (table_cycled table t.bank) i) (sym (ap (λ x. cycled o.flat o.files (nets_of o.flat o.files order) x at.stage) h.node))
+          | inr h ↦ subst (λ (i : Stage). Stands (table_cycled table t.bank) i)
+              (sym (ap (λ x. cycled o.flat o.files (nets_of o.flat o.files order) x at.stage) h.node))
               (subst (λ s. Stands (state_cycled s t.bank) at.stage) (sym (present-here ∙ h.state)) at.stands)
         ]
 
-    pub cycled-at : OneCycle → slice_index t.bank.regs ticks_register + 1 < 2 ^ 32 → (b : BankData) (waits : Bool) (count : ℕ) → b ≡ table_cycled table t.bank → waits ≡ has_trap (present table b) → count ≡ counted_by waits t.cycles →
+    pub cycled-at : OneCycle → slice_index t.bank.regs ticks_register + 1 < 2 ^ 32 → (b : BankData) (waits : Bool) (count : ℕ) →
+        b ≡ table_cycled table t.bank → waits ≡ has_trap (present table b) → count ≡ counted_by waits t.cycles →
         IsAt o order (record t { bank = b; waits = waits; cycles = count }) (counted_by waits c)
     cycled-at law room b waits count is asks counts =
         let st : Stands b next = subst (λ z. Stands z next) (sym is) (next-stands law room) in
-        let comes : Comes o (table_of o.flat) (nets_of o.flat o.files order) (counted_by (at_trap (table_of o.flat) next) c) next = cycles at.comes alive (no-trap w) in
+        let comes : Comes o (table_of o.flat) (nets_of o.flat o.files order) (counted_by (at_trap (table_of o.flat) next) c) next
+        = cycles at.comes alive (no-trap w) in
         let trap : waits ≡ at_trap (table_of o.flat) next = asks ∙ waits-at b next st in
         record {
           image = at.image;
@@ -175,7 +191,8 @@ module _ (o : Origin) (order : List ℕ) (t : TenantData) (c : ℕ) (at : IsAt o
           cycles = counts ∙ ap (counted_by waits) at.cycles;
         }
 
-    pub register-next : OneCycle → slice_index t.bank.regs ticks_register + 1 < 2 ^ 32 → (b : BankData) → b ≡ table_cycled table t.bank → t.image.table.state < length b.regs
+    pub register-next : OneCycle → slice_index t.bank.regs ticks_register + 1 < 2 ^ 32 → (b : BankData) → b ≡ table_cycled table t.bank →
+        t.image.table.state < length b.regs
     register-next law room b is =
         let st : Stands b next = subst (λ z. Stands z next) (sym is) (next-stands law room) in
         let r = at.image.register in

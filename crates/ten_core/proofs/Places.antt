@@ -32,7 +32,8 @@ first-free d i e =
     let runs = impls_run T.nodes T.zero.update (bodies (blocks is_init d.procs)) still T.zero.first (table_implements d).zero.runs in
     subst (λ n. at_trap T (record i { node = n }) ≡ false) (sym e) runs.none
 
-pub starts-at : (o : Origin) (order : List ℕ) (image : Image) (files : List File) (b : BankData) (rows : List (Option Row)) (printed : List ℕ) → IsImage o.flat order image → o.files ≡ files → o.resume ≡ None → b ≡ cells.bank_of image.zero →
+pub starts-at : (o : Origin) (order : List ℕ) (image : Image) (files : List File) (b : BankData) (rows : List (Option Row)) (printed : List ℕ) →
+    IsImage o.flat order image → o.files ≡ files → o.resume ≡ None → b ≡ cells.bank_of image.zero →
     ((fs : List File) → open_files fs rows ≡ []) → ((fs : List File) → IsTableOf fs rows) → printed ≡ [] →
     IsAt o order (record { image = image; files = files; rows = rows; bank = b; printed = printed; cycles = 0; waits = false; finished = false }) 0
 starts-at o order image files b rows printed is same none bank empty fits blank =

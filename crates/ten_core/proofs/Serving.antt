@@ -1,5 +1,6 @@
 -- A call that a tenant serves is done as the run of its design's table does it.
-use Rattle.std.proofs.Common.{◌≡◌, ◌≢◌, ℕ, suc, ◌+◌, ◌<◌, Bool, true, false, List, [], ◌∷◌, length, map, Option, Some, None, inl, inr, refl, sym, ap, ◌∙◌, subst, arith}
+use Rattle.std.proofs.Common.{◌≡◌, ◌≢◌, ℕ, suc, ◌+◌, ◌<◌, Bool, true, false, List, [], ◌∷◌, length, map, Option, Some, None, inl, inr}
+use Rattle.std.proofs.Common.{refl, sym, ap, ◌∙◌, subst, arith}
 use Rattle.std.specs.Prelude.{IsTrue, ◌↔◌, slice_get, slice_set, slice_index, ◌==◌, nat_le}
 use Rattle.std.specs.List.{list_any}
 use Rattle.std.proofs.lemmas.Bool.{eq-eqb}
@@ -25,7 +26,7 @@ use Rattle.ten_form.specs.Banks.{IsFor, HoldsState}
 use Rattle.ten_form.specs.Nets.{nets_of}
 use Rattle.ten_form.specs.Registers.{value_register, work_register, update_register, mask_register}
 use Rattle.ten_calls.specs.Asked.{asked}
-use Rattle.ten_calls.specs.Works.{IsBefore, DoesCall}
+use Rattle.ten_calls.specs.Works.{works_of, IsBefore, DoesCall}
 use Rattle.ten_calls.proofs.Doing.{can, does}
 use Rattle.ten_calls.proofs.Serving.{holds-altered}
 use Rattle.trap_runtime.specs.Served as s
@@ -42,7 +43,8 @@ use Rattle.ten_core.proofs.Cycling.{number, present-here}
 -- ---- where calls stand
 
 -- the node behind a call is no call's
-behind-call : (nodes : List Node) → CallsStandApart nodes → (n : ℕ) (task : Task) (to : ℕ) → slice_get nodes n ≡ Some (Trap task to) → is_trap (slice_get nodes to) ≡ false
+behind-call : (nodes : List Node) → CallsStandApart nodes → (n : ℕ) (task : Task) (to : ℕ) → slice_get nodes n ≡ Some (Trap task to) →
+    is_trap (slice_get nodes to) ≡ false
 behind-call nodes apart n task to is = of (slice_get nodes to) refl
   where
     leads : list_any (λ k. k == to) (to ∷ []) ≡ true
@@ -60,13 +62,16 @@ module _ (o : Origin) (order : List ℕ) (tame : IsTame o order) (apart : CallsS
   begins-alive (Some k) = refl
 
   -- the run comes to a call before it has finished
-  trap-alive : {c : ℕ} {i : Stage} → Comes o (table_of o.flat) (nets_of o.flat o.files order) c i → at_trap (table_of o.flat) i ≡ true → i.state.finished ≡ false
+  trap-alive : {c : ℕ} {i : Stage} → Comes o (table_of o.flat) (nets_of o.flat o.files order) c i → at_trap (table_of o.flat) i ≡ true →
+      i.state.finished ≡ false
   trap-alive Comes.begins w = begins-alive o.resume
   trap-alive (cycles {i = i} x f h) w =
-      (cycled-quiet o.flat o.files (nets_of o.flat o.files order) (slice_get (table_of o.flat).nodes i.node) i (λ g on e. tame.quiet i.node g on e)).finished ∙ f
+      (cycled-quiet o.flat o.files (nets_of o.flat o.files order) (slice_get (table_of o.flat).nodes i.node) i
+      (λ g on e. tame.quiet i.node g on e)).finished ∙ f
   trap-alive (serves {i = i} x h) w = at (slice_get (table_of o.flat).nodes i.node) refl h w
     where
-      at : (x : Option Node) → slice_get (table_of o.flat).nodes i.node ≡ x → is_trap x ≡ true → at_trap (table_of o.flat) (served_by (scope_of o.flat o.files) x i) ≡ true →
+      at : (x : Option Node) → slice_get (table_of o.flat).nodes i.node ≡ x → is_trap x ≡ true →
+          at_trap (table_of o.flat) (served_by (scope_of o.flat o.files) x i) ≡ true →
           (served_by (scope_of o.flat o.files) x i).state.finished ≡ false
       at None e h w = let z : ⊥ = cc in absurd z
       at (Some (Run g on)) e h w = let z : ⊥ = cc in absurd z
@@ -75,7 +80,8 @@ module _ (o : Origin) (order : List ℕ) (tame : IsTame o order) (apart : CallsS
 
 -- ---- a bank with another state next
 
-goes-to : (d : Flat) (committed : List (List ℕ)) (b : BankData) (r v : ℕ) (y : State) → r ≡ 0 → HoldsState d b y committed → HoldsState d (record b { regs = slice_set b.regs r v }) y committed
+goes-to : (d : Flat) (committed : List (List ℕ)) (b : BankData) (r v : ℕ) (y : State) → r ≡ 0 → HoldsState d b y committed →
+    HoldsState d (record b { regs = slice_set b.regs r v }) y committed
 goes-to d committed b r v y e h =
     let other : (j : ℕ) → j ≢ 0 → slice_index (slice_set b.regs r v) j ≡ slice_index b.regs j = λ j n. rw e (get_or-set_other b.regs 0 j v 0 n) in
     holds-altered d committed b (record b { regs = slice_set b.regs r v }) y y
@@ -123,7 +129,8 @@ module _ (o : Origin) (order : List ℕ) (t : TenantData) (c : ℕ) (at : IsAt o
     pub has : slice_get (states_of t.image) here.node ≡ Some state
     pub waits : Waits o.flat order at.image.slots task to state
 
-  call-of : (early : Bool) (x : Node) (y : StateData) → is_trap (Some x) ≡ true → slice_get nodes here.node ≡ Some x → slice_get (states_of t.image) here.node ≡ Some y →
+  call-of : (early : Bool) (x : Node) (y : StateData) → is_trap (Some x) ≡ true → slice_get nodes here.node ≡ Some x →
+      slice_get (states_of t.image) here.node ≡ Some y →
       IsStateOf o.flat order early at.image.slots nodes (states_of t.image) x y → Call
   call-of early (Run g on) y w e f h = let z : ⊥ = cc in absurd z
   call-of early (Trap task to) y w e f h = record { task = task; to = to; state = y; node = e; has = f; waits = h }
@@ -140,7 +147,12 @@ module _ (o : Origin) (order : List ℕ) (t : TenantData) (c : ℕ) (at : IsAt o
       ]
 
   is-at-call : IsAtCall table t.bank call-here.waits.trap call-here.to
-  is-at-call = record { state = call-here.state; is_next = present-here o order t c at ∙ call-here.has; waits = call-here.waits.is; leads = call-here.waits.next }
+  is-at-call = record {
+    state = call-here.state;
+    is_next = present-here o order t c at ∙ call-here.has;
+    waits = call-here.waits.is;
+    leads = call-here.waits.next;
+  }
 
   abbrev task : Task
   task = call-here.task
@@ -204,16 +216,21 @@ module _ (o : Origin) (order : List ℕ) (t : TenantData) (c : ℕ) (at : IsAt o
   abbrev state : State
   state = called (scope_of o.flat o.files) task here.state
 
-  works-is : works t.rows ≡ record { bank = t.bank; table = here.state.table; printed = here.state.printed }
+  works-is : works t.rows ≡ works_of t.bank here.state
   works-is =
       let tables : open_files t.files t.rows ≡ here.state.table = ap (λ fs. open_files fs t.rows) (sym at.files) ∙ at.table in
-      ap (λ x. record { bank = t.bank; table = x; printed = t.printed }) tables ∙ ap (λ x. record { bank = t.bank; table = here.state.table; printed = x }) at.printed
+      ap (λ x. record { bank = t.bank; table = x; printed = t.printed }) tables
+      ∙ ap (λ x. record { bank = t.bank; table = here.state.table; printed = x }) at.printed
 
-  module _ (b : BankData) (rows : List (Option Row)) (printed : List ℕ) (is : record { bank = b; table = open_files t.files rows; printed = printed } ≡ s.served t.files trap (works t.rows)) where
-    served-is : record { bank = b; table = open_files t.files rows; printed = printed } ≡ s.served o.files trap (record { bank = t.bank; table = here.state.table; printed = here.state.printed })
-    served-is = is ∙ (ap (s.served t.files trap) works-is ∙ ap (λ fs. s.served fs trap (record { bank = t.bank; table = here.state.table; printed = here.state.printed })) (sym at.files))
+  -- a call, served, leaves this
+  abbrev IsServed : TrapData → BankData → List (Option Row) → List ℕ → Type 0
+  IsServed other b rows printed = record { bank = b; table = open_files t.files rows; printed = printed } ≡ s.served t.files other (works t.rows)
 
-    bank-is : b ≡ (s.served o.files trap (record { bank = t.bank; table = here.state.table; printed = here.state.printed })).bank
+  module _ (b : BankData) (rows : List (Option Row)) (printed : List ℕ) (is : IsServed trap b rows printed) where
+    served-is : record { bank = b; table = open_files t.files rows; printed = printed } ≡ s.served o.files trap (works_of t.bank here.state)
+    served-is = is ∙ (ap (s.served t.files trap) works-is ∙ ap (λ fs. s.served fs trap (works_of t.bank here.state)) (sym at.files))
+
+    bank-is : b ≡ (s.served o.files trap (works_of t.bank here.state)).bank
     bank-is = ap (λ (z : s.Works). z.bank) served-is
 
     shape-is : shape_of b ≡ shape_of t.bank
@@ -269,18 +286,21 @@ module _ (o : Origin) (order : List ℕ) (t : TenantData) (c : ℕ) (at : IsAt o
       cycles = (let e = at.cycles in omega (arith, counts, e));
     }
 
-  module _ (other : TrapData) (to : ℕ) (h : IsAtCall table t.bank other to) (b : BankData) (rows : List (Option Row)) (printed : List ℕ) (is : record { bank = b; table = open_files t.files rows; printed = printed } ≡ s.served t.files other (works t.rows)) where
-    is-mine : record { bank = b; table = open_files t.files rows; printed = printed } ≡ s.served t.files trap (works t.rows)
-    is-mine = is ∙ ap (λ z. s.served t.files z (works t.rows)) (one-call other to h).0
+  module _ (other : TrapData) (to : ℕ) (h : IsAtCall table t.bank other to) where
+    module _ (b : BankData) (rows : List (Option Row)) (text : List ℕ) (is : IsServed other b rows text) where
+      is-mine : IsServed trap b rows text
+      is-mine = is ∙ ap (λ z. s.served t.files z (works t.rows)) (one-call other to h).0
 
-    pub register-behind : t.image.table.state < length b.regs
-    register-behind = served-register b rows printed is-mine
+      pub register-behind : t.image.table.state < length b.regs
+      register-behind = served-register b rows text is-mine
 
-    pub served-behind : IsTableOf t.files rows → (finished : Bool) → (IsTrue finished ↔ (s.way_of other.call ≡ way.Finish)) → (z : BankData) → z ≡ record b { regs = slice_set b.regs t.image.table.state to } →
-        IsAt o order (record t { bank = z; rows = rows; printed = printed; finished = finished; waits = false; cycles = t.cycles + 1 }) (suc c)
-    served-behind fits finished ends z e =
-        let same = one-call other to h in
-        let mine = subst (λ (y : TrapData). IsTrue finished ↔ (s.way_of y.call ≡ way.Finish)) same.0 ends in
-        let bank : z ≡ after b rows printed is-mine = e ∙ ap (λ n. record b { regs = slice_set b.regs t.image.table.state n }) same.1 in
-        subst (λ y. IsAt o order (record t { bank = y; rows = rows; printed = printed; finished = finished; waits = false; cycles = t.cycles + 1 }) (suc c)) (sym bank)
-        (served-at b rows printed is-mine fits finished mine (t.cycles + 1) refl)
+      pub served-behind : IsTableOf t.files rows → (finished : Bool) → (IsTrue finished ↔ (s.way_of other.call ≡ way.Finish)) → (z : BankData) →
+          z ≡ record b { regs = slice_set b.regs t.image.table.state to } →
+          IsAt o order (record t { bank = z; rows = rows; printed = text; finished = finished; waits = false; cycles = t.cycles + 1 }) (suc c)
+      served-behind fits finished ends z e =
+          let same = one-call other to h in
+          let mine = subst (λ (y : TrapData). IsTrue finished ↔ (s.way_of y.call ≡ way.Finish)) same.0 ends in
+          let bank : z ≡ after b rows text is-mine = e ∙ ap (λ n. record b { regs = slice_set b.regs t.image.table.state n }) same.1 in
+          subst (λ y. IsAt o order (record t { bank = y; rows = rows; printed = text; finished = finished; waits = false; cycles = t.cycles + 1 }) (suc c))
+          (sym bank)
+          (served-at b rows text is-mine fits finished mine (t.cycles + 1) refl)

@@ -85,7 +85,10 @@ segment-quiet : (scope : Scope) (g : Segment) → AreQuiet g.statements → (s :
 segment-quiet scope g h s = at g.rises
   where
     at : (b : Bool) → Quiet s (execs scope g.statements (if b then ticked s else s))
-    at true = let r = execs-silent scope g.statements h (ticked s) in let e = r.ticks in record { printed = r.printed; table = r.table; finished = r.finished; ticks = omega (arith, e) }
+    at true =
+        let r = execs-silent scope g.statements h (ticked s) in
+        let e = r.ticks in
+        record { printed = r.printed; table = r.table; finished = r.finished; ticks = omega (arith, e) }
     at false = quiet s _ (execs-silent scope g.statements h s)
 
 module _ (d : Flat) (files : List File) (nets : State → List (List ℕ)) where
@@ -95,7 +98,8 @@ module _ (d : Flat) (files : List File) (nets : State → List (List ℕ)) where
   goes-quiet (Switch e ways other) s t committed h = record { printed = h.printed; table = h.table; finished = h.finished; ticks = h.ticks }
   goes-quiet (Commit to) s t committed h = record { printed = h.printed; table = h.table; finished = h.finished; ticks = h.ticks }
 
-  pub cycled-quiet : (x : Option Node) (i : Stage) → ((g : Segment) (on : WayOn) → x ≡ Some (Run g on) → AreQuiet g.statements) → Quiet i.state (cycled d files nets x i).state
+  pub cycled-quiet : (x : Option Node) (i : Stage) → ((g : Segment) (on : WayOn) → x ≡ Some (Run g on) → AreQuiet g.statements) →
+      Quiet i.state (cycled d files nets x i).state
   cycled-quiet None i h = same i.state
   cycled-quiet (Some (Run g on)) i h = goes-quiet on i.state _ i.committed (segment-quiet (scope_of d files) g (h g on refl) i.state)
   cycled-quiet (Some (Trap task to)) i h = same i.state

@@ -17,7 +17,9 @@ pub cleared-same : (rows : List Row) (values : List (List ℕ)) → length value
 cleared-same [] [] e = refl
 cleared-same [] (ws ∷ values) e = let z : ⊥ = cc in absurd z
 cleared-same (r ∷ rows) [] e = refl
-cleared-same (r ∷ rows) (ws ∷ values) e = let same : length values ≡ length rows = omega (arith, e) in ap (λ vs. (if is_computed r.kind then map (λ x. 0) ws else ws) ∷ vs) (cleared-same rows values same)
+cleared-same (r ∷ rows) (ws ∷ values) e =
+    let same : length values ≡ length rows = omega (arith, e) in
+    ap (λ vs. (if is_computed r.kind then map (λ x. 0) ws else ws) ∷ vs) (cleared-same rows values same)
 
 of-memory : (k : SigKind) → IsMem k → is_mem k ≡ true
 of-memory Net h = absurd h

@@ -54,7 +54,8 @@ fn is_end(way: &Served) -> bool
 impl Tenant {
     /// A run of an image's design from its start, with these files.
     pub fn new(alloc: Global, image: Image, files: FileSet) -> Result<Tenant, AllocError>
-        ensures { IfOk result (λ t. (o : Origin) (order : List ℕ) → IsImage o.flat order image → o.files ≡ files → o.resume ≡ None → IsAt o order (tenant_of t) 0) }
+        ensures { IfOk result (λ t. (o : Origin) (order : List ℕ) →
+            IsImage o.flat order image → o.files ≡ files → o.resume ≡ None → IsAt o order (tenant_of t) 0) }
     {
         let bank = copy_bank(alloc, &image.zero)?;
         Ok(Tenant {
@@ -92,7 +93,8 @@ impl Tenant {
         requires runs { Runs (tenant_of self.old) }
         requires waits { self.old.waits ≡ true }
         requires cycles { self.old.cycles + 1 < 2 ^ 64 }
-        ensures ok { OnOk result ((o : Origin) (order : List ℕ) (c : ℕ) → IsTame o order → IsAt o order (tenant_of self.old) c → IsAt o order (tenant_of self.new) (suc c)) }
+        ensures ok { OnOk result ((o : Origin) (order : List ℕ) (c : ℕ) → IsTame o order → IsAt o order (tenant_of self.old) c →
+            IsAt o order (tenant_of self.new) (suc c)) }
         ensures err { OnErr result (tenant_of self.new ≡ tenant_of self.old) }
     {
         let (trap, next) = next_call(&self.image.table, &self.bank);
@@ -114,7 +116,8 @@ impl Tenant {
     /// The run is at a boundary: the clock rises next.
     pub fn at_boundary(&self) -> bool
         requires { Runs (tenant_of self.now) }
-        ensures { (o : Origin) (order : List ℕ) (c : ℕ) (at : IsAt o order (tenant_of self.now) c) → result ≡ rises (slice_get (table_of o.flat).nodes at.stage.node) }
+        ensures { (o : Origin) (order : List ℕ) (c : ℕ) (at : IsAt o order (tenant_of self.now) c) →
+            result ≡ rises (slice_get (table_of o.flat).nodes at.stage.node) }
     {
         self.bank.regs[self.image.table.state as usize] == u128::from(self.image.rise)
     }

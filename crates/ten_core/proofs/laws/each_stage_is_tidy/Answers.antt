@@ -23,6 +23,7 @@ returns c o order n i checked ord fine writes sets comes alive =
       zero = λ e k s q. (nets.zero o order n i checked ord fine writes comes (leb-true low i.node e)).zero k q;
       nets = λ e k s q.
           (nets.hold o order n i checked ord fine writes comes (leb-false low i.node e) alive).over k q
-          ∙ ap (λ (v : List (List ℕ)). value_of (pass (run o.flat o.files i.state) order v) k) (cleared-same o.flat.rows i.committed (fine-many o.flat.rows i.committed both.1));
+          ∙ ap (λ (v : List (List ℕ)). value_of (pass (run o.flat o.files i.state) order v) k)
+          (cleared-same o.flat.rows i.committed (fine-many o.flat.rows i.committed both.1));
       memories = λ e m h. sym ((words (leb-false low i.node e)).words m (memory-row (slice_get (names_of o.flat).rows m) h));
     }

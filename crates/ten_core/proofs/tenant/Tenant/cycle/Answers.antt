@@ -18,19 +18,24 @@ at_call-self-requires c =
     let o = r.origin in
     let t = tenant_of c.args.self.now in
     register-next o r.order t r.acts at r.tame c.requires.no_call c.requires.goes_on
-    (λ x. c.a_cycle_of_states_is_one_of_nodes.ensures o.flat r.order o.files (zero_low o.flat) at.image.slots (table_of o.flat).nodes (states_of t.image) t.bank at.stage x at.image.states at.image.apart at.stands)
+    (λ x. c.a_cycle_of_states_is_one_of_nodes.ensures o.flat r.order o.files (zero_low o.flat) at.image.slots
+    (table_of o.flat).nodes (states_of t.image) t.bank at.stage x at.image.states at.image.apart at.stands)
     c.requires.ticks (bank_of c.step.new.bank) c.step.ensures
 
 pub returns-then-not-self : goal.returns-then-not-self
 returns-then-not-self c o order n tame at =
     let t = tenant_of c.args.self.now in
     cycled-at o order t n at tame c.requires.no_call c.requires.goes_on
-    (λ x. c.a_cycle_of_states_is_one_of_nodes.ensures o.flat order o.files (zero_low o.flat) at.image.slots (table_of o.flat).nodes (states_of t.image) t.bank at.stage x at.image.states at.image.apart at.stands)
-    c.requires.ticks (bank_of c.step.new.bank) c.at_call-self.result _ c.step.ensures c.at_call-self.ensures (counted-more c.at_call-self.result t.cycles c.if-not-self.true)
+    (λ x. c.a_cycle_of_states_is_one_of_nodes.ensures o.flat order o.files (zero_low o.flat) at.image.slots
+    (table_of o.flat).nodes (states_of t.image) t.bank at.stage x at.image.states at.image.apart at.stands)
+    c.requires.ticks (bank_of c.step.new.bank) c.at_call-self.result _ c.step.ensures c.at_call-self.ensures
+    (counted-more c.at_call-self.result t.cycles c.if-not-self.true)
 
 pub returns-else-not-self : goal.returns-else-not-self
 returns-else-not-self c o order n tame at =
     let t = tenant_of c.args.self.now in
     cycled-at o order t n at tame c.requires.no_call c.requires.goes_on
-    (λ x. c.a_cycle_of_states_is_one_of_nodes.ensures o.flat order o.files (zero_low o.flat) at.image.slots (table_of o.flat).nodes (states_of t.image) t.bank at.stage x at.image.states at.image.apart at.stands)
-    c.requires.ticks (bank_of c.step.new.bank) c.at_call-self.result _ c.step.ensures c.at_call-self.ensures (counted-same c.at_call-self.result t.cycles c.if-not-self.false)
+    (λ x. c.a_cycle_of_states_is_one_of_nodes.ensures o.flat order o.files (zero_low o.flat) at.image.slots
+    (table_of o.flat).nodes (states_of t.image) t.bank at.stage x at.image.states at.image.apart at.stands)
+    c.requires.ticks (bank_of c.step.new.bank) c.at_call-self.result _ c.step.ensures c.at_call-self.ensures
+    (counted-same c.at_call-self.result t.cycles c.if-not-self.false)

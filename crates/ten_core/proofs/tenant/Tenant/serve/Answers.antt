@@ -12,10 +12,13 @@ next_call-next-requires-clause-call c = let r = c.requires.runs in some-call r.o
 pub serve-requires-clause-trap : goal.serve-requires-clause-trap
 serve-requires-clause-trap c =
     let r = c.requires.runs in
-    can-be-served r.origin r.order (tenant_of c.args.self.now) r.acts r.at r.tame c.requires.waits c.next_call-next.result.0.now c.next_call-next.result.1 c.next_call-next.ensures
+    can-be-served r.origin r.order (tenant_of c.args.self.now) r.acts r.at r.tame c.requires.waits
+    c.next_call-next.result.0.now c.next_call-next.result.1 c.next_call-next.ensures
 
 pub returns-clause-ok : goal.returns-clause-ok
 returns-clause-ok c o order n tame at =
     let call = c.next_call-next in
-    served-behind o order (tenant_of c.args.self.now) n at tame c.requires.waits call.result.0.now call.result.1 call.ensures (bank_of c.serve.new.bank) c.serve.new.table c.serve.new.out.items
-    c.in_ok-way.ensures.served c.in_ok-way.ensures.fits c.is_end-self.result (subst (λ w. IsTrue c.is_end-self.result ↔ (w ≡ way.Finish)) c.in_ok-way.ensures.way c.is_end-self.ensures) (bank_of c.go_to.new.bank) c.go_to.ensures
+    served-behind o order (tenant_of c.args.self.now) n at tame c.requires.waits call.result.0.now call.result.1 call.ensures
+    (bank_of c.serve.new.bank) c.serve.new.table c.serve.new.out.items
+    c.in_ok-way.ensures.served c.in_ok-way.ensures.fits c.is_end-self.result
+    (subst (λ w. IsTrue c.is_end-self.result ↔ (w ≡ way.Finish)) c.in_ok-way.ensures.way c.is_end-self.ensures) (bank_of c.go_to.new.bank) c.go_to.ensures

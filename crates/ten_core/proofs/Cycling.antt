@@ -102,7 +102,7 @@ module _ (d : Flat) (order : List ℕ) where
 abbrev pub counted_by : Bool → ℕ → ℕ
 counted_by waits c = if waits then c else suc c
 
-module _ (o : Origin) (order : List ℕ) (t : TenantData) (c : ℕ) (at : IsAt o order t c) where
+module _ (o : Origin) (order : List ℕ) (t : TenantData) (c : ℕ) (here : Stage) (at : IsAt o order t c here) where
   abbrev nodes : List Node
   nodes = (table_of o.flat).nodes
 
@@ -110,7 +110,7 @@ module _ (o : Origin) (order : List ℕ) (t : TenantData) (c : ℕ) (at : IsAt o
   table = cells.table_of t.image.table
 
   abbrev next : Stage
-  next = cycle o.flat o.files (nets_of o.flat o.files order) nodes at.stage
+  next = cycle o.flat o.files (nets_of o.flat o.files order) nodes here
 
   abbrev Stands : BankData → Stage → Type 0
   Stands b i = StandsAt o.flat order o.files at.image.slots nodes (states_of t.image) b i
@@ -125,15 +125,15 @@ module _ (o : Origin) (order : List ℕ) (t : TenantData) (c : ℕ) (at : IsAt o
   present-is : (b : BankData) (i : Stage) → slice_index b.regs state_register ≡ i.node → present table b ≡ slice_get (states_of t.image) i.node
   present-is b i e = ap (λ r. slice_get (states_of t.image) (slice_index b.regs r)) at.image.register ∙ ap (slice_get (states_of t.image)) e
 
-  pub present-here : present table t.bank ≡ slice_get (states_of t.image) at.stage.node
-  present-here = present-is t.bank at.stage at.stands.stage.node
+  pub present-here : present table t.bank ≡ slice_get (states_of t.image) here.node
+  present-here = present-is t.bank here at.stands.stage.node
 
-  no-trap : t.waits ≡ false → is_trap (slice_get nodes at.stage.node) ≡ false
+  no-trap : t.waits ≡ false → is_trap (slice_get nodes here.node) ≡ false
   no-trap w = sym at.waits ∙ w
 
   pub list-there : t.waits ≡ false → (s : StateData) → present table t.bank ≡ Some s → IsList (shape_of t.bank) s.cells
   list-there w s e =
-      may-run o.flat order at.image.slots nodes (states_of t.image) t.bank at.stage.node s at.image.states at.stands.shape (no-trap w)
+      may-run o.flat order at.image.slots nodes (states_of t.image) t.bank here.node s at.image.states at.stands.shape (no-trap w)
       (sym present-here ∙ e)
 
   pub waits-at : (b : BankData) (i : Stage) → Stands b i → has_trap (present table b) ≡ at_trap (table_of o.flat) i
@@ -142,17 +142,17 @@ module _ (o : Origin) (order : List ℕ) (t : TenantData) (c : ℕ) (at : IsAt o
   -- what the law of one cycle of states says here
   abbrev pub OneCycle : Type 0
   OneCycle =
-      (x : Node) → slice_get nodes at.stage.node ≡ Some x → is_trap (Some x) ≡ false →
-      IsTidy o.flat o.files order (nat_le (zero_low o.flat) at.stage.node) at.stage.state at.stage.committed → at.stage.state.finished ≡ false →
+      (x : Node) → slice_get nodes here.node ≡ Some x → is_trap (Some x) ≡ false →
+      IsTidy o.flat o.files order (nat_le (zero_low o.flat) here.node) here.state here.committed → here.state.finished ≡ false →
       next.state.ticks < 2 ^ 32 → Stands (table_cycled (record { state = state_register; states = states_of t.image }) t.bank) next
 
   module _ (tame : IsTame o order) (w : t.waits ≡ false) (f : t.finished ≡ false) where
-    quiet-next : Quiet at.stage.state next.state
+    quiet-next : Quiet here.state next.state
     quiet-next =
-        cycled-quiet o.flat o.files (nets_of o.flat o.files order) (slice_get nodes at.stage.node) at.stage
-        (λ g on e. tame.quiet at.stage.node g on e)
+        cycled-quiet o.flat o.files (nets_of o.flat o.files order) (slice_get nodes here.node) here
+        (λ g on e. tame.quiet here.node g on e)
 
-    alive : at.stage.state.finished ≡ false
+    alive : here.state.finished ≡ false
     alive = sym at.finished ∙ f
 
     few-next : slice_index t.bank.regs ticks_register + 1 < 2 ^ 32 → next.state.ticks < 2 ^ 32
@@ -160,17 +160,17 @@ module _ (o : Origin) (order : List ℕ) (t : TenantData) (c : ℕ) (at : IsAt o
 
     next-stands : OneCycle → slice_index t.bank.regs ticks_register + 1 < 2 ^ 32 → Stands (table_cycled table t.bank) next
     next-stands law room =
-        elim (number o.flat order at.image.slots nodes (states_of t.image) at.stage.node at.image.states) [
+        elim (number o.flat order at.image.slots nodes (states_of t.image) here.node at.image.states) [
           | inl h ↦ subst (λ r. Stands (table_cycled (record { state = r; states = states_of t.image }) t.bank) next) (sym at.image.register)
-              (law h.node h.is (sym (ap is_trap h.is) ∙ no-trap w) (tame.tidy c at.stage at.comes alive) alive (few-next room))
+              (law h.node h.is (sym (ap is_trap h.is) ∙ no-trap w) (tame.tidy c here at.comes alive) alive (few-next room))
           | inr h ↦ subst (λ (i : Stage). Stands (table_cycled table t.bank) i)
-              (sym (ap (λ x. cycled o.flat o.files (nets_of o.flat o.files order) x at.stage) h.node))
-              (subst (λ s. Stands (state_cycled s t.bank) at.stage) (sym (present-here ∙ h.state)) at.stands)
+              (sym (ap (λ x. cycled o.flat o.files (nets_of o.flat o.files order) x here) h.node))
+              (subst (λ s. Stands (state_cycled s t.bank) here) (sym (present-here ∙ h.state)) at.stands)
         ]
 
     pub cycled-at : OneCycle → slice_index t.bank.regs ticks_register + 1 < 2 ^ 32 → (b : BankData) (waits : Bool) (count : ℕ) →
         b ≡ table_cycled table t.bank → waits ≡ has_trap (present table b) → count ≡ counted_by waits t.cycles →
-        IsAt o order (record t { bank = b; waits = waits; cycles = count }) (counted_by waits c)
+        IsAt o order (record t { bank = b; waits = waits; cycles = count }) (counted_by waits c) next
     cycled-at law room b waits count is asks counts =
         let st : Stands b next = subst (λ z. Stands z next) (sym is) (next-stands law room) in
         let comes : Comes o (table_of o.flat) (nets_of o.flat o.files order) (counted_by (at_trap (table_of o.flat) next) c) next
@@ -180,7 +180,6 @@ module _ (o : Origin) (order : List ℕ) (t : TenantData) (c : ℕ) (at : IsAt o
           image = at.image;
           files = at.files;
           from_nothing = at.from_nothing;
-          stage = next;
           comes = subst (λ z. Comes o (table_of o.flat) (nets_of o.flat o.files order) (counted_by z c) next) (sym trap) comes;
           stands = st;
           printed = at.printed ∙ sym quiet-next.printed;

@@ -3,13 +3,13 @@ use Rattle.std.proofs.Common.{◌≡◌, ℕ, zero, ◌<◌, ◌^◌, Bool, true
 use Rattle.std.specs.Prelude.{◌==◌, slice_get, slice_index}
 use Rattle.std.proofs.lemmas.Bool.{eqb-true, eq-eqb}
 use Rattle.vl_base.specs.declared.files.File.{File}
-use Rattle.vl_design.specs.Alone.{Origin, blocks}
+use Rattle.vl_design.specs.Alone.{Origin, start, blocks}
 use Rattle.vl_design.specs.Queue.{is_init}
 use Rattle.vl_design.specs.Syntax.{Flat}
 use Rattle.cell_form.specs.Data.{BankData}
 use Rattle.cell_form.specs.Views as cells
 use Rattle.sub_nodes.specs.Code.{table_of}
-use Rattle.sub_nodes.specs.Cycles.{Stage, rises}
+use Rattle.sub_nodes.specs.Cycles.{Stage, committed_in, rises}
 use Rattle.sub_nodes.specs.Implements.{bodies}
 use Rattle.sub_nodes.specs.Nodes.{still}
 use Rattle.sub_nodes.specs.Stands.{at_trap, first_stage, Comes, begins}
@@ -36,6 +36,7 @@ pub starts-at : (o : Origin) (order : List ℕ) (image : Image) (files : List Fi
     IsImage o.flat order image → o.files ≡ files → o.resume ≡ None → b ≡ cells.bank_of image.zero →
     ((fs : List File) → open_files fs rows ≡ []) → ((fs : List File) → IsTableOf fs rows) → printed ≡ [] →
     IsAt o order (record { image = image; files = files; rows = rows; bank = b; printed = printed; cycles = 0; waits = false; finished = false }) 0
+    (committed_in (table_of o.flat).zero.first (start o.flat).state)
 starts-at o order image files b rows printed is same none bank empty fits blank =
     let T = table_of o.flat in
     let nets = nets_of o.flat o.files order in
@@ -44,7 +45,6 @@ starts-at o order image files b rows printed is same none bank empty fits blank 
       image = is;
       files = same;
       from_nothing = none;
-      stage = first;
       comes = subst (λ r. Comes o T nets zero (first_stage o T nets r)) none begins;
       stands = subst (λ z. StandsAt o.flat order o.files is.slots T.nodes (states_of image) z first) (sym bank) (is.zero o.files);
       printed = blank;
@@ -67,13 +67,13 @@ rise-is d n r e =
     (λ h. subst (λ k. rises (slice_get (table_of d).nodes k) ≡ true) (sym (eqb-true n r h ∙ e)) (rise_rises d))
     (λ h. eq-eqb n r (rises_once d n h ∙ sym e))
 
-module _ (o : Origin) (order : List ℕ) (t : TenantData) (c : ℕ) (at : IsAt o order t c) where
-  pub boundary-is : (slice_index t.bank.regs t.image.table.state == t.image.rise) ≡ rises (slice_get (table_of o.flat).nodes at.stage.node)
+module _ (o : Origin) (order : List ℕ) (t : TenantData) (c : ℕ) (i : Stage) (at : IsAt o order t c i) where
+  pub boundary-is : (slice_index t.bank.regs t.image.table.state == t.image.rise) ≡ rises (slice_get (table_of o.flat).nodes i.node)
   boundary-is =
       ap (λ r. slice_index t.bank.regs r == t.image.rise) at.image.register
-      ∙ (ap (λ n. n == t.image.rise) at.stands.stage.node ∙ rise-is o.flat at.stage.node t.image.rise at.image.rise)
+      ∙ (ap (λ n. n == t.image.rise) at.stands.stage.node ∙ rise-is o.flat i.node t.image.rise at.image.rise)
 
-  pub ticks-are : slice_index t.bank.regs ticks_register ≡ at.stage.state.ticks
+  pub ticks-are : slice_index t.bank.regs ticks_register ≡ i.state.ticks
   ticks-are = at.stands.stage.holds.ticks
 
   pub ticks-few : slice_index t.bank.regs ticks_register < 2 ^ 32

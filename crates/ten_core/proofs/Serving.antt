@@ -110,12 +110,9 @@ alike false false P f g = refl
 
 -- ---- the call that waits
 
-module _ (o : Origin) (order : List ℕ) (t : TenantData) (c : ℕ) (at : IsAt o order t c) (tame : IsTame o order) (w : t.waits ≡ true) where
+module _ (o : Origin) (order : List ℕ) (t : TenantData) (c : ℕ) (here : Stage) (at : IsAt o order t c here) (tame : IsTame o order) (w : t.waits ≡ true) where
   abbrev nodes : List Node
   nodes = (table_of o.flat).nodes
-
-  abbrev here : Stage
-  here = at.stage
 
   abbrev table : TableData
   table = cells.table_of t.image.table
@@ -149,7 +146,7 @@ module _ (o : Origin) (order : List ℕ) (t : TenantData) (c : ℕ) (at : IsAt o
   is-at-call : IsAtCall table t.bank call-here.waits.trap call-here.to
   is-at-call = record {
     state = call-here.state;
-    is_next = present-here o order t c at ∙ call-here.has;
+    is_next = present-here o order t c here at ∙ call-here.has;
     waits = call-here.waits.is;
     leads = call-here.waits.next;
   }
@@ -270,12 +267,11 @@ module _ (o : Origin) (order : List ℕ) (t : TenantData) (c : ℕ) (at : IsAt o
         }
 
     served-at : IsTableOf t.files rows → (finished : Bool) → (IsTrue finished ↔ (s.way_of trap.call ≡ way.Finish)) → (count : ℕ) → count ≡ t.cycles + 1 →
-        IsAt o order (record t { bank = after; rows = rows; printed = printed; finished = finished; waits = false; cycles = count }) (suc c)
+        IsAt o order (record t { bank = after; rows = rows; printed = printed; finished = finished; waits = false; cycles = count }) (suc c) then
     served-at fits finished ends count counts = record {
       image = at.image;
       files = at.files;
       from_nothing = at.from_nothing;
-      stage = then;
       comes = subst (λ i. Comes o (table_of o.flat) (nets_of o.flat o.files order) (suc c) i) then-is (serves at.comes trapped);
       stands = then-stands;
       printed = ap (λ (z : s.Works). z.printed) served-is ∙ done.printed;
@@ -297,10 +293,12 @@ module _ (o : Origin) (order : List ℕ) (t : TenantData) (c : ℕ) (at : IsAt o
       pub served-behind : IsTableOf t.files rows → (finished : Bool) → (IsTrue finished ↔ (s.way_of other.call ≡ way.Finish)) → (z : BankData) →
           z ≡ record b { regs = slice_set b.regs t.image.table.state to } →
           IsAt o order (record t { bank = z; rows = rows; printed = text; finished = finished; waits = false; cycles = t.cycles + 1 }) (suc c)
+          (served (scope_of o.flat o.files) nodes here)
       served-behind fits finished ends z e =
           let same = one-call other to h in
           let mine = subst (λ (y : TrapData). IsTrue finished ↔ (s.way_of y.call ≡ way.Finish)) same.0 ends in
           let bank : z ≡ after b rows text is-mine = e ∙ ap (λ n. record b { regs = slice_set b.regs t.image.table.state n }) same.1 in
-          subst (λ y. IsAt o order (record t { bank = y; rows = rows; printed = text; finished = finished; waits = false; cycles = t.cycles + 1 }) (suc c))
-          (sym bank)
-          (served-at b rows text is-mine fits finished mine (t.cycles + 1) refl)
+          let at-then = served-at b rows text is-mine fits finished mine (t.cycles + 1) refl in
+          let u : TenantData = record t { bank = z; rows = rows; printed = text; finished = finished; waits = false; cycles = t.cycles + 1 } in
+          subst (λ y. IsAt o order u (suc c) y) (sym (then-is b rows text is-mine))
+          (subst (λ y. IsAt o order (record u { bank = y }) (suc c) (then b rows text is-mine)) (sym bank) at-then)

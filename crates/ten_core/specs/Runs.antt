@@ -17,19 +17,18 @@ use Rattle.ten_calls.specs.Works.{IsVariableRead, HaveBytes}
 use Rattle.ten_image.specs.States.{StandsAt}
 use Rattle.ten_core.specs.Tenants.{TenantData, states_of, IsImage}
 
--- the tenant is where the run of its design's table is after c acts
-pub record IsAt (o : Origin) (order : List ℕ) (t : TenantData) (c : ℕ) : Type 0 where
+-- the tenant is at this stage of the run of its design's table, after c acts
+pub record IsAt (o : Origin) (order : List ℕ) (t : TenantData) (c : ℕ) (i : Stage) : Type 0 where
   pub image : IsImage o.flat order t.image
   pub files : o.files ≡ t.files
   pub from_nothing : o.resume ≡ None
-  pub stage : Stage
-  pub comes : Comes o (table_of o.flat) (nets_of o.flat o.files order) c stage
-  pub stands : StandsAt o.flat order o.files image.slots (table_of o.flat).nodes (states_of t.image) t.bank stage
-  pub printed : t.printed ≡ stage.state.printed
+  pub comes : Comes o (table_of o.flat) (nets_of o.flat o.files order) c i
+  pub stands : StandsAt o.flat order o.files image.slots (table_of o.flat).nodes (states_of t.image) t.bank i
+  pub printed : t.printed ≡ i.state.printed
   pub fits : IsTableOf o.files t.rows
-  pub table : open_files o.files t.rows ≡ stage.state.table
-  pub finished : t.finished ≡ stage.state.finished
-  pub waits : t.waits ≡ at_trap (table_of o.flat) stage
+  pub table : open_files o.files t.rows ≡ i.state.table
+  pub finished : t.finished ≡ i.state.finished
+  pub waits : t.waits ≡ at_trap (table_of o.flat) i
   pub cycles : t.cycles ≡ c
 
 -- what cycles and calls need of a design and its runs
@@ -48,5 +47,6 @@ pub record Runs (t : TenantData) : Type 0 where
   pub origin : Origin
   pub order : List ℕ
   pub acts : ℕ
-  pub at : IsAt origin order t acts
+  pub stage : Stage
+  pub at : IsAt origin order t acts stage
   pub tame : IsTame origin order

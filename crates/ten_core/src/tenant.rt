@@ -1,9 +1,12 @@
 //! Tenants.
 
 ghost use Rattle.std.specs.Prelude.{IsTrue, ◌≡◌, ◌↔◌, ◌+◌, ◌<◌, ◌^◌, ℕ, suc, List, true, false, if◌then◌else◌, IfOk, OnOk, OnErr, None, slice_get, slice_index};
-ghost use Rattle.vl_design.specs.Alone.{Origin};
+ghost use Rattle.vl_design.specs.Alone.{Origin, start};
+ghost use Rattle.vl_design.specs.Functions.{scope_of};
 ghost use Rattle.sub_nodes.specs.Code.{table_of};
-ghost use Rattle.sub_nodes.specs.Cycles.{rises};
+ghost use Rattle.sub_nodes.specs.Cycles as nodes;
+ghost use Rattle.sub_nodes.specs.Cycles.{Stage, committed_in, rises};
+ghost use Rattle.ten_form.specs.Nets.{nets_of};
 ghost use Rattle.ten_form.specs.Registers.{ticks_register};
 ghost use Rattle.ten_core.specs.Tenants.{tenant_of, IsImage};
 ghost use Rattle.ten_core.specs.Runs.{IsAt, IsTame, Runs};
@@ -55,7 +58,7 @@ impl Tenant {
     /// A run of an image's design from its start, with these files.
     pub fn new(alloc: Global, image: Image, files: FileSet) -> Result<Tenant, AllocError>
         ensures { IfOk result (λ t. (o : Origin) (order : List ℕ) →
-            IsImage o.flat order image → o.files ≡ files → o.resume ≡ None → IsAt o order (tenant_of t) 0) }
+            IsImage o.flat order image → o.files ≡ files → o.resume ≡ None → IsAt o order (tenant_of t) 0 (committed_in (table_of o.flat).zero.first (start o.flat).state)) }
     {
         let bank = copy_bank(alloc, &image.zero)?;
         Ok(Tenant {
@@ -77,8 +80,8 @@ impl Tenant {
         requires goes_on { self.old.finished ≡ false }
         requires ticks { slice_index self.old.bank.regs.items ticks_register + 1 < 2 ^ 32 }
         requires cycles { self.old.cycles + 1 < 2 ^ 64 }
-        ensures { (o : Origin) (order : List ℕ) (c : ℕ) → IsTame o order → IsAt o order (tenant_of self.old) c →
-            IsAt o order (tenant_of self.new) (if self.new.waits then c else suc c) }
+        ensures { (o : Origin) (order : List ℕ) (c : ℕ) (i : Stage) → IsTame o order → IsAt o order (tenant_of self.old) c i →
+            IsAt o order (tenant_of self.new) (if self.new.waits then c else suc c) (nodes.cycle o.flat o.files (nets_of o.flat o.files order) (table_of o.flat).nodes i) }
     {
         a_cycle_of_states_is_one_of_nodes();
         step(&self.image.table, &mut self.bank);
@@ -93,8 +96,8 @@ impl Tenant {
         requires runs { Runs (tenant_of self.old) }
         requires waits { self.old.waits ≡ true }
         requires cycles { self.old.cycles + 1 < 2 ^ 64 }
-        ensures ok { OnOk result ((o : Origin) (order : List ℕ) (c : ℕ) → IsTame o order → IsAt o order (tenant_of self.old) c →
-            IsAt o order (tenant_of self.new) (suc c)) }
+        ensures ok { OnOk result ((o : Origin) (order : List ℕ) (c : ℕ) (i : Stage) → IsTame o order → IsAt o order (tenant_of self.old) c i →
+            IsAt o order (tenant_of self.new) (suc c) (nodes.served (scope_of o.flat o.files) (table_of o.flat).nodes i)) }
         ensures err { OnErr result (tenant_of self.new ≡ tenant_of self.old) }
     {
         let (trap, next) = next_call(&self.image.table, &self.bank);
@@ -116,8 +119,8 @@ impl Tenant {
     /// The run is at a boundary: the clock rises next.
     pub fn at_boundary(&self) -> bool
         requires { Runs (tenant_of self.now) }
-        ensures { (o : Origin) (order : List ℕ) (c : ℕ) (at : IsAt o order (tenant_of self.now) c) →
-            result ≡ rises (slice_get (table_of o.flat).nodes at.stage.node) }
+        ensures { (o : Origin) (order : List ℕ) (c : ℕ) (i : Stage) → IsAt o order (tenant_of self.now) c i →
+            result ≡ rises (slice_get (table_of o.flat).nodes i.node) }
     {
         self.bank.regs[self.image.table.state as usize] == u128::from(self.image.rise)
     }
@@ -125,28 +128,28 @@ impl Tenant {
     /// The ticks begun.
     pub fn ticks(&self) -> u64
         requires { Runs (tenant_of self.now) }
-        ensures { (o : Origin) (order : List ℕ) (c : ℕ) (at : IsAt o order (tenant_of self.now) c) → result ≡ at.stage.state.ticks }
+        ensures { (o : Origin) (order : List ℕ) (c : ℕ) (i : Stage) → IsAt o order (tenant_of self.now) c i → result ≡ i.state.ticks }
     {
         self.bank.regs[TICKS as usize] as u64
     }
 
     /// The acts done so far.
     pub fn cycles(&self) -> u64
-        ensures { (o : Origin) (order : List ℕ) (c : ℕ) → IsAt o order (tenant_of self.now) c → result ≡ c }
+        ensures { (o : Origin) (order : List ℕ) (c : ℕ) (i : Stage) → IsAt o order (tenant_of self.now) c i → result ≡ c }
     {
         self.cycles
     }
 
     /// The bytes printed so far.
     pub fn printed(&self) -> &[u8]
-        ensures { (o : Origin) (order : List ℕ) (c : ℕ) (at : IsAt o order (tenant_of self.now) c) → result.now ≡ at.stage.state.printed }
+        ensures { (o : Origin) (order : List ℕ) (c : ℕ) (i : Stage) → IsAt o order (tenant_of self.now) c i → result.now ≡ i.state.printed }
     {
         self.printed.as_slice()
     }
 
     /// The run has finished: a `$finish` was done.
     pub fn done(&self) -> bool
-        ensures { (o : Origin) (order : List ℕ) (c : ℕ) (at : IsAt o order (tenant_of self.now) c) → result ≡ at.stage.state.finished }
+        ensures { (o : Origin) (order : List ℕ) (c : ℕ) (i : Stage) → IsAt o order (tenant_of self.now) c i → result ≡ i.state.finished }
     {
         self.finished
     }

@@ -1,13 +1,14 @@
 -- Where the run of a tenant is (own).
 use Rattle.std.specs.Prelude.{◌≡◌, ℕ, false, List, slice_get, nat_le, All, Some, None}
-use Rattle.vl_design.specs.Alone.{Origin}
+use Rattle.vl_design.specs.Alone.{Origin, start}
+use Rattle.vl_design.specs.Functions.{scope_of}
 use Rattle.vl_design.specs.Laws.{can_act}
 use Rattle.vl_design.specs.Sound.{IsSoundTask}
 use Rattle.vl_design.specs.Syntax.{Task}
 use Rattle.vl_design.specs.Width.{names_of}
 use Rattle.cell_paths.specs.Envs.{HasOneWord}
 use Rattle.sub_nodes.specs.Code.{table_of}
-use Rattle.sub_nodes.specs.Cycles.{Stage}
+use Rattle.sub_nodes.specs.Cycles.{Stage, committed_in, cycle, served}
 use Rattle.sub_nodes.specs.Nodes.{Segment, WayOn, Run, Trap}
 use Rattle.sub_nodes.specs.Stands.{Comes, at_trap}
 use Rattle.sub_nets.specs.Nets.{zero_low}
@@ -16,6 +17,17 @@ use Rattle.ten_form.specs.Nets.{nets_of, IsTidy}
 use Rattle.ten_calls.specs.Works.{IsVariableRead, HaveBytes}
 use Rattle.ten_image.specs.States.{StandsAt}
 use Rattle.ten_core.specs.Tenants.{TenantData, states_of, IsImage}
+
+-- where the run of a design's table begins
+abbrev pub first_stage : Origin → Stage
+first_stage o = committed_in (table_of o.flat).zero.first (start o.flat).state
+
+-- the stage behind a cycle, where nets settle in this order, and the one behind a served call
+abbrev pub after_cycle : Origin → List ℕ → Stage → Stage
+after_cycle o order i = cycle o.flat o.files (nets_of o.flat o.files order) (table_of o.flat).nodes i
+
+abbrev pub after_call : Origin → Stage → Stage
+after_call o i = served (scope_of o.flat o.files) (table_of o.flat).nodes i
 
 -- the tenant is at this stage of the run of its design's table, after c acts
 pub record IsAt (o : Origin) (order : List ℕ) (t : TenantData) (c : ℕ) (i : Stage) : Type 0 where

@@ -1,15 +1,12 @@
 //! Tenants.
 
 ghost use Rattle.std.specs.Prelude.{IsTrue, ◌≡◌, ◌↔◌, ◌+◌, ◌<◌, ◌^◌, ℕ, suc, List, true, false, if◌then◌else◌, IfOk, OnOk, OnErr, None, slice_get, slice_index};
-ghost use Rattle.vl_design.specs.Alone.{Origin, start};
-ghost use Rattle.vl_design.specs.Functions.{scope_of};
+ghost use Rattle.vl_design.specs.Alone.{Origin};
 ghost use Rattle.sub_nodes.specs.Code.{table_of};
-ghost use Rattle.sub_nodes.specs.Cycles as nodes;
-ghost use Rattle.sub_nodes.specs.Cycles.{Stage, committed_in, rises};
-ghost use Rattle.ten_form.specs.Nets.{nets_of};
+ghost use Rattle.sub_nodes.specs.Cycles.{Stage, rises};
 ghost use Rattle.ten_form.specs.Registers.{ticks_register};
 ghost use Rattle.ten_core.specs.Tenants.{tenant_of, IsImage};
-ghost use Rattle.ten_core.specs.Runs.{IsAt, IsTame, Runs};
+ghost use Rattle.ten_core.specs.Runs.{first_stage, after_cycle, after_call, IsAt, IsTame, Runs};
 
 use crate::banks::{copy_bank, go_to};
 use crate::image::Image;
@@ -58,7 +55,7 @@ impl Tenant {
     /// A run of an image's design from its start, with these files.
     pub fn new(alloc: Global, image: Image, files: FileSet) -> Result<Tenant, AllocError>
         ensures { IfOk result (λ t. (o : Origin) (order : List ℕ) →
-            IsImage o.flat order image → o.files ≡ files → o.resume ≡ None → IsAt o order (tenant_of t) 0 (committed_in (table_of o.flat).zero.first (start o.flat).state)) }
+            IsImage o.flat order image → o.files ≡ files → o.resume ≡ None → IsAt o order (tenant_of t) 0 (first_stage o)) }
     {
         let bank = copy_bank(alloc, &image.zero)?;
         Ok(Tenant {
@@ -81,7 +78,7 @@ impl Tenant {
         requires ticks { slice_index self.old.bank.regs.items ticks_register + 1 < 2 ^ 32 }
         requires cycles { self.old.cycles + 1 < 2 ^ 64 }
         ensures { (o : Origin) (order : List ℕ) (c : ℕ) (i : Stage) → IsTame o order → IsAt o order (tenant_of self.old) c i →
-            IsAt o order (tenant_of self.new) (if self.new.waits then c else suc c) (nodes.cycle o.flat o.files (nets_of o.flat o.files order) (table_of o.flat).nodes i) }
+            IsAt o order (tenant_of self.new) (if self.new.waits then c else suc c) (after_cycle o order i) }
     {
         a_cycle_of_states_is_one_of_nodes();
         step(&self.image.table, &mut self.bank);
@@ -97,7 +94,7 @@ impl Tenant {
         requires waits { self.old.waits ≡ true }
         requires cycles { self.old.cycles + 1 < 2 ^ 64 }
         ensures ok { OnOk result ((o : Origin) (order : List ℕ) (c : ℕ) (i : Stage) → IsTame o order → IsAt o order (tenant_of self.old) c i →
-            IsAt o order (tenant_of self.new) (suc c) (nodes.served (scope_of o.flat o.files) (table_of o.flat).nodes i)) }
+            IsAt o order (tenant_of self.new) (suc c) (after_call o i)) }
         ensures err { OnErr result (tenant_of self.new ≡ tenant_of self.old) }
     {
         let (trap, next) = next_call(&self.image.table, &self.bank);

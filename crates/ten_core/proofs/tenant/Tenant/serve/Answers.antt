@@ -7,7 +7,9 @@ use Rattle.ten_core.specs.Tenants.{tenant_of}
 use Rattle.ten_core.proofs.tenant.Tenant.serve.Goals as goal
 
 pub next_call-next-requires-clause-call : goal.next_call-next-requires-clause-call
-next_call-next-requires-clause-call c = let r = c.requires.runs in some-call r.origin r.order (tenant_of c.args.self.now) r.acts r.stage r.at r.tame c.requires.waits
+next_call-next-requires-clause-call c =
+    let r = c.requires.runs in
+    some-call r.origin r.order (tenant_of c.args.self.now) r.acts r.stage r.at r.tame c.requires.waits
 
 pub serve-requires-clause-trap : goal.serve-requires-clause-trap
 serve-requires-clause-trap c =

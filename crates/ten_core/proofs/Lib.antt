@@ -1,0 +1,5 @@
+mod Cycling
+mod Places
+mod Serving
+mod Silent
+mod Tidying

@@ -1,0 +1,304 @@
+-- A call that a tenant serves is done as the run of its design's table does it.
+use Rattle.std.proofs.Common.{◌≡◌, ◌≢◌, ℕ, suc, ◌+◌, ◌<◌, Bool, true, false, List, [], ◌∷◌, length, map, Option, Some, None, inl, inr}
+use Rattle.std.proofs.Common.{refl, sym, ap, ◌∙◌, subst, arith}
+use Rattle.std.specs.Prelude.{IsTrue, ◌↔◌, slice_get, slice_set, slice_index, ◌==◌, nat_le}
+use Rattle.std.specs.List.{list_any}
+use Rattle.std.proofs.lemmas.Bool.{eq-eqb}
+use Rattle.std.proofs.lemmas.List.{get_or-set_same, get_or-set_other, length-set}
+use Rattle.vl_design.specs.Alone.{Origin}
+use Rattle.vl_design.specs.Functions.{scope_of}
+use Rattle.vl_design.specs.Snapshots.{Snapshot}
+use Rattle.vl_design.specs.State.{State, sample}
+use Rattle.vl_design.specs.Syntax.{Task, Flat}
+use Rattle.vl_design.specs.Tasks.{called}
+use Rattle.cell_form.specs.Data.{BankData, StateData, TableData}
+use Rattle.cell_form.specs.Sound.{Shape, shape_of}
+use Rattle.cell_form.specs.Views as cells
+use Rattle.cell_form.specs.declared.table.Trap.{Trap as TrapData}
+use Rattle.sub_nodes.specs.Code.{table_of}
+use Rattle.sub_nodes.specs.Cycles.{Stage, served, served_by, is_trap}
+use Rattle.sub_nodes.specs.Nodes.{Node, Run, Trap, Apply}
+use Rattle.sub_nodes.specs.Stands.{at_trap, first_stage, Comes, cycles, serves}
+use Rattle.sub_nets.specs.Nets.{zero_low}
+use Rattle.ten_files.specs.declared.row.Row.{Row}
+use Rattle.ten_files.specs.Tables.{open_files, IsTableOf}
+use Rattle.ten_form.specs.Banks.{IsFor, HoldsState}
+use Rattle.ten_form.specs.Nets.{nets_of}
+use Rattle.ten_form.specs.Registers.{value_register, work_register, update_register, mask_register}
+use Rattle.ten_calls.specs.Asked.{asked}
+use Rattle.ten_calls.specs.Works.{works_of, IsBefore, DoesCall}
+use Rattle.ten_calls.proofs.Doing.{can, does}
+use Rattle.ten_calls.proofs.Serving.{holds-altered}
+use Rattle.trap_runtime.specs.Served as s
+use Rattle.trap_runtime.specs.Traps.{IsTrap}
+use Rattle.trap_runtime.specs.declared.served.Served.TheVariants as way
+use Rattle.ten_image.specs.Paired.{CallsStandApart}
+use Rattle.ten_image.specs.States.{Waits, IsStateOf, StandsAt}
+use Rattle.ten_core.specs.Runs.{IsAt, IsTame}
+use Rattle.ten_core.specs.Tenants.{TenantData, states_of}
+use Rattle.ten_core.specs.Traps.{IsAtCall}
+use Rattle.ten_core.proofs.Silent.{cycled-quiet}
+use Rattle.ten_core.proofs.Cycling.{number, present-here}
+
+-- ---- where calls stand
+
+-- the node behind a call is no call's
+behind-call : (nodes : List Node) → CallsStandApart nodes → (n : ℕ) (task : Task) (to : ℕ) → slice_get nodes n ≡ Some (Trap task to) →
+    is_trap (slice_get nodes to) ≡ false
+behind-call nodes apart n task to is = of (slice_get nodes to) refl
+  where
+    leads : list_any (λ k. k == to) (to ∷ []) ≡ true
+    leads = rw (eq-eqb to to refl) refl
+
+    of : (x : Option Node) → slice_get nodes to ≡ x → is_trap x ≡ false
+    of None e = refl
+    of (Some (Run g on)) e = refl
+    of (Some (Trap other at)) e = absurd (apart n to (Trap task to) other at is leads e)
+    of (Some (Apply at)) e = refl
+
+module _ (o : Origin) (order : List ℕ) (tame : IsTame o order) (apart : CallsStandApart (table_of o.flat).nodes) where
+  begins-alive : (r : Option Snapshot) → (first_stage o (table_of o.flat) (nets_of o.flat o.files order) r).state.finished ≡ false
+  begins-alive None = refl
+  begins-alive (Some k) = refl
+
+  -- the run comes to a call before it has finished
+  trap-alive : {c : ℕ} {i : Stage} → Comes o (table_of o.flat) (nets_of o.flat o.files order) c i → at_trap (table_of o.flat) i ≡ true →
+      i.state.finished ≡ false
+  trap-alive Comes.begins w = begins-alive o.resume
+  trap-alive (cycles {i = i} x f h) w =
+      (cycled-quiet o.flat o.files (nets_of o.flat o.files order) (slice_get (table_of o.flat).nodes i.node) i
+      (λ g on e. tame.quiet i.node g on e)).finished ∙ f
+  trap-alive (serves {i = i} x h) w = at (slice_get (table_of o.flat).nodes i.node) refl h w
+    where
+      at : (x : Option Node) → slice_get (table_of o.flat).nodes i.node ≡ x → is_trap x ≡ true →
+          at_trap (table_of o.flat) (served_by (scope_of o.flat o.files) x i) ≡ true →
+          (served_by (scope_of o.flat o.files) x i).state.finished ≡ false
+      at None e h w = let z : ⊥ = cc in absurd z
+      at (Some (Run g on)) e h w = let z : ⊥ = cc in absurd z
+      at (Some (Trap task to)) e h w = let f = behind-call (table_of o.flat).nodes apart i.node task to e in let z : ⊥ = cc in absurd z
+      at (Some (Apply to)) e h w = let z : ⊥ = cc in absurd z
+
+-- ---- a bank with another state next
+
+goes-to : (d : Flat) (committed : List (List ℕ)) (b : BankData) (r v : ℕ) (y : State) → r ≡ 0 → HoldsState d b y committed →
+    HoldsState d (record b { regs = slice_set b.regs r v }) y committed
+goes-to d committed b r v y e h =
+    let other : (j : ℕ) → j ≢ 0 → slice_index (slice_set b.regs r v) j ≡ slice_index b.regs j = λ j n. rw e (get_or-set_other b.regs 0 j v 0 n) in
+    holds-altered d committed b (record b { regs = slice_set b.regs r v }) y y
+    (record {
+      works = λ k i. other (work_register k) (λ z. omega (arith, z)) ∙ h.works k i;
+      memories = h.memories;
+      answer = other 1 (λ z. omega (arith, z)) ∙ h.answer;
+      small = h.small;
+      values = λ k. other (value_register k) (λ z. omega (arith, z));
+      updates = λ k. other (update_register k) (λ z. omega (arith, z));
+      masks = λ k. other (mask_register k) (λ z. omega (arith, z));
+      ticks_kept = other 2 (λ z. omega (arith, z));
+      later = refl;
+      ticks = refl;
+    })
+    h
+
+next-is : (b : BankData) (r v : ℕ) → r ≡ 0 → r < length b.regs → slice_index (slice_set b.regs r v) 0 ≡ v
+next-is b r v e l = let there : 0 < length b.regs = omega (arith, e, l) in rw e (get_or-set_same b.regs 0 v 0 there)
+
+alike : (a b : Bool) (P : Type 0) → (IsTrue a ↔ P) → (P ↔ (b ≡ true)) → a ≡ b
+alike true true P f g = refl
+alike true false P f g = sym (g.0 (f.0 refl))
+alike false true P f g = f.1 (g.1 refl)
+alike false false P f g = refl
+
+-- ---- the call that waits
+
+module _ (o : Origin) (order : List ℕ) (t : TenantData) (c : ℕ) (here : Stage) (at : IsAt o order t c here) (tame : IsTame o order) (w : t.waits ≡ true) where
+  abbrev nodes : List Node
+  nodes = (table_of o.flat).nodes
+
+  abbrev table : TableData
+  table = cells.table_of t.image.table
+
+  -- the node that is next is this call's, and its state waits for it
+  pub record Call : Type 0 where
+    pub task : Task
+    pub to : ℕ
+    pub state : StateData
+    pub node : slice_get nodes here.node ≡ Some (Trap task to)
+    pub has : slice_get (states_of t.image) here.node ≡ Some state
+    pub waits : Waits o.flat order at.image.slots task to state
+
+  call-of : (early : Bool) (x : Node) (y : StateData) → is_trap (Some x) ≡ true → slice_get nodes here.node ≡ Some x →
+      slice_get (states_of t.image) here.node ≡ Some y →
+      IsStateOf o.flat order early at.image.slots nodes (states_of t.image) x y → Call
+  call-of early (Run g on) y w e f h = let z : ⊥ = cc in absurd z
+  call-of early (Trap task to) y w e f h = record { task = task; to = to; state = y; node = e; has = f; waits = h }
+  call-of early (Apply to) y w e f h = let z : ⊥ = cc in absurd z
+
+  trapped : is_trap (slice_get nodes here.node) ≡ true
+  trapped = sym at.waits ∙ w
+
+  call-here : Call
+  call-here =
+      elim (number o.flat order at.image.slots nodes (states_of t.image) here.node at.image.states) [
+        | inl h ↦ call-of (nat_le (zero_low o.flat) here.node) h.node h.state (sym (ap is_trap h.is) ∙ trapped) h.is h.has h.of
+        | inr h ↦ (let e = ap is_trap h.node in let z : ⊥ = cc in absurd z)
+      ]
+
+  is-at-call : IsAtCall table t.bank call-here.waits.trap call-here.to
+  is-at-call = record {
+    state = call-here.state;
+    is_next = present-here o order t c here at ∙ call-here.has;
+    waits = call-here.waits.is;
+    leads = call-here.waits.next;
+  }
+
+  abbrev task : Task
+  task = call-here.task
+
+  abbrev trap : TrapData
+  trap = call-here.waits.trap
+
+  -- there is no other call
+  one-call : (other : TrapData) (to : ℕ) → IsAtCall table t.bank other to → (other ≡ trap) × (to ≡ call-here.to)
+  one-call other to h =
+      let mine = is-at-call in
+      let same : h.state ≡ mine.state = (let e = h.is_next in let f = mine.is_next in cc) in
+      let traps : Some other ≡ Some trap = sym h.waits ∙ (ap (λ (y : StateData). y.trap) same ∙ mine.waits) in
+      let leads : to ∷ [] ≡ call-here.to ∷ [] = sym h.leads ∙ (ap (λ (y : StateData). y.nexts) same ∙ mine.leads) in
+      (cc, cc)
+
+  alive : here.state.finished ≡ false
+  alive = trap-alive o order tame at.image.apart at.comes trapped
+
+  args-held : map (slice_index t.bank.slots) trap.args ≡ asked (scope_of o.flat o.files) (sample here.state) task
+  args-held =
+      let call = call-here in
+      let k = at.stands.asked call.task call.to call.node in
+      let states : k.there.state ≡ call.state = (let e = k.there.there in let f = call.has in cc) in
+      let traps : Some k.trap ≡ Some call.waits.trap = sym k.there.trap ∙ (ap (λ (y : StateData). y.trap) states ∙ call.waits.is) in
+      let same : k.trap ≡ call.waits.trap = cc in
+      subst (λ (z : TrapData). map (slice_index t.bank.slots) z.args ≡ asked (scope_of o.flat o.files) (sample here.state) call.task) same k.args
+
+  before : IsBefore o.flat o.files task at.image.slots trap t.bank here.state here.committed
+  before =
+      let calls = tame.calls here.node call-here.task call-here.to call-here.node in
+      record {
+        trap = call-here.waits.call;
+        sound = calls.0;
+        variable = calls.1;
+        one_word = tame.one_word;
+        shape = at.stands.shape;
+        holds = at.stands.stage.holds;
+        fine = (tame.tidy c here at.comes alive).fine;
+        goes_on = alive;
+        args = args-held;
+      }
+
+  can-serve : IsTrap t.bank trap
+  can-serve = can o.flat o.files at.image.slots trap t.bank here.state here.committed task before
+
+  done : DoesCall o.flat o.files task trap t.bank here.state here.committed
+  done = does o.flat o.files at.image.slots trap t.bank here.state here.committed task tame.bytes before
+
+  pub some-call : (other : TrapData) × (to : ℕ) × IsAtCall table t.bank other to
+  some-call = (trap, call-here.to, is-at-call)
+
+  pub can-be-served : (other : TrapData) (to : ℕ) → IsAtCall table t.bank other to → IsTrap t.bank other
+  can-be-served other to h = subst (IsTrap t.bank) (sym (one-call other to h).0) can-serve
+
+  -- ---- behind the call
+
+  abbrev works : List (Option Row) → s.Works
+  works rows = record { bank = t.bank; table = open_files t.files rows; printed = t.printed }
+
+  abbrev state : State
+  state = called (scope_of o.flat o.files) task here.state
+
+  works-is : works t.rows ≡ works_of t.bank here.state
+  works-is =
+      let tables : open_files t.files t.rows ≡ here.state.table = ap (λ fs. open_files fs t.rows) (sym at.files) ∙ at.table in
+      ap (λ x. record { bank = t.bank; table = x; printed = t.printed }) tables
+      ∙ ap (λ x. record { bank = t.bank; table = here.state.table; printed = x }) at.printed
+
+  -- a call, served, leaves this
+  abbrev IsServed : TrapData → BankData → List (Option Row) → List ℕ → Type 0
+  IsServed other b rows printed = record { bank = b; table = open_files t.files rows; printed = printed } ≡ s.served t.files other (works t.rows)
+
+  module _ (b : BankData) (rows : List (Option Row)) (printed : List ℕ) (is : IsServed trap b rows printed) where
+    served-is : record { bank = b; table = open_files t.files rows; printed = printed } ≡ s.served o.files trap (works_of t.bank here.state)
+    served-is = is ∙ (ap (s.served t.files trap) works-is ∙ ap (λ fs. s.served fs trap (works_of t.bank here.state)) (sym at.files))
+
+    bank-is : b ≡ (s.served o.files trap (works_of t.bank here.state)).bank
+    bank-is = ap (λ (z : s.Works). z.bank) served-is
+
+    shape-is : shape_of b ≡ shape_of t.bank
+    shape-is = ap shape_of bank-is ∙ done.shape
+
+    served-regs : length b.regs ≡ length t.bank.regs
+    served-regs = ap (λ (z : Shape). z.regs) shape-is
+
+    served-register : t.image.table.state < length b.regs
+    served-register = let r = at.image.register in let many = at.stands.shape.regs in let same = served-regs in omega (arith, r, many, same)
+
+    abbrev after : BankData
+    after = record b { regs = slice_set b.regs t.image.table.state call-here.to }
+
+    abbrev then : Stage
+    then = record here { node = call-here.to; state = state }
+
+    then-is : served (scope_of o.flat o.files) nodes here ≡ then
+    then-is = ap (λ x. served_by (scope_of o.flat o.files) x here) call-here.node
+
+    none-behind : is_trap (slice_get nodes call-here.to) ≡ false
+    none-behind = behind-call nodes at.image.apart here.node task call-here.to call-here.node
+
+    then-holds : HoldsState o.flat after state here.committed
+    then-holds =
+        goes-to o.flat here.committed b t.image.table.state call-here.to state at.image.register
+        (subst (λ z. HoldsState o.flat z state here.committed) (sym bank-is) done.bank)
+
+    then-stands : StandsAt o.flat order o.files at.image.slots nodes (states_of t.image) after then
+    then-stands =
+        let same = shape-is in
+        let shape = subst (IsFor o.flat at.image.slots) (sym same) at.stands.shape in
+        record {
+          shape = record { regs = length-set b.regs t.image.table.state call-here.to ∙ shape.regs; mems = shape.mems; slots = shape.slots };
+          stage = record { node = next-is b t.image.table.state call-here.to at.image.register served-register; holds = then-holds };
+          asked = λ other to e. (let f = none-behind in let g = ap is_trap e in let z : ⊥ = cc in absurd z);
+        }
+
+    served-at : IsTableOf t.files rows → (finished : Bool) → (IsTrue finished ↔ (s.way_of trap.call ≡ way.Finish)) → (count : ℕ) → count ≡ t.cycles + 1 →
+        IsAt o order (record t { bank = after; rows = rows; printed = printed; finished = finished; waits = false; cycles = count }) (suc c) then
+    served-at fits finished ends count counts = record {
+      image = at.image;
+      files = at.files;
+      from_nothing = at.from_nothing;
+      comes = subst (λ i. Comes o (table_of o.flat) (nets_of o.flat o.files order) (suc c) i) then-is (serves at.comes trapped);
+      stands = then-stands;
+      printed = ap (λ (z : s.Works). z.printed) served-is ∙ done.printed;
+      fits = subst (λ fs. IsTableOf fs rows) (sym at.files) fits;
+      table = ap (λ fs. open_files fs rows) at.files ∙ (ap (λ (z : s.Works). z.table) served-is ∙ done.table);
+      finished = alike finished state.finished (s.way_of trap.call ≡ way.Finish) ends done.finishes;
+      waits = sym none-behind;
+      cycles = (let e = at.cycles in omega (arith, counts, e));
+    }
+
+  module _ (other : TrapData) (to : ℕ) (h : IsAtCall table t.bank other to) where
+    module _ (b : BankData) (rows : List (Option Row)) (text : List ℕ) (is : IsServed other b rows text) where
+      is-mine : IsServed trap b rows text
+      is-mine = is ∙ ap (λ z. s.served t.files z (works t.rows)) (one-call other to h).0
+
+      pub register-behind : t.image.table.state < length b.regs
+      register-behind = served-register b rows text is-mine
+
+      pub served-behind : IsTableOf t.files rows → (finished : Bool) → (IsTrue finished ↔ (s.way_of other.call ≡ way.Finish)) → (z : BankData) →
+          z ≡ record b { regs = slice_set b.regs t.image.table.state to } →
+          IsAt o order (record t { bank = z; rows = rows; printed = text; finished = finished; waits = false; cycles = t.cycles + 1 }) (suc c)
+          (served (scope_of o.flat o.files) nodes here)
+      served-behind fits finished ends z e =
+          let same = one-call other to h in
+          let mine = subst (λ (y : TrapData). IsTrue finished ↔ (s.way_of y.call ≡ way.Finish)) same.0 ends in
+          let bank : z ≡ after b rows text is-mine = e ∙ ap (λ n. record b { regs = slice_set b.regs t.image.table.state n }) same.1 in
+          let at-then = served-at b rows text is-mine fits finished mine (t.cycles + 1) refl in
+          let u : TenantData = record t { bank = z; rows = rows; printed = text; finished = finished; waits = false; cycles = t.cycles + 1 } in
+          subst (λ y. IsAt o order u (suc c) y) (sym (then-is b rows text is-mine))
+          (subst (λ y. IsAt o order (record u { bank = y }) (suc c) (then b rows text is-mine)) (sym bank) at-then)

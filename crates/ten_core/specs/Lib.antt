@@ -1,0 +1,3 @@
+pub mod Traps
+pub mod Tenants
+pub mod Runs

@@ -1,2 +1,2 @@
-mod Nexting
+pub mod Nexting
 mod Ways

@@ -58,7 +58,7 @@ module _ (names : Names) (at : Env) where
       let stl = stands-stays names b l0 l at x g0 fits st in
       let clear : held b l here ≡ 0 = ap (held b l) is-here ∙ held-stays b l0 l at.here g0 fits.here.there ∙ fits.is_here s b sound in
       let match : held b l1 behind ≡ (if some_match scope x c (g x) es then 1 else 0) =
-          cmp.value t b x s0 stl ∙ ap (λ z. if some_match scope x c z es then 1 else held b l here) (subj.value s b x sound st) ∙ ap (λ z. if some_match scope x c (g x) es then 1 else z) clear in
+      cmp.value t b x s0 stl ∙ ap (λ z. if some_match scope x c z es then 1 else held b l here) (subj.value s b x sound st) ∙ ap (λ z. if some_match scope x c (g x) es then 1 else z) clear in
       by-match (some_match scope x c (g x) es) (held b l2 behind) (held b l2 next) (held b l2 to) (f x)
       (held-stays b l1 l2 behind g12 cmp.slot.there ∙ match) (h2.value s b x sound st) (num.value t b s1)))
     where

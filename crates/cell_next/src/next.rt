@@ -99,9 +99,7 @@ pub fn switch(
     let mut next = number(alloc, cells, otherwise)?;
     for tried in 0..ways.len() {
         let way = &ways[ways.len() - 1 - tried];
-        let behind = labels(
-            alloc, cells, design, at, subject, c, at.here, way.labels,
-        )?;
+        let behind = labels(alloc, cells, design, at, subject, c, at.here, way.labels)?;
         let to = number(alloc, cells, way.to)?;
         next = steps::mux(alloc, cells, behind, to, next)?;
     }

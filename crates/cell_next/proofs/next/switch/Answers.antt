@@ -134,7 +134,7 @@ loop-tried-preserved c =
     let one : length ws - (k + 1) ≡ i = omega arith in
     let two : i + 1 ≡ length ws - k = omega (arith, lt) in
     let left : ways_view (drop (length ws - (k + 1)) ws) ≡ record { labels = exps_of x.labels.now; to = x.to } ∷ rest =
-        ap (λ j. ways_view (drop j ws)) one ∙ ways-read ws i x (omega (arith, lt)) c.index-ways-ways.is ∙ ap (λ j. record { labels = exps_of x.labels.now; to = x.to } ∷ ways_view (drop j ws)) two in
+    ap (λ j. ways_view (drop j ws)) one ∙ ways-read ws i x (omega (arith, lt)) c.index-ways-ways.is ∙ ap (λ j. record { labels = exps_of x.labels.now; to = x.to } ∷ ways_view (drop j ws)) two in
     let wide : width_at l3 c.in_ok-to.to ≡ 32 = c.in_ok-to.ensures.gives.width in
     record {
       grows = grows-then l0 l1 l4 inv.grows g14;

@@ -1,0 +1,24 @@
+-- One pass leaves signals that aren't computed as they are.
+use Rattle.std.proofs.Common.{◌≡◌, ℕ, Bool, true, false, List, [], ◌∷◌, refl, sym, ◌∙◌}
+use Rattle.std.specs.Prelude.{◌==◌, if◌then◌else◌}
+use Rattle.std.proofs.lemmas.Bool.{eq-eqb}
+use Rattle.vl_base.specs.declared.files.File.{File}
+use Rattle.vl_design.specs.Exec.{exec}
+use Rattle.vl_design.specs.Functions.{scope_of}
+use Rattle.vl_design.specs.Queue.{proc_at}
+use Rattle.vl_design.specs.State.{State}
+use Rattle.vl_design.specs.Syntax.{Flat}
+use Rattle.vl_design.specs.Value.{words_of}
+use Rattle.vl_design.proofs.Kept.{exec_keeps}
+use Rattle.settling.specs.Nets.{pass}
+use Rattle.vl_settle.specs.Computed.{computed_at}
+use Rattle.vl_settle.specs.Nets.{comb_at, run}
+use Rattle.cell_states.specs.Designs.{ComputesAlone}
+
+pub pass-keeps : (d : Flat) (files : List File) (s : State) (k : ℕ) → ComputesAlone d → computed_at d.rows k ≡ false → (os : List ℕ) (v : List (List ℕ)) → words_of (pass (run d files s) os v) k ≡ words_of v k
+pass-keeps d files s k alone other [] v = refl
+pass-keeps d files s k alone other (i ∷ os) v = pass-keeps d files s k alone other os (run d files s i v) ∙ one (comb_at d i) refl
+  where
+    one : (c : Bool) → comb_at d i ≡ c → words_of (if c then (exec (scope_of d files) (proc_at d i).body (record s { values = v })).values else v) k ≡ words_of v k
+    one true e = sym (exec_keeps (λ x. x == k) k (eq-eqb k k refl) (scope_of d files) (proc_at d i).body (alone i k e other) (record s { values = v }))
+    one false e = refl

@@ -1,0 +1,128 @@
+-- The writes at the end of a state.
+use Rattle.std.proofs.Common.{◌≡◌, ◌≢◌, ℕ, Bool, true, false, List, [], ◌∷◌, ◌++◌, length, Option, Some, None, refl, sym, ap, ◌∙◌, arith, subst}
+use Rattle.std.specs.Prelude.{slice_get, ◌&&◌, nat_le}
+use Rattle.std.specs.List.{AllByRecursion}
+use Rattle.std.proofs.lemmas.Bool.{leb-true, true≢false}
+use Rattle.vl_design.specs.declared.design.SigKind.{SigKind}
+use Rattle.vl_design.specs.declared.design.SigKind.TheVariants.{Net, Var, Comb, Loop, Mem, Clock}
+use Rattle.vl_design.specs.Rows.{has_width}
+use Rattle.vl_design.specs.Sound.{HasValue, IsOf, IsWidth, IsSignal}
+use Rattle.vl_design.specs.Syntax.{Row, Flat}
+use Rattle.vl_design.specs.Width.{Names, names_of}
+use Rattle.cell_form.specs.declared.cell.Write.{Write}
+use Rattle.cell_form.specs.declared.cell.Write.TheVariants as w
+use Rattle.cell_form.specs.Data.{ListData}
+use Rattle.cell_form.specs.Sound.{Shape, IsWrite}
+use Rattle.cell_paths.specs.Envs.{Env, entry, IsSlot, IsEntry, Fits}
+use Rattle.cell_later.specs.Pendings.{PendingSlots, ArePending, slot_of}
+use Rattle.ten_form.specs.Registers.{state_register, ticks_register}
+use Rattle.ten_form.specs.Banks.{IsFor}
+use Rattle.cell_waves.specs.Copies.{is_written, has_copy, changed, each_one, IsHeld, HasSignals, Sets}
+use Rattle.cell_waves.specs.Ends.{Ends}
+use Rattle.cell_waves.specs.Lasts.{last_write, IsRegister}
+use Rattle.cell_states.specs.Ended.{AreChanges, Commits, with_ticks, IsEnd}
+use Rattle.cell_states.specs.Segments.{IsTicks}
+use Rattle.cell_waves.proofs.Ending.{entry-slot, starts-none, ends-segment, ends-wave, ends-beside}
+use Rattle.cell_waves.proofs.Lasting.{last-here, last-other}
+use Rattle.cell_states.proofs.Applying.{all-push}
+
+and-parts : (a b : Bool) → (a && b) ≡ true → (a ≡ true) × (b ≡ true)
+and-parts true b h = (refl, h)
+and-parts false b h = absurd (true≢false (sym h))
+
+width-of : (n : ℕ) → has_width n ≡ true → IsWidth n
+width-of n h = let p = and-parts (nat_le 1 n) (nat_le n 128) h in record { wide = leb-true 1 n p.0; narrow = leb-true n 128 p.1 }
+
+value-of : (copy : ℕ) (k : SigKind) → has_copy copy k ≡ true → HasValue k
+value-of copy Net h = tt
+value-of copy Var h = tt
+value-of copy Comb h = tt
+value-of copy Loop h = tt
+value-of copy Mem h = absurd (true≢false (sym h))
+value-of copy Clock h = tt
+
+-- a signal that is written is one
+signal-of : (names : Names) (copy k : ℕ) → is_written copy (slice_get names.rows k) ≡ true → IsSignal names k
+signal-of names copy k = of (slice_get names.rows k)
+  where
+    of : (o : Option Row) → is_written copy o ≡ true → IsOf HasValue o
+    of None h = absurd (true≢false (sym h))
+    of (Some r) h = let p = and-parts (has_copy copy r.kind) (has_width r.width) h in (value-of copy r.kind p.0, width-of r.width p.1)
+
+held-entry : (l : ListData) (w : ℕ) (e : Option ℕ) → IsEntry l w e → IsHeld l e
+held-entry l w None h = tt
+held-entry l w (Some r) h = h.there
+
+module _ (d : Flat) (commits : Bool) (at0 at1 : Env) (p0 p1 : PendingSlots) (ticks : Option ℕ) (next : ℕ) (s1 s2 s3 s4 : List Write)
+    (a : Sets d.rows 4 (changed at0.slots at1.slots) at1.slots at1.here [] s1) (b : Sets d.rows 5 (changed p0.update p1.update) p1.update at1.here s1 s2) (c : Sets d.rows 6 (changed p0.mask p1.mask) p1.mask at1.here s2 s3) where
+  abbrev names : Names
+  names = names_of d
+
+  abbrev all : List Write
+  all = with_ticks ticks s4 ++ w.Reg state_register next ∷ []
+
+  registers-ticks : (o : Option ℕ) → AllByRecursion IsRegister s4 → AllByRecursion IsRegister (with_ticks o s4)
+  registers-ticks None h = h
+  registers-ticks (Some r) h = all-push IsRegister s4 (w.Reg ticks_register r) h tt
+
+  other-ticks : (o : Option ℕ) (r : ℕ) → r ≢ 2 → last_write (with_ticks o s4) r ≡ last_write s4 r
+  other-ticks None r h = refl
+  other-ticks (Some q) r h = last-other s4 ticks_register r q h
+
+  last-ticks : (o : Option ℕ) → last_write s4 ticks_register ≡ None → last_write (with_ticks o s4) ticks_register ≡ o
+  last-ticks None h = h
+  last-ticks (Some r) h = last-here s4 ticks_register r
+
+  all-in : (z : Shape) (l : ListData) → IsFor d 0 z → AllByRecursion (IsWrite z l.first (length l.cells)) s4 → IsTicks l ticks → IsSlot l next 32 → AllByRecursion (IsWrite z l.first (length l.cells)) all
+  all-in z l h sets t n = all-push (IsWrite z l.first (length l.cells)) (with_ticks ticks s4) (w.Reg state_register next) (ticks-in ticks t) (let r = h.regs in (omega (arith, r), n.there))
+    where
+      ticks-in : (o : Option ℕ) → IsTicks l o → AllByRecursion (IsWrite z l.first (length l.cells)) (with_ticks o s4)
+      ticks-in None t = sets
+      ticks-in (Some r) t = all-push (IsWrite z l.first (length l.cells)) s4 (w.Reg ticks_register r) sets (let q = h.regs in (omega (arith, q), t.there))
+
+  finish : Ends d.rows commits at0 at1 p0 p1 at1.here s4 → last_write s4 ticks_register ≡ None →
+      ((z : Shape) (l : ListData) → IsFor d 0 z → Fits names l at1 → at1.first ≡ 0 → ArePending names l p1 → AllByRecursion (IsWrite z l.first (length l.cells)) s4) → IsEnd d commits at0 at1 p0 p1 ticks next all
+  finish e none sound = record {
+    ends = ends-beside d.rows commits at0 at1 p0 p1 at1.here s4 all e (all-push IsRegister (with_ticks ticks s4) (w.Reg state_register next) (registers-ticks ticks e.registers) tt)
+        (λ r h k. last-other (with_ticks ticks s4) state_register r next h ∙ other-ticks ticks r k);
+    node = last-here (with_ticks ticks s4) state_register next;
+    counts = last-other (with_ticks ticks s4) state_register ticks_register next (λ z. omega (arith, z)) ∙ last-ticks ticks none;
+    sound = λ z l h fits first pending t n. all-in z l h (sound z l h fits first pending) t n;
+  }
+
+  signals-held : (z : Shape) (l : ListData) → IsFor d 0 z → HasSignals (length d.rows) z
+  signals-held z l h = let r = h.regs in omega (arith, r)
+
+  slots-held : (l : ListData) (copy : ℕ) → Fits names l at1 → at1.first ≡ 0 → (k : ℕ) → is_written copy (slice_get d.rows k) ≡ true → IsHeld l (slot_of at1.slots k)
+  slots-held l copy fits first k h = subst (IsHeld l) (entry-slot at1 k first) (held-entry l _ (entry at1 k) (fits.signals k (signal-of names copy k h)))
+
+  sound3 : (z : Shape) (l : ListData) → IsFor d 0 z → Fits names l at1 → at1.first ≡ 0 → ArePending names l p1 → AllByRecursion (IsWrite z l.first (length l.cells)) s3
+  sound3 z l h fits first pending =
+      let signals = signals-held z l h in
+      c.sound z l signals fits.here.there (λ k i. held-entry l _ (slot_of p1.mask k) (pending.mask k (signal-of names 6 k i)))
+      (b.sound z l signals fits.here.there (λ k i. held-entry l _ (slot_of p1.update k) (pending.update k (signal-of names 5 k i)))
+      (a.sound z l signals fits.here.there (slots-held l 4 fits first) tt))
+
+  no-ticks3 : last_write s3 ticks_register ≡ None
+  no-ticks3 = c.others 2 (λ k z. omega (arith, z)) ∙ b.others 2 (λ k z. omega (arith, z)) ∙ a.others 2 (λ k z. omega (arith, z))
+
+  -- behind a segment
+  pub end-segment : commits ≡ false → s4 ≡ s3 → IsEnd d commits at0 at1 p0 p1 ticks next all
+  end-segment e same =
+      let ends = ends-segment d.rows at0 at1 p0 p1 at1.here [] s1 s2 s3 starts-none a b c in
+      finish (subst (λ q. Ends d.rows q at0 at1 p0 p1 at1.here s4) (sym e) (subst (Ends d.rows false at0 at1 p0 p1 at1.here) (sym same) ends))
+      (ap (λ xs. last_write xs ticks_register) same ∙ no-ticks3)
+      (λ z l h fits first pending. subst (AllByRecursion (IsWrite z l.first (length l.cells))) (sym same) (sound3 z l h fits first pending))
+
+  -- at the end of a wave
+  pub end-wave : commits ≡ true → Sets d.rows 3 each_one at1.slots at1.here s3 s4 → IsEnd d commits at0 at1 p0 p1 ticks next all
+  end-wave e v =
+      let ends = ends-wave d.rows at0 at1 p0 p1 at1.here [] s1 s2 s3 starts-none a b c s4 v in
+      finish (subst (λ q. Ends d.rows q at0 at1 p0 p1 at1.here s4) (sym e) ends) (v.others 2 (λ k z. omega (arith, z)) ∙ no-ticks3)
+      (λ z l h fits first pending. v.sound z l (signals-held z l h) fits.here.there (slots-held l 3 fits first) (sound3 z l h fits first pending))
+
+-- the writes of a state
+pub ended : (d : Flat) (commits : Bool) (at0 at1 : Env) (p0 p1 : PendingSlots) (ticks : Option ℕ) (next : ℕ) (s3 s4 sets : List Write) → AreChanges d.rows at0 at1 p0 p1 s3 → Commits d.rows commits at1 s3 s4 →
+    sets ≡ with_ticks ticks s4 ++ w.Reg state_register next ∷ [] → IsEnd d commits at0 at1 p0 p1 ticks next sets
+ended d true at0 at1 p0 p1 ticks next s3 s4 sets c v e = subst (IsEnd d true at0 at1 p0 p1 ticks next) (sym e) (end-wave d true at0 at1 p0 p1 ticks next c.works c.updates s3 s4 c.first c.second c.third refl v)
+ended d false at0 at1 p0 p1 ticks next s3 s4 sets c v e = subst (IsEnd d false at0 at1 p0 p1 ticks next) (sym e) (end-segment d false at0 at1 p0 p1 ticks next c.works c.updates s3 s4 c.first c.second c.third refl v)

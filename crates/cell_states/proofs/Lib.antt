@@ -1,0 +1,9 @@
+mod Stretching
+mod Alone
+mod Making
+mod Trimming
+mod Applying
+mod Finishing
+mod Tabling
+mod Asking
+mod Noding

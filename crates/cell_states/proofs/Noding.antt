@@ -1,0 +1,99 @@
+-- The states that a node adds.
+use Rattle.std.proofs.Common.{◌≡◌, ◌≢◌, ℕ, ◌+◌, ◌<◌, Bool, true, false, List, [], ◌∷◌, ◌++◌, length, map, get_or, Option, Some, None, refl, sym, ap, ◌∙◌, arith, subst}
+use Rattle.std.specs.Prelude.{slice_get, nat_le, option_map}
+use Rattle.std.proofs.lemmas.Bool.{leb-true, true≢false, false_from_ne_true}
+use Rattle.std.proofs.lemmas.List.{length-map}
+use Rattle.std.proofs.lemmas.Option.{slice_get-map, slice_get_read, slice_get_within, none-some}
+use Rattle.vl_design.specs.Syntax.{Task, Flat}
+use Rattle.cell_form.specs.declared.table.State.{State}
+use Rattle.cell_form.specs.Data.{StateData}
+use Rattle.cell_form.specs.Views.{list_of, state_of}
+use Rattle.sub_nodes.specs.Nodes.{Segment, WayOn, Go, Node, Run, Trap, Apply}
+use Rattle.sub_nodes.specs.Cycles.{is_trap}
+use Rattle.sub_split.specs.declared.table.Node.{Node as NodeCode}
+use Rattle.sub_split.specs.Views.{node_view}
+use Rattle.ten_image.specs.States.{slots_in, Does, IsStateOf}
+use Rattle.cell_states.specs.Trims.{Calls}
+use Rattle.cell_states.specs.Tables.{go_of, AreFirst, HasOneMore, HasTwoMore, UpdatesAreBefore}
+use Rattle.cell_states.proofs.Tabling.{go-is, comes-call, one-more, two-more, plain-run}
+
+map-push : {A B : Type 0} (f : A → B) (xs : List A) (x : A) → map f (xs ++ x ∷ []) ≡ map f xs ++ f x ∷ []
+map-push f [] x = refl
+map-push f (y ∷ xs) x = ap (λ zs. f y ∷ zs) (map-push f xs x)
+
+-- two states more
+pub has-two : (d : Flat) (order : List ℕ) (early : Bool) (g : Segment) (trap : ℕ) (task : Task) (to : ℕ) (old mid new : List State) (run wait : State) (before after : ℕ) → mid ≡ old ++ run ∷ [] → new ≡ mid ++ wait ∷ [] →
+    after ≡ slots_in (list_of wait.cells) → slots_in (list_of wait.cells) ≡ slots_in (list_of run.cells) → run.cells.first ≡ before → Calls d order early g trap task to (state_of run) (state_of wait) →
+    HasTwoMore d order early g trap task to (map state_of old) before (map state_of new) after
+has-two d order early g trap task to old mid new run wait before after m e a behind first calls = record {
+  run = state_of run;
+  wait = state_of wait;
+  is = ap (map state_of) e ∙ map-push state_of mid wait ∙ ap (λ ss. ss ++ state_of wait ∷ []) (ap (map state_of) m ∙ map-push state_of old run);
+  grows = omega (arith, a, behind, first);
+  slots = sym behind ∙ sym a;
+  slots_behind = sym a;
+  calls = calls;
+}
+
+-- the node of a number
+pub node-there : (nodes : List NodeCode) (states : List State) (k : ℕ) (x : NodeCode) → k ≡ length states → k < length nodes → x ≡ get_or nodes k x → slice_get (map node_view nodes) (length (map state_of states)) ≡ Some (node_view x)
+node-there nodes states k x e lt is =
+    ap (slice_get (map node_view nodes)) (length-map states state_of ∙ sym e) ∙ slice_get-map node_view nodes k ∙ ap (option_map node_view) (slice_get_read nodes (length nodes) k x refl lt is)
+
+pub node-behind : (nodes : List NodeCode) (states : List State) (k : ℕ) (x : NodeCode) → k ≡ length states → k + 1 < length nodes → x ≡ get_or nodes (k + 1) x → slice_get (map node_view nodes) (length (map state_of states) + 1) ≡ Some (node_view x)
+node-behind nodes states k x e lt is =
+    ap (λ n. slice_get (map node_view nodes) (n + 1)) (length-map states state_of ∙ sym e) ∙ slice_get-map node_view nodes (k + 1) ∙ ap (option_map node_view) (slice_get_read nodes (length nodes) (k + 1) x refl lt is)
+
+abbrev way-go : Node → Option ℕ
+way-go (Run g on) = go_of on
+way-go x = None
+
+abbrev is-run : Node → Bool
+is-run (Run g on) = true
+is-run x = false
+
+module _ (d : Flat) (order : List ℕ) (from : ℕ) (nodes : List Node) (old : List StateData) (before : ℕ) (first : AreFirst d order from nodes old before) where
+  add-one : (early : Bool) (x : Node) (new : List StateData) (after : ℕ) → HasOneMore d order early x old before new after → early ≡ nat_le from (length old) → slice_get nodes (length old) ≡ Some x → is_trap (Some x) ≡ false →
+      ((g : Segment) (k : ℕ) → x ≢ Run g (Go k)) → ((n : ℕ) (ss : List StateData) (s : StateData) → Does d order early x s → IsStateOf d order early n nodes ss x s) → AreFirst d order from nodes new after
+  add-one early x new after h e there free apart plain =
+      subst (λ ss. AreFirst d order from nodes ss after) (sym h.is)
+      (one-more d order nodes from old before after first h.grows x h.state there free apart (let s = h.slots in omega (arith, s))
+      (subst (λ q. IsStateOf d order q after nodes (old ++ h.state ∷ []) x h.state) e (plain after (old ++ h.state ∷ []) h.state h.does)))
+
+  pub add-run-state : (early : Bool) (g : Segment) (on : WayOn) (new : List StateData) (after : ℕ) → go_of on ≡ None → HasOneMore d order early (Run g on) old before new after → early ≡ nat_le from (length old) →
+      slice_get nodes (length old) ≡ Some (Run g on) → AreFirst d order from nodes new after
+  add-run-state early g on new after none h e there =
+      add-one early (Run g on) new after h e there refl (λ q k z. none-some k (sym none ∙ ap way-go z)) (λ n ss s does. plain-run d order nodes early n ss g on s none does)
+
+  pub add-update-state : (to : ℕ) (new : List StateData) (after : ℕ) → HasOneMore d order false (Apply to) old before new after → UpdatesAreBefore from nodes → slice_get nodes (length old) ≡ Some (Apply to) → AreFirst d order from nodes new after
+  add-update-state to new after h updates there =
+      let lt = updates (length old) to there in
+      add-one false (Apply to) new after h (sym (false_from_ne_true (nat_le from (length old)) (λ e. (let le = leb-true from (length old) e in omega (arith, lt, le))))) there refl (λ q k z. apart z) (λ n ss s does. does)
+    where
+      apart : {g : Segment} {k : ℕ} → Apply to ≡ Run g (Go k) → ⊥
+      apart z = true≢false (sym (ap is-run z))
+
+  pub add-call-states : (early : Bool) (g : Segment) (on : WayOn) (trap to : ℕ) (task : Task) (new : List StateData) (after : ℕ) → go_of on ≡ Some trap → HasTwoMore d order early g trap task to old before new after → early ≡ nat_le from (length old) →
+      slice_get nodes (length old) ≡ Some (Run g on) → slice_get nodes (length old + 1) ≡ Some (Trap task to) → AreFirst d order from nodes new after
+  add-call-states early g on trap to task new after go h e there behind =
+      let at = there ∙ ap (λ w. Some (Run g w)) (go-is d order nodes on trap go) in
+      let c = comes-call d order nodes (length old) g trap at first.rest in
+      let run = h.slots in
+      let wait = h.slots_behind in
+      subst (λ ss. AreFirst d order from nodes ss after) (sym h.is)
+      (two-more d order nodes from old before after first h.grows g trap h.run h.wait at (record { task = task; to = to; is = c.is; node = behind; rest = c.rest }) (omega (arith, run)) (omega (arith, wait))
+      (subst (λ q. Calls d order q g trap task to h.run h.wait) e h.calls))
+
+  -- behind a segment that comes to a call, nothing else is next
+  pub call-behind : (g : Segment) (on : WayOn) (trap : ℕ) (y : Node) → go_of on ≡ Some trap → slice_get nodes (length old) ≡ Some (Run g on) → slice_get nodes (length old + 1) ≡ Some y → is_trap (Some y) ≡ false → ⊥
+  call-behind g on trap y go there behind free =
+      let at = there ∙ ap (λ w. Some (Run g w)) (go-is d order nodes on trap go) in
+      let c = comes-call d order nodes (length old) g trap at first.rest in
+      true≢false (ap is_trap (sym c.node ∙ behind) ∙ free)
+
+  -- and this is there
+  pub call-room : (g : Segment) (on : WayOn) (trap : ℕ) → go_of on ≡ Some trap → slice_get nodes (length old) ≡ Some (Run g on) → length old + 1 < length nodes
+  call-room g on trap go there =
+      let at = there ∙ ap (λ w. Some (Run g w)) (go-is d order nodes on trap go) in
+      let c = comes-call d order nodes (length old) g trap at first.rest in
+      slice_get_within nodes (length old + 1) (Trap c.task c.to) c.node

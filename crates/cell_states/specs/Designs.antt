@@ -1,0 +1,27 @@
+-- Which designs are compiled (IEEE 1364-2005, clauses 6.1 and 9.7.5; own).
+use Rattle.std.specs.Prelude.{◌≡◌, ℕ, ◌≤◌, ◌==◌, true, false, List, length, All}
+use Rattle.vl_design.specs.Queue.{proc_at}
+use Rattle.vl_design.specs.Reads.{stm_writes}
+use Rattle.vl_design.specs.Sound.{IsSound, IsMemory}
+use Rattle.vl_design.specs.Syntax.{Flat}
+use Rattle.vl_design.specs.Width.{names_of}
+use Rattle.settling.specs.Nets.{AllBelow}
+use Rattle.vl_settle.specs.Checked.{IsChecked}
+use Rattle.vl_settle.specs.Computed.{computed_at}
+use Rattle.vl_settle.specs.Nets.{comb_at}
+use Rattle.cell_expr.specs.Bodies.{IsCellFun}
+
+-- combinational processes write computed signals alone
+abbrev pub ComputesAlone : Flat → Type 0
+ComputesAlone d = (i k : ℕ) → comb_at d i ≡ true → computed_at d.rows k ≡ false → stm_writes (λ x. x == k) (proc_at d i).body ≡ false
+
+-- designs that are compiled, with an order of their processes: sound ones that meet the rules of settling, of which functions can be
+-- compiled, and combinational processes write computed signals alone; without memories, so far
+pub record IsCellDesign (d : Flat) (order : List ℕ) : Type 0 where
+  pub sound : IsSound d
+  pub functions : All (IsCellFun (names_of d)) d.funs
+  pub checked : IsChecked d
+  pub there : AllBelow (length d.procs) order
+  pub few : length d.rows ≤ 268435456
+  pub alone : ComputesAlone d
+  pub no_memory : (m : ℕ) → IsMemory (names_of d) m → ⊥

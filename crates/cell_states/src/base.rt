@@ -1,0 +1,75 @@
+//! What the states of a design begin with (IEEE 1364-2005, clauses 6.1 and 11.3).
+
+ghost use Rattle.std.specs.Prelude.{◌≡◌, [], IfOk};
+ghost use Rattle.vl_design.specs.Trees.{flat_of};
+ghost use Rattle.cell_form.specs.Views.{list_of};
+ghost use Rattle.cell_steps.specs.Slots.{Grows};
+ghost use Rattle.cell_paths.specs.Envs.{env_of};
+ghost use Rattle.cell_later.specs.Pendings.{slots_of};
+ghost use Rattle.cell_waves.specs.Begins.{Begins};
+ghost use Rattle.cell_states.specs.Designs.{IsCellDesign};
+
+use cell_form::cell::CellList;
+use cell_later::pending::Pending;
+use cell_paths::at::At;
+use cell_waves::begin::{begun, begun_early};
+use cell_waves::begun::Begun;
+use std::alloc::{AllocError, Global};
+use vl_base::items::Items;
+use vl_design::design::Design;
+
+/// A list without cells, from slot 0 on.
+pub fn no_cells(alloc: Global) -> CellList
+    ensures { list_of result ≡ record { first = 0; cells = []; sets = [] } }
+{
+    CellList {
+        first: 0,
+        cells: Items::new(alloc),
+        sets: Items::new(alloc),
+    }
+}
+
+/// What a state begins with: in time zero's wave (`early`), or behind it.
+pub fn begin_in(
+    alloc: Global,
+    cells: &mut CellList,
+    design: &Design,
+    order: &[u32],
+    early: bool,
+) -> Result<Begun, AllocError>
+    requires design { IsCellDesign (flat_of design.now) order.now }
+    ensures grows { Grows (list_of cells.old) (list_of cells.new) }
+    ensures begins { IfOk result (λ x. Begins (flat_of design.now) order.now early (list_of cells.old) (list_of cells.new) (env_of x.at) (slots_of x.pending)) }
+{
+    if early {
+        begun_early(alloc, cells, design)
+    } else {
+        begun(alloc, cells, design, order)
+    }
+}
+
+/// A copy of what a state begins with.
+pub fn copied(alloc: Global, from: &Begun) -> Result<Begun, AllocError>
+    requires { from.now.pending.sites.items ≡ [] }
+    ensures at { IfOk result (λ x. env_of x.at ≡ env_of from.now.at) }
+    ensures pending { IfOk result (λ x. slots_of x.pending ≡ slots_of from.now.pending) }
+{
+    let slots = Vec::from_slice(alloc, from.at.slots.as_slice())?;
+    let update = Vec::from_slice(alloc, from.pending.update.as_slice())?;
+    let mask = Vec::from_slice(alloc, from.pending.mask.as_slice())?;
+    let sites = Vec::new(alloc);
+    let at = At {
+        first: from.at.first,
+        slots,
+        time: from.at.time,
+        answer: from.at.answer,
+        here: from.at.here,
+        away: from.at.away,
+    };
+    let pending = Pending {
+        update,
+        mask,
+        sites,
+    };
+    Ok(Begun { at, pending })
+}

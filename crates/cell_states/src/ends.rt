@@ -1,0 +1,105 @@
+//! The writes at the end of a state.
+
+ghost use Rattle.std.specs.Prelude.{◌≡◌, ◌≤◌, length, map, IfOk, OnOk};
+ghost use Rattle.vl_design.specs.Trees.{flat_of, row_of};
+ghost use Rattle.cell_paths.specs.Envs.{env_of};
+ghost use Rattle.cell_later.specs.Pendings.{slots_of};
+ghost use Rattle.cell_states.specs.Ended.{AreChanges, Commits, with_ticks, IsEnd};
+
+use cell_form::cell::Write;
+use cell_paths::at::At;
+use cell_waves::begun::Begun;
+use cell_waves::writes::{write_all, write_changed};
+use std::alloc::{AllocError, Global};
+use ten_form::places::{MASK, STATE, TICKS, UPDATE, VALUE, WORK};
+use vl_design::design::{Design, Signal};
+
+/// The writes of the registers of signals that changed.
+fn changes(
+    alloc: Global,
+    signals: &[Signal],
+    before: &Begun,
+    after: &Begun,
+) -> Result<Vec<Write>, AllocError>
+    requires few { length signals.now ≤ 268435456 }
+    ensures { IfOk result (λ sets. AreChanges (map row_of signals.now) (env_of before.now.at) (env_of after.now.at) (slots_of before.now.pending) (slots_of after.now.pending) sets.items) }
+{
+    let here = after.at.here;
+    let mut sets = Vec::new(alloc);
+    write_changed(
+        signals,
+        WORK,
+        &before.at.slots,
+        &after.at.slots,
+        here,
+        &mut sets,
+    )?;
+    write_changed(
+        signals,
+        UPDATE,
+        &before.pending.update,
+        &after.pending.update,
+        here,
+        &mut sets,
+    )?;
+    write_changed(
+        signals,
+        MASK,
+        &before.pending.mask,
+        &after.pending.mask,
+        here,
+        &mut sets,
+    )?;
+    Ok(sets)
+}
+
+/// Adds the writes of all values, where a wave ends.
+fn commit(
+    signals: &[Signal],
+    after: &At,
+    commits: bool,
+    sets: &mut Vec<Write>,
+) -> Result<(), AllocError>
+    requires few { length signals.now ≤ 268435456 }
+    ensures { OnOk result (Commits (map row_of signals.now) commits (env_of after.now) sets.old.items sets.new.items) }
+{
+    if commits {
+        write_all(signals, VALUE, &after.slots, after.here, sets)
+    } else {
+        Ok(())
+    }
+}
+
+/// Adds the write of the ticks, where the clock rises.
+fn count(ticks: Option<u32>, sets: &mut Vec<Write>) -> Result<(), AllocError>
+    ensures { OnOk result (sets.new.items ≡ with_ticks ticks sets.old.items) }
+{
+    match ticks {
+        Some(slot) => {
+            sets.push(Write::Reg(TICKS, slot))?;
+            Ok(())
+        }
+        None => Ok(()),
+    }
+}
+
+/// The writes of what changed; at the end of a wave, of what is committed; of the ticks, and of the node that is next.
+pub(crate) fn ends(
+    alloc: Global,
+    design: &Design,
+    before: &Begun,
+    after: &Begun,
+    commits: bool,
+    ticks: Option<u32>,
+    next: u32,
+) -> Result<Vec<Write>, AllocError>
+    requires few { length (flat_of design.now).rows ≤ 268435456 }
+    ensures { IfOk result (λ sets. IsEnd (flat_of design.now) commits (env_of before.now.at) (env_of after.now.at) (slots_of before.now.pending) (slots_of after.now.pending) ticks next sets.items) }
+{
+    let signals = design.signals.as_slice();
+    let mut sets = changes(alloc, signals, before, after)?;
+    commit(signals, &after.at, commits, &mut sets)?;
+    count(ticks, &mut sets)?;
+    sets.push(Write::Reg(STATE, next))?;
+    Ok(sets)
+}

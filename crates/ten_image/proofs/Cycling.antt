@@ -110,8 +110,8 @@ module _ (d : Flat) (order : List ℕ) (files : List File) where
       StandsAt d order files slots nodes states (table_cycled (record { state = state_register; states = states }) b) (cycle d files (nets_of d files order) nodes i)
   cycled-stands from slots nodes states b i x all apart st is free tidy alive few =
       elim ((slice_get_cases states i.node).1) [
-        inl h ↦ subst (λ o. StandsAt d order files slots nodes states (state_cycled o b) (cycle d files (nets_of d files order) nodes i)) (sym (ap (slice_get states) st.stage.node ∙ h.2)) (stands h.0 h.2)
-      | inr h ↦ (let lt = slice_get_within nodes i.node x is in let many = all.many in let past = h.0 in absurd (omega (arith, lt, many, past)))
+        | inl h ↦ subst (λ o. StandsAt d order files slots nodes states (state_cycled o b) (cycle d files (nets_of d files order) nodes i)) (sym (ap (slice_get states) st.stage.node ∙ h.2)) (stands h.0 h.2)
+        | inr h ↦ (let lt = slice_get_within nodes i.node x is in let many = all.many in let past = h.0 in absurd (omega (arith, lt, many, past)))
       ]
     where
       stands : (s : StateData) → slice_get states i.node ≡ Some s → StandsAt d order files slots nodes states (cells.cycled s.cells b) (cycle d files (nets_of d files order) nodes i)

@@ -15,7 +15,7 @@ use Rattle.vl_design.specs.Plainly as plain
 use Rattle.vl_design.specs.Plainly.{called_first}
 use Rattle.vl_design.specs.Reads.{stm_writes, items_write, target_writes, targets_write}
 use Rattle.vl_design.specs.Seen as seen
-use Rattle.vl_design.specs.Syntax.{Exp, Target, Whole, WordAt, PickAt, SliceAt, Several, Targets, NoTargets, MoreTargets, Stm, Nop, Then, If, Case, For, Repeat, Set, Later, Sys, Items, NoItems, Labelled, Default}
+use Rattle.vl_design.specs.Syntax.{Target, Whole, WordAt, PickAt, SliceAt, Several, Targets, NoTargets, MoreTargets, Stm, Nop, Then, If, Case, For, Repeat, Set, Later, Sys, Items, NoItems, Labelled, Default}
 use Rattle.vl_design.specs.Trees.{exp_of, stm_of, target_of}
 use Rattle.vl_run.proofs.Statements.{if-of, set-of, later-of, for-of, repeat-of, task-of}
 use Rattle.vl_paths.specs.Nets.{AreNetItems, IsPlain, ArePlain, IsBase}
@@ -144,7 +144,7 @@ none-below k = of (nat_lt k 0) refl
     of false e = e
 
 mutual
-  plain-apart : (t : Target) → IsPlain (λ k. false) t → target_writes (λ k. nat_lt k 0) t ≡ false
+  pub plain-apart : (t : Target) → IsPlain (λ k. false) t → target_writes (λ k. nat_lt k 0) t ≡ false
   plain-apart (Whole k) h = none-below k
   plain-apart (WordAt m a) h = absurd h
   plain-apart (PickAt base i from w) h = base-apart base h

@@ -10,9 +10,9 @@ use Rattle.vl_design.specs.Value.{Sample}
 use Rattle.vl_design.specs.Width.{Names, Scope, form, assigned}
 use Rattle.cell_form.specs.Data.{ListData, BankData}
 use Rattle.cell_form.specs.Sound.{Shape}
-use Rattle.cell_steps.specs.Slots.{held, width_at, IsIn, AreSound, Longer}
+use Rattle.cell_steps.specs.Slots.{held, width_at, IsIn}
 use Rattle.cell_steps.proofs.Frames.{held-stays, in-stays, width-stays, longer-grows, longer-same, longer-then}
-use Rattle.cell_paths.specs.Envs.{Env, Fits, HasMemories, Stands}
+use Rattle.cell_paths.specs.Envs.{Env, Fits, HasMemories}
 use Rattle.cell_paths.specs.Paths.{Does, Updates}
 use Rattle.cell_paths.proofs.Staying.{stands-stays, sound-behind, longer-plain}
 use Rattle.cell_paths.proofs.Walking.{does-set}

@@ -1,6 +1,6 @@
 -- Where nothing is pending.
-use Rattle.std.proofs.Common.{◌≡◌, ℕ, refl, arith}
-use Rattle.vl_design.specs.Width.{Names, signal_form}
+use Rattle.std.proofs.Common.{refl, arith}
+use Rattle.vl_design.specs.Width.{Names}
 use Rattle.cell_form.specs.Data.{ListData}
 use Rattle.cell_later.specs.Pendings.{ArePending}
 use Rattle.cell_expr.specs.Bodies.{nothing_waits}

@@ -1,7 +1,7 @@
 -- Which functions are compiled to cells (IEEE 1364-2005, clause 10.4; own).
-use Rattle.std.specs.Prelude.{◌≡◌, ℕ, ◌≤◌, nat_lt, List, [], false, length, All, ⊤}
+use Rattle.std.specs.Prelude.{◌≡◌, ℕ, ◌≤◌, nat_lt, Bool, false, if◌then◌else◌, List, [], length, All, ⊤}
 use Rattle.vl_design.specs.declared.design.Stmt.{Stmt}
-use Rattle.vl_design.specs.Syntax.{Target, Stm, Nop, Then, If, Case, For, Repeat, Set, Later, Sys, Items, NoItems, Labelled, Default, Fun}
+use Rattle.vl_design.specs.Syntax.{Exp, Target, Stm, Nop, Then, If, Case, For, Repeat, Set, Later, Sys, Items, NoItems, Labelled, Default, Fun}
 use Rattle.vl_design.specs.Sound.{IsSoundStm}
 use Rattle.vl_design.specs.Trees.{stm_of}
 use Rattle.vl_design.specs.Width.{Names}
@@ -60,3 +60,7 @@ pub record IsSegmentStm (names : Names) (a : Stmt) : Type 0 where
   pub path : List ℕ
   pub sound : IsSoundStm names (stm_of path a)
   pub segment : IsSegment (IsPlain (λ k. false)) (stm_of path a)
+
+-- a nonblocking assignment, or a blocking one
+abbrev pub assignment : Bool → Target → Exp → Stm
+assignment later t e = if later then Later t e else Set t e

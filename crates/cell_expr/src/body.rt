@@ -3,12 +3,13 @@
 ghost use Rattle.std.specs.Prelude.{◌≡◌, ◌≤◌, ◌<◌, ◌-◌, ℕ, List, [], false, nat_lt, length, IfOk, OnOk, Some, slice_get};
 ghost use Rattle.vl_base.specs.declared.files.File.{File};
 ghost use Rattle.vl_design.specs.Exec as x;
-ghost use Rattle.vl_design.specs.Reads.{stm_writes};
-ghost use Rattle.vl_design.specs.Sound.{AreSound, IsSoundExp, IsSoundStm, IsWidth};
+ghost use Rattle.vl_design.specs.Reads.{stm_writes, target_writes};
+ghost use Rattle.vl_design.specs.Sound.{AreSound, IsSoundExp, IsSoundStm, IsSoundTarget, IsWidth};
 ghost use Rattle.vl_design.specs.Syntax.{Fun};
-ghost use Rattle.vl_design.specs.Trees.{exp_of, exps_of, fun_of, stm_of};
+ghost use Rattle.vl_design.specs.Trees.{exp_of, exps_of, fun_of, stm_of, target_of};
 ghost use Rattle.vl_design.specs.Width as w;
 ghost use Rattle.vl_eval.specs.Rooms.{names_of, scope_at};
+ghost use Rattle.vl_paths.specs.Nets.{IsPlain};
 ghost use Rattle.vl_run.specs.Cases.{AreWithin};
 ghost use Rattle.vl_run.specs.Scopes.{calls_in};
 ghost use Rattle.cell_form.specs.Views.{list_of};
@@ -18,7 +19,7 @@ ghost use Rattle.cell_paths.specs.Paths.{Does};
 ghost use Rattle.cell_paths.specs.Cases.{Compares};
 ghost use Rattle.cell_later.specs.Pendings.{slots_of, ArePending};
 ghost use Rattle.cell_later.specs.Delays.{Leaves};
-ghost use Rattle.cell_expr.specs.Bodies.{IsNet, IsSegment, CanWait, nothing_waits};
+ghost use Rattle.cell_expr.specs.Bodies.{IsNet, IsSegment, CanWait, nothing_waits, assignment};
 ghost use Rattle.cell_expr.specs.Callers.{DoesBody};
 ghost use Rattle.cell_expr.specs.Compiled.{Compiles};
 ghost use Rattle.cell_expr.specs.Counts.{exp_count, labels_count, stm_count, body_count};
@@ -29,7 +30,7 @@ use cell_form::cell::CellList;
 use cell_later::pending::Pending;
 use cell_paths::at::At;
 use std::alloc::{AllocError, Global};
-use vl_design::design::{Expr, Form, Stmt};
+use vl_design::design::{Expr, Form, Stmt, Target};
 use vl_eval::room::Room;
 
 /// Compiles the body of a function, where calls within it nest at most so deep.
@@ -178,6 +179,52 @@ pub fn expression_at(
         compile_body,
     };
     context.compile_in(alloc, cells, at, e, c)
+}
+
+/// Compiles an assignment, where calls nest at most so deep.
+pub fn assignment_at(
+    alloc: Global,
+    cells: &mut CellList,
+    room: &Room<'_>,
+    depth: usize,
+    at: &mut At,
+    pending: &mut Pending,
+    off: u32,
+    later: bool,
+    target: &Target,
+    source: &Expr,
+) -> Result<(), AllocError>
+    requires functions { AreCompiled (names_of room.now) }
+    requires target { IsSoundTarget (names_of room.now) (target_of target.now) }
+    requires source { IsSoundExp (names_of room.now) (exp_of source.now) }
+    requires plain { IsPlain (λ k. false) (target_of target.now) }
+    requires apart { target_writes (λ k. nat_lt k at.old.first) (target_of target.now) ≡ false }
+    requires fits { Fits (names_of room.now) (list_of cells.old) (env_of at.old) }
+    requires pending { ArePending (names_of room.now) (list_of cells.old) (slots_of pending.old) }
+    requires many { length pending.old.update.items ≡ length (names_of room.now).rows }
+    requires off { IsSlot (list_of cells.old) off 1 }
+    ensures grows { Grows (list_of cells.old) (list_of cells.new) }
+    ensures does { OnOk result ((files : List File) → Does (names_of room.now) (stm_count (body_count (names_of room.now).funs depth) (assignment later (target_of target.now) (exp_of source.now)))
+        (x.exec (scope_at (names_of room.now) files (calls_in (names_of room.now) files depth)) (assignment later (target_of target.now) (exp_of source.now))) off (env_of at.old) (env_of at.new) (list_of cells.old) (list_of cells.new)) }
+    ensures leaves { OnOk result ((files : List File) → Leaves (names_of room.now) (x.exec (scope_at (names_of room.now) files (calls_in (names_of room.now) files depth)) (assignment later (target_of target.now) (exp_of source.now))) off
+        (env_of at.old) (slots_of pending.old) (slots_of pending.new) (list_of cells.old) (list_of cells.new)) }
+{
+    let compile_body = |cells: &mut CellList, at: &mut At, function: u32| -> Result<(), AllocError>
+        requires deep { 1 ≤ depth }
+        requires functions { AreCompiled (names_of room.now) }
+        requires there { function < length room.now.funcs.now }
+        requires fits { (g : Fun) → slice_get (names_of room.now).funs function ≡ Some g → Fits (w.names_in (names_of room.now) g) (list_of cells.old) (env_of at.old) }
+        requires first { at.old.first ≡ length (names_of room.now).signals }
+        ensures grows { Grows (list_of cells.old) (list_of cells.new) }
+        ensures does { OnOk result ((files : List File) (g : Fun) → slice_get (names_of room.entry.now).funs function ≡ Some g → Does (w.names_in (names_of room.entry.now) g) (stm_count (body_count (names_of room.entry.now).funs (depth - 1)) g.body)
+            (x.exec (scope_at (w.names_in (names_of room.entry.now) g) files (calls_in (w.names_in (names_of room.entry.now) g) files (depth - 1))) g.body) at.old.here (env_of at.old) (env_of at.new) (list_of cells.old) (list_of cells.new)) }
+    { body_in(alloc, cells, room, depth - 1, at, function) };
+    let context = Context {
+        room: *room,
+        depth,
+        compile_body,
+    };
+    context.assignment_in(alloc, cells, at, pending, off, later, target, source)
 }
 
 /// Compiles the labels of an item of a case, where calls nest at most so deep.

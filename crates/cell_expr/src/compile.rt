@@ -1,32 +1,33 @@
 //! Expressions and statements of a design's processes as cells (IEEE 1364-2005, clauses 5, 9 and 10.4).
 
-ghost use Rattle.std.specs.Prelude.{◌≡◌, ◌≤◌, ℕ, List, All, IfOk, OnOk, length};
+ghost use Rattle.std.specs.Prelude.{◌≡◌, ◌≤◌, ℕ, false, List, All, IfOk, OnOk, length};
 ghost use Rattle.vl_base.specs.declared.files.File.{File};
 ghost use Rattle.vl_design.specs.Exec as x;
 ghost use Rattle.vl_design.specs.Exec.{exec};
 ghost use Rattle.vl_design.specs.Functions.{scope_of};
-ghost use Rattle.vl_design.specs.Sound.{AreSound, IsSound, IsSoundExp, IsSoundStm, IsWidth};
-ghost use Rattle.vl_design.specs.Trees.{exp_of, exps_of, flat_of, stm_of};
+ghost use Rattle.vl_design.specs.Sound.{AreSound, IsSound, IsSoundExp, IsSoundStm, IsSoundTarget, IsWidth};
+ghost use Rattle.vl_design.specs.Trees.{exp_of, exps_of, flat_of, stm_of, target_of};
 ghost use Rattle.vl_design.specs.Width.{form, names_of};
 ghost use Rattle.cell_form.specs.Views.{list_of};
 ghost use Rattle.cell_steps.specs.Slots.{Grows};
 ghost use Rattle.cell_paths.specs.Envs.{env_of, Fits, IsSlot};
 ghost use Rattle.cell_paths.specs.Paths.{Does};
 ghost use Rattle.cell_paths.specs.Cases.{Compares};
+ghost use Rattle.vl_paths.specs.Nets.{IsPlain};
 ghost use Rattle.vl_run.specs.Cases.{AreWithin};
 ghost use Rattle.cell_later.specs.Pendings.{slots_of, ArePending};
 ghost use Rattle.cell_later.specs.Delays.{Leaves};
-ghost use Rattle.cell_expr.specs.Bodies.{IsCellFun, IsCellStm, IsSegmentStm};
+ghost use Rattle.cell_expr.specs.Bodies.{IsCellFun, IsCellStm, IsSegmentStm, assignment};
 ghost use Rattle.cell_expr.specs.Compiled.{Compiles};
 ghost use Rattle.cell_expr.specs.Counts.{exp_count, labels_count, stm_count, body_cells};
 
-use crate::body::{expression_at, labels_at, segment_at, statement_at};
+use crate::body::{assignment_at, expression_at, labels_at, segment_at, statement_at};
 use crate::case;
 use cell_form::cell::CellList;
 use cell_later::pending::Pending;
 use cell_paths::at::At;
 use std::alloc::{AllocError, Global};
-use vl_design::design::{Design, Expr, Form, Stmt};
+use vl_design::design::{Design, Expr, Form, Stmt, Target};
 use vl_eval::form::form_of;
 use vl_run::outer::room_of;
 
@@ -110,6 +111,41 @@ pub fn segment(
     let room = room_of(design);
     let depth = room.funcs.len();
     segment_at(alloc, cells, &room, depth, at, pending, off, a)
+}
+
+/// Compiles an assignment of an expression to signals or bits of them, on a path of one bit: as `segment`.
+pub fn assign(
+    alloc: Global,
+    cells: &mut CellList,
+    design: &Design,
+    at: &mut At,
+    pending: &mut Pending,
+    off: u32,
+    later: bool,
+    target: &Target,
+    source: &Expr,
+) -> Result<(), AllocError>
+    requires sound { IsSound (flat_of design.now) }
+    requires functions { All (IsCellFun (names_of (flat_of design.now))) (flat_of design.now).funs }
+    requires target { IsSoundTarget (names_of (flat_of design.now)) (target_of target.now) }
+    requires source { IsSoundExp (names_of (flat_of design.now)) (exp_of source.now) }
+    requires plain { IsPlain (λ k. false) (target_of target.now) }
+    requires fits { Fits (names_of (flat_of design.now)) (list_of cells.old) (env_of at.old) }
+    requires first { at.old.first ≡ 0 }
+    requires off { IsSlot (list_of cells.old) off 1 }
+    requires pending { ArePending (names_of (flat_of design.now)) (list_of cells.old) (slots_of pending.old) }
+    requires many { length pending.old.update.items ≡ length (flat_of design.now).rows }
+    ensures grows { Grows (list_of cells.old) (list_of cells.new) }
+    ensures does { OnOk result ((files : List File) → Does (names_of (flat_of design.now)) (stm_count (body_cells (flat_of design.now)) (assignment later (target_of target.now) (exp_of source.now)))
+        (exec (scope_of (flat_of design.now) files) (assignment later (target_of target.now) (exp_of source.now))) off (env_of at.old) (env_of at.new) (list_of cells.old) (list_of cells.new)) }
+    ensures leaves { OnOk result ((files : List File) → Leaves (names_of (flat_of design.now)) (exec (scope_of (flat_of design.now) files) (assignment later (target_of target.now) (exp_of source.now))) off
+        (env_of at.old) (slots_of pending.old) (slots_of pending.new) (list_of cells.old) (list_of cells.new)) }
+{
+    let room = room_of(design);
+    let depth = room.funcs.len();
+    assignment_at(
+        alloc, cells, &room, depth, at, pending, off, later, target, source,
+    )
 }
 
 /// Compiles an expression in its own form, as for a test or an argument: the new slot, as wide as the expression, holds its value.

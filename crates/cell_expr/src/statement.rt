@@ -20,7 +20,7 @@ ghost use Rattle.cell_paths.specs.Paths.{Does};
 ghost use Rattle.cell_paths.specs.Cases.{Compares, Tries};
 ghost use Rattle.cell_later.specs.Pendings.{slots_of, ArePending};
 ghost use Rattle.cell_later.specs.Delays.{Leaves, LeavesItems};
-ghost use Rattle.cell_expr.specs.Bodies.{IsSegment, AreSegmentItems, CanWait};
+ghost use Rattle.cell_expr.specs.Bodies.{IsSegment, AreSegmentItems, CanWait, assignment};
 ghost use Rattle.cell_expr.specs.Contexts.{names_of, scope_of, body_of};
 ghost use Rattle.cell_expr.specs.Counts.{exp_count, labels_count, stm_count, items_count, indices_count, all_indices_count, parts_count, all_parts_count};
 ghost use Rattle.cell_expr.specs.Items.{Item, Tried};
@@ -304,6 +304,41 @@ impl<F: Fn(&mut CellList, &mut At, u32) -> Result<(), AllocError>> Context<'_, F
         let mut spots = Vec::new(alloc);
         let value = self.source_in(alloc, cells, at, target, source, &mut spots)?;
         delay_all(alloc, cells, &self.room, at, pending, &spots, value, off)
+    }
+
+    /// Compiles an assignment: a nonblocking one is pending behind those that were.
+    #[tactic(auto, using(crate::proofs::Walking::walking))]
+    pub fn assignment_in(
+        &self,
+        alloc: Global,
+        cells: &mut CellList,
+        at: &mut At,
+        pending: &mut Pending,
+        off: u32,
+        later: bool,
+        target: &Target,
+        source: &Expr,
+    ) -> Result<(), AllocError>
+        requires functions { Compilers (names_of self.now) self.now.depth (F.pre self.now.compile_body) (F.post self.now.compile_body) }
+        requires target { IsSoundTarget (names_of self.now) (target_of target.now) }
+        requires source { IsSoundExp (names_of self.now) (exp_of source.now) }
+        requires plain { IsPlain (λ k. false) (target_of target.now) }
+        requires apart { target_writes (λ k. nat_lt k at.old.first) (target_of target.now) ≡ false }
+        requires fits { Fits (names_of self.now) (list_of cells.old) (env_of at.old) }
+        requires pending { ArePending (names_of self.now) (list_of cells.old) (slots_of pending.old) }
+        requires many { length pending.old.update.items ≡ length (names_of self.now).rows }
+        requires off { IsSlot (list_of cells.old) off 1 }
+        ensures grows { Grows (list_of cells.old) (list_of cells.new) }
+        ensures does { OnOk result ((files : List File) → Does (names_of self.now) (stm_count (body_of self.now) (assignment later (target_of target.now) (exp_of source.now)))
+            (x.exec (scope_of self.now files) (assignment later (target_of target.now) (exp_of source.now))) off (env_of at.old) (env_of at.new) (list_of cells.old) (list_of cells.new)) }
+        ensures leaves { OnOk result ((files : List File) → Leaves (names_of self.now) (x.exec (scope_of self.now files) (assignment later (target_of target.now) (exp_of source.now))) off
+            (env_of at.old) (slots_of pending.old) (slots_of pending.new) (list_of cells.old) (list_of cells.new)) }
+    {
+        if later {
+            self.later_in(alloc, cells, &*at, pending, off, target, source)
+        } else {
+            self.set_in(alloc, cells, at, off, target, source)
+        }
     }
 
     /// Compiles statements one after another.

@@ -1,8 +1,11 @@
 -- Which nodes are compiled to states of cells (own).
-use Rattle.std.specs.Prelude.{All, ⊤}
-use Rattle.vl_design.specs.Sound.{IsSoundExp, AreSound, IsSoundTask}
-use Rattle.vl_design.specs.Trees.{exp_of, exps_of}
+use Rattle.std.specs.Prelude.{false, All, ⊤}
+use Rattle.vl_design.specs.declared.design.Expr.{Expr}
+use Rattle.vl_design.specs.declared.design.Target.{Target}
+use Rattle.vl_design.specs.Sound.{IsSoundExp, AreSound, IsSoundTarget, IsSoundTask}
+use Rattle.vl_design.specs.Trees.{exp_of, exps_of, target_of}
 use Rattle.vl_design.specs.Width.{Names}
+use Rattle.vl_paths.specs.Nets.{IsPlain}
 use Rattle.cell_expr.specs.Bodies.{IsSegmentStm}
 use Rattle.sub_split.specs.declared.table.Piece.{Piece}
 use Rattle.sub_split.specs.declared.table.Piece.TheVariants as p
@@ -12,12 +15,18 @@ use Rattle.sub_split.specs.declared.table.Node.{Node}
 use Rattle.sub_split.specs.declared.table.Node.TheVariants as v
 use Rattle.sub_split.specs.Views.{call_view}
 
--- a statement without loops and calls, of which assignments are to signals; not the answer of a call
+-- an assignment of a sound expression to signals or bits of them
+pub record IsCellAssignment (names : Names) (target : Target) (source : Expr) : Type 0 where
+  pub target_sound : IsSoundTarget names (target_of target)
+  pub source_sound : IsSoundExp names (exp_of source)
+  pub plain : IsPlain (λ k. false) (target_of target)
+
+-- a statement without loops and calls, or an assignment of a call's answer; what is assigned are signals
 abbrev pub IsCellPiece : Names → Piece → Type 0
 IsCellPiece names (p.Whole a) = IsSegmentStm names a.now
-IsCellPiece names (p.Loop path a) = ⊥
-IsCellPiece names (p.Set target source) = ⊥
-IsCellPiece names (p.Later target source) = ⊥
+IsCellPiece names (p.Loop path a) = IsSegmentStm names a.now
+IsCellPiece names (p.Set target source) = IsCellAssignment names target.now source.now
+IsCellPiece names (p.Later target source) = IsCellAssignment names target.now source.now
 
 abbrev pub IsCellWay : Names → WayOn → Type 0
 IsCellWay names (w.Go to) = ⊤

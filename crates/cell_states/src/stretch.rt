@@ -1,19 +1,19 @@
 //! The statements of segments as cells (IEEE 1364-2005, clauses 9.2 and 11.3).
 
-ghost use Rattle.std.specs.Prelude.{◌≡◌, ◌∷◌, [], All, length, map, IfOk, OnOk};
+ghost use Rattle.std.specs.Prelude.{◌≡◌, ◌∷◌, [], ℕ, List, All, length, map, IfOk, OnOk};
 ghost use Rattle.vl_design.specs.Sound.{IsSound};
-ghost use Rattle.vl_design.specs.Trees.{flat_of};
+ghost use Rattle.vl_design.specs.Trees.{exp_of, flat_of, stm_of, target_of};
 ghost use Rattle.vl_design.specs.Width.{names_of};
 ghost use Rattle.cell_form.specs.Views.{list_of};
 ghost use Rattle.cell_steps.specs.Slots.{Grows};
 ghost use Rattle.cell_paths.specs.Envs.{env_of, Fits, IsSlot};
 ghost use Rattle.cell_later.specs.Pendings.{slots_of, ArePending};
-ghost use Rattle.cell_expr.specs.Bodies.{IsCellFun};
+ghost use Rattle.cell_expr.specs.Bodies.{IsCellFun, IsSegmentStm, assignment};
 ghost use Rattle.sub_split.specs.Views.{piece_view, segment_view};
-ghost use Rattle.cell_states.specs.Pieces.{IsCellPiece};
+ghost use Rattle.cell_states.specs.Pieces.{IsCellPiece, IsCellAssignment};
 ghost use Rattle.cell_states.specs.Segments.{DoesAll, RisesWhere, DoesSegment};
 
-use cell_expr::compile::segment;
+use cell_expr::compile::{assign, segment};
 use cell_form::cell::CellList;
 use cell_later::pending::Pending;
 use cell_paths::at::At;
@@ -21,7 +21,71 @@ use cell_waves::begun::Begun;
 use cell_waves::rise::rise;
 use std::alloc::{AllocError, Global};
 use sub_split::table::{Piece, Segment};
-use vl_design::design::Design;
+use vl_design::design::{Design, Expr, Stmt, Target};
+
+/// Compiles a statement of the design.
+fn whole(
+    alloc: Global,
+    cells: &mut CellList,
+    design: &Design,
+    begun: &mut Begun,
+    a: &Stmt,
+) -> Result<(), AllocError>
+    requires sound { IsSound (flat_of design.now) }
+    requires functions { All (IsCellFun (names_of (flat_of design.now))) (flat_of design.now).funs }
+    requires statement { IsSegmentStm (names_of (flat_of design.now)) a.now }
+    requires fits { Fits (names_of (flat_of design.now)) (list_of cells.old) (env_of begun.old.at) }
+    requires first { begun.old.at.first ≡ 0 }
+    requires pending { ArePending (names_of (flat_of design.now)) (list_of cells.old) (slots_of begun.old.pending) }
+    requires many { length begun.old.pending.update.items ≡ length (flat_of design.now).rows }
+    ensures grows { Grows (list_of cells.old) (list_of cells.new) }
+    ensures does { OnOk result ((path : List ℕ) → DoesAll (flat_of design.now) (stm_of path a.now ∷ []) (env_of begun.old.at) (env_of begun.new.at) (slots_of begun.old.pending) (slots_of begun.new.pending) (list_of cells.old) (list_of cells.new)) }
+{
+    let here = begun.at.here;
+    segment(
+        alloc,
+        cells,
+        design,
+        &mut begun.at,
+        &mut begun.pending,
+        here,
+        a,
+    )
+}
+
+/// Compiles an assignment behind the call that is its right side: of the answer.
+fn answered(
+    alloc: Global,
+    cells: &mut CellList,
+    design: &Design,
+    begun: &mut Begun,
+    later: bool,
+    target: &Target,
+    source: &Expr,
+) -> Result<(), AllocError>
+    requires sound { IsSound (flat_of design.now) }
+    requires functions { All (IsCellFun (names_of (flat_of design.now))) (flat_of design.now).funs }
+    requires assignment { IsCellAssignment (names_of (flat_of design.now)) target.now source.now }
+    requires fits { Fits (names_of (flat_of design.now)) (list_of cells.old) (env_of begun.old.at) }
+    requires first { begun.old.at.first ≡ 0 }
+    requires pending { ArePending (names_of (flat_of design.now)) (list_of cells.old) (slots_of begun.old.pending) }
+    requires many { length begun.old.pending.update.items ≡ length (flat_of design.now).rows }
+    ensures grows { Grows (list_of cells.old) (list_of cells.new) }
+    ensures does { OnOk result (DoesAll (flat_of design.now) (assignment later (target_of target.now) (exp_of source.now) ∷ []) (env_of begun.old.at) (env_of begun.new.at) (slots_of begun.old.pending) (slots_of begun.new.pending) (list_of cells.old) (list_of cells.new)) }
+{
+    let here = begun.at.here;
+    assign(
+        alloc,
+        cells,
+        design,
+        &mut begun.at,
+        &mut begun.pending,
+        here,
+        later,
+        target,
+        source,
+    )
+}
 
 /// Compiles a statement, which is always executed.
 fn piece(
@@ -41,18 +105,11 @@ fn piece(
     ensures grows { Grows (list_of cells.old) (list_of cells.new) }
     ensures does { OnOk result (DoesAll (flat_of design.now) (piece_view piece.entry ∷ []) (env_of begun.old.at) (env_of begun.new.at) (slots_of begun.old.pending) (slots_of begun.new.pending) (list_of cells.old) (list_of cells.new)) }
 {
-    let here = begun.at.here;
     match piece {
-        Piece::Whole(a) => segment(
-            alloc,
-            cells,
-            design,
-            &mut begun.at,
-            &mut begun.pending,
-            here,
-            a,
-        ),
-        _ => unreachable!(),
+        Piece::Whole(a) => whole(alloc, cells, design, begun, a),
+        Piece::Loop(_, a) => whole(alloc, cells, design, begun, a),
+        Piece::Set(target, source) => answered(alloc, cells, design, begun, false, target, source),
+        Piece::Later(target, source) => answered(alloc, cells, design, begun, true, target, source),
     }
 }
 

@@ -1,8 +1,7 @@
-use Rattle.std.proofs.Common.{◌≡◌, sym, subst, ap, ◌∙◌, [], nat_lt, false, length}
+use Rattle.std.proofs.Common.{◌≡◌, sym, subst, [], nat_lt, false, length}
 use Rattle.vl_design.specs.Functions.{scope_of}
 use Rattle.vl_design.specs.Reads.{stm_writes}
 use Rattle.vl_design.specs.Sound.{IsSoundStm}
-use Rattle.vl_design.specs.Syntax.{Stm}
 use Rattle.vl_design.specs.Trees.{stm_of, flat_of}
 use Rattle.vl_design.specs.Width.{Names, names_of}
 use Rattle.vl_paths.specs.Nets.{IsPlain}

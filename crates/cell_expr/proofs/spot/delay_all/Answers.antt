@@ -1,4 +1,4 @@
-use Rattle.std.proofs.Common.{ap, sym, ◌∙◌, arith, subst, ◌+◌, ◌/◌, ◌%◌, ◌^◌, get_or, drop, All, length}
+use Rattle.std.proofs.Common.{ap, sym, ◌∙◌, arith, subst, ◌+◌, ◌/◌, ◌%◌, ◌^◌, get_or, drop}
 use Rattle.std.specs.Prelude.{pos}
 use Rattle.std.proofs.lemmas.List.{drop_more}
 use Rattle.vl_design.specs.declared.design.Form.{Form}

@@ -1,16 +1,15 @@
-use Rattle.std.proofs.Common.{refl, []}
-use Rattle.vl_design.specs.Trees.{flat_of, stm_of}
-use Rattle.cell_form.specs.Views.{list_of}
-use Rattle.cell_paths.specs.Envs.{env_of}
-use Rattle.cell_later.specs.Pendings.{slots_of}
-use Rattle.cell_expr.specs.Counts.{stm_count, body_cells}
-use Rattle.cell_states.proofs.Stretching.{all-one, on-both}
+use Rattle.std.proofs.Common.{[]}
+use Rattle.std.proofs.lemmas.Result.{on_ok_weaker}
 use Rattle.cell_states.proofs.stretch.piece.Goals as goal
 
-pub returns-clause-does : goal.returns-clause-does
-returns-clause-does c =
-    let d = flat_of c.args.design.now in
-    let a = stm_of [] c.in-Whole.a.now in
-    rw c.in-Whole.is (on-both c.segment.result c.segment.ensures.does c.segment.ensures.leaves (λ does leaves.
-    all-one d a (stm_count (body_cells d) a) c.args.begun.now.at.here (env_of c.args.begun.now.at) (env_of c.segment.new.at) (slots_of c.args.begun.now.pending) (slots_of c.segment.new.pending) (list_of c.args.cells.now) (list_of c.segment.new.cells) refl c.requires.fits
-    (λ files. does files []) (λ files. leaves files [])))
+pub returns-in-Whole-clause-does : goal.returns-in-Whole-clause-does
+returns-in-Whole-clause-does c = rw c.in-Whole.is (on_ok_weaker c.whole.result (λ h. h []) c.whole.ensures.does)
+
+pub returns-in-Loop-clause-does : goal.returns-in-Loop-clause-does
+returns-in-Loop-clause-does c = rw c.in-Loop.is (on_ok_weaker c.whole-in-Loop.result (λ h. h c.in-Loop.field-0.now) c.whole-in-Loop.ensures.does)
+
+pub returns-in-Set-clause-does : goal.returns-in-Set-clause-does
+returns-in-Set-clause-does c = rw c.in-Set.is c.answered.ensures.does
+
+pub returns-in-Later-clause-does : goal.returns-in-Later-clause-does
+returns-in-Later-clause-does c = rw c.in-Later.is c.answered-in-Later.ensures.does

@@ -5,7 +5,7 @@ use Rattle.vl_design.specs.declared.design.Design.{Design}
 use Rattle.vl_design.specs.declared.design.Process.{Process}
 use Rattle.vl_design.specs.declared.design.ProcKind.{ProcKind}
 use Rattle.vl_design.specs.declared.design.ProcKind.TheVariants.{Init, Rise, Fall}
-use Rattle.vl_design.specs.Syntax.{Proc}
+use Rattle.vl_design.specs.Syntax.{Proc, Flat}
 use Rattle.vl_design.specs.Queue.{is_init, is_rise, is_fall}
 use Rattle.vl_design.specs.Alone.{blocks}
 use Rattle.vl_design.specs.Trees.{stm_of, proc_of, flat_of}
@@ -19,7 +19,7 @@ use Rattle.sub_split.specs.declared.making.Nodes.{Nodes}
 use Rattle.sub_split.specs.declared.waves.Part.{Part}
 use Rattle.sub_split.specs.Makes.{nodes_view, made_view, Makes, Splits}
 use Rattle.sub_split.specs.Marks.{marks_of}
-use Rattle.sub_split.specs.Waves.{has_fall, is_of, statements_of, update_nodes, IsPart}
+use Rattle.sub_split.specs.Waves.{has_fall, is_of, statements_of, update_nodes, first_early, IsPart}
 
 -- ---- blocks
 
@@ -122,3 +122,18 @@ table-is d xs b k k2 k3 up down start nodes is h e u e2 v e3 w all =
     (e ∙ sym (ap length (ups 0 0))) (u.begins) (u.are) (number-is k up _ _ k2 u e2 ∙ ap (λ ns. k + length ns) (sym (u.are))) (v.begins) (v.are) (number-is k2 down _ _ k3 v e3 ∙ ap (λ ns. k2 + length ns) (sym (v.are))) (w.begins) (w.are)
     (all ∙ sym (ap (λ ns. ns ++ (nodes_view up.nodes ++ (nodes_view down.nodes ++ nodes_view start.nodes))) (ups up.first down.first)))
     ∙ sym (ap table_at procs)
+
+-- ---- time zero's wave
+
+early-adds : (d : Flat) (ps : List Proc) (k k2 k3 : ℕ) → ps ≡ d.procs → k ≡ length (updates (blocks is_fall ps) 0 0) → k2 ≡ k + length (wave_nodes k 1 (bodies (blocks is_rise ps)) rising) → k3 ≡ k2 + length (fall_nodes k2 (blocks is_fall ps)) →
+    k3 ≡ first_early d
+early-adds d ps k k2 k3 s e e2 e3 = rw (e3, e2, e, s) refl
+
+-- the number of its first node
+pub early-is : (d : Design) (xs : List Process) (b : Bool) (k k2 k3 : ℕ) (up down : Part) → xs ≡ d.processes → b ≡ has_fall xs → k ≡ length (update_nodes b 0 0) →
+    IsPart k (wave_first k 1 (statements_of Rise xs)) (wave_nodes k 1 (statements_of Rise xs) rising) up → k2 ≡ number up.nodes.from (nodes_view up.nodes) →
+    IsPart k2 (wave_first k2 2 (statements_of Fall xs)) (fall_nodes k2 (blocks is_fall (map proc_of xs))) down → k3 ≡ number down.nodes.from (nodes_view down.nodes) →
+    k3 ≡ first_early (flat_of d)
+early-is d xs b k k2 k3 up down is h e u e2 v e3 =
+    let procs : map proc_of xs ≡ (flat_of d).procs = ap (map proc_of) is ∙ sym (procs-map d.processes) in
+    early-adds (flat_of d) (map proc_of xs) k k2 k3 procs (e ∙ sym (ap length (updates-are b xs h 0 0))) (number-is k up _ _ k2 u e2) (number-is k2 down _ _ k3 v e3)

@@ -5,7 +5,7 @@ ghost use Rattle.vl_design.specs.Trees.{flat_of};
 ghost use Rattle.sub_nodes.specs.Code.{table_of};
 ghost use Rattle.sub_split.specs.Makes.{nodes_view};
 ghost use Rattle.sub_split.specs.Views.{node_view, table_view};
-ghost use Rattle.sub_split.specs.Waves.{update_nodes};
+ghost use Rattle.sub_split.specs.Waves.{first_early, update_nodes};
 
 use crate::table::{Node, Table, Wave};
 use crate::waves::{Part, fall_wave, has_fall, wave};
@@ -44,7 +44,8 @@ fn joined<'a>(
 /// The table of the nodes of a design's blocks, whose statements are the design's own. It takes as long as the blocks and the
 /// table are large. More than `u32::MAX` nodes are too many for memory.
 pub fn split<'a>(alloc: Global, design: &'a Design) -> Result<Table<'a>, AllocError>
-    ensures { IfOk result (λ t. table_view t ≡ table_of (flat_of design.now)) }
+    ensures table { IfOk result (λ t. table_view t ≡ table_of (flat_of design.now)) }
+    ensures early { IfOk result (λ t. t.early ≡ first_early (flat_of design.now)) }
 {
     let processes = design.processes.as_slice();
     let falls = has_fall(processes);
@@ -72,5 +73,6 @@ pub fn split<'a>(alloc: Global, design: &'a Design) -> Result<Table<'a>, AllocEr
         zero,
         rise,
         fall,
+        early: behind_down,
     })
 }

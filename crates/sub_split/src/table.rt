@@ -80,4 +80,6 @@ pub struct Table<'a> {
     pub rise: Wave,
     /// The wave of the clock's fall; where no block waits for that, it means nothing.
     pub fall: Wave,
+    /// The number of the first node of time zero's wave: its nodes stand behind all others.
+    pub early: u32,
 }

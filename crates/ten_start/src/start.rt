@@ -1,6 +1,6 @@
 //! The bank with which a run begins.
 
-ghost use Rattle.std.specs.Prelude.{◌≡◌, IfOk, Some, map, replicate, slice_set};
+ghost use Rattle.std.specs.Prelude.{◌≡◌, IfOk, map, replicate, slice_set};
 ghost use Rattle.vl_design.specs.Trees.{row_of};
 ghost use Rattle.cell_form.specs.Views.{bank_of};
 ghost use Rattle.ten_form.specs.Registers as s;

@@ -1,6 +1,6 @@
 //! The states of a design's table of nodes.
 
-ghost use Rattle.std.specs.Prelude.{◌≡◌, ◌<◌, ◌++◌, ◌∷◌, [], ℕ, false, All, length, map, IfOk, OnOk};
+ghost use Rattle.std.specs.Prelude.{◌≡◌, ◌<◌, ◌++◌, ◌∷◌, [], false, All, length, map, IfOk, OnOk};
 ghost use Rattle.vl_design.specs.Sound.{IsSoundTask};
 ghost use Rattle.vl_design.specs.Trees.{flat_of};
 ghost use Rattle.vl_design.specs.Width.{names_of};
@@ -189,21 +189,21 @@ fn add_node(
     }
 }
 
-/// The states of a table of nodes of a design, of which those from number `from` on are of time zero's wave: each does what its node
-/// does, or has its call. An `Err` is want of memory, also where there would be 2 ^ 32 slots.
+/// The states of a table of nodes of a design, of which those from number `from` on are of time zero's wave, and how many slots they
+/// have together: each does what its node does, or has its call. An `Err` is want of memory, also where there would be 2 ^ 32 slots.
 pub fn states(
     alloc: Global,
     design: &Design,
     order: &[u32],
     table: &Table<'_>,
     from: usize,
-) -> Result<StateTable, AllocError>
+) -> Result<(StateTable, u32), AllocError>
     requires design { IsCellDesign (flat_of design.now) order.now }
     requires nodes { All (IsCellNode (names_of (flat_of design.now))) table.now.nodes.items }
     requires updates { s.UpdatesAreBefore from (map node_view table.now.nodes.items) }
     requires paired { ArePaired 0 (map node_view table.now.nodes.items) }
-    ensures state { IfOk result (λ t. t.state ≡ state_register) }
-    ensures states { IfOk result (λ t. (slots : ℕ) × AreStates (flat_of design.now) order.now from slots (map node_view table.now.nodes.items) (map state_of t.states)) }
+    ensures state { IfOk result (λ r. r.0.state ≡ state_register) }
+    ensures states { IfOk result (λ r. AreStates (flat_of design.now) order.now from r.1 (map node_view table.now.nodes.items) (map state_of r.0.states)) }
 {
     let nodes = table.nodes.as_slice();
     let mut built = Built {
@@ -213,8 +213,12 @@ pub fn states(
     while built.states.as_slice().len() < nodes.len() {
         add_node(alloc, design, order, nodes, from, &mut built)?;
     }
-    Ok(StateTable {
-        state: STATE,
-        states: built.states,
-    })
+    let slots = built.slots;
+    Ok((
+        StateTable {
+            state: STATE,
+            states: built.states,
+        },
+        slots,
+    ))
 }

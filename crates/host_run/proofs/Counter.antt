@@ -1,17 +1,15 @@
 -- The counter's design is accepted.
-use Rattle.std.proofs.Common.{◌≡◌, ℕ, zero, suc, ◌<◌, Bool, true, false, List, [], ◌∷◌, ◌++◌, length, refl, sym, ap, ◌∙◌, arith, inl, inr}
-use Rattle.std.specs.Prelude.{◌&&◌, None, slice_index_or}
+use Rattle.std.proofs.Common.{◌≡◌, ℕ, zero, suc, List, [], ◌∷◌, ◌++◌, refl, sym, ap, ◌∙◌, arith, inl, inr}
+use Rattle.std.specs.Prelude.{None}
 use Rattle.vl_design.specs.declared.design.ProcKind.TheVariants.{Comb}
-use Rattle.vl_design.specs.declared.stop.Stop.{Stop}
 use Rattle.vl_design.specs.Placed as p
 use Rattle.vl_design.specs.Plainly.{flat}
 use Rattle.vl_turns.specs.Placed.{unrolled_placed}
 use Rattle.vl_stops.specs.First.{IsFirst}
 use Rattle.vl_paths.specs.Graph.{Edge}
-use Rattle.vl_drivers.specs.Drivers.{driven_parts, IsDrivenTwice}
+use Rattle.vl_drivers.specs.Drivers.{driven_parts}
 use Rattle.vl_use_faults.specs.Uses.{IsUseFault}
 use Rattle.vl_partly.specs.Faults.{IsPathFault}
-use Rattle.cell_order.specs.Cycles.{Leads, IsOnCycle}
 use Rattle.cell_accept.specs.Accepted.{IsAccepted, HasNoLoop}
 use Rattle.host_run.specs.Examples.{counter_design}
 

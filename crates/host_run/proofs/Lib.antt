@@ -3,3 +3,4 @@ pub mod OneAnswer
 pub mod Outcomes
 pub mod Takings
 pub mod Unrolled
+pub mod Tenants

@@ -20,7 +20,6 @@ use Rattle.vl_design.specs.Queue.{Queue}
 use Rattle.vl_design.specs.Alone.{Ends}
 use Rattle.vl_design.specs.Plain.{alone}
 use Rattle.vl_design.proofs.Settling.{ends_once}
-use Rattle.vl_design.specs.declared.stop.Stop.{Stop}
 use Rattle.vl_design.specs.declared.stop.Stop.TheVariants as stop
 use Rattle.vl_design.specs.Placed as p
 use Rattle.vl_design.specs.Plainly as plain

@@ -1,20 +1,17 @@
 -- The run of a design ends as that of the design with its loops unrolled.
-use Rattle.std.proofs.Common.{◌≡◌, ℕ, ◌<◌, Bool, true, false, List, [], refl, sym, ap, ◌∙◌, subst}
+use Rattle.std.proofs.Common.{◌≡◌, ℕ, Bool, List, sym, ap, ◌∙◌, subst}
 use Rattle.std.specs.Prelude.{nat_le, if◌then◌else◌, Option, Some, None}
-use Rattle.vl_design.specs.declared.design.Design.{Design}
 use Rattle.vl_design.specs.declared.design.End.{End}
 use Rattle.vl_design.specs.declared.design.End.TheVariants.{Finished, Budget}
 use Rattle.vl_design.specs.Placed as p
 use Rattle.vl_design.specs.Plainly as plain
-use Rattle.vl_design.specs.Seen.{placed}
 use Rattle.vl_design.specs.Syntax.{Flat}
 use Rattle.vl_design.specs.Queue.{Queue}
-use Rattle.vl_design.specs.Alone.{Boundary, Ends, reason_at}
+use Rattle.vl_design.specs.Alone.{Ends, reason_at}
 use Rattle.vl_design.specs.Observed.{Observed}
 use Rattle.vl_design.specs.Plain.{alone}
 use Rattle.vl_design.specs.Sound.{IsSound}
 use Rattle.vl_design.specs.Trees.{flat_of}
-use Rattle.vl_turns.specs.Placed.{unrolled_placed}
 use Rattle.vl_turns.specs.Unroll.{unrolled_flat}
 use Rattle.vl_turns.specs.Fits.{CanUnroll}
 use Rattle.vl_turns.proofs.Placing.{flat_plain}

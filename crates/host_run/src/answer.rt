@@ -6,21 +6,23 @@ ghost use Rattle.vl_source.specs.declared.tree.Source.{Source as Tree};
 ghost use Rattle.vl_design.specs.Seen.{placed};
 ghost use Rattle.vl_flatten.specs.Meeting.{IsElaboration};
 ghost use Rattle.vl_checked.specs.Fit.{IsFit};
+ghost use Rattle.vl_own.specs.Own.{HasOwnFunctions};
 ghost use Rattle.cell_accept.specs.Accepted.{Stands};
 ghost use Rattle.host_run.specs.Due.{end_of as end_of_lem};
 ghost use Rattle.host_run.specs.Answers.{IsAnswer, IsTreeOf};
 
 use crate::end::end_of;
 use crate::report;
+use crate::running::outcome_of;
 use crate::saving::has_saves;
 use cell_accept::accept::{Accepted, accept};
 use cell_accept::fault::Fault;
-use plain_run::run::run;
 use std::alloc::{AllocError, Global};
 use vl_base::place::Place;
 use vl_design::design::Design;
 use vl_design::stop::Stop;
 use vl_flatten::elaborate::elaborate;
+use vl_functions::laws::functions_of_an_elaborated_design_keep_to_their_own;
 use vl_lex::lex::{LexFault, lex};
 use vl_parse::{ParseFault, parse};
 use vl_source::tree::Source;
@@ -39,19 +41,19 @@ pub enum Answer {
 fn answer_to_accepted(
     alloc: Global,
     design: &Design,
-    accepted: &Accepted,
+    accepted: Accepted,
     ticks: u64,
 ) -> Result<Answer, AllocError>
     requires fit { IsFit (placed design.now) }
-    requires stands { Stands (placed design.now) accepted.now }
+    requires own { HasOwnFunctions (placed design.now) }
+    requires stands { Stands (placed design.now) accepted }
     ensures { IfOk result (λ a. (text : List ℕ) (tree : Tree) → IsTreeOf text tree → IsElaboration tree (Ok (placed design.now)) → IsAnswer text ticks a) }
 {
     let saves = has_saves(alloc, design)?;
     if saves {
         return Ok(Answer::Refusal(report::notbuilt(alloc)?));
     }
-    let order = accepted.order.as_slice();
-    let outcome = run(alloc, &accepted.design, order, ticks)?;
+    let outcome = outcome_of(alloc, design, accepted, ticks)?;
     let printed = outcome.printed.as_slice();
     let block = report::block(alloc, outcome.end, outcome.ticks, printed)?;
     Ok(Answer::Report(block))
@@ -59,11 +61,12 @@ fn answer_to_accepted(
 
 /// The answer to the flat design of a source.
 fn answer_to_design(alloc: Global, design: &Design, ticks: u64) -> Result<Answer, AllocError>
-    requires { IsFit (placed design.now) }
+    requires fit { IsFit (placed design.now) }
+    requires own { HasOwnFunctions (placed design.now) }
     ensures { IfOk result (λ a. (text : List ℕ) (tree : Tree) → IsTreeOf text tree → IsElaboration tree (Ok (placed design.now)) → IsAnswer text ticks a) }
 {
     match accept(alloc, design) {
-        Ok(accepted) => answer_to_accepted(alloc, design, &accepted, ticks),
+        Ok(accepted) => answer_to_accepted(alloc, design, accepted, ticks),
         Err(Fault::Construct(place, number)) => Ok(Answer::Refusal(report::construct(
             alloc, place, number,
         )?)),
@@ -79,6 +82,7 @@ fn answer_to_design(alloc: Global, design: &Design, ticks: u64) -> Result<Answer
 fn answer_to_tree(alloc: Global, tree: &Source, ticks: u64) -> Result<Answer, AllocError>
     ensures { IfOk result (λ a. (text : List ℕ) → IsTreeOf text tree.now → IsAnswer text ticks a) }
 {
+    functions_of_an_elaborated_design_keep_to_their_own();
     match elaborate(alloc, tree) {
         Ok(design) => answer_to_design(alloc, &design, ticks),
         Err(Stop::Construct(place, number)) => Ok(Answer::Refusal(report::construct(

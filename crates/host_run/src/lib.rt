@@ -8,5 +8,6 @@ pub mod laws;
 mod put;
 mod report;
 pub mod rows;
+mod running;
 mod saving;
 mod words;

@@ -34,11 +34,11 @@ each_one P [] f = All-nil P
 each_one P (x ∷ xs) f =
     All-cons P x xs (f x (or_first (x == x) (list_any (λ k. k == x) xs) (eq-eqb x x refl))) (each_one P xs (λ m h. f m (or_second (x == m) (list_any (λ k. k == m) xs) h)))
 
-each_target : (P : ℕ → Type 0) (x : Node) → ((m : ℕ) → leads_to x m ≡ true → P m) → All P (targets x)
+pub each_target : (P : ℕ → Type 0) (x : Node) → ((m : ℕ) → leads_to x m ≡ true → P m) → All P (targets x)
 each_target P x f = each_one P (targets x) f
 
 -- so it is of what may be next, where it holds of updates and of what stands behind them
-all_next : (P : ℕ → Type 0) (x : Node) → All P (targets x) → ((to : ℕ) (g : Segment) → x ≡ Run g (Commit to) → P to) → ((to : ℕ) → x ≡ Apply to → P to) → All P (next_of x)
+pub all_next : (P : ℕ → Type 0) (x : Node) → All P (targets x) → ((to : ℕ) (g : Segment) → x ≡ Run g (Commit to) → P to) → ((to : ℕ) → x ≡ Apply to → P to) → All P (next_of x)
 all_next P (Run g (Go to)) f ends ups = f
 all_next P (Run g (Branch t a b)) f ends ups = f
 all_next P (Run g (Switch e ws o)) f ends ups = f
@@ -72,7 +72,7 @@ falls_few : (n : ℕ) (ps : List Proc) → length (fall_nodes n ps) ≤ 2 * all_
 falls_few n [] = omega arith
 falls_few n (p ∷ ps) = wave_few n 2 (bodies (p ∷ ps)) still
 
-some_falls : (n : ℕ) (ps : List Proc) → 0 < length (fall_nodes n ps) → ps ≢ []
+pub some_falls : (n : ℕ) (ps : List Proc) → 0 < length (fall_nodes n ps) → ps ≢ []
 some_falls n [] h e = let z : ⊥ = omega arith in absurd z
 some_falls n (p ∷ ps) h e = cc
 
@@ -80,7 +80,7 @@ updates_few : (ps : List Proc) (rise fall : ℕ) → (2 ≤ length (updates ps r
 updates_few [] rise fall = (omega arith, omega arith)
 updates_few (p ∷ ps) rise fall = (omega arith, omega arith)
 
-updates_next : (P : ℕ → Type 0) (ps : List Proc) (rise fall : ℕ) → P rise → (ps ≢ [] → P fall) → All (λ x. All P (next_of x)) (updates ps rise fall)
+pub updates_next : (P : ℕ → Type 0) (ps : List Proc) (rise fall : ℕ) → P rise → (ps ≢ [] → P fall) → All (λ x. All P (next_of x)) (updates ps rise fall)
 updates_next P [] rise fall f g =
     let one : All P (rise ∷ []) = All-cons P rise [] f (All-nil P) in
     let Q : Node → Type 0 = λ x. All P (next_of x) in
@@ -91,7 +91,7 @@ updates_next P (p ∷ ps) rise fall f g =
     let Q : Node → Type 0 = λ x. All P (next_of x) in
     All-cons Q (Apply rise) (Apply fall ∷ Apply rise ∷ []) one (All-cons Q (Apply fall) (Apply rise ∷ []) other (All-cons Q (Apply rise) [] one (All-nil Q)))
 
-front_at : (Q : Node → Type 0) (xs ys : List Node) (n : ℕ) (x : Node) → All Q xs → n < length xs → slice_get (xs ++ ys) n ≡ Some x → Q x
+pub front_at : (Q : Node → Type 0) (xs ys : List Node) (n : ℕ) (x : Node) → All Q xs → n < length xs → slice_get (xs ++ ys) n ≡ Some x → Q x
 front_at Q [] ys n x f h e = let z : ⊥ = omega arith in absurd z
 front_at Q (y ∷ xs) ys zero x f h e = subst Q (some_is e) (All-head Q y xs f)
 front_at Q (y ∷ xs) ys (suc n) x f h e = let h' : n < length xs = omega arith in front_at Q xs ys n x (All-tail Q y xs f) h' e
@@ -99,28 +99,28 @@ front_at Q (y ∷ xs) ys (suc n) x f h e = let h' : n < length xs = omega arith 
 -- ---- a design's table
 
 module _ (d : Flat) where
-  abbrev ups : List Stm
+  abbrev pub ups : List Stm
   ups = bodies (blocks is_rise d.procs)
 
-  abbrev falls : List Proc
+  abbrev pub falls : List Proc
   falls = blocks is_fall d.procs
 
-  abbrev inits : List Stm
+  abbrev pub inits : List Stm
   inits = bodies (blocks is_init d.procs)
 
-  abbrev from : ℕ
+  abbrev pub from : ℕ
   from = length (updates falls 0 0)
 
-  abbrev up : List Node
+  abbrev pub up : List Node
   up = wave_nodes from 1 ups rising
 
-  abbrev down : List Node
+  abbrev pub down : List Node
   down = fall_nodes (from + length up) falls
 
-  abbrev first : List Node
+  abbrev pub first : List Node
   first = wave_nodes (from + length up + length down) 0 inits still
 
-  abbrev over : List Node
+  abbrev pub over : List Node
   over = updates falls (table_of d).rise.first (table_of d).fall.first
 
   pub record Sizes : Type 0 where
@@ -166,13 +166,13 @@ module _ (d : Flat) where
   has : HasFrom (table_of d).nodes from up × HasFrom (table_of d).nodes (from + length up) down × HasFrom (table_of d).nodes (from + length up + length down) first
   has = let T = table_of d in three over up down first from (updates_many falls T.rise.first T.fall.first)
 
-  zero_closed : IsClosed (table_of d).nodes 0 (early_from d) (length (table_of d).nodes)
+  pub zero_closed : IsClosed (table_of d).nodes 0 (early_from d) (length (table_of d).nodes)
   zero_closed = wave_closed (table_of d).nodes 0 inits still (early_from d) (length (table_of d).nodes) (sym sizes.all) has.2
 
-  rise_closed : IsClosed (table_of d).nodes 1 from (from + length up)
+  pub rise_closed : IsClosed (table_of d).nodes 1 from (from + length up)
   rise_closed = wave_closed (table_of d).nodes 1 ups rising from (from + length up) refl has.0
 
-  fall_closed : falls ≢ [] → IsClosed (table_of d).nodes 2 (from + length up) (early_from d)
+  pub fall_closed : falls ≢ [] → IsClosed (table_of d).nodes 2 (from + length up) (early_from d)
   fall_closed f = falls_closed (table_of d).nodes (from + length up) falls f has.1
 
   -- an early node leads to early ones

@@ -7,6 +7,7 @@ ghost use Rattle.vl_design.specs.Alone.{blocks};
 ghost use Rattle.vl_design.specs.Laws.{IsUnrolled};
 ghost use Rattle.sub_nodes.specs.Nodes.{Segment, Go, Commit, Node, Run, Trap, Apply};
 ghost use Rattle.sub_nodes.specs.Code.{table_of};
+ghost use Rattle.sub_nodes.specs.Cycles.{is_trap};
 ghost use Rattle.sub_nodes.specs.Shape.{targets};
 ghost use Rattle.sub_facts.specs.Pairs.{ArePaired};
 ghost use Rattle.sub_facts.specs.Early.{next_of, early_from, IsEarly};
@@ -18,6 +19,12 @@ pub fn calls_stand_in_pairs()
     ensures all { (d : Flat) → ArePaired 0 (table_of d).nodes }
     ensures each { (d : Flat) (n m : ℕ) (g : Segment) → slice_get (table_of d).nodes n ≡ Some (Run g (Go m)) →
         (m ≡ n + 1) × ((task : Task) × (to : ℕ) × (slice_get (table_of d).nodes m ≡ Some (Trap task to))) }
+{}
+
+/// To a call's node leads just the segment that comes to it.
+pub fn other_nodes_lead_to_no_calls()
+    ensures { (d : Flat) (n : ℕ) (x : Node) → slice_get (table_of d).nodes n ≡ Some x → ((g : Segment) (m : ℕ) → x ≡ Run g (Go m) → ⊥) →
+        All (λ m. is_trap (slice_get (table_of d).nodes m) ≡ false) (next_of x) }
 {}
 
 /// Behind a node of time zero's wave only such are done until the wave ends, whose update is node 0.

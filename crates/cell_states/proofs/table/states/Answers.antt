@@ -18,4 +18,4 @@ returns-clause-states c =
     let given : length c.as_slice-nodes.result.now ≡ length nodes = ap length c.as_slice-nodes.ensures.value in
     let made : length c.as_slice.result.now ≡ length states = ap length c.as_slice.ensures in
     omega (arith, a, b, t, given, made) in
-    (c.loop-nodes.built.slots, all-made d c.args.order.now c.args.from (map node_view nodes) (map state_of states) c.loop-nodes.built.slots c.loop-nodes.invariant.first many)
+    all-made d c.args.order.now c.args.from (map node_view nodes) (map state_of states) c.loop-nodes.built.slots c.loop-nodes.invariant.first many

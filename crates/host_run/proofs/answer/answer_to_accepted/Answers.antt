@@ -1,30 +1,19 @@
-use Rattle.std.proofs.Common.{refl, sym, ◌∙◌, subst}
-use Rattle.vl_design.specs.Trees.{flat_of}
-use Rattle.vl_settle.specs.Checked.{IsOrder}
+use Rattle.std.proofs.Common.{refl, sym, ◌∙◌}
 use Rattle.vl_design.specs.Plainly as plain
 use Rattle.vl_design.specs.Seen.{placed}
 use Rattle.host_run.specs.Due.{unbuilt}
-use Rattle.host_run.proofs.Unrolled.{EndsAs, run-is, is-sound, is-checked, is-order}
+use Rattle.host_run.proofs.Unrolled.{run-is}
 use Rattle.host_run.proofs.answer.answer_to_accepted.Goals as goal
 
 pub returns-then-saves : goal.returns-then-saves
 returns-then-saves c = λ text tree is elaborated.
     unbuilt is.read is.parsed elaborated c.requires.stands.accepted (sym c.in_ok-saves.ensures ∙ c.if-saves.true) c.in_ok-notbuilt.ensures
 
-pub run-requires-clause-sound : goal.run-requires-clause-sound
-run-requires-clause-sound c = is-sound (placed c.args.design.now) c.requires.fit c.args.accepted.now c.requires.stands
-
-pub run-requires-clause-checked : goal.run-requires-clause-checked
-run-requires-clause-checked c = is-checked (placed c.args.design.now) c.requires.fit c.args.accepted.now c.requires.stands
-
-pub run-requires-clause-order : goal.run-requires-clause-order
-run-requires-clause-order c = subst (IsOrder (flat_of c.args.accepted.now.design)) (sym c.as_slice-order.ensures.value) (is-order (placed c.args.design.now) c.requires.fit c.args.accepted.now c.requires.stands)
-
 pub returns : goal.returns
 returns c = λ text tree is elaborated.
     let d = placed c.args.design.now in
     let (q, ends, ticks, printed) = c.in_ok-outcome.ensures in
-    let e = run-is d c.requires.fit c.args.accepted.now c.requires.stands _ _ _ _ _ (record { last = q; ends = ends; ticks_are = ticks; printed_are = printed }) in
+    let e = run-is d c.requires.fit c.args.accepted c.requires.stands _ _ _ _ _ (record { last = q; ends = ends; ticks_are = ticks; printed_are = printed }) in
     record {
       design = plain.flat d;
       stands = record {

@@ -27,5 +27,8 @@ pub returns-in_ok-limit-in-Err-Limit : goal.returns-in_ok-limit-in-Err-Limit
 returns-in_ok-limit-in-Err-Limit c = λ text is.
     outgrown is.read is.parsed (rw c.in-Err-Limit.field-0-is at c.in-Err-Limit.ensures.elaborated) c.in_ok-limit-in-Err-Limit.ensures
 
-pub answer_to_design-requires : goal.answer_to_design-requires
-answer_to_design-requires c = fit c.args.tree.now (placed c.in-Ok.design) c.in-Ok.ensures.elaborated
+pub answer_to_design-requires-clause-fit : goal.answer_to_design-requires-clause-fit
+answer_to_design-requires-clause-fit c = fit c.args.tree.now (placed c.in-Ok.design) c.in-Ok.ensures.elaborated
+
+pub answer_to_design-requires-clause-own : goal.answer_to_design-requires-clause-own
+answer_to_design-requires-clause-own c = c.functions_of_an_elaborated_design_keep_to_their_own.ensures c.args.tree.now (placed c.in-Ok.design) c.in-Ok.ensures.elaborated

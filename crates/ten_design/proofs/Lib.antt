@@ -1,0 +1,4 @@
+pub mod Plain
+pub mod Parts
+pub mod Nodes
+pub mod Runs

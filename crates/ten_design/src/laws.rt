@@ -1,0 +1,40 @@
+//! What holds of designs whose runs are done by states of cells.
+
+ghost use Rattle.std.specs.Prelude.{◌≡◌, ℕ, List, None, All, map};
+ghost use Rattle.vl_design.specs.Alone.{Origin};
+ghost use Rattle.vl_design.specs.Syntax.{Flat};
+ghost use Rattle.vl_design.specs.Width.{names_of};
+ghost use Rattle.sub_nodes.specs.Code.{table_of};
+ghost use Rattle.sub_split.specs.Views.{node_view};
+ghost use Rattle.sub_split.specs.declared.table.Node.{Node};
+ghost use Rattle.cell_states.specs.Designs.{IsCellDesign};
+ghost use Rattle.cell_states.specs.Pieces.{IsCellNode};
+ghost use Rattle.ten_calls.specs.Works.{HaveBytes};
+ghost use Rattle.ten_image.specs.Paired.{CallsStandApart};
+ghost use Rattle.ten_core.specs.Runs.{IsTame};
+ghost use Rattle.ten_design.specs.Designs.{IsTenantDesign};
+
+use ten_core::laws::each_stage_is_tidy;
+
+/// Such a design is one whose nodes are compiled.
+pub fn tenants_designs_are_compiled()
+    ensures { (d : Flat) (order : List ℕ) → IsTenantDesign d order → IsCellDesign d order }
+{}
+
+/// Each node of its table is one that is compiled: its statements hold no call, and assign signals.
+pub fn nodes_of_a_tenants_design_are_compiled()
+    ensures { (d : Flat) (order : List ℕ) (nodes : List Node) → IsTenantDesign d order → map node_view nodes ≡ (table_of d).nodes →
+        All (IsCellNode (names_of d)) nodes }
+{}
+
+/// To a call leads just a segment that goes there.
+pub fn calls_of_a_table_stand_apart()
+    ensures { (d : Flat) → CallsStandApart (table_of d).nodes }
+{}
+
+/// Runs of such a design from time zero are tame, over files of bytes.
+pub fn runs_of_a_tenants_design_are_tame()
+    ensures { (o : Origin) (order : List ℕ) → IsTenantDesign o.flat order → HaveBytes o.files → o.resume ≡ None → IsTame o order }
+{
+    each_stage_is_tidy();
+}

@@ -1,0 +1,4 @@
+//! Designs whose runs are done by states of cells.
+#![tactic(auto)]
+
+pub mod laws;

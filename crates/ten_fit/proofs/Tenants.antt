@@ -1,0 +1,80 @@
+-- An accepted design that runs on cells is a tenant's.
+use Rattle.std.proofs.Common.{◌≡◌, ℕ, ◌≤◌, true, false, length, sym, ap, ◌∙◌, subst}
+use Rattle.std.specs.Prelude.{◌&&◌, not, nat_le, All}
+use Rattle.std.specs.List.{list_any}
+use Rattle.std.proofs.lemmas.Bool.{and_parts, not-true, leb-true}
+use Rattle.std.proofs.lemmas.List.{length-map}
+use Rattle.vl_design.specs.Laws.{IsUnrolled}
+use Rattle.vl_design.specs.Placed as p
+use Rattle.vl_design.specs.Plainly as plain
+use Rattle.vl_design.specs.Seen.{placed}
+use Rattle.vl_design.specs.Syntax.{Flat}
+use Rattle.vl_design.specs.Trees.{flat_of}
+use Rattle.vl_design.specs.Width.{names_of}
+use Rattle.vl_turns.specs.Unroll.{unrolled_flat}
+use Rattle.vl_turns.specs.Placed.{unrolled_placed}
+use Rattle.vl_turns.proofs.Bare.{all_bare}
+use Rattle.vl_turns.proofs.Placing.{flat_plain}
+use Rattle.vl_checked.specs.Fit.{IsFit}
+use Rattle.vl_settle.specs.Checked.{IsChecked}
+use Rattle.vl_settle.proofs.Orders.{ordered}
+use Rattle.cell_accept.specs.declared.accept.Accepted.{Accepted}
+use Rattle.cell_accept.specs.Accepted.{Stands}
+use Rattle.cell_accept.proofs.Fitting.{unrolls, stays}
+use Rattle.cell_settled.proofs.Rules.{checked}
+use Rattle.cell_paths.specs.Envs.{HasOneWord}
+use Rattle.cell_paths.proofs.Assigning.{one-word}
+use Rattle.cell_expr.specs.Bodies.{IsCellFun}
+use Rattle.cell_states.specs.Designs.{ComputesAlone}
+use Rattle.sub_nets.specs.Memories.{memory_at}
+use Rattle.sub_nets.specs.Nets.{WritesNoNets}
+use Rattle.ten_design.specs.Designs.{IsTenantDesign}
+use Rattle.ten_fit.specs.Kinds.{is_memory, assigns_astray, runs_on_cells}
+use Rattle.ten_fit.proofs.Signals.{no-memory}
+use Rattle.ten_fit.proofs.Writers.{alone}
+
+-- what the test tells
+pub record Passes (d : p.Design) : Type 0 where
+  pub few : length d.signals ≤ 268435456
+  pub memories : list_any (λ s. is_memory s.kind) d.signals ≡ false
+  pub astray : list_any (assigns_astray d.signals) d.processes ≡ false
+
+pub passes : (d : p.Design) → runs_on_cells d ≡ true → Passes d
+passes d h =
+    let memories = list_any (λ s. is_memory s.kind) d.signals in
+    let astray = list_any (assigns_astray d.signals) d.processes in
+    let both = and_parts (nat_le (length d.signals) 268435456) (not memories && not astray) h in
+    let rest = and_parts (not memories) (not astray) both.1 in
+    record {
+      few = leb-true (length d.signals) 268435456 both.0;
+      memories = not-true memories rest.0;
+      astray = not-true astray rest.1;
+    }
+
+module _ (d : p.Design) (fit : IsFit d) (a : Accepted) (s : Stands d a) where
+  abbrev next : Flat
+  next = unrolled_flat (plain.flat d)
+
+  same : flat_of a.design ≡ next
+  same = ap plain.flat s.design ∙ flat_plain d (unrolls d fit s.accepted.uses)
+
+  -- what the unrolled design meets, the program's meets
+  there : (P : Flat → Type 0) → P next → P (flat_of a.design)
+  there P h = subst P (sym same) h
+
+  placed_there : (P : p.Design → Type 0) → P (unrolled_placed d) → P (placed a.design)
+  placed_there P h = subst P (sym s.design) h
+
+  pub tenants : All (IsCellFun (names_of (plain.flat (unrolled_placed d)))) (plain.flat (unrolled_placed d)).funs → Passes d → WritesNoNets next → IsTenantDesign (flat_of a.design) a.order.items
+  tenants functions passed nets = record {
+    sound = stays d a.design fit s.accepted.uses s.design;
+    unrolled = there IsUnrolled (all_bare (plain.flat d));
+    functions = placed_there (λ x. All (IsCellFun (names_of (plain.flat x))) (plain.flat x).funs) functions;
+    checked = placed_there (λ x. IsChecked (plain.flat x)) (checked d fit s.accepted);
+    ordered = ordered (flat_of a.design) a.order.items s.order.once s.order.levelled;
+    alone = there ComputesAlone (alone d passed.astray);
+    nets = there WritesNoNets nets;
+    words = there (λ x. HasOneWord x.rows) (one-word d.signals);
+    few = there (λ x. length x.rows ≤ 268435456) (rw length-map passed.few);
+    no_memory = there (λ x. (k : ℕ) → memory_at x.rows k ≡ false) (no-memory d.signals passed.memories);
+  }

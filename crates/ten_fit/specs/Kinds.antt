@@ -1,0 +1,25 @@
+-- Which accepted designs run on states of cells, so far (IEEE 1364-2005, clauses 4.9, 6.1 and 9.7.5; own).
+use Rattle.std.specs.Prelude.{Bool, true, false, not, ◌&&◌, nat_le, if◌then◌else◌, List, length}
+use Rattle.std.specs.List.{list_any}
+use Rattle.vl_design.specs.declared.design.Signal.{Signal}
+use Rattle.vl_design.specs.declared.design.SigKind.{SigKind}
+use Rattle.vl_design.specs.declared.design.SigKind.TheVariants.{Mem}
+use Rattle.vl_design.specs.Placed.{Process, Design}
+use Rattle.vl_design.specs.Queue.{is_comb}
+use Rattle.vl_sites.specs.Sites.{sites}
+use Rattle.vl_check.specs.Bodies.{kind_is}
+use Rattle.vl_check.specs.Rules.{is_derived, sets}
+
+abbrev pub is_memory : SigKind → Bool
+is_memory Mem = true
+is_memory kind = false
+
+-- the process assigns a signal that isn't of its sort: a combinational one a signal that isn't computed, another one a computed one
+abbrev pub assigns_astray : List Signal → Process → Bool
+assigns_astray signals a =
+    list_any (λ s. sets (λ k. if is_comb a.kind then not (kind_is is_derived signals k) else kind_is is_derived signals k) s.what) (sites a.body)
+
+-- the design has no memory and at most 2 ^ 28 signals, and no process assigns astray
+abbrev pub runs_on_cells : Design → Bool
+runs_on_cells d =
+    nat_le (length d.signals) 268435456 && (not (list_any (λ x. is_memory x.kind) d.signals) && not (list_any (assigns_astray d.signals) d.processes))

@@ -1,0 +1,4 @@
+//! Images of designs, made.
+#![tactic(auto)]
+
+pub mod image;

@@ -1,0 +1,83 @@
+-- Where a run begins, and where it is over.
+use Rattle.std.proofs.Common.{◌≡◌, ℕ, Bool, true, false, List, refl, sym, ap, ◌∙◌, subst, arith}
+use Rattle.std.specs.Prelude.{◌&&◌, ◌||◌, not, nat_lt, slice_get, None}
+use Rattle.std.proofs.lemmas.Bool.{ltb-false}
+use Rattle.vl_base.specs.declared.files.File.{File}
+use Rattle.vl_design.specs.declared.design.End.{End}
+use Rattle.vl_design.specs.declared.design.End.TheVariants.{Finished, Budget}
+use Rattle.vl_design.specs.Alone.{Origin, Ends}
+use Rattle.vl_design.specs.Queue.{Queue}
+use Rattle.vl_design.specs.Syntax.{Flat}
+use Rattle.plain_run.specs.Runs.{over}
+use Rattle.sub_nodes.specs.Code.{table_of}
+use Rattle.sub_nodes.specs.Cycles.{Stage, rises}
+use Rattle.sub_nodes.specs.Stands.{CanRun}
+use Rattle.sub_ends.proofs.Ending.{finished_ends, budget_ends}
+use Rattle.vl_acts.proofs.Onward.{checked_quiet}
+use Rattle.ten_form.specs.Nets.{nets_of}
+use Rattle.ten_core.specs.declared.image.Image.{Image}
+use Rattle.ten_core.specs.Runs.{first_stage, IsAt}
+use Rattle.ten_core.specs.Tenants.{TenantData, IsImage}
+use Rattle.ten_run.specs.Runnable.{CanBeRun}
+use Rattle.ten_run.specs.Running.{IsRunning, IsOver}
+
+over-rises : (f r l : Bool) → (not f && (not r || l)) ≡ false → f ≡ false → r ≡ true
+over-rises true r l h e = let z : ⊥ = cc in absurd z
+over-rises false true l h e = refl
+over-rises false false l h e = let z : ⊥ = cc in absurd z
+
+over-spent : (f r l : Bool) → (not f && (not r || l)) ≡ false → f ≡ false → l ≡ false
+over-spent true r l h e = let z : ⊥ = cc in absurd z
+over-spent false true l h e = h
+over-spent false false l h e = let z : ⊥ = cc in absurd z
+
+module _ (d : Flat) (files : List File) (budget : ℕ) where
+  abbrev o : Origin
+  o = over d files budget
+
+  -- what is told of an end
+  abbrev pub Told : ℕ → End → List ℕ → Type 0
+  Told ticks end printed = (q : Queue) × Ends o ticks end q × (q.state.ticks ≡ ticks) × (q.state.printed ≡ printed)
+
+  pub begins : (image : Image) (t : TenantData) → CanBeRun d files budget image →
+      ((x : Origin) (order : List ℕ) → IsImage x.flat order image → x.files ≡ files → x.resume ≡ None → IsAt x order t 0 (first_stage x)) →
+      IsRunning d files budget t
+  begins image t h starts = record {
+    order = h.order;
+    tame = h.tame;
+    unrolled = h.unrolled;
+    checked = h.checked;
+    ordered = h.ordered;
+    acts = 0;
+    stage = first_stage o;
+    at = starts o h.order h.image_is refl refl;
+    within = omega arith;
+  }
+
+  module _ (t : TenantData) (s : IsOver d files budget t) (can : CanRun o (table_of d) (nets_of d files s.running.order)) where
+    abbrev i : Stage
+    i = s.running.stage
+
+    tell : (ticks : ℕ) (end : End) (printed : List ℕ) → ticks ≡ i.state.ticks → printed ≡ t.printed →
+        ((q : Queue) × Ends o i.state.ticks end q × (q.state ≡ i.state)) → Told ticks end printed
+    tell ticks end printed e p x = (
+      x.0,
+      subst (λ k. Ends o k end x.0) (sym e) x.1,
+      ap (λ z. z.ticks) x.2 ∙ sym e,
+      ap (λ z. z.printed) x.2 ∙ (sym s.running.at.printed ∙ sym p),
+    )
+
+    pub over-finished : (ticks : ℕ) (printed : List ℕ) → ticks ≡ i.state.ticks → printed ≡ t.printed → i.state.finished ≡ true → Told ticks Finished printed
+    over-finished ticks printed e p f =
+        let r = s.running in
+        tell ticks Finished printed e p
+        (finished_ends o (table_of d) (nets_of d files r.order) can (checked_quiet d r.checked) refl r.at.comes f r.within)
+
+    pub over-budget : (ticks : ℕ) (printed : List ℕ) → ticks ≡ i.state.ticks → printed ≡ t.printed → i.state.finished ≡ false → Told ticks Budget printed
+    over-budget ticks printed e p f =
+        let r = s.running in
+        let w = r.within in
+        let up = over-rises i.state.finished (rises (slice_get (table_of d).nodes i.node)) (nat_lt i.state.ticks budget) s.over f in
+        let spent = ltb-false i.state.ticks budget (over-spent i.state.finished (rises (slice_get (table_of d).nodes i.node)) (nat_lt i.state.ticks budget) s.over f) in
+        tell ticks Budget printed e p
+        (budget_ends o (table_of d) (nets_of d files r.order) can (checked_quiet d r.checked) refl r.at.comes f up (omega (arith, w, spent)))

@@ -1,0 +1,4 @@
+//! Runs of tenants to their end.
+#![tactic(auto)]
+
+pub mod run;

@@ -1,0 +1,100 @@
+//! A run of an image from its start to its end.
+
+ghost use Rattle.std.specs.Prelude.{◌≡◌, ◌≤◌, ◌<◌, ℕ, List, IfOk, OnOk};
+ghost use Rattle.vl_base.specs.declared.files.File.{File};
+ghost use Rattle.vl_design.specs.Alone.{Origin, Ends};
+ghost use Rattle.vl_design.specs.Queue.{Queue};
+ghost use Rattle.vl_design.specs.Syntax.{Flat};
+ghost use Rattle.vl_design.specs.Trees.{flat_of};
+ghost use Rattle.plain_run.specs.Runs.{over};
+ghost use Rattle.sub_nodes.specs.Cycles.{Stage};
+ghost use Rattle.ten_core.specs.Tenants.{tenant_of};
+ghost use Rattle.ten_core.specs.Runs.{IsAt, Runs};
+ghost use Rattle.ten_run.specs.Runnable.{CanBeRun};
+ghost use Rattle.ten_run.specs.Running.{goes_on, IsRunning, MayGoOn, IsOver, to_come};
+
+use plain_run::run::Outcome;
+use std::alloc::{AllocError, Global};
+use sub_nets::laws::the_table_of_a_checked_design_can_run;
+use ten_core::image::Image;
+use ten_core::tenant::Tenant;
+use vl_base::files::FileSet;
+use vl_base::items::Bytes;
+use vl_design::design::End;
+
+/// A run of more states than 2 ^ 31 might come to more acts than can be counted.
+const MOST_STATES: usize = 2_147_483_648;
+
+/// The run goes on: it hasn't finished, and at a boundary the budget isn't spent.
+fn goes_on(tenant: &Tenant, budget: u64) -> bool
+    requires { Runs (tenant_of tenant.now) }
+    ensures { (o : Origin) (order : List ℕ) (c : ℕ) (i : Stage) → IsAt o order (tenant_of tenant.now) c i →
+        result ≡ goes_on o.flat budget i }
+{
+    !tenant.done() && (!tenant.at_boundary() || tenant.ticks() < budget)
+}
+
+/// One step of a run that goes on: the call that waits is served, or else one cycle is done.
+fn advance(alloc: Global, tenant: &mut Tenant) -> Result<(), AllocError>
+    requires { (d : Flat) × (files : List File) × (budget : ℕ) × MayGoOn d files budget (tenant_of tenant.old) }
+    ensures running { OnOk result ((d : Flat) (files : List File) (budget : ℕ) → MayGoOn d files budget (tenant_of tenant.old) →
+        IsRunning d files budget (tenant_of tenant.new)) }
+    ensures fewer { OnOk result ((d : Flat) (files : List File) (budget : ℕ) → MayGoOn d files budget (tenant_of tenant.old) →
+        to_come d budget (tenant_of tenant.new) < to_come d budget (tenant_of tenant.old)) }
+{
+    if tenant.waits {
+        return tenant.serve(alloc);
+    }
+    tenant.cycle();
+    Ok(())
+}
+
+/// Runs a tenant until its run is over.
+fn run_on(alloc: Global, tenant: &mut Tenant, budget: u64) -> Result<(), AllocError>
+    requires running { (d : Flat) × (files : List File) × IsRunning d files budget (tenant_of tenant.old) }
+    requires budget { budget ≤ 1000000000 }
+    ensures { OnOk result ((d : Flat) (files : List File) → IsRunning d files budget (tenant_of tenant.old) →
+        IsOver d files budget (tenant_of tenant.new)) }
+{
+    if tenant.image.table.states.as_slice().len() > MOST_STATES {
+        return Err(AllocError);
+    }
+    'steps: while goes_on(tenant, budget) {
+        advance(alloc, tenant)?;
+    }
+    Ok(())
+}
+
+/// How a run that is over has ended, and what it has printed.
+fn outcome(tenant: Tenant) -> Outcome
+    requires { (d : Flat) × (files : List File) × (budget : ℕ) × IsOver d files budget (tenant_of tenant) }
+    ensures { (d : Flat) (files : List File) (budget : ℕ) → IsOver d files budget (tenant_of tenant) →
+        (q : Queue) × Ends (over d files budget) result.ticks result.end q
+        × (q.state.ticks ≡ result.ticks) × (q.state.printed ≡ result.printed) }
+{
+    the_table_of_a_checked_design_can_run();
+    let end = if tenant.done() {
+        End::Finished
+    } else {
+        End::Budget
+    };
+    let ticks = tenant.ticks();
+    Outcome {
+        end,
+        ticks,
+        printed: Bytes::from_vec(tenant.printed),
+    }
+}
+
+/// Runs an image over these files from time zero, for at most a budget of ticks: how its run alone ends, and what that prints. An
+/// `Err` is want of memory, also where there are more than 2 ^ 31 states.
+pub fn run(alloc: Global, image: Image, files: FileSet, budget: u64) -> Result<Outcome, AllocError>
+    requires image { CanBeRun (flat_of image.design) files budget image }
+    requires budget { budget ≤ 1000000000 }
+    ensures { IfOk result (λ o. (q : Queue) × Ends (over (flat_of image.design) files budget) o.ticks o.end q
+        × (q.state.ticks ≡ o.ticks) × (q.state.printed ≡ o.printed)) }
+{
+    let mut tenant = Tenant::new(alloc, image, files)?;
+    run_on(alloc, &mut tenant, budget)?;
+    Ok(outcome(tenant))
+}

@@ -28,7 +28,7 @@ const MOST_TICKS: u64 = 1_000_000_000;
 
 /// The most cells of a design that runs on states of cells, so far: each state is made by itself with all nets, so that large designs
 /// take long to make.
-const MOST_CELLS: u64 = 8192;
+const MOST_CELLS: u64 = 32_768;
 
 /// Runs a tenant's design on states of cells, alone, from time zero and without files.
 fn run_on_cells(

@@ -2,25 +2,55 @@
 
 ghost use Rattle.vl_design.specs.Seen.{placed};
 ghost use Rattle.vl_checked.specs.Fit.{IsFit};
+ghost use Rattle.vl_own.specs.Own.{HasOwnFunctions};
+ghost use Rattle.cell_accept.specs.Accepted.{Stands};
 
 use crate::row::Row;
 use crate::show::{count_text, table_text};
-use cell_accept::accept::accept;
+use crate::states::states_text;
+use cell_accept::accept::{Accepted, accept};
 use cell_accept::fault::Fault;
 use std::alloc::{AllocError, Global};
 use sub_split::split::split;
+use ten_fit::fit::runs_on_cells;
+use ten_fit::laws::a_design_that_runs_on_cells_is_a_tenants;
+use ten_make::image::image;
 use vl_base::place::Place;
 use vl_design::design::Design;
 use vl_design::stop::Stop;
 use vl_fit::laws::an_elaborated_design_is_fit_to_be_judged;
 use vl_flatten::elaborate::elaborate;
+use vl_functions::laws::functions_of_an_elaborated_design_keep_to_their_own;
 use vl_lex::lex::{LexFault, lex};
 use vl_parse::{ParseFault, parse};
 use vl_source::tree::Source;
 use vl_tree::token::Token;
 
+/// The states of an accepted design.
+fn answer_in_states(
+    alloc: Global,
+    design: &Design,
+    accepted: Accepted,
+) -> Result<String, AllocError>
+    requires fit { IsFit (placed design.now) }
+    requires own { HasOwnFunctions (placed design.now) }
+    requires stands { Stands (placed design.now) accepted }
+{
+    a_design_that_runs_on_cells_is_a_tenants();
+    let fits = runs_on_cells(alloc, design)?;
+    let Accepted {
+        design: unrolled,
+        order,
+    } = accepted;
+    if fits {
+        let image = image(alloc, unrolled, order.as_slice())?;
+        return states_text(alloc, &image);
+    }
+    String::from_str(alloc, "states none\n")
+}
+
 /// The table of a design whose loops are unrolled, or its number of nodes.
-fn answer_to_unrolled(alloc: Global, wanted: &str, design: &Design) -> Result<String, AllocError> {
+fn answer_in_nodes(alloc: Global, wanted: &str, design: &Design) -> Result<String, AllocError> {
     let table = split(alloc, design)?;
     if wanted.starts_with("nodes ") {
         return count_text(alloc, &table);
@@ -28,12 +58,30 @@ fn answer_to_unrolled(alloc: Global, wanted: &str, design: &Design) -> Result<St
     table_text(alloc, design.signals.as_slice(), &table)
 }
 
+/// The answer to an accepted design.
+fn answer_to_accepted(
+    alloc: Global,
+    wanted: &str,
+    design: &Design,
+    accepted: Accepted,
+) -> Result<String, AllocError>
+    requires fit { IsFit (placed design.now) }
+    requires own { HasOwnFunctions (placed design.now) }
+    requires stands { Stands (placed design.now) accepted }
+{
+    if wanted.starts_with("states ") {
+        return answer_in_states(alloc, design, accepted);
+    }
+    answer_in_nodes(alloc, wanted, &accepted.design)
+}
+
 /// The answer to the flat design of a source.
 fn answer_to_design(alloc: Global, wanted: &str, design: &Design) -> Result<String, AllocError>
-    requires { IsFit (placed design.now) }
+    requires fit { IsFit (placed design.now) }
+    requires own { HasOwnFunctions (placed design.now) }
 {
     match accept(alloc, design) {
-        Ok(accepted) => answer_to_unrolled(alloc, wanted, &accepted.design),
+        Ok(accepted) => answer_to_accepted(alloc, wanted, design, accepted),
         Err(Fault::Memory) => Err(AllocError),
         Err(_) => String::from_str(alloc, "refused\n"),
     }
@@ -42,6 +90,7 @@ fn answer_to_design(alloc: Global, wanted: &str, design: &Design) -> Result<Stri
 /// The answer to the tree of a source.
 fn answer_to_tree(alloc: Global, wanted: &str, tree: &Source) -> Result<String, AllocError> {
     an_elaborated_design_is_fit_to_be_judged();
+    functions_of_an_elaborated_design_keep_to_their_own();
     match elaborate(alloc, tree) {
         Ok(design) => answer_to_design(alloc, wanted, &design),
         Err(Stop::Memory) => Err(AllocError),

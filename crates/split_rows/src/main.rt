@@ -1,10 +1,12 @@
 //! Reads sources, each behind a line `= ` of its name and lines `> ` of the table that is wanted, and prints whether this is the
-//! table of nodes that their blocks are split into; of a long one `> nodes ` and their number is wanted.
+//! table of nodes that their blocks are split into; of a long one `> nodes ` and their number is wanted. Where the first line is
+//! `> states ` the states are wanted that are made of the nodes.
 #![tactic(auto)]
 
 mod judge;
 mod row;
 mod show;
+mod states;
 mod writes;
 
 use row::Row;

@@ -3,4 +3,3 @@ pub mod OneAnswer
 pub mod Outcomes
 pub mod Takings
 pub mod Unrolled
-pub mod Tenants

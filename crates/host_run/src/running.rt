@@ -1,6 +1,6 @@
 //! How the run of an accepted design ends, and what it prints.
 
-ghost use Rattle.std.specs.Prelude.{◌≡◌, ◌≤◌, IfOk};
+ghost use Rattle.std.specs.Prelude.{◌≡◌, IfOk};
 ghost use Rattle.vl_design.specs.Alone.{Ends};
 ghost use Rattle.vl_design.specs.Plain.{alone};
 ghost use Rattle.vl_design.specs.Queue.{Queue};
@@ -14,12 +14,9 @@ ghost use Rattle.ten_design.specs.Designs.{IsTenantDesign};
 use cell_accept::accept::Accepted;
 use plain_run::run::{Outcome, run};
 use std::alloc::{AllocError, Global};
-use ten_design::laws::runs_of_a_tenants_design_are_tame;
+use ten_alone::alone::run_alone;
 use ten_fit::fit::runs_on_cells;
 use ten_fit::laws::a_design_that_runs_on_cells_is_a_tenants;
-use ten_make::image::image;
-use ten_run::run::run as run_image;
-use vl_base::files::FileSet;
 use vl_cost::cost::all_cells;
 use vl_design::design::Design;
 
@@ -29,23 +26,6 @@ const MOST_TICKS: u64 = 1_000_000_000;
 /// The most cells of a design that runs on states of cells, so far: each state is made by itself with all nets, so that large designs
 /// take long to make.
 const MOST_CELLS: u64 = 32_768;
-
-/// Runs a tenant's design on states of cells, alone, from time zero and without files.
-fn run_on_cells(
-    alloc: Global,
-    design: Design,
-    order: &[u32],
-    ticks: u64,
-) -> Result<Outcome, AllocError>
-    requires design { IsTenantDesign (flat_of design) order.now }
-    requires ticks { ticks ≤ 1000000000 }
-    ensures { IfOk result (λ o. (q : Queue) × Ends (alone (flat_of design) ticks) o.ticks o.end q
-        × (q.state.ticks ≡ o.ticks) × (q.state.printed ≡ o.printed)) }
-{
-    runs_of_a_tenants_design_are_tame();
-    let image = image(alloc, design, order)?;
-    run_image(alloc, image, FileSet::new(alloc), ticks)
-}
 
 /// Runs a tenant's design alone: on states of cells where it is small, else by the interpreter of designs.
 fn run_tenant(
@@ -60,7 +40,12 @@ fn run_tenant(
 {
     let cells = all_cells(alloc, &design)?;
     if cells <= MOST_CELLS && ticks <= MOST_TICKS {
-        return run_on_cells(alloc, design, order, ticks);
+        let ended = run_alone(alloc, design, order, ticks)?;
+        return Ok(Outcome {
+            end: ended.end,
+            ticks: ended.ticks,
+            printed: ended.printed,
+        });
     }
     run(alloc, &design, order, ticks)
 }

@@ -5,6 +5,7 @@ ghost use Rattle.vl_checked.specs.Fit.{IsFit};
 ghost use Rattle.vl_own.specs.Own.{HasOwnFunctions};
 ghost use Rattle.cell_accept.specs.Accepted.{Stands};
 
+use crate::ended::ended_text;
 use crate::row::Row;
 use crate::show::{count_text, table_text};
 use crate::states::states_text;
@@ -12,6 +13,7 @@ use cell_accept::accept::{Accepted, accept};
 use cell_accept::fault::Fault;
 use std::alloc::{AllocError, Global};
 use sub_split::split::split;
+use ten_alone::alone::run_alone;
 use ten_fit::fit::runs_on_cells;
 use ten_fit::laws::a_design_that_runs_on_cells_is_a_tenants;
 use ten_make::image::image;
@@ -49,6 +51,43 @@ fn answer_in_states(
     String::from_str(alloc, "states none\n")
 }
 
+/// The number of ticks in what is wanted, behind `run `.
+fn ticks_of(wanted: &str) -> u64 {
+    let mut ticks = 0;
+    for byte in wanted.as_bytes().iter().skip(4) {
+        if *byte < b'0' || *byte > b'9' || ticks > 99_999_999 {
+            return ticks;
+        }
+        ticks = ticks * 10 + u64::from(*byte - b'0');
+    }
+    ticks
+}
+
+/// The run of an accepted design: how it ends, its ticks and acts, and what it prints.
+fn answer_in_acts(
+    alloc: Global,
+    wanted: &str,
+    design: &Design,
+    accepted: Accepted,
+) -> Result<String, AllocError>
+    requires fit { IsFit (placed design.now) }
+    requires own { HasOwnFunctions (placed design.now) }
+    requires stands { Stands (placed design.now) accepted }
+{
+    a_design_that_runs_on_cells_is_a_tenants();
+    let fits = runs_on_cells(alloc, design)?;
+    let Accepted {
+        design: unrolled,
+        order,
+    } = accepted;
+    let ticks = ticks_of(wanted);
+    if fits && ticks <= 1_000_000_000 {
+        let ended = run_alone(alloc, unrolled, order.as_slice(), ticks)?;
+        return ended_text(alloc, ticks, &ended);
+    }
+    String::from_str(alloc, "run none\n")
+}
+
 /// The table of a design whose loops are unrolled, or its number of nodes.
 fn answer_in_nodes(alloc: Global, wanted: &str, design: &Design) -> Result<String, AllocError> {
     let table = split(alloc, design)?;
@@ -71,6 +110,9 @@ fn answer_to_accepted(
 {
     if wanted.starts_with("states ") {
         return answer_in_states(alloc, design, accepted);
+    }
+    if wanted.starts_with("run ") {
+        return answer_in_acts(alloc, wanted, design, accepted);
     }
     answer_in_nodes(alloc, wanted, &accepted.design)
 }

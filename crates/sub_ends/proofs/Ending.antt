@@ -11,14 +11,15 @@ use Rattle.vl_design.specs.Snapshots.{Snapshot}
 use Rattle.vl_design.specs.Alone.{Origin, Boundary, begun, ticked, first_tick, reason_at, Ends}
 use Rattle.vl_design.specs.Acts.{Point, state_at, queue_at, at_boundary, tick_of, Calms, calm, goes, Begins, from_nothing, from_snapshot, After, begins, acts, Before, before}
 use Rattle.vl_design.specs.Laws.{IsUnrolled, HasQuietNets}
+use Rattle.vl_design.proofs.Counting.{count_is}
 use Rattle.vl_design.proofs.Settling.{boundary_once}
 use Rattle.vl_design.proofs.Returning.{exec_ticks, at_boundary_is, finished_is}
 use Rattle.settling.proofs.Logic.{never}
 use Rattle.vl_acts.proofs.Passing.{act_ticks}
 use Rattle.vl_acts.proofs.Standing.{before_a_call}
 use Rattle.sub_nodes.specs.Nodes.{Table}
-use Rattle.sub_nodes.specs.Cycles.{Stage, rises}
-use Rattle.sub_nodes.specs.Stands.{Stands, CanRun, Comes, IsAt}
+use Rattle.sub_nodes.specs.Cycles.{Stage, is_trap, rises}
+use Rattle.sub_nodes.specs.Stands.{Stands, CanRun, Comes, IsAt, at_trap}
 use Rattle.sub_nodes.proofs.Beginning.{stands_rise}
 use Rattle.sub_nodes.proofs.Runs.{comes_at}
 
@@ -105,3 +106,18 @@ module _ (o : Origin) (T : Table) (nets : State → List (List ℕ)) (r : CanRun
           let spent : nat_le o.plan.budget i.state.ticks ≡ true = le-leb o.plan.budget i.state.ticks (omega arith) in
           (queue_at p, record { at = at; why = rw on (rw spent refl); first = λ j e l y. none_before o r.unrolled quiet none a.1 (omega (arith, few)) y (omega (arith, ticks)) }, sym s.state)
       at (inr b) = let z : ◌≡◌ true false = sym h ∙ ap rises b.3.trap in let y : ⊥ = cc in absurd y
+
+  -- as many acts are counted as are done, unless a call is next
+  pub running_counts : {c : ℕ} {i : Stage} → Comes o T nets c i → at_trap T i ≡ false → i.state.count ≡ c
+  running_counts {c} {i} x h = at (comes_at o T nets r x)
+    where
+      at : IsAt o T c i → i.state.count ≡ c
+      at (inl a) = ap (λ z. z.count) a.2.state ∙ count_is o r.unrolled quiet c a.0 a.1
+      at (inr b) = never (ap is_trap b.3.trap) h
+
+  pub finished_counts : {c : ℕ} {i : Stage} → Comes o T nets c i → i.state.finished ≡ true → i.state.count ≡ c
+  finished_counts {c} {i} x f = at (comes_at o T nets r x)
+    where
+      at : IsAt o T c i → i.state.count ≡ c
+      at (inl a) = ap (λ z. z.count) a.2.state ∙ count_is o r.unrolled quiet c a.0 a.1
+      at (inr b) = never (ap (λ z. z.finished) (sym b.3.state) ∙ f) (alive b.2)

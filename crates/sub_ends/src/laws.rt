@@ -32,6 +32,14 @@ pub fn a_run_that_has_spent_its_budget_has_ended()
         i.state.ticks ≡ o.plan.budget → (q : Queue) × Ends o i.state.ticks Budget q × (q.state ≡ i.state) }
 {}
 
+/// A run that has finished, or at which no call is next, has counted as many acts as it has done.
+pub fn a_run_counts_its_acts()
+    ensures running { (o : Origin) (T : Table) (nets : State → List (List ℕ)) (c : ℕ) (i : Stage) → CanRun o T nets → HasQuietNets o.flat →
+        o.plan.errands ≡ [] → Comes o T nets c i → at_trap T i ≡ false → i.state.count ≡ c }
+    ensures finished { (o : Origin) (T : Table) (nets : State → List (List ℕ)) (c : ℕ) (i : Stage) → CanRun o T nets → HasQuietNets o.flat →
+        o.plan.errands ≡ [] → Comes o T nets c i → i.state.finished ≡ true → i.state.count ≡ c }
+{}
+
 /// With each cycle but that in which the clock rises, and with each served call, fewer are left before it rises next; and at no
 /// node more than four for each node of the table. So each tick ends.
 pub fn each_tick_ends()

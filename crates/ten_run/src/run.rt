@@ -13,7 +13,6 @@ ghost use Rattle.ten_core.specs.Runs.{IsAt, Runs};
 ghost use Rattle.ten_run.specs.Runnable.{CanBeRun};
 ghost use Rattle.ten_run.specs.Running.{goes_on, IsRunning, MayGoOn, IsOver, to_come};
 
-use plain_run::run::Outcome;
 use std::alloc::{AllocError, Global};
 use sub_nets::laws::the_table_of_a_checked_design_can_run;
 use ten_core::image::Image;
@@ -65,12 +64,25 @@ fn run_on(alloc: Global, tenant: &mut Tenant, budget: u64) -> Result<(), AllocEr
     Ok(())
 }
 
+/// How a run ended.
+#[derive(Drop)]
+pub struct Ended {
+    /// Why it ended.
+    pub end: End,
+    /// The number of ticks begun.
+    pub ticks: u64,
+    /// The number of acts done: cycles, but for those that come to a call, and calls served.
+    pub cycles: u64,
+    /// The bytes printed.
+    pub printed: Bytes,
+}
+
 /// How a run that is over has ended, and what it has printed.
-fn outcome(tenant: Tenant) -> Outcome
+fn outcome(tenant: Tenant) -> Ended
     requires { (d : Flat) × (files : List File) × (budget : ℕ) × IsOver d files budget (tenant_of tenant) }
     ensures { (d : Flat) (files : List File) (budget : ℕ) → IsOver d files budget (tenant_of tenant) →
         (q : Queue) × Ends (over d files budget) result.ticks result.end q
-        × (q.state.ticks ≡ result.ticks) × (q.state.printed ≡ result.printed) }
+        × (q.state.ticks ≡ result.ticks) × (q.state.count ≡ result.cycles) × (q.state.printed ≡ result.printed) }
 {
     the_table_of_a_checked_design_can_run();
     let end = if tenant.done() {
@@ -79,20 +91,22 @@ fn outcome(tenant: Tenant) -> Outcome
         End::Budget
     };
     let ticks = tenant.ticks();
-    Outcome {
+    let cycles = tenant.cycles();
+    Ended {
         end,
         ticks,
+        cycles,
         printed: Bytes::from_vec(tenant.printed),
     }
 }
 
-/// Runs an image over these files from time zero, for at most a budget of ticks: how its run alone ends, and what that prints. An
+/// Runs an image over these files from time zero, for at most a budget of ticks: how its run alone ends, its acts, and what it prints. An
 /// `Err` is want of memory, also where there are more than 2 ^ 31 states.
-pub fn run(alloc: Global, image: Image, files: FileSet, budget: u64) -> Result<Outcome, AllocError>
+pub fn run(alloc: Global, image: Image, files: FileSet, budget: u64) -> Result<Ended, AllocError>
     requires image { CanBeRun (flat_of image.design) files budget image }
     requires budget { budget ≤ 1000000000 }
     ensures { IfOk result (λ o. (q : Queue) × Ends (over (flat_of image.design) files budget) o.ticks o.end q
-        × (q.state.ticks ≡ o.ticks) × (q.state.printed ≡ o.printed)) }
+        × (q.state.ticks ≡ o.ticks) × (q.state.count ≡ o.cycles) × (q.state.printed ≡ o.printed)) }
 {
     let mut tenant = Tenant::new(alloc, image, files)?;
     run_on(alloc, &mut tenant, budget)?;

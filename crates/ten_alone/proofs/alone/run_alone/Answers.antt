@@ -1,6 +1,6 @@
 use Rattle.vl_design.specs.Trees.{flat_of}
-use Rattle.host_run.proofs.Tenants.{can-be-run}
-use Rattle.host_run.proofs.running.run_on_cells.Goals as goal
+use Rattle.ten_alone.proofs.Tenants.{can-be-run}
+use Rattle.ten_alone.proofs.alone.run_alone.Goals as goal
 
 pub run-requires-clause-image : goal.run-requires-clause-image
 run-requires-clause-image c =

@@ -1,0 +1,4 @@
+//! Designs run alone on states of cells.
+#![tactic(auto)]
+
+pub mod alone;

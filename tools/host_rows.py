@@ -6,6 +6,8 @@ import sys
 sys.dont_write_bytecode = True
 
 from flat_rows import MARK, TOOLS, TOP, marked, numbered, parted, text_of
+from items import item
+from values import corners
 
 FOLDER = TOP / "crates" / "host_rows"
 USAGE = "usage: fabhost run SOURCE TICKS"
@@ -69,6 +71,23 @@ def run():
     yield "run 600 finished 247", "Hello\n117 22 1 4 1\n\n" + uart
 
 
+def formats():
+    """Values at the ends of widths, unsigned and signed, by the items of a format."""
+    items = [(letter, least) for letter in "dhxob" for least in [False, True]]
+    words = "".join(f"[%{'0' * least}{letter}]" for letter, least in items)
+    for width in [1, 7, 8, 31, 32, 33, 64, 127, 128]:
+        for sign in ["", "signed "]:
+            lines = [
+                "".join(f"[{item(letter, least, value, width, sign != '').decode()}]" for letter, least in items)
+                for value in corners(width)
+            ]
+            calls = "\n".join(
+                f'    a = {width}\'h{value:x};\n    $display("{words}"{", a" * len(items)});' for value in corners(width)
+            )
+            printed = "\n".join(lines)
+            yield "run 0 budget", f"{printed}\n\nmodule m(input wire k);\n  reg {sign}[{width - 1}:0] a;\n  initial begin\n{calls}\n  end\nendmodule"
+
+
 def large():
     """Sources at limits, from both sides."""
     registers = numbered("r", 16384)
@@ -91,7 +110,7 @@ def large():
 
 
 tables = [case for name in ("host_rows.txt", "run_rows.txt", "width_rows.txt") for case in parted((TOOLS / name).read_text())]
-rows = [row for case in [*tables, *run(), *large()] for row in rows_of(*case)]
+rows = [row for case in [*tables, *run(), *formats(), *large()] for row in rows_of(*case)]
 shown = ["\n".join(head + [f"= {line}" for line in wanted]) + "\n" + source for head, wanted, source in rows]
 (FOLDER / "stdin").write_text("\n".join(shown) + "\n")
 (FOLDER / "stdout").write_text("ok\n" * len(shown))

@@ -66,6 +66,8 @@ def run():
     bits = "\n".join(f"  assign w{i // 100}[{i % 100}] = w{(i - 1) // 100}[{(i - 1) % 100}];" for i in range(999, 0, -1))
     yield "run 3 budget", f"0\n1\n0\n\nmodule m(input wire k);\n  reg a;\n  wire [99:0] {numbered('w', 10)};\n{bits}\n  assign w0[0] = a;\n  always @(posedge k) begin $display(\"%0d\", w9[99]); a <= !a; end\nendmodule"
     yield "run 3 budget", f"3 + 9 = 12\n8 + 6 = 14\n13 + 3 = 16\n\n{text_of('file examples/adder.v')}"
+    shown = "250 fa 11111010 has 6\n252 fc 11111100 has 6\n254 fe 11111110 has 7\n  0 00 00000000 has 0"
+    yield "run 4 budget", f"{shown}\n\n{text_of('file examples/bits.v')}"
     yield "run 600 budget", f"8d3135aa\na5a002aa\n\n{text_of('file examples/lcg.v')}"
     uart = text_of("file examples/uart.v").replace('$readmemh("hello.hex", msg);', LETTERS)
     yield "run 600 finished 247", "Hello\n117 22 1 4 1\n\n" + uart

@@ -1,6 +1,6 @@
 //! Whether a design runs on states of cells.
 
-ghost use Rattle.std.specs.Prelude.{◌≡◌, not, map, if◌then◌else◌, IfOk};
+ghost use Rattle.std.specs.Prelude.{◌≡◌, map, IfOk};
 ghost use Rattle.std.specs.List.{list_any};
 ghost use Rattle.vl_design.specs.Queue.{is_comb};
 ghost use Rattle.vl_design.specs.Seen.{placed, process_of};
@@ -56,7 +56,7 @@ fn is_computed(signals: &[Signal], number: u32) -> bool
 /// A process of a kind isn't to assign the signal of a number: a combinational one a signal that isn't computed, another one a
 /// computed one.
 fn is_foreign(signals: &[Signal], kind: ProcKind, number: u32) -> bool
-    ensures { result ≡ (if is_comb kind then not (kind_is r.is_derived signals.now number) else kind_is r.is_derived signals.now number) }
+    ensures { result ≡ x.is_foreign signals.now kind number }
 {
     let computed = is_computed(signals, number);
     if is_combinational(kind) {
@@ -68,7 +68,7 @@ fn is_foreign(signals: &[Signal], kind: ProcKind, number: u32) -> bool
 
 /// In a process of a kind this assigns a signal that such a process isn't to assign.
 fn is_astray(signals: &[Signal], kind: ProcKind, what: What<'_>) -> bool
-    ensures { result ≡ r.sets (λ k. if is_comb kind then not (kind_is r.is_derived signals.now k) else kind_is r.is_derived signals.now k) (what_of what.entry) }
+    ensures { result ≡ r.sets (x.is_foreign signals.now kind) (what_of what.entry) }
 {
     match what {
         What::Sets(number, _, _) => is_foreign(signals, kind, number),
@@ -78,7 +78,7 @@ fn is_astray(signals: &[Signal], kind: ProcKind, what: What<'_>) -> bool
 
 /// One of these sites does.
 fn some_astray(signals: &[Signal], kind: ProcKind, sites: &[Site<'_>]) -> bool
-    ensures { result ≡ list_any (λ s. r.sets (λ k. if is_comb kind then not (kind_is r.is_derived signals.now k) else kind_is r.is_derived signals.now k) s.what) (map site_of sites.now) }
+    ensures { result ≡ list_any (λ s. r.sets (x.is_foreign signals.now kind) s.what) (map site_of sites.now) }
 {
     for site in sites {
         if is_astray(signals, kind, site.what) {

@@ -3,12 +3,11 @@ use Rattle.std.proofs.Common.{◌≡◌, ℕ, zero, suc, Bool, true, false, List
 use Rattle.std.specs.Prelude.{◌==◌, not, slice_index_or, if◌then◌else◌}
 use Rattle.std.specs.List.{list_any}
 use Rattle.std.proofs.lemmas.Bool.{both_ways, or_parts, false_from_ne_true}
-use Rattle.vl_design.specs.declared.design.ProcKind.{ProcKind}
 use Rattle.vl_design.specs.declared.design.Signal.{Signal}
 use Rattle.vl_design.specs.Functions.{scope_of}
 use Rattle.vl_design.specs.Placed as p
 use Rattle.vl_design.specs.Plainly as plain
-use Rattle.vl_design.specs.Queue.{is_comb, proc_at}
+use Rattle.vl_design.specs.Queue.{proc_at}
 use Rattle.vl_design.specs.Reads.{stm_writes}
 use Rattle.vl_design.specs.Syntax.{Proc, Flat}
 use Rattle.vl_design.specs.Width.{Scope}
@@ -22,23 +21,19 @@ use Rattle.vl_settle.specs.Computed.{computed_at}
 use Rattle.vl_settle.specs.Nets.{comb_at}
 use Rattle.vl_settle.proofs.Calming.{idle}
 use Rattle.cell_states.specs.Designs.{ComputesAlone}
-use Rattle.ten_fit.specs.Kinds.{assigns_astray}
+use Rattle.ten_fit.specs.Kinds.{is_foreign, assigns_astray}
 use Rattle.ten_fit.proofs.Signals.{computed}
 
 module _ (signals : List Signal) (scope : Scope) where
-  -- a process of this kind isn't to write the signal
-  abbrev pub is_foreign : ProcKind → ℕ → Bool
-  is_foreign kind k = if is_comb kind then not (kind_is is_derived signals k) else kind_is is_derived signals k
-
   -- the process writes no such signal
   pub record Keeps (q : Proc) : Type 0 where
-    pub keeps : (k : ℕ) → is_foreign q.kind k ≡ true → stm_writes (λ j. j == k) q.body ≡ false
+    pub keeps : (k : ℕ) → is_foreign signals q.kind k ≡ true → stm_writes (λ j. j == k) q.body ≡ false
 
   kept : (a : p.Process) → assigns_astray signals a ≡ false → Keeps (unrolled_proc scope (plain.proc a))
   kept a h = record {
     keeps = λ k f. silent (λ j. j == k) scope a.path a.body
         (false_from_ne_true (list_any (λ s. sets (λ j. j == k) s.what) (sites a.body))
-        (λ g. both_ways (assigns_astray signals a) h (sets_hit (is_foreign a.kind) k f (sites a.body) g)))
+        (λ g. both_ways (assigns_astray signals a) h (sets_hit (is_foreign signals a.kind) k f (sites a.body) g)))
         (still scope);
   }
 

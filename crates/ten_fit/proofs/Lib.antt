@@ -1,3 +1,4 @@
 pub mod Signals
+pub mod Rivals
 pub mod Writers
 pub mod Tenants

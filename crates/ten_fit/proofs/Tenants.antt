@@ -1,6 +1,6 @@
 -- An accepted design that runs on cells is a tenant's.
 use Rattle.std.proofs.Common.{◌≡◌, ℕ, ◌≤◌, true, false, length, sym, ap, ◌∙◌, subst}
-use Rattle.std.specs.Prelude.{◌&&◌, not, nat_le, All}
+use Rattle.std.specs.Prelude.{not, nat_le, All}
 use Rattle.std.specs.List.{list_any}
 use Rattle.std.proofs.lemmas.Bool.{and_parts, not-true, leb-true}
 use Rattle.std.proofs.lemmas.List.{length-map}
@@ -16,6 +16,7 @@ use Rattle.vl_turns.specs.Placed.{unrolled_placed}
 use Rattle.vl_turns.proofs.Bare.{all_bare}
 use Rattle.vl_turns.proofs.Placing.{flat_plain}
 use Rattle.vl_checked.specs.Fit.{IsFit}
+use Rattle.vl_written.specs.Written.{HasWriters}
 use Rattle.vl_settle.specs.Checked.{IsChecked}
 use Rattle.vl_settle.proofs.Orders.{ordered}
 use Rattle.cell_accept.specs.declared.accept.Accepted.{Accepted}
@@ -29,7 +30,7 @@ use Rattle.cell_states.specs.Designs.{ComputesAlone}
 use Rattle.sub_nets.specs.Memories.{memory_at}
 use Rattle.sub_nets.specs.Nets.{WritesNoNets}
 use Rattle.ten_design.specs.Designs.{IsTenantDesign}
-use Rattle.ten_fit.specs.Kinds.{is_memory, assigns_astray, runs_on_cells}
+use Rattle.ten_fit.specs.Kinds.{is_memory, runs_on_cells}
 use Rattle.ten_fit.proofs.Signals.{no-memory}
 use Rattle.ten_fit.proofs.Writers.{alone}
 
@@ -37,21 +38,14 @@ use Rattle.ten_fit.proofs.Writers.{alone}
 pub record Passes (d : p.Design) : Type 0 where
   pub few : length d.signals ≤ 268435456
   pub memories : list_any (λ s. is_memory s.kind) d.signals ≡ false
-  pub astray : list_any (assigns_astray d.signals) d.processes ≡ false
 
 pub passes : (d : p.Design) → runs_on_cells d ≡ true → Passes d
 passes d h =
     let memories = list_any (λ s. is_memory s.kind) d.signals in
-    let astray = list_any (assigns_astray d.signals) d.processes in
-    let both = and_parts (nat_le (length d.signals) 268435456) (not memories && not astray) h in
-    let rest = and_parts (not memories) (not astray) both.1 in
-    record {
-      few = leb-true (length d.signals) 268435456 both.0;
-      memories = not-true memories rest.0;
-      astray = not-true astray rest.1;
-    }
+    let both = and_parts (nat_le (length d.signals) 268435456) (not memories) h in
+    record { few = leb-true (length d.signals) 268435456 both.0; memories = not-true memories both.1 }
 
-module _ (d : p.Design) (fit : IsFit d) (a : Accepted) (s : Stands d a) where
+module _ (d : p.Design) (fit : IsFit d) (w : HasWriters d) (a : Accepted) (s : Stands d a) where
   abbrev next : Flat
   next = unrolled_flat (plain.flat d)
 
@@ -72,7 +66,7 @@ module _ (d : p.Design) (fit : IsFit d) (a : Accepted) (s : Stands d a) where
     functions = placed_there (λ x. All (IsCellFun (names_of (plain.flat x))) (plain.flat x).funs) functions;
     checked = placed_there (λ x. IsChecked (plain.flat x)) (checked d fit s.accepted);
     ordered = ordered (flat_of a.design) a.order.items s.order.once s.order.levelled;
-    alone = there ComputesAlone (alone d passed.astray);
+    alone = there ComputesAlone (alone d fit w s.accepted passed.memories);
     nets = there WritesNoNets nets;
     words = there (λ x. HasOneWord x.rows) (one-word d.signals);
     few = there (λ x. length x.rows ≤ 268435456) (rw length-map passed.few);

@@ -1,64 +1,113 @@
--- Where no process assigns astray, none writes astray with its loops unrolled.
-use Rattle.std.proofs.Common.{◌≡◌, ℕ, zero, suc, Bool, true, false, List, [], ◌∷◌, map, refl, sym, ap, ◌∙◌}
-use Rattle.std.specs.Prelude.{◌==◌, not, slice_index_or, if◌then◌else◌}
+-- Combinational processes of an accepted design without memories assign what is computed, and no others do; so they write it with
+-- their loops unrolled.
+use Rattle.std.proofs.Common.{◌≡◌, ℕ, Bool, true, false, List, [], ◌∷◌, refl, sym, ap, ◌∙◌, subst}
+use Rattle.std.specs.Prelude.{◌==◌, ◌⊎◌, not, slice_index_or}
 use Rattle.std.specs.List.{list_any}
-use Rattle.std.proofs.lemmas.Bool.{both_ways, or_parts, false_from_ne_true}
-use Rattle.vl_design.specs.declared.design.Signal.{Signal}
+use Rattle.std.proofs.lemmas.Bool.{both_ways, and_cases, not-false, false_from_ne_true}
+use mathlib.Core.List.{map-map}
+use mathlib.Core.Logic.{inl, inr}
+use Rattle.vl_design.specs.declared.stop.Stop.{Stop}
 use Rattle.vl_design.specs.Functions.{scope_of}
 use Rattle.vl_design.specs.Placed as p
 use Rattle.vl_design.specs.Plainly as plain
-use Rattle.vl_design.specs.Queue.{proc_at}
+use Rattle.vl_design.specs.Queue.{is_comb, proc_at}
 use Rattle.vl_design.specs.Reads.{stm_writes}
 use Rattle.vl_design.specs.Syntax.{Proc, Flat}
 use Rattle.vl_design.specs.Width.{Scope}
-use Rattle.vl_sites.specs.Sites.{sites}
+use Rattle.vl_sites.specs.Sites.{Site, sites}
 use Rattle.vl_turns.specs.Unroll.{still, unrolled_proc, unrolled_flat}
+use Rattle.vl_stops.specs.First.{In}
 use Rattle.vl_check.specs.Bodies.{kind_is}
-use Rattle.vl_check.specs.Rules.{is_derived, sets}
-use Rattle.vl_pure.proofs.Faults.{sets_hit}
+use Rattle.vl_check.specs.Rules.{is_clock, is_loop, is_derived, sets}
+use Rattle.vl_check.specs.Standing.{process_faults, standing_faults}
+use Rattle.vl_drivers.specs.Drivers.{is_net}
+use Rattle.vl_checked.specs.Built.{IsBuilt}
+use Rattle.vl_checked.specs.Fit.{IsFit}
+use Rattle.vl_written.specs.Written.{is_combined, is_uncomputed, is_computed, is_orphan, IsWritten, HasWriters}
+use Rattle.vl_pure.proofs.Faults.{faults_at, Hits, sets_hit, no_clock, no_loop}
 use Rattle.vl_pure.proofs.Silent.{silent}
 use Rattle.vl_settle.specs.Computed.{computed_at}
 use Rattle.vl_settle.specs.Nets.{comb_at}
 use Rattle.vl_settle.proofs.Calming.{idle}
+use Rattle.cell_accept.specs.Accepted.{IsAccepted}
+use Rattle.cell_settled.proofs.Finding.{At, found, all_at}
+use Rattle.cell_settled.proofs.Written.{no_assign}
 use Rattle.cell_states.specs.Designs.{ComputesAlone}
-use Rattle.ten_fit.specs.Kinds.{is_foreign, assigns_astray}
-use Rattle.ten_fit.proofs.Signals.{computed}
+use Rattle.ten_fit.specs.Kinds.{is_memory}
+use Rattle.ten_fit.proofs.Signals.{computed, derived_left, derived_neither, stored}
+use Rattle.ten_fit.proofs.Rivals.{written, no_other}
 
-module _ (signals : List Signal) (scope : Scope) where
-  -- the process writes no such signal
-  pub record Keeps (q : Proc) : Type 0 where
-    pub keeps : (k : ℕ) → is_foreign signals q.kind k ≡ true → stm_writes (λ j. j == k) q.body ≡ false
+none_in : (fs : List Stop) → ((f : Stop) → In f fs → ⊥) → fs ≡ []
+none_in [] h = refl
+none_in (x ∷ xs) h = absurd (h x (inl refl))
 
-  kept : (a : p.Process) → assigns_astray signals a ≡ false → Keeps (unrolled_proc scope (plain.proc a))
-  kept a h = record {
-    keeps = λ k f. silent (λ j. j == k) scope a.path a.body
-        (false_from_ne_true (list_any (λ s. sets (λ j. j == k) s.what) (sites a.body))
-        (λ g. both_ways (assigns_astray signals a) h (sets_hit (is_foreign signals a.kind) k f (sites a.body) g)))
-        (still scope);
-  }
+-- what is assigned fails a test that nothing assigned passes
+fails : (P : ℕ → Bool) (k : ℕ) (xs : List Site) → list_any (λ x. sets P x.what) xs ≡ false → Hits k xs → P k ≡ false
+fails P k xs none hits = false_from_ne_true (P k) (λ h. both_ways _ none (sets_hit P k h xs hits))
 
-  -- the process of a number
-  pub all_kept : (ps : List p.Process) → list_any (assigns_astray signals) ps ≡ false → (i : ℕ) → Keeps (slice_index_or (map (unrolled_proc scope) (map plain.proc ps)) i idle)
-  all_kept [] h i = record { keeps = λ k f. refl }
-  all_kept (a ∷ ps) h zero = kept a (or_parts (assigns_astray signals a) (list_any (assigns_astray signals) ps) h).0
-  all_kept (a ∷ ps) h (suc i) = all_kept ps (or_parts (assigns_astray signals a) (list_any (assigns_astray signals) ps) h).1 i
+module _ (d : p.Design) (fit : IsFit d) (w : HasWriters d) (accepted : IsAccepted d) (memories : list_any (λ s. is_memory s.kind) d.signals ≡ false) where
+  standing : standing_faults d ≡ []
+  standing = none_in (standing_faults d) (λ f h. accepted.uses f (inl h))
 
-module _ (d : p.Design) (none : list_any (assigns_astray d.signals) d.processes ≡ false) where
+  module _ (i k : ℕ) (h : At d.processes i) (hits : Hits k (sites h.it.body)) where
+    none : process_faults d h.before h.it ≡ []
+    none = faults_at d standing h.before h.it h.after h.split
+
+    its_writers : IsWritten d h.it
+    its_writers = all_at (IsWritten d) d.processes i h w.processes
+
+    -- what a combinational process assigns is computed
+    of_combinational : is_comb h.it.kind ≡ true → kind_is is_derived d.signals k ≡ true
+    of_combinational c =
+        derived_left d.signals k
+        (fails (is_uncomputed d.signals) k (sites h.it.body) (its_writers.combinational c) hits)
+        (false_from_ne_true (kind_is is_clock d.signals k) (λ e. no_clock d h.before h.it none k e hits))
+        (false_from_ne_true (kind_is is_loop d.signals k) (λ e. no_loop d h.before h.it none k e hits))
+        memories
+
+    -- if it is said that combinational processes compute it, one does
+    is_theirs : kind_is is_combined d.signals k ≡ true → is_computed d.processes k ≡ true
+    is_theirs combined =
+        elim (and_cases (kind_is is_combined d.signals k) (not (is_computed d.processes k)) (fails (is_orphan d) k (sites h.it.body) its_writers.computed hits)) [
+          | inl e ↦ absurd (both_ways _ e combined)
+          | inr e ↦ not-false (is_computed d.processes k) e
+        ]
+
+    -- what another process assigns isn't computed
+    of_other : is_comb h.it.kind ≡ false → kind_is is_derived d.signals k ≡ false
+    of_other c =
+        let built = all_at (IsBuilt d.signals) d.processes i h fit.processes in
+        derived_neither d.signals k
+        (fails (is_net d.signals) k (sites h.it.body) (built.nets (no_assign h.it.kind c)) hits)
+        (false_from_ne_true (kind_is is_combined d.signals k)
+        (λ e. no_other d standing k (stored d.signals k e) h.before h.it h.after h.split c (written k h.it hits) (is_theirs e)))
+
+  -- ---- with the loops unrolled
+
   abbrev next : Flat
   next = unrolled_flat (plain.flat d)
 
   abbrev scope : Scope
   scope = scope_of (plain.flat d) []
 
-  abbrev is_derived_at : ℕ → Bool
-  is_derived_at k = kind_is is_derived d.signals k
+  -- the process of a number, if there is one
+  there : (i : ℕ) → ((h : At d.processes i) × (proc_at next i ≡ unrolled_proc scope (plain.proc h.it))) ⊎ (proc_at next i ≡ idle)
+  there i =
+      subst (λ (qs : List Proc). ((h : At d.processes i) × (slice_index_or qs i idle ≡ unrolled_proc scope (plain.proc h.it))) ⊎ (slice_index_or qs i idle ≡ idle))
+      (sym (map-map (unrolled_proc scope) plain.proc d.processes))
+      (found (λ (a : p.Process). unrolled_proc scope (plain.proc a)) idle d.processes i)
+
+  -- what it doesn't assign it doesn't write
+  unwritten : (i k : ℕ) → ((h : At d.processes i) → is_comb h.it.kind ≡ comb_at next i → Hits k (sites h.it.body) → ⊥) → stm_writes (λ j. j == k) (proc_at next i).body ≡ false
+  unwritten i k unassigned = elim (there i) [
+    | inl h ↦
+        ap (λ (q : Proc). stm_writes (λ j. j == k) q.body) h.1
+        ∙ silent (λ j. j == k) scope h.0.it.path h.0.it.body (false_from_ne_true _ (unassigned h.0 (ap (λ (q : Proc). is_comb q.kind) (sym h.1)))) (still scope)
+    | inr e ↦ ap (λ (q : Proc). stm_writes (λ j. j == k) q.body) e
+  ]
 
   pub alone : ComputesAlone next
-  alone i k c n =
-      let test = λ (b : Bool). if b then not (is_derived_at k) else is_derived_at k in
-      (all_kept d.signals scope d.processes none i).keeps k (ap test c ∙ ap not (sym (computed d.signals k) ∙ n))
+  alone i k c n = unwritten i k (λ h same hits. both_ways _ (sym (computed d.signals k) ∙ n) (of_combinational i k h hits (same ∙ c)))
 
   pub others : (i k : ℕ) → comb_at next i ≡ false → computed_at next.rows k ≡ true → stm_writes (λ j. j == k) (proc_at next i).body ≡ false
-  others i k c n =
-      let test = λ (b : Bool). if b then not (is_derived_at k) else is_derived_at k in
-      (all_kept d.signals scope d.processes none i).keeps k (ap test c ∙ (sym (computed d.signals k) ∙ n))
+  others i k c n = unwritten i k (λ h same hits. both_ways _ (of_other i k h hits (same ∙ c)) (sym (computed d.signals k) ∙ n))

@@ -4,6 +4,7 @@ ghost use Rattle.std.specs.Prelude.{◌≡◌, true};
 ghost use Rattle.vl_design.specs.Placed.{Design};
 ghost use Rattle.vl_design.specs.Trees.{flat_of};
 ghost use Rattle.vl_own.specs.Own.{HasOwnFunctions};
+ghost use Rattle.vl_written.specs.Written.{HasWriters};
 ghost use Rattle.vl_checked.specs.Fit.{IsFit};
 ghost use Rattle.cell_accept.specs.declared.accept.Accepted.{Accepted};
 ghost use Rattle.cell_accept.specs.Accepted.{Stands};
@@ -15,8 +16,8 @@ use sub_nets::laws::computed_signals_are_written_one_by_one;
 
 /// An accepted design that runs on cells is, with its loops unrolled, one that tenants run.
 pub fn a_design_that_runs_on_cells_is_a_tenants()
-    ensures { (d : Design) (a : Accepted) → IsFit d → HasOwnFunctions d → Stands d a → runs_on_cells d ≡ true →
-        IsTenantDesign (flat_of a.design) a.order.items }
+    ensures { (d : Design) (a : Accepted) → IsFit d → HasOwnFunctions d → HasWriters d → Stands d a →
+        runs_on_cells d ≡ true → IsTenantDesign (flat_of a.design) a.order.items }
 {
     functions_of_accepted_designs_can_be_compiled_to_cells();
     computed_signals_are_written_one_by_one();

@@ -1,0 +1,12 @@
+mod Sets
+mod Inside
+mod Only
+mod Driven
+mod Told
+mod Nets
+mod Kept
+mod Parts
+mod Processes
+mod Names
+mod Whole
+mod Elaborated

@@ -1,0 +1,4 @@
+//! Who writes what in the elaboration of a source.
+#![tactic(auto)]
+
+pub mod laws;

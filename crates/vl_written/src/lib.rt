@@ -1,0 +1,2 @@
+//! Who writes what in an elaborated design: definitions alone.
+#![tactic(auto)]

@@ -1,1 +1,2 @@
 mod Tenants
+mod Loading

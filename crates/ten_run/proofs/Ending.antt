@@ -33,7 +33,7 @@ over-spent false true l h e = h
 over-spent false false l h e = let z : ⊥ = cc in absurd z
 
 -- where the clock rises next no call is
-no-call : (x : Option Node) → rises x ≡ true → is_trap x ≡ false
+pub no-call : (x : Option Node) → rises x ≡ true → is_trap x ≡ false
 no-call None h = let z : ⊥ = cc in absurd z
 no-call (Some (Run g on)) h = refl
 no-call (Some (Trap task to)) h = let z : ⊥ = cc in absurd z

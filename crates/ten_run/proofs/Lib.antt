@@ -1,2 +1,2 @@
-mod Stepping
-mod Ending
+pub mod Stepping
+pub mod Ending

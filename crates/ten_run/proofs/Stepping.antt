@@ -21,9 +21,10 @@ use Rattle.sub_ends.proofs.Cycling.{cycle_ticks, served_ticks}
 use Rattle.sub_ends.proofs.Tabling.{all_few}
 use Rattle.ten_form.specs.Nets.{nets_of}
 use Rattle.ten_form.specs.Registers.{state_register}
+use Rattle.ten_core.specs.declared.image.Image.{Image}
 use Rattle.ten_core.specs.Runs.{after_cycle, after_call, IsAt, IsTame, Runs}
-use Rattle.ten_core.specs.Tenants.{TenantData}
-use Rattle.ten_run.specs.Running.{goes_on, IsRunning, MayGoOn, IsOver, to_come}
+use Rattle.ten_core.specs.Tenants.{TenantData, IsImage}
+use Rattle.ten_run.specs.Running.{goes_on, IsRunning, MayGoOn, IsOver, begun, to_come}
 
 -- ---- numbers
 
@@ -58,6 +59,15 @@ told-between f r l e h = rw e (rw h refl)
 pub told-boundary : (f r l : Bool) → f ≡ false → r ≡ true → l ≡ (not f && (not r || l))
 told-boundary f r l e h = rw e (rw h refl)
 
+-- an image has as many states as its design's table has nodes
+pub few-nodes : (d : Flat) (order : List ℕ) (image : Image) → IsImage d order image → (states : List State) → states ≡ image.table.states →
+    length states ≤ 2 ^ 31 → length (table_of d).nodes ≤ 2 ^ 31
+few-nodes d order image made states is most =
+    let many = made.states.many in
+    let mapped = length-map image.table.states state_of in
+    let same = ap length is in
+    omega (arith, many, mapped, same, most)
+
 -- ---- steps
 
 module _ (d : Flat) (files : List File) (budget : ℕ) where
@@ -76,7 +86,7 @@ module _ (d : Flat) (files : List File) (budget : ℕ) where
       ∙ ap (λ n. (budget - i.state.ticks) * most_left T + left T n) at.stands.stage.node
 
   -- one stage behind another, within the budget, from where fewer acts are still to come
-  record IsStep (i j : Stage) : Type 0 where
+  pub record IsStep (i j : Stage) : Type 0 where
     pub within : j.state.ticks ≤ budget
     pub fewer : come j < come i
 
@@ -154,32 +164,30 @@ module _ (d : Flat) (files : List File) (budget : ℕ) where
     may-go-on states is most short tells on = record {
       running = r;
       on = sym (told tells) ∙ on;
-      few = (
-          let many = first.at.image.states.many in
-          let mapped = length-map t.image.table.states state_of in
-          let same = ap length is in
-          omega (arith, many, mapped, same, most)
-          );
+      few = few-nodes d first.order t.image first.at.image states is most;
       short = short;
     }
 
     pub is-over : IsTold → b ≡ false → IsOver d files budget u
     is-over tells off = record { running = r; over = sym (told tells) ∙ off }
 
-  module _ (t : TenantData) (m : MayGoOn d files budget t) where
-    pub cycles-fit : t.cycles + 1 < 2 ^ 64
-    cycles-fit =
-        let i = m.running.stage in
-        let e = m.running.at.cycles in
-        let w = m.running.within in
-        let s = m.short in
-        let f = few-acts (length T.nodes) i.state.ticks m.running.acts m.few (omega (arith, w, s)) (acts_few o (nets_of d files m.running.order) m.running.at.comes) in
+  module _ (t : TenantData) (r : IsRunning d files budget t) where
+    pub acts-fit : length T.nodes ≤ 2 ^ 31 → budget ≤ 1000000000 → t.cycles + 1 < 2 ^ 64
+    acts-fit few short =
+        let i = r.stage in
+        let e = r.at.cycles in
+        let w = r.within in
+        let f = few-acts (length T.nodes) i.state.ticks r.acts few (omega (arith, w, short)) (acts_few o (nets_of d files r.order) r.at.comes) in
         omega (arith, e, f)
 
-    call-is : t.waits ≡ true → IsStep m.running.stage (after_call o m.running.stage)
-    call-is w = call-steps m.running.stage (sym m.running.at.waits ∙ w) m.running.within
+    pub call-is : t.waits ≡ true → IsStep r.stage (after_call o r.stage)
+    call-is w = call-steps r.stage (sym r.at.waits ∙ w) r.within
 
-    cycle-is : t.waits ≡ false → IsStep m.running.stage (after_cycle o m.running.order m.running.stage)
+  module _ (t : TenantData) (m : MayGoOn d files budget t) where
+    pub cycles-fit : t.cycles + 1 < 2 ^ 64
+    cycles-fit = acts-fit t m.running m.few m.short
+
+    pub cycle-is : t.waits ≡ false → IsStep m.running.stage (after_cycle o m.running.order m.running.stage)
     cycle-is w =
         let r = m.running in
         cycle-steps r.order r.stage (comes_few o (nets_of d files r.order) r.at.comes).within (sym r.at.waits ∙ w) r.within m.on
@@ -202,12 +210,18 @@ module _ (t u : TenantData) where
     pub served-runs : IsRunning d files budget u
     served-runs =
         let r = m.running in
-        still-runs d files budget t u r (suc r.acts) (after_call (over d files budget) r.stage) served-at (call-is d files budget t m w)
+        still-runs d files budget t u r (suc r.acts) (after_call (over d files budget) r.stage) served-at (call-is d files budget t r w)
 
     pub served-fewer : to_come d budget u < to_come d budget t
     served-fewer =
         let r = m.running in
-        fewer-come d files budget t u r (suc r.acts) (after_call (over d files budget) r.stage) served-at (call-is d files budget t m w)
+        fewer-come d files budget t u r (suc r.acts) (after_call (over d files budget) r.stage) served-at (call-is d files budget t r w)
+
+    pub served-begun : rises (slice_get (table_of d).nodes m.running.stage.node) ≡ false → begun u ≡ begun t
+    served-begun low =
+        let r = m.running in
+        served-at.stands.stage.holds.ticks
+        ∙ (served_ticks (scope_of d files) (slice_get (table_of d).nodes r.stage.node) r.stage ∙ sym r.at.stands.stage.holds.ticks)
 
   module _ (w : t.waits ≡ false) (cycled : Cycles t u) (d : Flat) (files : List File) (budget : ℕ) (m : MayGoOn d files budget t) where
     abbrev acts : ℕ
@@ -225,3 +239,10 @@ module _ (t u : TenantData) where
     cycled-fewer =
         let r = m.running in
         fewer-come d files budget t u r acts (after_cycle (over d files budget) r.order r.stage) cycled-at (cycle-is d files budget t m w)
+
+    pub cycled-begun : rises (slice_get (table_of d).nodes m.running.stage.node) ≡ false → begun u ≡ begun t
+    cycled-begun low =
+        let r = m.running in
+        let same : (after_cycle (over d files budget) r.order r.stage).state.ticks ≡ r.stage.state.ticks =
+        cycle_ticks d files (nets_of d files r.order) (slice_get (table_of d).nodes r.stage.node) r.stage ∙ rw low refl in
+        cycled-at.stands.stage.holds.ticks ∙ (same ∙ sym r.at.stands.stage.holds.ticks)

@@ -40,8 +40,12 @@ pub record IsOver (d : Flat) (files : List File) (budget : ℕ) (t : TenantData)
   pub running : IsRunning d files budget t
   pub over : goes_on d budget running.stage ≡ false
 
+-- the ticks begun, as the tenant's bank holds them
+abbrev pub begun : TenantData → ℕ
+begun t = slice_index t.bank.regs ticks_register
+
 -- so many acts are still to come at most: in each tick that is left, and before the clock rises next
 abbrev pub to_come : Flat → ℕ → TenantData → ℕ
 to_come d budget t =
-    (budget - slice_index t.bank.regs ticks_register) * most_left (table_of d)
+    (budget - begun t) * most_left (table_of d)
     + left (table_of d) (slice_index t.bank.regs state_register)

@@ -1,28 +1,25 @@
-//! A run of an image from its start to its end.
+//! Runs of tenants to their end.
 
-ghost use Rattle.std.specs.Prelude.{◌≡◌, ◌≤◌, ◌<◌, ℕ, List, IfOk, OnOk};
+ghost use Rattle.std.specs.Prelude.{◌≡◌, ◌≤◌, ◌<◌, ℕ, false, List, OnOk, slice_get};
 ghost use Rattle.vl_base.specs.declared.files.File.{File};
 ghost use Rattle.vl_design.specs.Alone.{Origin, Ends};
 ghost use Rattle.vl_design.specs.Queue.{Queue};
 ghost use Rattle.vl_design.specs.Syntax.{Flat};
-ghost use Rattle.vl_design.specs.Trees.{flat_of};
 ghost use Rattle.plain_run.specs.Runs.{over};
-ghost use Rattle.sub_nodes.specs.Cycles.{Stage};
+ghost use Rattle.sub_nodes.specs.Code.{table_of};
+ghost use Rattle.sub_nodes.specs.Cycles.{Stage, rises};
 ghost use Rattle.ten_core.specs.Tenants.{tenant_of};
 ghost use Rattle.ten_core.specs.Runs.{IsAt, Runs};
-ghost use Rattle.ten_run.specs.Runnable.{CanBeRun};
-ghost use Rattle.ten_run.specs.Running.{goes_on, IsRunning, MayGoOn, IsOver, to_come};
+ghost use Rattle.ten_run.specs.Running.{goes_on, IsRunning, MayGoOn, IsOver, begun, to_come};
 
 use std::alloc::{AllocError, Global};
 use sub_nets::laws::the_table_of_a_checked_design_can_run;
-use ten_core::image::Image;
 use ten_core::tenant::Tenant;
-use vl_base::files::FileSet;
 use vl_base::items::Bytes;
 use vl_design::design::End;
 
 /// A run of more states than 2 ^ 31 might come to more acts than can be counted.
-const MOST_STATES: usize = 2_147_483_648;
+pub const MOST_STATES: usize = 2_147_483_648;
 
 /// The run goes on: it hasn't finished, and at a boundary the budget isn't spent.
 fn goes_on(tenant: &Tenant, budget: u64) -> bool
@@ -33,13 +30,15 @@ fn goes_on(tenant: &Tenant, budget: u64) -> bool
     !tenant.done() && (!tenant.at_boundary() || tenant.ticks() < budget)
 }
 
-/// One step of a run that goes on: the call that waits is served, or else one cycle is done.
-fn advance(alloc: Global, tenant: &mut Tenant) -> Result<(), AllocError>
+/// One step of a run that goes on: the call that waits is served, or else one cycle is done. A tick begins only where the clock rises.
+pub fn advance(alloc: Global, tenant: &mut Tenant) -> Result<(), AllocError>
     requires { (d : Flat) × (files : List File) × (budget : ℕ) × MayGoOn d files budget (tenant_of tenant.old) }
     ensures running { OnOk result ((d : Flat) (files : List File) (budget : ℕ) → MayGoOn d files budget (tenant_of tenant.old) →
         IsRunning d files budget (tenant_of tenant.new)) }
     ensures fewer { OnOk result ((d : Flat) (files : List File) (budget : ℕ) → MayGoOn d files budget (tenant_of tenant.old) →
         to_come d budget (tenant_of tenant.new) < to_come d budget (tenant_of tenant.old)) }
+    ensures ticks { OnOk result ((d : Flat) (files : List File) (budget : ℕ) → (m : MayGoOn d files budget (tenant_of tenant.old)) →
+        rises (slice_get (table_of d).nodes m.running.stage.node) ≡ false → begun (tenant_of tenant.new) ≡ begun (tenant_of tenant.old)) }
 {
     if tenant.waits {
         return tenant.serve(alloc);
@@ -49,7 +48,7 @@ fn advance(alloc: Global, tenant: &mut Tenant) -> Result<(), AllocError>
 }
 
 /// Runs a tenant until its run is over.
-fn run_on(alloc: Global, tenant: &mut Tenant, budget: u64) -> Result<(), AllocError>
+pub fn run_on(alloc: Global, tenant: &mut Tenant, budget: u64) -> Result<(), AllocError>
     requires running { (d : Flat) × (files : List File) × IsRunning d files budget (tenant_of tenant.old) }
     requires budget { budget ≤ 1000000000 }
     ensures { OnOk result ((d : Flat) (files : List File) → IsRunning d files budget (tenant_of tenant.old) →
@@ -78,7 +77,7 @@ pub struct Ended {
 }
 
 /// How a run that is over has ended, and what it has printed.
-fn outcome(tenant: Tenant) -> Ended
+pub fn outcome(tenant: Tenant) -> Ended
     requires { (d : Flat) × (files : List File) × (budget : ℕ) × IsOver d files budget (tenant_of tenant) }
     ensures { (d : Flat) (files : List File) (budget : ℕ) → IsOver d files budget (tenant_of tenant) →
         (q : Queue) × Ends (over d files budget) result.ticks result.end q
@@ -98,17 +97,4 @@ fn outcome(tenant: Tenant) -> Ended
         cycles,
         printed: Bytes::from_vec(tenant.printed),
     }
-}
-
-/// Runs an image over these files from time zero, for at most a budget of ticks: how its run alone ends, its acts, and what it prints. An
-/// `Err` is want of memory, also where there are more than 2 ^ 31 states.
-pub fn run(alloc: Global, image: Image, files: FileSet, budget: u64) -> Result<Ended, AllocError>
-    requires image { CanBeRun (flat_of image.design) files budget image }
-    requires budget { budget ≤ 1000000000 }
-    ensures { IfOk result (λ o. (q : Queue) × Ends (over (flat_of image.design) files budget) o.ticks o.end q
-        × (q.state.ticks ≡ o.ticks) × (q.state.count ≡ o.cycles) × (q.state.printed ≡ o.printed)) }
-{
-    let mut tenant = Tenant::new(alloc, image, files)?;
-    run_on(alloc, &mut tenant, budget)?;
-    Ok(outcome(tenant))
 }

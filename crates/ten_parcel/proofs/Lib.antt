@@ -1,0 +1,3 @@
+mod Resting
+mod Staying
+pub mod Going

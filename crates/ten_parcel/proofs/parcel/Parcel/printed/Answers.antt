@@ -1,0 +1,10 @@
+use Rattle.ten_parcel.specs.Parcels.{origin_of}
+use Rattle.ten_parcel.proofs.Resting.{printed-there}
+use Rattle.ten_parcel.proofs.parcel.Parcel.printed.Goals as goal
+
+pub returns : goal.returns
+returns c d files s =
+    let o = origin_of d files c.args.self.now.resident in
+    let w = s.on in
+    printed-there d files c.args.self.now s (c.the_table_of_a_checked_design_can_run.ensures o w.order w.checked w.unrolled w.ordered tt)
+    c.printed.result.now (c.printed.ensures o w.order s.acts s.stage w.at)

@@ -1,5 +1,5 @@
 pub mod Counter
-pub mod OneAnswer
 pub mod Outcomes
 pub mod Takings
-pub mod Unrolled
+pub mod Same
+mod OneReport

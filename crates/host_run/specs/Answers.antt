@@ -1,10 +1,11 @@
 -- What is answered to a source.
-use Rattle.std.specs.Prelude.{ℕ, List, []}
-use Rattle.vl_tree.specs.declared.token.Token.{Token}
-use Rattle.vl_tree.specs.Faults.{IsRead}
-use Rattle.vl_source.specs.declared.tree.Source.{Source}
-use Rattle.vl_source.specs.Grammar.{ReadsSource}
-use Rattle.vl_source.specs.Faults.{limits}
+use Rattle.std.specs.Prelude.{◌≡◌, ℕ, List}
+use Rattle.vl_design.specs.Alone.{Ends}
+use Rattle.vl_design.specs.Plain.{alone}
+use Rattle.vl_design.specs.Queue.{Queue}
+use Rattle.vl_design.specs.Syntax.{Flat}
+use Rattle.vl_front.specs.Sources.{StandsFor}
+use Rattle.plain_run.specs.declared.run.Outcome.{Outcome}
 use Rattle.host_run.specs.declared.answer.Answer.{Answer}
 use Rattle.host_run.specs.declared.answer.Answer.TheVariants.{Report, Refusal}
 use Rattle.host_run.specs.Due.{Reports, Refuses}
@@ -14,8 +15,11 @@ abbrev pub IsAnswer : List ℕ → ℕ → Answer → Type 0
 IsAnswer text budget (Report block) = Reports text budget block.items
 IsAnswer text budget (Refusal line) = Refuses text line.items
 
--- the tree of a text
-pub record IsTreeOf (text : List ℕ) (tree : Source) : Type 0 where
-  pub tokens : List Token
-  pub read : IsRead text tokens
-  pub parsed : ReadsSource (limits 0) tree tokens []
+-- the run alone of the design that a text stands for ends so
+pub record Ended (text : List ℕ) (budget : ℕ) (o : Outcome) : Type 0 where
+  pub design : Flat
+  pub stands : StandsFor text design
+  pub last : Queue
+  pub ends : Ends (alone design budget) o.ticks o.end last
+  pub ticks : last.state.ticks ≡ o.ticks
+  pub printed : last.state.printed ≡ o.printed

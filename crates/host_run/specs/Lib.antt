@@ -3,6 +3,5 @@ pub mod Claims
 pub mod Due
 pub mod Examples
 pub mod Report
-pub mod Saving
 pub mod Taking
 pub mod Words

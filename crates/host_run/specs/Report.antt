@@ -4,6 +4,8 @@ use Rattle.std.specs.Fmt.{decimal}
 use Rattle.fab_io.specs.declared.store.ReadError.{ReadError}
 use Rattle.fab_io.specs.declared.store.ReadError.TheVariants as read
 use Rattle.vl_base.specs.declared.place.Place.{Place}
+use Rattle.vl_front.specs.declared.fault.Kind.{Kind}
+use Rattle.vl_front.specs.declared.fault.Kind.TheVariants as k
 use Rattle.vl_design.specs.declared.design.End.{End}
 use Rattle.vl_design.specs.declared.design.End.TheVariants.{Finished, Budget, Stopped}
 
@@ -18,31 +20,19 @@ block end ticks printed =
     codes "tenant main " ++ end_word end ++ codes " " ++ decimal ticks ++ codes " " ++ decimal (length printed)
     ++ codes "\n" ++ printed ++ codes "\n"
 
+-- the kind of a refusal
+abbrev pub kind_words : Kind → List ℕ
+kind_words (k.Lex cause) = codes "lex " ++ decimal cause
+kind_words k.Parse = codes "parse"
+kind_words (k.Construct number) = codes "construct " ++ decimal number
+kind_words (k.Limit number) = codes "limit " ++ decimal number
+kind_words k.Loop = codes "loop"
+kind_words k.NotBuilt = codes "notbuilt"
+
 -- `refused main LINE COLUMN KIND`
-abbrev pub refusal : Place → List ℕ → List ℕ
+abbrev pub refusal : Place → Kind → List ℕ
 refusal place kind =
-    codes "refused main " ++ decimal place.line ++ codes " " ++ decimal place.column ++ codes " " ++ kind ++ codes "\n"
-
--- the kinds of a refusal
-abbrev pub lexical : ℕ → List ℕ
-lexical cause = codes "lex " ++ decimal cause
-
-abbrev pub syntax : List ℕ
-syntax = codes "parse"
-
-abbrev pub limit : ℕ → List ℕ
-limit number = codes "limit " ++ decimal number
-
-abbrev pub construct : ℕ → List ℕ
-construct number = codes "construct " ++ decimal number
-
--- a combinational loop
-abbrev pub loop : List ℕ
-loop = codes "loop"
-
--- a source whose form isn't built yet
-abbrev pub notbuilt : List ℕ
-notbuilt = codes "refused main 0 0 notbuilt\n"
+    codes "refused main " ++ decimal place.line ++ codes " " ++ decimal place.column ++ codes " " ++ kind_words kind ++ codes "\n"
 
 abbrev pub usage : List ℕ
 usage = codes "usage: fabhost run SOURCE TICKS\n"

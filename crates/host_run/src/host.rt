@@ -1,6 +1,6 @@
 //! The one public call of the program.
 
-ghost use Rattle.std.specs.Prelude.{◌≡◌, ◌≢◌, ◌⊎◌, ℕ, List, map, IfOk, None, Some};
+ghost use Rattle.std.specs.Prelude.{◌≡◌, ◌≢◌, ◌<◌, ◌⊎◌, ℕ, List, map, IfOk, None, Some};
 ghost use Rattle.std.specs.String.{string_bytes};
 ghost use Rattle.fab_io.specs.Outside.{HasRisen};
 ghost use Rattle.host_run.specs.Words.{command_of};
@@ -40,6 +40,7 @@ fn due<S: Store>(
     command: Command<'_>,
     store: &mut S,
 ) -> Result<(u8, Vec<u8>), AllocError>
+    requires { command.ticks < 1000000000 }
     ensures told { S.told store.new ≡ S.told store.old }
     ensures due { IfOk result (λ d. (words : List (List ℕ)) → command_of words ≡ Some (command.entry.path.now, command.entry.ticks)
         → IsDue (S.told store.old) (record { faults = S.faults store.old; absences = S.absences store.old })

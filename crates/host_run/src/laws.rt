@@ -2,16 +2,16 @@
 
 ghost use Rattle.std.specs.Prelude.{◌≡◌, ℕ, List};
 ghost use Rattle.vl_design.specs.Syntax.{Flat};
-ghost use Rattle.host_run.specs.Due.{StandsFor, Reports, Refuses};
+ghost use Rattle.vl_front.specs.Sources.{StandsFor};
+ghost use Rattle.host_run.specs.Due.{Reports, Refuses};
 
-/// A text has one answer at most: a design, or the line by which it is refused.
-pub fn a_text_has_one_answer_at_most()
-    ensures design { (text : List ℕ) (d e : Flat) → StandsFor text d → StandsFor text e → d ≡ e }
+use vl_front::laws::a_text_is_a_design_or_refused;
+
+/// A text has one report at most of so many ticks, or is refused by one line at most, and never both.
+pub fn a_text_has_one_report_at_most()
+    ensures report { (text : List ℕ) (budget : ℕ) (a b : List ℕ) → Reports text budget a → Reports text budget b → a ≡ b }
     ensures line { (text a b : List ℕ) → Refuses text a → Refuses text b → a ≡ b }
     ensures not_both { (text line : List ℕ) (d : Flat) → StandsFor text d → Refuses text line → ⊥ }
-{}
-
-/// A text has one report at most of so many ticks.
-pub fn a_text_has_one_report_at_most()
-    ensures { (text : List ℕ) (budget : ℕ) (a b : List ℕ) → Reports text budget a → Reports text budget b → a ≡ b }
-{}
+{
+    a_text_is_a_design_or_refused();
+}

@@ -2,12 +2,10 @@
 #![tactic(auto)]
 
 mod answer;
-mod end;
 pub mod host;
 pub mod laws;
 mod put;
 mod report;
 pub mod rows;
 mod running;
-mod saving;
 mod words;

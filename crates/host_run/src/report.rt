@@ -8,6 +8,7 @@ use fab_io::store::ReadError;
 use std::alloc::{AllocError, Global};
 use vl_base::place::Place;
 use vl_design::design::End;
+use vl_front::fault::Kind;
 
 /// Adds a number in decimal.
 fn push_number(alloc: Global, number: u64, text: &mut Vec<u8>) -> Result<(), AllocError>
@@ -46,79 +47,46 @@ pub fn block(alloc: Global, end: End, ticks: u64, printed: &[u8]) -> Result<Vec<
     Ok(text)
 }
 
-/// Begins a line of a refused source, up to its kind.
-fn push_place(alloc: Global, place: Place, text: &mut Vec<u8>) -> Result<(), AllocError>
-    ensures { OnOk result (text.new.items ≡ text.old.items ++ codes "refused main " ++ decimal place.line ++ codes " " ++ decimal place.column ++ codes " ") }
+/// Adds a word and a number behind it.
+fn push_counted(
+    alloc: Global,
+    word: &[u8],
+    number: u8,
+    text: &mut Vec<u8>,
+) -> Result<(), AllocError>
+    ensures { OnOk result (text.new.items ≡ text.old.items ++ word.now ++ decimal number) }
 {
+    text.extend_from_slice(word)?;
+    push_number(alloc, u64::from(number), text)
+}
+
+/// Adds the kind of a refusal.
+fn push_kind(alloc: Global, kind: Kind, text: &mut Vec<u8>) -> Result<(), AllocError>
+    ensures { OnOk result (text.new.items ≡ text.old.items ++ r.kind_words kind) }
+{
+    match kind {
+        Kind::Lex(cause) => push_counted(alloc, b"lex ".as_slice(), cause, text),
+        Kind::Parse => text.extend_from_slice(b"parse"),
+        Kind::Construct(number) => push_counted(alloc, b"construct ".as_slice(), number, text),
+        Kind::Limit(number) => push_counted(alloc, b"limit ".as_slice(), number, text),
+        Kind::Loop => text.extend_from_slice(b"loop"),
+        Kind::NotBuilt => text.extend_from_slice(b"notbuilt"),
+    }
+}
+
+/// The line of a source that is refused at a place for a reason of a kind.
+pub fn refused(alloc: Global, place: Place, kind: Kind) -> Result<Vec<u8>, AllocError>
+    ensures { IfOk result (λ text. text.items ≡ r.refusal place kind) }
+{
+    let mut text = Vec::new(alloc);
     text.extend_from_slice(b"refused main ")?;
-    push_number(alloc, u64::from(place.line), text)?;
+    push_number(alloc, u64::from(place.line), &mut text)?;
     text.extend_from_slice(b" ")?;
-    push_number(alloc, u64::from(place.column), text)?;
+    push_number(alloc, u64::from(place.column), &mut text)?;
     text.extend_from_slice(b" ")?;
-    Ok(())
-}
-
-/// The line of a source with a lexical fault.
-pub fn lexical(alloc: Global, place: Place, cause: u8) -> Result<Vec<u8>, AllocError>
-    ensures { IfOk result (λ text. text.items ≡ r.refusal place (r.lexical cause)) }
-{
-    let mut text = Vec::new(alloc);
-    push_place(alloc, place, &mut text)?;
-    text.extend_from_slice(b"lex ")?;
-    push_number(alloc, u64::from(cause), &mut text)?;
+    push_kind(alloc, kind, &mut text)?;
     text.extend_from_slice(b"\n")?;
     Ok(text)
-}
-
-/// The line of a source with a syntax fault.
-pub fn syntax(alloc: Global, place: Place) -> Result<Vec<u8>, AllocError>
-    ensures { IfOk result (λ text. text.items ≡ r.refusal place r.syntax) }
-{
-    let mut text = Vec::new(alloc);
-    push_place(alloc, place, &mut text)?;
-    text.extend_from_slice(b"parse\n")?;
-    Ok(text)
-}
-
-/// The line of a source that passes a limit.
-pub fn limit(alloc: Global, place: Place, number: u8) -> Result<Vec<u8>, AllocError>
-    ensures { IfOk result (λ text. text.items ≡ r.refusal place (r.limit number)) }
-{
-    let mut text = Vec::new(alloc);
-    push_place(alloc, place, &mut text)?;
-    text.extend_from_slice(b"limit ")?;
-    push_number(alloc, u64::from(number), &mut text)?;
-    text.extend_from_slice(b"\n")?;
-    Ok(text)
-}
-
-/// The line of a source with a refused construct.
-pub fn construct(alloc: Global, place: Place, number: u8) -> Result<Vec<u8>, AllocError>
-    ensures { IfOk result (λ text. text.items ≡ r.refusal place (r.construct number)) }
-{
-    let mut text = Vec::new(alloc);
-    push_place(alloc, place, &mut text)?;
-    text.extend_from_slice(b"construct ")?;
-    push_number(alloc, u64::from(number), &mut text)?;
-    text.extend_from_slice(b"\n")?;
-    Ok(text)
-}
-
-/// The line of a source with a combinational loop.
-pub fn looped(alloc: Global, place: Place) -> Result<Vec<u8>, AllocError>
-    ensures { IfOk result (λ text. text.items ≡ r.refusal place r.loop) }
-{
-    let mut text = Vec::new(alloc);
-    push_place(alloc, place, &mut text)?;
-    text.extend_from_slice(b"loop\n")?;
-    Ok(text)
-}
-
-/// The line of a source whose form isn't built yet.
-pub fn notbuilt(alloc: Global) -> Result<Vec<u8>, AllocError>
-    ensures { IfOk result (λ text. text.items ≡ r.notbuilt) }
-{
-    Vec::from_slice(alloc, b"refused main 0 0 notbuilt\n")
 }
 
 /// The word of a failed read.

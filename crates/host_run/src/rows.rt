@@ -10,7 +10,7 @@ ghost use Rattle.vl_design.specs.Plainly.{flat};
 ghost use Rattle.cell_accept.specs.Accepted.{IsAccepted};
 ghost use Rattle.host_run.specs.Examples.{counter_source, counter_design};
 ghost use Rattle.host_run.specs.Report.{block};
-ghost use Rattle.host_run.specs.Saving.{has_saves};
+ghost use Rattle.vl_front.specs.Saving.{has_saves};
 
 /// The source of a counter has a flat design that is accepted and runs, of which three ticks end by their budget and report these
 /// bytes.

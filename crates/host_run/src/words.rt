@@ -1,6 +1,6 @@
 //! The words of the command line.
 
-ghost use Rattle.std.specs.Prelude.{◌≡◌, ◌≤◌, length, map, option_map};
+ghost use Rattle.std.specs.Prelude.{◌≡◌, ◌≤◌, ◌<◌, true, length, map, option_map, IfSome};
 ghost use Rattle.std.specs.List.{list_all};
 ghost use Rattle.std.specs.String.{string_bytes};
 ghost use Rattle.host_run.specs.Words as w;
@@ -28,10 +28,12 @@ fn are_digits(word: &[u8]) -> bool
     word.iter().all(|byte| is_digit(*byte))
 }
 
-/// The number that at most nine digits write.
+/// The number that at most nine decimal digits write.
 fn number(digits: &[u8]) -> u64
-    requires { length digits.now ≤ 9 }
-    ensures { result ≡ w.number_after 0 digits.now }
+    requires short { length digits.now ≤ 9 }
+    requires digits { list_all w.is_digit digits.now ≡ true }
+    ensures value { result ≡ w.number_after 0 digits.now }
+    ensures small { result < 1000000000 }
 {
     let mut number: u64 = 0;
     for digit in digits {
@@ -42,7 +44,8 @@ fn number(digits: &[u8]) -> u64
 
 /// The number of ticks that a word says, in one to nine decimal digits.
 fn ticks_of(word: &[u8]) -> Option<u64>
-    ensures { result ≡ w.ticks_of word.now }
+    ensures value { result ≡ w.ticks_of word.now }
+    ensures small { IfSome result (λ n. n < 1000000000) }
 {
     if word.is_empty() || word.len() > 9 || !are_digits(word) {
         return None;
@@ -62,7 +65,8 @@ fn is_path(word: &[u8]) -> bool
 
 /// The command that the words are; none where they are no such command.
 pub fn recognise(words: &[String]) -> Option<Command<'_>>
-    ensures { option_map (λ c. (c.path.now, c.ticks)) result ≡ w.command_of (map string_bytes words.now) }
+    ensures command { option_map (λ c. (c.path.now, c.ticks)) result ≡ w.command_of (map string_bytes words.now) }
+    ensures small { IfSome result (λ c. c.ticks < 1000000000) }
 {
     let [verb, path, ticks] = words else {
         return None;

@@ -1,7 +1,12 @@
 //! Ends of runs in words.
 
+ghost use Rattle.std.specs.Prelude.{List};
+ghost use Rattle.vl_base.specs.declared.files.File.{File};
+ghost use Rattle.vl_design.specs.Syntax.{Flat};
+ghost use Rattle.ten_parcel.specs.Parcels.{IsParcel};
+
 use std::alloc::{AllocError, Global};
-use ten_run::run::Ended;
+use ten_parcel::parcel::Parcel;
 use vl_design::design::End;
 
 /// Why a run ended, in a word.
@@ -13,14 +18,24 @@ fn end_word(end: End) -> &'static str {
     }
 }
 
-/// The end of a run of at most so many ticks: why, the ticks, the acts and the bytes, which come behind.
-pub fn ended_text(alloc: Global, ticks: u64, ended: &Ended) -> Result<String, AllocError> {
-    let printed = ended.printed.as_slice();
-    let word = end_word(ended.end);
+/// How a parcel ended, in a word.
+fn ended_word(ended: Option<End>) -> &'static str {
+    match ended {
+        Some(end) => end_word(end),
+        None => "running",
+    }
+}
+
+/// The parcel of a run of at most so many ticks: why it ended, the ticks, the acts and the bytes, which come behind.
+pub fn ended_text(alloc: Global, ticks: u64, parcel: &Parcel) -> Result<String, AllocError>
+    requires { (d : Flat) × (files : List File) × IsParcel d files parcel.now }
+{
+    let printed = parcel.printed();
+    let word = ended_word(parcel.ended());
     let mut text = format!(in alloc;
         "run {ticks}\n{word} {} {} {}\n",
-        ended.ticks,
-        ended.cycles,
+        parcel.ticks(),
+        parcel.cycles(),
         printed.len()
     )?;
     for byte in printed {

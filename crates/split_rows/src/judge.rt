@@ -1,55 +1,20 @@
 //! What a source is split into.
 
-ghost use Rattle.vl_design.specs.Seen.{placed};
-ghost use Rattle.vl_checked.specs.Fit.{IsFit};
-ghost use Rattle.vl_own.specs.Own.{HasOwnFunctions};
-ghost use Rattle.cell_accept.specs.Accepted.{Stands};
+ghost use Rattle.std.specs.Prelude.{◌≡◌, ◌≤◌, ℕ, List};
+ghost use Rattle.ten_build.specs.Builds.{IsImageOf};
 
 use crate::ended::ended_text;
 use crate::row::Row;
 use crate::show::{count_text, table_text};
 use crate::states::states_text;
-use cell_accept::accept::{Accepted, accept};
-use cell_accept::fault::Fault;
 use std::alloc::{AllocError, Global};
 use sub_split::split::split;
-use ten_alone::alone::run_alone;
-use ten_fit::fit::runs_on_cells;
-use ten_fit::laws::a_design_that_runs_on_cells_is_a_tenants;
-use ten_make::image::image;
-use vl_base::place::Place;
+use ten_alone::alone::parcel_alone;
+use ten_build::build::{Built, build};
+use ten_core::image::Image;
 use vl_design::design::Design;
-use vl_design::stop::Stop;
-use vl_fit::laws::an_elaborated_design_is_fit_to_be_judged;
-use vl_flatten::elaborate::elaborate;
-use vl_functions::laws::functions_of_an_elaborated_design_keep_to_their_own;
-use vl_lex::lex::{LexFault, lex};
-use vl_parse::{ParseFault, parse};
-use vl_source::tree::Source;
-use vl_tree::token::Token;
-
-/// The states of an accepted design.
-fn answer_in_states(
-    alloc: Global,
-    design: &Design,
-    accepted: Accepted,
-) -> Result<String, AllocError>
-    requires fit { IsFit (placed design.now) }
-    requires own { HasOwnFunctions (placed design.now) }
-    requires stands { Stands (placed design.now) accepted }
-{
-    a_design_that_runs_on_cells_is_a_tenants();
-    let fits = runs_on_cells(alloc, design)?;
-    let Accepted {
-        design: unrolled,
-        order,
-    } = accepted;
-    if fits {
-        let image = image(alloc, unrolled, order.as_slice())?;
-        return states_text(alloc, &image);
-    }
-    String::from_str(alloc, "states none\n")
-}
+use vl_front::fault::BuildError;
+use vl_front::front::front;
 
 /// The number of ticks in what is wanted, behind `run `.
 fn ticks_of(wanted: &str) -> u64 {
@@ -63,29 +28,35 @@ fn ticks_of(wanted: &str) -> u64 {
     ticks
 }
 
-/// The run of an accepted design: how it ends, its ticks and acts, and what it prints.
-fn answer_in_acts(
-    alloc: Global,
-    wanted: &str,
-    design: &Design,
-    accepted: Accepted,
-) -> Result<String, AllocError>
-    requires fit { IsFit (placed design.now) }
-    requires own { HasOwnFunctions (placed design.now) }
-    requires stands { Stands (placed design.now) accepted }
+/// The run of an image: how it ends, its ticks and acts, and what it prints.
+fn answer_in_acts(alloc: Global, ticks: u64, image: Image) -> Result<String, AllocError>
+    requires image { (text : List ℕ) × IsImageOf text image }
 {
-    a_design_that_runs_on_cells_is_a_tenants();
-    let fits = runs_on_cells(alloc, design)?;
-    let Accepted {
-        design: unrolled,
-        order,
-    } = accepted;
-    let ticks = ticks_of(wanted);
-    if fits && ticks <= 1_000_000_000 {
-        let ended = run_alone(alloc, unrolled, order.as_slice(), ticks)?;
-        return ended_text(alloc, ticks, &ended);
+    if ticks > 1_000_000_000 {
+        return String::from_str(alloc, "run none\n");
     }
-    String::from_str(alloc, "run none\n")
+    let parcel = parcel_alone(alloc, 1, image, ticks)?;
+    ended_text(alloc, ticks, &parcel)
+}
+
+/// What is wanted of an image: its states, or its run.
+fn answer_of_image(alloc: Global, wanted: &str, image: Image) -> Result<String, AllocError>
+    requires image { (text : List ℕ) × IsImageOf text image }
+{
+    if wanted.starts_with("states ") {
+        return states_text(alloc, &image);
+    }
+    answer_in_acts(alloc, ticks_of(wanted), image)
+}
+
+/// The answer to a source in states.
+fn answer_in_states(alloc: Global, wanted: &str, text: &[u8]) -> Result<String, AllocError> {
+    match build(alloc, text) {
+        Ok(Built::Cells(image)) => answer_of_image(alloc, wanted, image),
+        Ok(Built::Plain(_)) => String::from_str(alloc, "states none\n"),
+        Err(BuildError::Memory) => Err(AllocError),
+        Err(_) => String::from_str(alloc, "refused\n"),
+    }
 }
 
 /// The table of a design whose loops are unrolled, or its number of nodes.
@@ -97,64 +68,16 @@ fn answer_in_nodes(alloc: Global, wanted: &str, design: &Design) -> Result<Strin
     table_text(alloc, design.signals.as_slice(), &table)
 }
 
-/// The answer to an accepted design.
-fn answer_to_accepted(
-    alloc: Global,
-    wanted: &str,
-    design: &Design,
-    accepted: Accepted,
-) -> Result<String, AllocError>
-    requires fit { IsFit (placed design.now) }
-    requires own { HasOwnFunctions (placed design.now) }
-    requires stands { Stands (placed design.now) accepted }
-{
-    if wanted.starts_with("states ") {
-        return answer_in_states(alloc, design, accepted);
-    }
-    if wanted.starts_with("run ") {
-        return answer_in_acts(alloc, wanted, design, accepted);
-    }
-    answer_in_nodes(alloc, wanted, &accepted.design)
-}
-
-/// The answer to the flat design of a source.
-fn answer_to_design(alloc: Global, wanted: &str, design: &Design) -> Result<String, AllocError>
-    requires fit { IsFit (placed design.now) }
-    requires own { HasOwnFunctions (placed design.now) }
-{
-    match accept(alloc, design) {
-        Ok(accepted) => answer_to_accepted(alloc, wanted, design, accepted),
-        Err(Fault::Memory) => Err(AllocError),
-        Err(_) => String::from_str(alloc, "refused\n"),
-    }
-}
-
-/// The answer to the tree of a source.
-fn answer_to_tree(alloc: Global, wanted: &str, tree: &Source) -> Result<String, AllocError> {
-    an_elaborated_design_is_fit_to_be_judged();
-    functions_of_an_elaborated_design_keep_to_their_own();
-    match elaborate(alloc, tree) {
-        Ok(design) => answer_to_design(alloc, wanted, &design),
-        Err(Stop::Memory) => Err(AllocError),
-        Err(_) => String::from_str(alloc, "refused\n"),
-    }
-}
-
-/// The answer to the tokens of a source.
-fn answer_to_tokens(alloc: Global, wanted: &str, tokens: &[Token]) -> Result<String, AllocError> {
-    match parse(alloc, tokens, Place { line: 0, column: 0 }) {
-        Ok(tree) => answer_to_tree(alloc, wanted, &tree),
-        Err(ParseFault::Memory) => Err(AllocError),
-        Err(_) => String::from_str(alloc, "no tree\n"),
-    }
-}
-
-/// The answer to a source: the table of its blocks.
+/// The answer to a source: the table of its blocks, or of the states of these.
 fn answer(alloc: Global, wanted: &str, source: &str) -> Result<String, AllocError> {
-    match lex(alloc, source.as_bytes()) {
-        Ok(tokens) => answer_to_tokens(alloc, wanted, &tokens),
-        Err(LexFault::Memory) => Err(AllocError),
-        Err(_) => String::from_str(alloc, "no tokens\n"),
+    let text = source.as_bytes();
+    if wanted.starts_with("states ") || wanted.starts_with("run ") {
+        return answer_in_states(alloc, wanted, text);
+    }
+    match front(alloc, text) {
+        Ok(accepted) => answer_in_nodes(alloc, wanted, &accepted.design),
+        Err(BuildError::Memory) => Err(AllocError),
+        Err(_) => String::from_str(alloc, "refused\n"),
     }
 }
 

@@ -1,10 +1,9 @@
-use Rattle.host_run.specs.Due.{fault, passed}
 use Rattle.host_run.proofs.answer.answer_to.Goals as goal
 
-pub returns-in_ok-lexical-in-Err-At : goal.returns-in_ok-lexical-in-Err-At
-returns-in_ok-lexical-in-Err-At c =
-    fault (rw c.in-Err-At.field-0-is at c.in-Err-At.ensures.refused) c.in_ok-lexical-in-Err-At.ensures
-
-pub returns-in_ok-limit-in-Err-Limit : goal.returns-in_ok-limit-in-Err-Limit
-returns-in_ok-limit-in-Err-Limit c =
-    passed (rw c.in-Err-Limit.field-0-is at c.in-Err-Limit.ensures.refused) c.in_ok-limit-in-Err-Limit.ensures
+pub returns-in_ok-refused-in-Err-Refused : goal.returns-in_ok-refused-in-Err-Refused
+returns-in_ok-refused-in-Err-Refused c = record {
+  place = c.in-Err-Refused.place;
+  kind = c.in-Err-Refused.kind;
+  refusal = rw c.in-Err-Refused.field-0-is at c.in-Err-Refused.ensures;
+  is = c.in_ok-refused-in-Err-Refused.ensures;
+}

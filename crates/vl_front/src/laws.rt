@@ -1,0 +1,14 @@
+//! What follows from the definitions alone: what comes of a source text is one thing.
+
+ghost use Rattle.std.specs.Prelude.{◌≡◌, ℕ, List};
+ghost use Rattle.vl_base.specs.declared.place.Place.{Place};
+ghost use Rattle.vl_design.specs.Syntax.{Flat};
+ghost use Rattle.vl_front.specs.declared.fault.Kind.{Kind};
+ghost use Rattle.vl_front.specs.Sources.{StandsFor, IsRefusal};
+
+/// A text stands for one design at most, or it is refused at one place for one reason, and never both.
+pub fn a_text_is_a_design_or_refused()
+    ensures design { (text : List ℕ) (d e : Flat) → StandsFor text d → StandsFor text e → d ≡ e }
+    ensures refusal { (text : List ℕ) (p q : Place) (a b : Kind) → IsRefusal text p a → IsRefusal text q b → (p ≡ q) × (a ≡ b) }
+    ensures not_both { (text : List ℕ) (d : Flat) (p : Place) (a : Kind) → StandsFor text d → IsRefusal text p a → ⊥ }
+{}

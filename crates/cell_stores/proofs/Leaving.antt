@@ -1,0 +1,178 @@
+-- What stores hold behind writes of registers.
+use Rattle.std.proofs.Common.{◌≡◌, ℕ, ◌^◌, ◌<◌, List, [], ◌∷◌, ◌++◌, length, Some, None, refl, sym, ap, ◌∙◌, arith, subst}
+use Rattle.std.specs.Prelude.{slice_index}
+use Rattle.std.specs.List.{AllByRecursion}
+use Rattle.std.proofs.Math.Pow.{pow_pos}
+use Rattle.std.proofs.lemmas.List.Elements.{recursion_from_All, All-from_recursion}
+use Rattle.vl_design.specs.Syntax.{Row, Flat}
+use Rattle.vl_design.specs.Width.{names_of, signal_form}
+use Rattle.vl_design.specs.Value.{words_of}
+use Rattle.vl_design.specs.State.{Update, with_update, all_updated}
+use Rattle.vl_design.specs.Sound.{IsMemory}
+use Rattle.vl_design.specs.Laws.{IsFine}
+use Rattle.vl_design.proofs.Ranging.{updates_in_range}
+use Rattle.vl_design.proofs.Shaping.{all_shape, shape_on}
+use Rattle.cell_form.specs.declared.cell.Write.{Write}
+use Rattle.cell_form.specs.Cycle.{written}
+use Rattle.cell_form.specs.Data.{ListData, BankData}
+use Rattle.cell_form.specs.Sound.{shape_of}
+use Rattle.cell_steps.specs.Slots.{held}
+use Rattle.cell_steps.proofs.Frames.{held-fits}
+use Rattle.cell_paths.specs.Envs.{IsSlot}
+use Rattle.cell_later.specs.declared.pending.Site.{Site}
+use Rattle.cell_later.specs.Pendings.{IsSite, stored}
+use Rattle.cell_waves.specs.Lasts.{last_write, held_after}
+use Rattle.cell_stores.specs.declared.store.Store.{Store}
+use Rattle.cell_stores.specs.Stores.{enable_register, word_register, value_register, mask_register, stored_by, IsStore, IsIdle, HoldsWords}
+use Rattle.cell_stores.specs.Keeping.{EachHas, HasStore, IsKept, IsLeft, IsZero, IsSegment}
+use Rattle.cell_stores.proofs.Behind.{register-behind}
+use Rattle.cell_stores.proofs.Listing.{all-front, all-back, all-both, all-from, all-with, each-with, each-store}
+use Rattle.cell_stores.proofs.Holding.{IsSame, IsOf, by-more, by-idle, by-same, by-sites, below-as, store-same, holds-same}
+
+-- ---- writes elsewhere
+
+module _ (value : ℕ → ℕ) (sets : List Write) (b : BankData) where
+  -- a register that isn't written
+  pub register-left : (r : ℕ) → r < length b.regs → last_write sets r ≡ None → slice_index (written value sets b).regs r ≡ slice_index b.regs r
+  register-left r lt e = register-behind value sets b r lt ∙ ap (λ o. held_after value o (slice_index b.regs r)) e
+
+  -- a register that is written from a slot
+  pub register-from : (r s : ℕ) → r < length b.regs → last_write sets r ≡ Some s → slice_index (written value sets b).regs r ≡ value s
+  register-from r s lt e = register-behind value sets b r lt ∙ ap (λ o. held_after value o (slice_index b.regs r)) e
+
+  pub store-left : (x : Store) → HasStore (shape_of b) x → IsLeft sets x → IsSame b (written value sets b) x
+  store-left x h k =
+      let room = h.0 in
+      record {
+        enable = register-left (enable_register x) (omega arith) (k (enable_register x) (omega arith) (omega arith));
+        word = register-left (word_register x) (omega arith) (k (word_register x) (omega arith) (omega arith));
+        value = register-left (value_register x) (omega arith) (k (value_register x) (omega arith) (omega arith));
+        mask = register-left (mask_register x) (omega arith) (k (mask_register x) (omega arith) (omega arith));
+      }
+
+  pub stores-left : (xs : List Store) → AllByRecursion (HasStore (shape_of b)) xs → AllByRecursion (IsLeft sets) xs → AllByRecursion (IsSame b (written value sets b)) xs
+  stores-left xs h k = all-with (HasStore (shape_of b)) (IsLeft sets) (IsSame b (written value sets b)) store-left xs h k
+
+  pub idle-left : (stores : List Store) → AllByRecursion (HasStore (shape_of b)) stores → AllByRecursion (IsLeft sets) stores → AllByRecursion (IsIdle b) stores → AllByRecursion (IsIdle (written value sets b)) stores
+  idle-left stores h k idle = all-with (IsSame b (written value sets b)) (IsIdle b) (IsIdle (written value sets b)) (λ x s i. s.enable ∙ i) stores (stores-left stores h k) idle
+
+  pub holds-left : (d : Flat) (stores : List Store) (later : List Update) → AllByRecursion (HasStore (shape_of b)) stores → AllByRecursion (IsLeft sets) stores → HoldsWords d b stores later → HoldsWords d (written value sets b) stores later
+  holds-left d stores later h k holds = holds-same d b (written value sets b) stores later (stores-left stores h k) holds
+
+-- ---- registers of zeros
+
+-- nothing is pending where the registers of stores of memories hold 0
+pub zeros-idle : (b : BankData) (stores : List Store) → AllByRecursion (IsZero b) stores → AllByRecursion (IsIdle b) stores
+zeros-idle b stores h = all-from (IsZero b) (IsIdle b) (λ x z. z (enable_register x) (omega arith) (omega arith)) stores h
+
+zeros-store : (d : Flat) (b : BankData) (x : Store) → IsMemory (names_of d) x.memory → IsZero b x → IsStore d b x
+zeros-store d b x i z =
+    let wide = (signal_form d.rows x.memory).width in
+    record {
+      memory = i;
+      enable = below-as _ 0 2 (z (enable_register x) (omega arith) (omega arith)) (omega arith);
+      word = below-as _ 0 (2 ^ 32) (z (word_register x) (omega arith) (omega arith)) (pow_pos 32);
+      value = below-as _ 0 (2 ^ wide) (z (value_register x) (omega arith) (omega arith)) (pow_pos wide);
+      mask = below-as _ 0 (2 ^ wide) (z (mask_register x) (omega arith) (omega arith)) (pow_pos wide);
+    }
+
+pub zeros-hold : (d : Flat) (b : BankData) (stores : List Store) → AllByRecursion (λ x. IsMemory (names_of d) x.memory) stores → AllByRecursion (IsZero b) stores → HoldsWords d b stores []
+zeros-hold d b stores h k = record {
+  each = All-from_recursion (IsStore d b) stores (all-with (λ x. IsMemory (names_of d) x.memory) (IsZero b) (IsStore d b) (zeros-store d b) stores h k);
+  words = λ base m j fine i lt. sym (by-idle b stores m j (slice_index (words_of base m) j) (zeros-idle b stores k));
+}
+
+-- ---- updates
+
+pub updated-behind : (rows : List Row) (values : List (List ℕ)) (later news : List Update) → all_updated rows values (later ++ news) ≡ all_updated rows (all_updated rows values later) news
+updated-behind rows values [] news = refl
+updated-behind rows values (u ∷ us) news = updated-behind rows (with_update rows values u) us news
+
+fine-behind : (rows : List Row) (values : List (List ℕ)) (later : List Update) → IsFine rows values → IsFine rows (all_updated rows values later)
+fine-behind rows values later f = record { range = updates_in_range rows later values f.range; shape = shape_on (all_shape rows later values) f.shape }
+
+-- ---- a segment
+
+module _ (d : Flat) (b : BankData) (l : ListData) (before own behind : List Store) (sites : List Site) (sets : List Write) (news : List Update) (h : IsSegment d b l before own behind sites sets news) where
+  abbrev after : BankData
+  after = written (held b l) sets b
+
+  abbrev Has : Store → Type 0
+  Has = HasStore (shape_of b)
+
+  slot-below : (r w : ℕ) → IsSlot l r w → held b l r < 2 ^ w
+  slot-below r w k = subst (λ n. held b l r < 2 ^ n) k.width (held-fits h.shape b l r h.sound k.there)
+
+  kept-of : (x : Store) (s : Site) → Has x → IsKept sets x s → IsOf b l after x s
+  kept-of x s there k =
+      let room = there.0 in
+      record {
+        memory = k.memory;
+        enable = register-from (held b l) sets b (enable_register x) s.enable (omega arith) k.enable;
+        word = register-from (held b l) sets b (word_register x) s.word (omega arith) k.word;
+        value = register-from (held b l) sets b (value_register x) s.value (omega arith) k.value;
+        mask = register-from (held b l) sets b (mask_register x) s.mask (omega arith) k.mask;
+      }
+
+  store-of : (x : Store) (s : Site) → IsSite (names_of d) l s → IsOf b l after x s → IsStore d after x
+  store-of x s site k =
+      let wide : (signal_form d.rows s.memory).width ≡ (signal_form d.rows x.memory).width = ap (λ n. (signal_form d.rows n).width) (sym k.memory) in
+      let Below : ℕ → ℕ → Type 0 = λ v w. v < 2 ^ w in
+      record {
+        memory = subst (IsMemory (names_of d)) (sym k.memory) site.memory;
+        enable = below-as _ _ 2 k.enable (slot-below s.enable 1 site.enable);
+        word = below-as _ _ (2 ^ 32) k.word (slot-below s.word 32 site.word);
+        value = below-as _ _ (2 ^ (signal_form d.rows x.memory).width) k.value (subst (Below (held b l s.value)) wide (slot-below s.value (signal_form d.rows s.memory).width site.value));
+        mask = below-as _ _ (2 ^ (signal_form d.rows x.memory).width) k.mask (subst (Below (held b l s.mask)) wide (slot-below s.mask (signal_form d.rows s.memory).width site.mask));
+      }
+
+  there-front : AllByRecursion Has (before ++ own)
+  there-front = all-front Has (before ++ own) behind h.there
+
+  same-before : AllByRecursion (IsSame b after) before
+  same-before = stores-left (held b l) sets b before (all-front Has before own there-front) h.left
+
+  same-behind : AllByRecursion (IsSame b after) behind
+  same-behind = stores-left (held b l) sets b behind (all-back Has (before ++ own) behind h.there) h.left_behind
+
+  own-of : EachHas (IsOf b l after) own sites
+  own-of = each-with Has (IsKept sets) (IsOf b l after) kept-of own sites (all-back Has before own there-front) h.kept
+
+  pub idle-yet : AllByRecursion (IsIdle after) behind
+  idle-yet = all-with (IsSame b after) (IsIdle b) (IsIdle after) (λ x s i. s.enable ∙ i) behind same-behind h.idle_behind
+
+  -- up to then only the stores of the segments before it say something
+  only-before : (m j v : ℕ) → stored_by b (before ++ own ++ behind) m j v ≡ stored_by b before m j v
+  only-before m j v =
+      by-more b (before ++ own) behind m j v ∙ by-idle b behind m j (stored_by b (before ++ own) m j v) h.idle_behind
+      ∙ by-more b before own m j v ∙ by-idle b own m j (stored_by b before m j v) h.idle
+
+  -- and then its own too
+  then-own : (m j v : ℕ) → stored_by after (before ++ own ++ behind) m j v ≡ stored b l sites m j (stored_by b before m j v)
+  then-own m j v =
+      by-more after (before ++ own) behind m j v ∙ by-idle after behind m j (stored_by after (before ++ own) m j v) idle-yet
+      ∙ by-more after before own m j v ∙ ap (stored_by after own m j) (by-same b after before m j v same-before)
+      ∙ by-sites b l after own sites m j (stored_by b before m j v) own-of
+
+  are-stores : AllByRecursion (IsStore d b) (before ++ own ++ behind) → AllByRecursion (IsStore d after) (before ++ own ++ behind)
+  are-stores k =
+      let front = all-front (IsStore d b) (before ++ own) behind k in
+      all-both (IsStore d after) (before ++ own) behind
+      (all-both (IsStore d after) before own (stays before same-before (all-front (IsStore d b) before own front))
+      (each-store (IsSite (names_of d) l) (IsOf b l after) (IsStore d after) store-of own sites (recursion_from_All (IsSite (names_of d) l) sites h.slots) own-of))
+      (stays behind same-behind (all-back (IsStore d b) (before ++ own) behind k))
+    where
+      stays : (xs : List Store) → AllByRecursion (IsSame b after) xs → AllByRecursion (IsStore d b) xs → AllByRecursion (IsStore d after) xs
+      stays xs s k = all-with (IsSame b after) (IsStore d b) (IsStore d after) (λ x e i. store-same d b after x e i) xs s k
+
+  pub holds-more : (later : List Update) → HoldsWords d b (before ++ own ++ behind) later → HoldsWords d after (before ++ own ++ behind) (later ++ news)
+  holds-more later k = record {
+    each = All-from_recursion (IsStore d after) (before ++ own ++ behind) (are-stores (recursion_from_All (IsStore d b) (before ++ own ++ behind) k.each));
+    words = λ base m j fine i lt.
+        let mid = all_updated d.rows base later in
+        let v = slice_index (words_of base m) j in
+        let long = (all_shape d.rows later base).words m in
+        ap (λ vs. slice_index (words_of vs m) j) (updated-behind d.rows base later news)
+        ∙ h.words mid m j (fine-behind d.rows base later fine) i (omega (arith, long, lt))
+        ∙ ap (stored b l sites m j) (k.words base m j fine i lt ∙ only-before m j v) ∙ sym (then-own m j v);
+  }

@@ -1,0 +1,8 @@
+pub mod Behind
+pub mod Listing
+pub mod Keeping
+pub mod Holding
+pub mod Leaving
+pub mod Reading
+pub mod Applying
+pub mod Updating

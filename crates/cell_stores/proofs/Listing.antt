@@ -1,0 +1,86 @@
+-- Stores, and sites of as many.
+use Rattle.std.proofs.Common.{◌≡◌, ℕ, List, [], ◌∷◌, ◌++◌, length, map, refl, sym, ap, ◌∙◌, arith, append-nil, append_assoc}
+use Rattle.std.specs.List.{AllByRecursion}
+use Rattle.std.proofs.lemmas.List.{length-map}
+use Rattle.cell_form.specs.declared.cell.Write.{Write}
+use Rattle.cell_later.specs.declared.pending.Site.{Site}
+use Rattle.cell_stores.specs.declared.store.Store.{Store}
+use Rattle.cell_stores.specs.Keeping.{EachHas, each_written}
+
+-- ---- lists
+
+module _ {X : Type 0} (P : X → Type 0) where
+  pub all-front : (xs ys : List X) → AllByRecursion P (xs ++ ys) → AllByRecursion P xs
+  all-front [] ys h = tt
+  all-front (x ∷ xs) ys h = (h.0, all-front xs ys h.1)
+
+  pub all-back : (xs ys : List X) → AllByRecursion P (xs ++ ys) → AllByRecursion P ys
+  all-back [] ys h = h
+  all-back (x ∷ xs) ys h = all-back xs ys h.1
+
+  pub all-both : (xs ys : List X) → AllByRecursion P xs → AllByRecursion P ys → AllByRecursion P (xs ++ ys)
+  all-both [] ys h k = k
+  all-both (x ∷ xs) ys h k = (h.0, all-both xs ys h.1 k)
+
+pub all-from : {X : Type 0} (P Q : X → Type 0) → ((x : X) → P x → Q x) → (xs : List X) → AllByRecursion P xs → AllByRecursion Q xs
+all-from P Q f [] h = tt
+all-from P Q f (x ∷ xs) h = (f x h.0, all-from P Q f xs h.1)
+
+pub all-with : {X : Type 0} (P Q R : X → Type 0) → ((x : X) → P x → Q x → R x) → (xs : List X) → AllByRecursion P xs → AllByRecursion Q xs → AllByRecursion R xs
+all-with P Q R f [] h k = tt
+all-with P Q R f (x ∷ xs) h k = (f x h.0 k.0, all-with P Q R f xs h.1 k.1)
+
+-- ---- stores with their sites
+
+pub each-push : (P : Store → Site → Type 0) (xs : List Store) (ss : List Site) (x : Store) (s : Site) → EachHas P xs ss → P x s → EachHas P (xs ++ x ∷ []) (ss ++ s ∷ [])
+each-push P [] [] x s h k = (k, tt)
+each-push P [] (t ∷ ss) x s h k = absurd h
+each-push P (y ∷ xs) [] x s h k = absurd h
+each-push P (y ∷ xs) (t ∷ ss) x s h k = (h.0, each-push P xs ss x s h.1 k)
+
+pub each-from : (P Q : Store → Site → Type 0) → ((x : Store) (s : Site) → P x s → Q x s) → (xs : List Store) (ss : List Site) → EachHas P xs ss → EachHas Q xs ss
+each-from P Q f [] [] h = tt
+each-from P Q f [] (s ∷ ss) h = absurd h
+each-from P Q f (x ∷ xs) [] h = absurd h
+each-from P Q f (x ∷ xs) (s ∷ ss) h = (f x s h.0, each-from P Q f xs ss h.1)
+
+-- where each store has something too
+pub each-with : (A : Store → Type 0) (P Q : Store → Site → Type 0) → ((x : Store) (s : Site) → A x → P x s → Q x s) → (xs : List Store) (ss : List Site) → AllByRecursion A xs → EachHas P xs ss → EachHas Q xs ss
+each-with A P Q f [] [] a h = tt
+each-with A P Q f [] (s ∷ ss) a h = absurd h
+each-with A P Q f (x ∷ xs) [] a h = absurd h
+each-with A P Q f (x ∷ xs) (s ∷ ss) a h = (f x s a.0 h.0, each-with A P Q f xs ss a.1 h.1)
+
+-- what each store has by its site
+pub each-store : (A : Site → Type 0) (P : Store → Site → Type 0) (Q : Store → Type 0) → ((x : Store) (s : Site) → A s → P x s → Q x) → (xs : List Store) (ss : List Site) → AllByRecursion A ss → EachHas P xs ss → AllByRecursion Q xs
+each-store A P Q f [] [] a h = tt
+each-store A P Q f [] (s ∷ ss) a h = absurd h
+each-store A P Q f (x ∷ xs) [] a h = absurd h
+each-store A P Q f (x ∷ xs) (s ∷ ss) a h = (f x s a.0 h.0, each-store A P Q f xs ss a.1 h.1)
+
+pub each-long : (P : Store → Site → Type 0) (xs : List Store) (ss : List Site) → EachHas P xs ss → length xs ≡ length ss
+each-long P [] [] h = refl
+each-long P [] (s ∷ ss) h = absurd h
+each-long P (x ∷ xs) [] h = absurd h
+each-long P (x ∷ xs) (s ∷ ss) h = let long = each-long P xs ss h.1 in omega (arith, long)
+
+-- ---- writes
+
+pub written-push : (f : Store → Site → List Write) (xs : List Store) (ss : List Site) (x : Store) (s : Site) → length xs ≡ length ss →
+    each_written f (xs ++ x ∷ []) (ss ++ s ∷ []) ≡ each_written f xs ss ++ f x s
+written-push f [] [] x s e = append-nil (f x s)
+written-push f [] (t ∷ ss) x s e = absurd (omega (arith, e))
+written-push f (y ∷ xs) [] x s e = absurd (omega (arith, e))
+written-push f (y ∷ xs) (t ∷ ss) x s e =
+    ap (λ ws. f y t ++ ws) (written-push f xs ss x s (omega (arith, e))) ∙ sym (append_assoc (f y t) (each_written f xs ss) (f x s))
+
+-- writes with these behind them, and one store's more
+pub written-more : (f : Store → Site → List Write) (old mid new : List Write) (xs : List Store) (ss : List Site) (x : Store) (s : Site) → length xs ≡ length ss → mid ≡ old ++ each_written f xs ss → new ≡ mid ++ f x s →
+    new ≡ old ++ each_written f (xs ++ x ∷ []) (ss ++ s ∷ [])
+written-more f old mid new xs ss x s e is more =
+    more ∙ ap (λ ws. ws ++ f x s) is ∙ append_assoc old (each_written f xs ss) (f x s) ∙ ap (λ ws. old ++ ws) (sym (written-push f xs ss x s e))
+
+-- as many stores as sites, where they are of the same memories
+pub same-long : (xs : List Store) (ss : List Site) → map (λ (x : Store). x.memory) xs ≡ map (λ (s : Site). s.memory) ss → length xs ≡ length ss
+same-long xs ss e =
+    sym (length-map xs (λ (x : Store). x.memory)) ∙ ap (λ (ns : List ℕ). length ns) e ∙ length-map ss (λ (s : Site). s.memory)

@@ -1,0 +1,77 @@
+//! What keeping and updating words come to. No function here does anything: each `ensures` is a law.
+
+ghost use Rattle.std.specs.Prelude.{◌≡◌, ◌≢◌, ℕ, ◌<◌, ◌++◌, List, [], length, map, slice_index, slice_index_or};
+ghost use Rattle.std.specs.List.{AllByRecursion};
+ghost use Rattle.vl_design.specs.Sound.{IsMemory};
+ghost use Rattle.vl_design.specs.State.{Update, all_updated};
+ghost use Rattle.vl_design.specs.Syntax.{Row, Flat};
+ghost use Rattle.vl_design.specs.Value.{words_of};
+ghost use Rattle.vl_design.specs.Width.{names_of};
+ghost use Rattle.cell_form.specs.declared.cell.Write.{Write};
+ghost use Rattle.cell_form.specs.Cycle.{written};
+ghost use Rattle.cell_form.specs.Data.{ListData, BankData};
+ghost use Rattle.cell_form.specs.Sound.{shape_of};
+ghost use Rattle.cell_steps.specs.Slots.{held, Grows};
+ghost use Rattle.cell_later.specs.declared.pending.Site.{Site};
+ghost use Rattle.cell_waves.specs.Lasts.{last_write, held_after};
+ghost use Rattle.cell_stores.specs.declared.store.Store.{Store};
+ghost use Rattle.cell_stores.specs.Stores.{enable_register, IsIdle, HoldsWords};
+ghost use Rattle.cell_stores.specs.Keeping.{EachHas, HasStore, IsLeft, IsZero, IsSegment};
+ghost use Rattle.cell_stores.specs.Applying.{IsRead, IsUpdate, behind_update};
+
+/// Behind the writes of a segment stores hold its new updates too, behind those that were pending (IEEE 1364-2005, clause 9.2.2), and
+/// the stores of the segments behind it are idle yet.
+pub fn a_segment_keeps_its_updates()
+    ensures holds { (d : Flat) (b : BankData) (l : ListData) (before own behind : List Store) (sites : List Site) (sets : List Write) (later news : List Update) →
+        IsSegment d b l before own behind sites sets news → HoldsWords d b (before ++ own ++ behind) later →
+        HoldsWords d (written (held b l) sets b) (before ++ own ++ behind) (later ++ news) }
+    ensures idle { (d : Flat) (b : BankData) (l : ListData) (before own behind : List Store) (sites : List Site) (sets : List Write) (news : List Update) →
+        IsSegment d b l before own behind sites sets news → AllByRecursion (IsIdle (written (held b l) sets b)) behind }
+{}
+
+/// Writes that leave the registers of stores leave what they hold.
+pub fn other_writes_leave_stores()
+    ensures holds { (d : Flat) (b : BankData) (value : ℕ → ℕ) (sets : List Write) (stores : List Store) (later : List Update) →
+        AllByRecursion (HasStore (shape_of b)) stores → AllByRecursion (IsLeft sets) stores → HoldsWords d b stores later →
+        HoldsWords d (written value sets b) stores later }
+    ensures idle { (b : BankData) (value : ℕ → ℕ) (sets : List Write) (stores : List Store) →
+        AllByRecursion (HasStore (shape_of b)) stores → AllByRecursion (IsLeft sets) stores → AllByRecursion (IsIdle b) stores →
+        AllByRecursion (IsIdle (written value sets b)) stores }
+{}
+
+/// Where the registers of stores hold 0, nothing is pending.
+pub fn stores_of_zeros_hold_nothing()
+    ensures holds { (d : Flat) (b : BankData) (stores : List Store) → AllByRecursion (λ x. IsMemory (names_of d) x.memory) stores →
+        AllByRecursion (IsZero b) stores → HoldsWords d b stores [] }
+    ensures idle { (b : BankData) (stores : List Store) → AllByRecursion (IsZero b) stores → AllByRecursion (IsIdle b) stores }
+{}
+
+/// A register behind writes of any kind holds what its last write set it to.
+pub fn the_last_write_of_a_register_stands()
+    ensures { (value : ℕ → ℕ) (sets : List Write) (b : BankData) (r : ℕ) → r < length b.regs →
+        slice_index (written value sets b).regs r ≡ held_after value (last_write sets r) (slice_index b.regs r) }
+{}
+
+/// More cells leave the slots of stores what they hold.
+pub fn more_cells_leave_slots()
+    ensures { (rows : List Row) (old new : ListData) (stores : List Store) (sites : List Site) → Grows old new →
+        EachHas (IsRead rows old) stores sites → EachHas (IsRead rows new) stores sites }
+{}
+
+/// Behind an update of words each memory holds what the pending updates make of its words (IEEE 1364-2005, clause 11.4), nothing is
+/// pending, other registers are as the writes before it left them, and memories have as many words.
+pub fn an_update_writes_the_words_that_are_pending()
+    ensures memories { (d : Flat) (b : BankData) (l : ListData) (stores : List Store) (sites : List Site) (here : ℕ) (before : List Write) (values : List (List ℕ)) (later : List Update) →
+        IsUpdate d b l stores sites here before values later → (m : ℕ) → IsMemory (names_of d) m →
+        slice_index_or (behind_update b l stores sites here before).mems m [] ≡ words_of (all_updated d.rows values later) m }
+    ensures empty { (d : Flat) (b : BankData) (l : ListData) (stores : List Store) (sites : List Site) (here : ℕ) (before : List Write) (values : List (List ℕ)) (later : List Update) →
+        IsUpdate d b l stores sites here before values later → HoldsWords d (behind_update b l stores sites here before) stores [] }
+    ensures idle { (d : Flat) (b : BankData) (l : ListData) (stores : List Store) (sites : List Site) (here : ℕ) (before : List Write) (values : List (List ℕ)) (later : List Update) →
+        IsUpdate d b l stores sites here before values later → AllByRecursion (IsIdle (behind_update b l stores sites here before)) stores }
+    ensures registers { (d : Flat) (b : BankData) (l : ListData) (stores : List Store) (sites : List Site) (here : ℕ) (before : List Write) (values : List (List ℕ)) (later : List Update) →
+        IsUpdate d b l stores sites here before values later → (r : ℕ) → AllByRecursion (λ x. r ≢ enable_register x) stores →
+        slice_index (behind_update b l stores sites here before).regs r ≡ slice_index (written (held b l) before b).regs r }
+    ensures lengths { (d : Flat) (b : BankData) (l : ListData) (stores : List Store) (sites : List Site) (here : ℕ) (before : List Write) (values : List (List ℕ)) (later : List Update) →
+        IsUpdate d b l stores sites here before values later →
+        map (λ (ws : List ℕ). length ws) (behind_update b l stores sites here before).mems ≡ map (λ (ws : List ℕ). length ws) b.mems }
+{}

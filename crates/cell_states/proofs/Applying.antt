@@ -1,5 +1,5 @@
 -- The cells and writes of an update's state.
-use Rattle.std.proofs.Common.{◌≡◌, ℕ, ◌≤◌, false, List, [], ◌∷◌, ◌++◌, length, length-append, refl, sym, ap, ◌∙◌, arith, subst}
+use Rattle.std.proofs.Common.{◌≡◌, ℕ, ◌≤◌, Bool, false, List, [], ◌∷◌, ◌++◌, length, length-append, refl, sym, ap, ◌∙◌, arith, subst}
 use Rattle.std.specs.Prelude.{slice_index}
 use Rattle.std.specs.List.{AllByRecursion}
 use Rattle.vl_base.specs.declared.files.File.{File}
@@ -18,7 +18,9 @@ use Rattle.cell_paths.specs.Envs.{Env}
 use Rattle.cell_later.specs.Pendings.{PendingSlots}
 use Rattle.cell_waves.specs.Begins.{Begins}
 use Rattle.cell_waves.specs.Applies.{Applies, IsUpdated}
+use Rattle.cell_waves.specs.Copies.{marked_one}
 use Rattle.cell_waves.specs.Lasts.{held_after, IsRegister}
+use Rattle.cell_waves.proofs.Ending.{signal-below}
 use Rattle.cell_waves.proofs.Lasting.{last-here, last-other, register-after}
 use Rattle.sub_nodes.specs.Nodes.{Apply}
 use Rattle.sub_nodes.specs.Cycles.{settled}
@@ -26,6 +28,7 @@ use Rattle.ten_form.specs.Registers.{state_register}
 use Rattle.ten_form.specs.Nets.{nets_of}
 use Rattle.ten_form.specs.Banks.{IsFor}
 use Rattle.cell_states.specs.Designs.{ComputesAlone}
+use Rattle.cell_states.specs.Marks.{AreDelayed}
 use Rattle.cell_states.specs.Mades.{IsMade}
 use Rattle.cell_states.proofs.Alone.{pass-keeps}
 
@@ -47,8 +50,8 @@ pub all-push : (P : Write → Type 0) (xs : List Write) (x : Write) → AllByRec
 all-push P [] x h p = (p, tt)
 all-push P (y ∷ ys) x h p = (h.0, all-push P ys x h.1 p)
 
-module _ (d : Flat) (order : List ℕ) (l0 l1 l2 : ListData) (at : Env) (p : PendingSlots) (to next : ℕ) (sets : List Write)
-    (begins : Begins d order false (record { first = 0; cells = []; sets = [] }) l0 at p) (applies : Applies d at p l0 l1 [] sets)
+module _ (d : Flat) (order : List ℕ) (l0 l1 l2 : ListData) (at : Env) (p : PendingSlots) (marks : List Bool) (to next : ℕ) (sets : List Write)
+    (begins : Begins d order false (record { first = 0; cells = []; sets = [] }) l0 at p) (delayed : AreDelayed d marks) (applies : Applies d (marked_one marks) at p l0 l1 [] sets)
     (gives : Gives Nothing 1 l1 l2 next 32 (λ b. to)) (alone : ComputesAlone d) (free : (m : ℕ) → IsMemory (names_of d) m → ⊥) where
   abbrev all : List Write
   all = sets ++ w.Reg state_register next ∷ []
@@ -99,6 +102,6 @@ module _ (d : Flat) (order : List ℕ) (l0 l1 l2 : ListData) (at : Env) (p : Pen
               ∙ ap (λ o. held_after (held b l2) o (slice_index b.regs state_register)) (last-here sets state_register next)
               ∙ gives.value (shape_of b) b (sound1 (shape_of b) may.shape);
           holds = applies.holds (shape_of b) b i.state (settled d files (nets_of d files order) (counted (with_updates d.rows i.state))) i.committed l2 all a0 may.shape (λ r h. refl) may.holds st ps g12
-              (record { registers = registers; same = λ r h. last-other sets state_register r next (λ z. omega (arith, h, z)) }) (updated files i.state);
+              (record { registers = registers; same = λ r h. last-other sets state_register r next (λ z. omega (arith, h, z)) }) (updated files i.state) (λ k j m. may.due.later k (sym (delayed.each k (signal-below (names_of d) k j)) ∙ m)) (may.due.committed to refl);
         };
   }

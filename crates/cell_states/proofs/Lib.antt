@@ -7,3 +7,4 @@ mod Finishing
 mod Tabling
 mod Asking
 mod Noding
+pub mod Marking

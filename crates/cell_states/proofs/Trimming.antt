@@ -87,7 +87,7 @@ for-none : (d : Flat) (n : ℕ) (z : Shape) → IsFor d n z → IsFor d 0 z
 for-none d n z h = record { regs = h.regs; mems = h.mems; slots = omega arith }
 
 may-none : (d : Flat) (order : List ℕ) (files : List File) (early : Bool) (x : Node) (n : ℕ) (b : BankData) (i : Stage) → MayCycle d order files early x n b i → MayCycle d order files early x 0 b i
-may-none d order files early x n b i h = record { shape = for-none d n (shape_of b) h.shape; tidy = h.tidy; alive = h.alive; few = h.few; holds = h.holds }
+may-none d order files early x n b i h = record { shape = for-none d n (shape_of b) h.shape; tidy = h.tidy; due = h.due; alive = h.alive; few = h.few; holds = h.holds }
 
 module _ (d : Flat) (order : List ℕ) (early : Bool) (x : Node) (l : ListData) (sets : List Write) (wanted : List ℕ) (first : ℕ) (new : ListData) (slots : List ℕ)
     (trim : IsTrimmed l sets wanted first new slots) (made : IsMade d order early x l sets) where

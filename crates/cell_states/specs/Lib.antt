@@ -5,3 +5,4 @@ pub mod Mades
 pub mod Ended
 pub mod Trims
 pub mod Tables
+pub mod Marks

@@ -2,6 +2,7 @@
 #![tactic(auto)]
 
 pub mod base;
+mod delays;
 mod ends;
 pub mod made;
 pub mod run;

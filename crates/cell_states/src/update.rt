@@ -8,6 +8,7 @@ ghost use Rattle.cell_states.specs.Mades.{IsMade};
 ghost use Rattle.cell_states.specs.Designs.{IsCellDesign};
 
 use crate::base::{begin_in, no_cells};
+use crate::delays::delayed;
 use crate::made::Made;
 use cell_form::cell::Write;
 use cell_next::next::number;
@@ -29,7 +30,15 @@ pub fn made_update(
     let mut cells = no_cells(alloc);
     let begun = begin_in(alloc, &mut cells, design, order, false)?;
     let mut sets = Vec::new(alloc);
-    applied(alloc, &mut cells, design, &begun, &mut sets)?;
+    let delayed = delayed(alloc, design)?;
+    applied(
+        alloc,
+        &mut cells,
+        design,
+        &begun,
+        delayed.as_slice(),
+        &mut sets,
+    )?;
     let next = number(alloc, &mut cells, to)?;
     sets.push(Write::Reg(STATE, next))?;
     Ok(Made { cells, sets })

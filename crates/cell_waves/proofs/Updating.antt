@@ -1,15 +1,19 @@
 -- The update, one signal after the other, and its writes.
 use Rattle.std.proofs.Common.{◌≡◌, ℕ, ◌+◌, ◌*◌, ◌<◌, ◌≤◌, ◌^◌, Bool, true, false, List, [], ◌∷◌, ◌++◌, length, Option, Some, None, refl, sym, ap, ◌∙◌, arith, subst, length-append}
-use Rattle.std.specs.Prelude.{◌||◌, not, nat_lt, slice_get, slice_index, slice_index_or}
+use Rattle.std.specs.Prelude.{◌==◌, ◌||◌, not, nat_lt, slice_get, slice_index, slice_index_or, All}
 use Rattle.std.specs.List.{AllByRecursion}
 use Rattle.std.proofs.Math.Pow.{pow_pos}
+use Rattle.std.proofs.lemmas.Bool.{eq-eqb}
+use Rattle.std.proofs.lemmas.List.Elements.{All-head, All-tail}
 use Rattle.std.proofs.lemmas.Option.{slice_get_within}
 use Rattle.vl_design.specs.Syntax.{Row, Flat}
 use Rattle.vl_design.specs.Rows.{has_width}
 use Rattle.vl_design.specs.Width.{names_of, signal_form, row_form}
 use Rattle.vl_design.specs.Value.{value_of}
 use Rattle.vl_design.specs.Sound.{IsOf, IsWidth, HasValue, IsSignal}
-use Rattle.vl_design.specs.State.{State, sample}
+use Rattle.vl_design.specs.State.{State, Update, all_updated, sample}
+use Rattle.vl_design.proofs.Kept.{OfUpdates, updates_keep}
+use Rattle.vl_design.specs.Laws.{IsFine}
 use Rattle.vl_settle.specs.Computed.{is_computed_row, computed_at}
 use Rattle.cell_form.specs.declared.cell.Write.{Write}
 use Rattle.cell_form.specs.Data.{ListData, BankData}
@@ -27,10 +31,11 @@ use Rattle.ten_form.specs.Registers.{answer_register, ticks_register, update_reg
 use Rattle.ten_form.specs.Nets.{cleared}
 use Rattle.ten_form.specs.Banks.{IsFor, HoldsPending, HoldsState}
 use Rattle.cell_waves.specs.Lasts.{last_write, held_after}
-use Rattle.cell_waves.specs.Copies.{has_copy, is_written, each_one, wanted, or_before, IsHeld, Sets}
-use Rattle.cell_waves.specs.Applies.{IsUpdated, SameWrites, Applies, AreUpdatable, HoldsUpdate, HasUpdate}
+use Rattle.cell_waves.specs.Copies.{has_copy, is_written, wanted, or_before, IsHeld, Sets}
+use Rattle.cell_waves.specs.Applies.{IsUpdated, ArePendingOf, SameWrites, Applies, AreUpdatable, HoldsUpdate, HasUpdate, HasUpdateIf}
 use Rattle.cell_waves.proofs.Clearing.{cleared-computed, cleared-kept}
 use Rattle.cell_waves.proofs.Lasting.{register-after, memories-after}
+use Rattle.cell_waves.proofs.Setting.{wanted-left}
 use Rattle.cell_waves.proofs.Written.{both-true, is-width, value-kind, not-computed, signal-written}
 use Rattle.cell_waves.proofs.Ending.{signal-below, entry-slot, entry-written, entry-left, or-none}
 
@@ -64,24 +69,26 @@ update-behind r k n slots p old mid new e longer can h v c w = of e (h v c w)
 
 -- ---- signals one after the other
 
-pub record Updated (rows : List Row) (slots : List (Option ℕ)) (p : PendingSlots) (n : ℕ) (old new : ListData) (es : List (Option ℕ)) : Type 0 where
+pub record Updated (rows : List Row) (delayed : ℕ → Bool) (slots : List (Option ℕ)) (p : PendingSlots) (n : ℕ) (old new : ListData) (es : List (Option ℕ)) : Type 0 where
   pub longer : Longer Nothing (6 * n) old new
   pub long : length es ≡ n
-  pub each : (k : ℕ) (r : Row) → k < n → slice_get rows k ≡ Some r → HasUpdate r k slots p old new (slice_index_or es k None)
+  pub each : (k : ℕ) (r : Row) → k < n → slice_get rows k ≡ Some r → HasUpdateIf (delayed k) r k slots p old new (slice_index_or es k None)
 
-pub updated-none : (rows : List Row) (slots : List (Option ℕ)) (p : PendingSlots) (l : ListData) → Updated rows slots p 0 l l []
-updated-none rows slots p l = record { longer = longer-same Nothing l; long = refl; each = λ k r lt. absurd (omega arith) }
+pub updated-none : (rows : List Row) (delayed : ℕ → Bool) (slots : List (Option ℕ)) (p : PendingSlots) (l : ListData) → Updated rows delayed slots p 0 l l []
+updated-none rows delayed slots p l = record { longer = longer-same Nothing l; long = refl; each = λ k r lt. absurd (omega arith) }
 
-pub updated-more : (rows : List Row) (slots : List (Option ℕ)) (p : PendingSlots) (n : ℕ) (old mid new : ListData) (es : List (Option ℕ)) (r : Row) (e : Option ℕ) → slice_get rows n ≡ Some r → AreUpdatable r n old slots p →
-    Updated rows slots p n old mid es → Longer Nothing 6 mid new → HasUpdate r n slots p mid new e → Updated rows slots p (n + 1) old new (es ++ e ∷ [])
-updated-more rows slots p n old mid new es r e at can h longer one =
-    let P : ℕ → Row → Option ℕ → Type 0 = λ k q x. HasUpdate q k slots p old new x in
+pub updated-more : (rows : List Row) (delayed : ℕ → Bool) (slots : List (Option ℕ)) (p : PendingSlots) (n : ℕ) (old mid new : ListData) (es : List (Option ℕ)) (r : Row) (e : Option ℕ) → slice_get rows n ≡ Some r →
+    AreUpdatable r n old slots p → Updated rows delayed slots p n old mid es → Longer Nothing 6 mid new → HasUpdateIf (delayed n) r n slots p mid new e → Updated rows delayed slots p (n + 1) old new (es ++ e ∷ [])
+updated-more rows delayed slots p n old mid new es r e at can h longer one =
+    let P : ℕ → Row → Option ℕ → Type 0 = λ k q x. HasUpdateIf (delayed k) q k slots p old new x in
     let grows = longer-grows Nothing 6 mid new longer in
     record {
       longer = longer-weaken Nothing Nothing (6 * n + 6) (6 * (n + 1)) old new (λ s i. i) (omega arith) (longer-then Nothing (6 * n) 6 old mid new h.longer longer);
       long = length-append es (e ∷ []) ∙ ap (λ m. m + 1) h.long;
-      each = each-more P None rows n es e r h.long at (λ k q below is v c w. update-stays q.width k slots p old mid new (slice_index_or es k None) grows (h.each k q below is v c w))
-          (update-behind r n (6 * n) slots p old mid new e h.longer can one);
+      each = each-more P None rows n es e r h.long at
+          (λ k q below is. (let was = h.each k q below is in
+          record { there = λ t v c w. update-stays q.width k slots p old mid new (slice_index_or es k None) grows (was.there t v c w); none = was.none }))
+          (record { there = λ t. update-behind r n (6 * n) slots p old mid new e h.longer can (one.there t); none = one.none });
     }
 
 -- ---- the entries of a signal
@@ -106,22 +113,37 @@ update-held w k slots p old new None h = absurd h
 update-held w k slots p old new (Some r) h = h.0.there
 
 -- the slots of what is written are there
-held-if : (rows : List Row) (slots : List (Option ℕ)) (p : PendingSlots) (n copy : ℕ) (old new : ListData) (es : List (Option ℕ)) (k : ℕ) → length rows ≤ n → nat_lt 4 copy ≡ false → Updated rows slots p n old new es →
-    is_written copy (slice_get rows k) ≡ true → IsHeld new (slot_of es k)
-held-if rows slots p n copy old new es k long low h e = of (slice_get rows k) refl e
+held-if : (rows : List Row) (delayed : ℕ → Bool) (slots : List (Option ℕ)) (p : PendingSlots) (n copy : ℕ) (old new : ListData) (es : List (Option ℕ)) (k : ℕ) → length rows ≤ n → nat_lt 4 copy ≡ false →
+    Updated rows delayed slots p n old new es → is_written copy (slice_get rows k) ≡ true → IsHeld new (slot_of es k)
+held-if rows delayed slots p n copy old new es k long low h e = of (slice_get rows k) refl e
   where
     of : (o : Option Row) → slice_get rows k ≡ o → is_written copy o ≡ true → IsHeld new (slot_of es k)
     of None is f = absurd (cc)
     of (Some r) is f =
         let t = both-true (has_copy copy r.kind) (has_width r.width) f in
         let lt = slice_get_within rows k r is in
-        update-held r.width k slots p old new (slot_of es k)
-        (h.each k r (omega (arith, lt, long)) is (value-kind copy r.kind t.0) (not-computed copy r.kind low t.0) (is-width r.width t.1))
+        let u = h.each k r (omega (arith, lt, long)) is in
+        there (delayed k) refl t u
+      where
+        there : (q : Bool) → delayed k ≡ q → (has_copy copy r.kind ≡ true) × (has_width r.width ≡ true) → HasUpdateIf (delayed k) r k slots p old new (slot_of es k) → IsHeld new (slot_of es k)
+        there true q t u = update-held r.width k slots p old new (slot_of es k) (u.there q (value-kind copy r.kind t.0) (not-computed copy r.kind low t.0) (is-width r.width t.1))
+        there false q t u = subst (IsHeld new) (sym (u.none q)) tt
+
+-- ---- a signal of which no update is pending
+
+of-others : (p : ℕ → Bool) (us : List Update) → All (λ u. p u.signal ≡ false) us → OfUpdates p us
+of-others p [] h = tt
+of-others p (u ∷ us) h = (All-head (λ (u : Update). p u.signal ≡ false) u us h, of-others p us (All-tail (λ (u : Update). p u.signal ≡ false) u us h))
+
+-- keeps its value
+value-kept : (rows : List Row) (k : ℕ) (us : List Update) (values : List (List ℕ)) → All (λ u. (u.signal == k) ≡ false) us → value_of (all_updated rows values us) k ≡ value_of values k
+value-kept rows k us values h =
+    sym (ap (λ ws. slice_index ws 0) (updates_keep (λ j. j == k) k (eq-eqb k k refl) rows us (of-others (λ j. j == k) us h) values))
 
 -- ---- the whole update
 
-module _ (d : Flat) (at : Env) (p : PendingSlots) (old new : ListData) (n : ℕ) (es : List (Option ℕ)) (s0 s1 s2 s3 : List Write) (first : at.first ≡ 0) (fits : Fits (names_of d) old at)
-    (many : length d.rows ≡ n) (h : Updated d.rows at.slots p n old new es) (a : Sets d.rows 3 each_one es at.here s0 s1) (c : Sets d.rows 4 each_one es at.here s1 s2) (e : Sets d.rows 6 each_one [] at.here s2 s3) where
+module _ (d : Flat) (delayed : ℕ → Bool) (at : Env) (p : PendingSlots) (old new : ListData) (n : ℕ) (es : List (Option ℕ)) (s0 s1 s2 s3 : List Write) (first : at.first ≡ 0) (fits : Fits (names_of d) old at)
+    (many : length d.rows ≡ n) (h : Updated d.rows delayed at.slots p n old new es) (a : Sets d.rows 3 delayed es at.here s0 s1) (c : Sets d.rows 4 delayed es at.here s1 s2) (e : Sets d.rows 6 delayed [] at.here s2 s3) where
   grows : Grows old new
   grows = longer-grows Nothing (6 * n) old new h.longer
 
@@ -133,10 +155,11 @@ module _ (d : Flat) (at : Env) (p : PendingSlots) (old new : ListData) (n : ℕ)
       let regs = f.regs in
       let room : 4 * length d.rows + 3 ≤ z.regs = omega (arith, regs) in
       let long : length d.rows ≤ n = omega (arith, many) in
-      e.sound z new room here-in (λ j w. tt) (c.sound z new room here-in (λ j w. held-if d.rows at.slots p n 4 old new es j long refl h w) (a.sound z new room here-in (λ j w. held-if d.rows at.slots p n 3 old new es j long refl h w) k))
+      e.sound z new room here-in (λ j w. tt) (c.sound z new room here-in (λ j w. held-if d.rows delayed at.slots p n 4 old new es j long refl h w) (a.sound z new room here-in (λ j w. held-if d.rows delayed at.slots p n 3 old new es j long refl h w) k))
 
   module _ (z : Shape) (b : BankData) (s t : State) (committed : List (List ℕ)) (l : ListData) (sets : List Write) (sound : AreSound z old) (bank : IsFor d 0 (shape_of b)) (none : (r : ℕ) → 1 ≤ r → last_write s0 r ≡ None)
-      (holds : HoldsState d b s committed) (stands : Stands (names_of d) b old at (sample s)) (pends : Pends (names_of d) b old p s.later) (more : Grows new l) (same : SameWrites s3 sets) (like : IsUpdated d s t) where
+      (holds : HoldsState d b s committed) (stands : Stands (names_of d) b old at (sample s)) (pends : Pends (names_of d) b old p s.later) (more : Grows new l) (same : SameWrites s3 sets) (like : IsUpdated d s t)
+      (late : ArePendingOf d delayed s.later) (ready : committed ≡ s.values) where
     abbrev behind : BankData
     behind = written (held b l) sets b
 
@@ -149,35 +172,35 @@ module _ (d : Flat) (at : Env) (p : PendingSlots) (old new : ListData) (n : ℕ)
     zero : held b l at.here ≡ 0
     zero = held-stays b old l at.here (grows-then old new l grows more) fits.here.there ∙ fits.is_here z b sound
 
-    last-value : (k : ℕ) → last_write sets (4 * k + 3) ≡ wanted d.rows 3 each_one es at.here k
+    last-value : (k : ℕ) → last_write sets (4 * k + 3) ≡ wanted d.rows 3 delayed es at.here k
     last-value k =
         same.same (4 * k + 3) (omega arith) ∙ e.others (4 * k + 3) (λ j x. omega (arith, x)) ∙ c.others (4 * k + 3) (λ j x. omega (arith, x)) ∙ a.each k
-        ∙ ap (or_before (wanted d.rows 3 each_one es at.here k)) (none (4 * k + 3) (omega arith)) ∙ or-none _
+        ∙ ap (or_before (wanted d.rows 3 delayed es at.here k)) (none (4 * k + 3) (omega arith)) ∙ or-none _
 
-    last-work : (k : ℕ) → last_write sets (4 * k + 4) ≡ wanted d.rows 4 each_one es at.here k
+    last-work : (k : ℕ) → last_write sets (4 * k + 4) ≡ wanted d.rows 4 delayed es at.here k
     last-work k =
         same.same (4 * k + 4) (omega arith) ∙ e.others (4 * k + 4) (λ j x. omega (arith, x)) ∙ c.each k
-        ∙ ap (or_before (wanted d.rows 4 each_one es at.here k)) (a.others (4 * k + 4) (λ j x. omega (arith, x)) ∙ none (4 * k + 4) (omega arith)) ∙ or-none _
+        ∙ ap (or_before (wanted d.rows 4 delayed es at.here k)) (a.others (4 * k + 4) (λ j x. omega (arith, x)) ∙ none (4 * k + 4) (omega arith)) ∙ or-none _
 
     last-update : (k : ℕ) → last_write sets (4 * k + 5) ≡ None
     last-update k =
         same.same (4 * k + 5) (omega arith) ∙ e.others (4 * k + 5) (λ j x. omega (arith, x)) ∙ c.others (4 * k + 5) (λ j x. omega (arith, x)) ∙ a.others (4 * k + 5) (λ j x. omega (arith, x)) ∙ none (4 * k + 5) (omega arith)
 
-    last-mask : (k : ℕ) → last_write sets (4 * k + 6) ≡ wanted d.rows 6 each_one [] at.here k
+    last-mask : (k : ℕ) → last_write sets (4 * k + 6) ≡ wanted d.rows 6 delayed [] at.here k
     last-mask k =
         same.same (4 * k + 6) (omega arith) ∙ e.each k
-        ∙ ap (or_before (wanted d.rows 6 each_one [] at.here k)) (c.others (4 * k + 6) (λ j x. omega (arith, x)) ∙ a.others (4 * k + 6) (λ j x. omega (arith, x)) ∙ none (4 * k + 6) (omega arith)) ∙ or-none _
+        ∙ ap (or_before (wanted d.rows 6 delayed [] at.here k)) (c.others (4 * k + 6) (λ j x. omega (arith, x)) ∙ a.others (4 * k + 6) (λ j x. omega (arith, x)) ∙ none (4 * k + 6) (omega arith)) ∙ or-none _
 
     last-none : (r : ℕ) → 1 ≤ r → r < 3 → last_write sets r ≡ None
     last-none r low high =
         same.same r low ∙ e.others r (λ j x. omega (arith, x, high)) ∙ c.others r (λ j x. omega (arith, x, high)) ∙ a.others r (λ j x. omega (arith, x, high)) ∙ none r low
 
     -- what the slot of a variable holds
-    new-value : (k : ℕ) → IsSignal (names_of d) k → computed_at d.rows k ≡ false → held_or b l (slot_of es k) ≡ value_of t.values k
-    new-value k i c =
+    new-value : (k : ℕ) → IsSignal (names_of d) k → delayed k ≡ true → computed_at d.rows k ≡ false → held_or b l (slot_of es k) ≡ value_of t.values k
+    new-value k i q c =
         let m = named HasValue (slice_get d.rows k) i in
         let lt = signal-below (names_of d) k i in
-        let u = h.each k m.row (omega (arith, lt, many)) m.is m.kind (sym (ap is_computed_row m.is) ∙ c) m.width in
+        let u = (h.each k m.row (omega (arith, lt, many)) m.is).there q m.kind (sym (ap is_computed_row m.is) ∙ c) m.width in
         of m.row.width (slot_of es k) u
         ∙ ap (λ x. settled b old p k x) (ap (held_or b old) (sym (entry-slot at k first)) ∙ sym (stands.values k i))
         ∙ sym (pends.values s.values k stands.fine i) ∙ sym (like.values k i c)
@@ -189,35 +212,73 @@ module _ (d : Flat) (at : Env) (p : PendingSlots) (old new : ListData) (n : ℕ)
     written-if : (copy : ℕ) (k : ℕ) (q x : Bool) → IsSignal (names_of d) k → computed_at d.rows k ≡ q → (nat_lt 4 copy || not q) ≡ x → is_written copy (slice_get d.rows k) ≡ x
     written-if copy k q x i is y = signal-written (names_of d) copy k i ∙ ap (λ v. nat_lt 4 copy || not v) is ∙ y
 
-    copy-holds : (copy : ℕ) (k : ℕ) (kept : List (List ℕ)) → nat_lt 4 copy ≡ false → 4 * k + copy < 4 * length d.rows + 3 → IsSignal (names_of d) k → last_write sets (4 * k + copy) ≡ wanted d.rows copy each_one es at.here k →
-        slice_index b.regs (4 * k + copy) ≡ value_of (cleared d.rows kept) k → (q : Bool) → computed_at d.rows k ≡ q → slice_index behind.regs (4 * k + copy) ≡ value_of (cleared d.rows t.values) k
-    copy-holds copy k kept low lt i is was true q =
-        after (4 * k + copy) lt ∙ entry-left d.rows copy each_one es at.here k b l _ _ (written-if copy k true false i q (ap (λ v. v || false) low)) is
-        ∙ was ∙ cleared-computed d.rows kept k q ∙ sym (cleared-computed d.rows t.values k q)
-    copy-holds copy k kept low lt i is was false q =
-        after (4 * k + copy) lt ∙ entry-written d.rows copy each_one es at.here k b l _ _ zero (written-if copy k false true i q (ap (λ v. v || true) low)) is (λ f. absurd (cc))
-        ∙ new-value k i q ∙ sym (ap (λ ws. slice_index ws 0) (cleared-kept d.rows t.values k (signal-below (names_of d) k i) q))
+    -- a variable of which no update is pending has kept its value
+    old-value : (k : ℕ) → IsSignal (names_of d) k → delayed k ≡ false → computed_at d.rows k ≡ false → value_of s.values k ≡ value_of t.values k
+    old-value k i q c = sym (value-kept d.rows k s.later s.values (late k i q)) ∙ sym (like.values k i c)
 
-    mask-null : (k : ℕ) → IsSignal (names_of d) k → slice_index behind.regs (mask_register k) ≡ 0
-    mask-null k i =
+    cleared-value : (k : ℕ) (values : List (List ℕ)) → IsSignal (names_of d) k → computed_at d.rows k ≡ false → value_of (cleared d.rows values) k ≡ value_of values k
+    cleared-value k values i c = ap (λ ws. slice_index ws 0) (cleared-kept d.rows values k (signal-below (names_of d) k i) c)
+
+    copy-holds : (copy : ℕ) (k : ℕ) → nat_lt 4 copy ≡ false → 4 * k + copy < 4 * length d.rows + 3 → IsSignal (names_of d) k → last_write sets (4 * k + copy) ≡ wanted d.rows copy delayed es at.here k →
+        slice_index b.regs (4 * k + copy) ≡ value_of (cleared d.rows s.values) k → (q : Bool) → computed_at d.rows k ≡ q → slice_index behind.regs (4 * k + copy) ≡ value_of (cleared d.rows t.values) k
+    copy-holds copy k low lt i is was true q =
+        after (4 * k + copy) lt ∙ entry-left d.rows copy delayed es at.here k b l _ _ (written-if copy k true false i q (ap (λ v. v || false) low)) is
+        ∙ was ∙ cleared-computed d.rows s.values k q ∙ sym (cleared-computed d.rows t.values k q)
+    copy-holds copy k low lt i is was false q = of (delayed k) refl ∙ sym (cleared-value k t.values i q)
+      where
+        of : (m : Bool) → delayed k ≡ m → slice_index behind.regs (4 * k + copy) ≡ value_of t.values k
+        of true m =
+            after (4 * k + copy) lt ∙ entry-written d.rows copy delayed es at.here k b l _ _ zero (written-if copy k false true i q (ap (λ v. v || true) low)) is (λ f. absurd (cc))
+            ∙ new-value k i m q
+        of false m =
+            after (4 * k + copy) lt ∙ ap (λ x. held_after (held b l) x (slice_index b.regs (4 * k + copy))) (is ∙ wanted-left d.rows copy es at.here delayed k m)
+            ∙ was ∙ cleared-value k s.values i q ∙ old-value k i m q
+
+    mask-null : (k : ℕ) → IsSignal (names_of d) k → delayed k ≡ true → slice_index behind.regs (mask_register k) ≡ 0
+    mask-null k i m =
         after (mask_register k) (room k i)
-        ∙ entry-written d.rows 6 each_one [] at.here k b l _ _ zero (written-if 6 k (computed_at d.rows k) true i refl refl) (last-mask k) (λ f. absurd (cc))
+        ∙ entry-written d.rows 6 delayed [] at.here k b l _ _ zero (written-if 6 k (computed_at d.rows k) true i refl refl) (last-mask k) (λ f. absurd (cc))
+
+    mask-kept : (k : ℕ) → IsSignal (names_of d) k → delayed k ≡ false → slice_index behind.regs (mask_register k) ≡ slice_index b.regs (mask_register k)
+    mask-kept k i m =
+        after (mask_register k) (room k i)
+        ∙ ap (λ x. held_after (held b l) x (slice_index b.regs (mask_register k))) (last-mask k ∙ wanted-left d.rows 6 [] at.here delayed k m)
 
     update-kept : (k : ℕ) → IsSignal (names_of d) k → slice_index behind.regs (update_register k) ≡ slice_index b.regs (update_register k)
     update-kept k i = let lt = room k i in after (update_register k) (omega (arith, lt)) ∙ ap (λ x. held_after (held b l) x (slice_index b.regs (update_register k))) (last-update k)
 
+    nothing-replaced : (base : List (List ℕ)) (k : ℕ) → IsFine d.rows base → IsSignal (names_of d) k →
+        value_of base k ≡ masked (value_of base k) (slice_index behind.regs (update_register k)) (slice_index behind.regs (mask_register k))
+    nothing-replaced base k fine i = of (delayed k) refl
+      where
+        of : (m : Bool) → delayed k ≡ m → value_of base k ≡ masked (value_of base k) (slice_index behind.regs (update_register k)) (slice_index behind.regs (mask_register k))
+        of true m =
+            sym (ap (masked (value_of base k) (slice_index behind.regs (update_register k))) (mask-null k i m) ∙ masked-none (value_of base k) (slice_index behind.regs (update_register k)))
+        of false m =
+            sym (value-kept d.rows k s.later base (late k i m)) ∙ holds.pending.updates base k fine i
+            ∙ ap (λ v. masked (value_of base k) v (slice_index b.regs (mask_register k))) (sym (update-kept k i))
+            ∙ ap (masked (value_of base k) (slice_index behind.regs (update_register k))) (sym (mask-kept k i m))
+
+    mask-narrow : (k : ℕ) → IsSignal (names_of d) k → slice_index behind.regs (mask_register k) < 2 ^ (signal_form d.rows k).width
+    mask-narrow k i = of (delayed k) refl
+      where
+        of : (m : Bool) → delayed k ≡ m → slice_index behind.regs (mask_register k) < 2 ^ (signal_form d.rows k).width
+        of true m = subst (λ v. v < 2 ^ (signal_form d.rows k).width) (sym (mask-null k i m)) (pow_pos (signal_form d.rows k).width)
+        of false m = subst (λ v. v < 2 ^ (signal_form d.rows k).width) (sym (mask-kept k i m)) (holds.pending.mask_fits k i)
+
     nothing-pends : HoldsPending d behind []
     nothing-pends = record {
-      updates = λ base k fine i. sym (ap (masked (value_of base k) (slice_index behind.regs (update_register k))) (mask-null k i) ∙ masked-none (value_of base k) (slice_index behind.regs (update_register k)));
+      updates = nothing-replaced;
       words = λ base m fine i. refl;
       update_fits = λ k i. subst (λ v. v < 2 ^ (signal_form d.rows k).width) (sym (update-kept k i)) (holds.pending.update_fits k i);
-      mask_fits = λ k i. subst (λ v. v < 2 ^ (signal_form d.rows k).width) (sym (mask-null k i)) (pow_pos (signal_form d.rows k).width);
+      mask_fits = mask-narrow;
     }
 
     apply-holds : HoldsState d (written (held b l) sets b) t t.values
     apply-holds = record {
-      works = λ k i. (let lt = room k i in copy-holds 4 k s.values refl (omega (arith, lt)) i (last-work k) (holds.works k i) (computed_at d.rows k) refl);
-      values = λ k i. (let lt = room k i in copy-holds 3 k committed refl (omega (arith, lt)) i (last-value k) (holds.values k i) (computed_at d.rows k) refl);
+      works = λ k i. (let lt = room k i in copy-holds 4 k refl (omega (arith, lt)) i (last-work k) (holds.works k i) (computed_at d.rows k) refl);
+      values = λ k i. (let lt = room k i in
+          copy-holds 3 k refl (omega (arith, lt)) i (last-value k) (holds.values k i ∙ ap (λ v. value_of (cleared d.rows v) k) ready) (computed_at d.rows k) refl);
       memories = λ m i. ap (λ (ms : List (List ℕ)). slice_index_or ms m []) (memories-after (held b l) sets b same.registers) ∙ holds.memories m i ∙ sym (like.memories m i);
       pending = subst (HoldsPending d behind) (sym like.later) nothing-pends;
       ticks = after ticks_register (omega arith) ∙ ap (λ x. held_after (held b l) x (slice_index b.regs ticks_register)) (last-none 2 (omega arith) (omega arith)) ∙ holds.ticks ∙ sym like.ticks;
@@ -226,7 +287,7 @@ module _ (d : Flat) (at : Env) (p : PendingSlots) (old new : ListData) (n : ℕ)
       small = subst (λ v. v < 2 ^ 32) (sym like.answer) holds.small;
     }
 
-  pub applies : Applies d at p old new s0 s3
+  pub applies : Applies d delayed at p old new s0 s3
   applies = record {
     longer = subst (λ m. Longer Nothing (6 * m) old new) (sym many) h.longer;
     sound = apply-sound;

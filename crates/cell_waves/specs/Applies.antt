@@ -1,10 +1,10 @@
 -- The update in cells (IEEE 1364-2005, clause 11.4; own).
-use Rattle.std.specs.Prelude.{◌≡◌, ℕ, ◌≤◌, ◌*◌, false, List, [], length, Option, Some, None}
+use Rattle.std.specs.Prelude.{◌≡◌, ℕ, ◌≤◌, ◌*◌, ◌==◌, Bool, true, false, List, [], length, All, Option, Some, None}
 use Rattle.std.specs.List.{AllByRecursion}
 use Rattle.vl_design.specs.Syntax.{Row, Flat}
 use Rattle.vl_design.specs.Width.{names_of}
 use Rattle.vl_design.specs.Sound.{HasValue, IsWidth, IsSignal, IsMemory}
-use Rattle.vl_design.specs.State.{State, all_updated, sample}
+use Rattle.vl_design.specs.State.{State, Update, all_updated, sample}
 use Rattle.vl_design.specs.Value.{words_of, value_of}
 use Rattle.vl_settle.specs.Computed.{is_computed, computed_at}
 use Rattle.cell_form.specs.declared.cell.Write.{Write}
@@ -25,6 +25,10 @@ pub record IsUpdated (d : Flat) (s t : State) : Type 0 where
   pub answer : t.answer ≡ s.answer
   pub ticks : t.ticks ≡ s.ticks
 
+-- no update is pending of a signal that is none of these
+abbrev pub ArePendingOf : Flat → (ℕ → Bool) → List Update → Type 0
+ArePendingOf d delayed later = (k : ℕ) → IsSignal (names_of d) k → delayed k ≡ false → All (λ u. (u.signal == k) ≡ false) later
+
 -- other writes of registers leave each register but that of the next state the same
 pub record SameWrites (xs ys : List Write) : Type 0 where
   pub registers : AllByRecursion IsRegister ys
@@ -32,14 +36,14 @@ pub record SameWrites (xs ys : List Write) : Type 0 where
 
 -- cells and writes behind others make the update: whatever cells and writes of the next state come too, the bank then holds the
 -- updated state, committed
-pub record Applies (d : Flat) (at : Env) (p : PendingSlots) (old new : ListData) (before after : List Write) : Type 0 where
+pub record Applies (d : Flat) (delayed : ℕ → Bool) (at : Env) (p : PendingSlots) (old new : ListData) (before after : List Write) : Type 0 where
   pub longer : Longer Nothing (6 * length d.rows) old new
   pub sound : (z : Shape) → IsFor d 0 z → AllByRecursion (IsWrite z new.first (length new.cells)) before →
       AllByRecursion (IsWrite z new.first (length new.cells)) after
   pub registers : AllByRecursion IsRegister before → AllByRecursion IsRegister after
   pub holds : (z : Shape) (b : BankData) (s t : State) (committed : List (List ℕ)) (l : ListData) (sets : List Write) → AreSound z old →
       IsFor d 0 (shape_of b) → ((r : ℕ) → 1 ≤ r → last_write before r ≡ None) → HoldsState d b s committed → Stands (names_of d) b old at (sample s) →
-      Pends (names_of d) b old p s.later → Grows new l → SameWrites after sets → IsUpdated d s t →
+      Pends (names_of d) b old p s.later → Grows new l → SameWrites after sets → IsUpdated d s t → ArePendingOf d delayed s.later → committed ≡ s.values →
       HoldsState d (written (held b l) sets b) t t.values
 
 -- ---- one signal
@@ -58,3 +62,8 @@ HoldsUpdate w k slots p old new (Some r) =
 
 abbrev pub HasUpdate : Row → ℕ → List (Option ℕ) → PendingSlots → ListData → ListData → Option ℕ → Type 0
 HasUpdate r k slots p old new e = HasValue r.kind → is_computed r.kind ≡ false → IsWidth r.width → HoldsUpdate r.width k slots p old new e
+
+-- so it is where updates of the signal may be pending; else there is no entry
+pub record HasUpdateIf (delayed : Bool) (r : Row) (k : ℕ) (slots : List (Option ℕ)) (p : PendingSlots) (old new : ListData) (e : Option ℕ) : Type 0 where
+  pub there : delayed ≡ true → HasUpdate r k slots p old new e
+  pub none : delayed ≡ false → e ≡ None

@@ -1,5 +1,5 @@
 -- The registers of signals in slots, and writes to them (own).
-use Rattle.std.specs.Prelude.{◌≡◌, ◌≢◌, ℕ, ◌+◌, ◌*◌, ◌==◌, ◌≤◌, nat_lt, Bool, true, false, not, ◌&&◌, ◌||◌, if◌then◌else◌, List, [], ◌∷◌, ◌++◌, length, slice_get, Option, Some, None, unwrap_or, ⊤}
+use Rattle.std.specs.Prelude.{◌≡◌, ◌≢◌, ℕ, ◌+◌, ◌*◌, ◌==◌, ◌≤◌, nat_lt, Bool, true, false, not, ◌&&◌, ◌||◌, if◌then◌else◌, List, [], ◌∷◌, ◌++◌, length, slice_get, slice_index_or, Option, Some, None, unwrap_or, ⊤}
 use Rattle.std.specs.List.{AllByRecursion}
 use Rattle.vl_design.specs.declared.design.SigKind.{SigKind}
 use Rattle.vl_design.specs.declared.design.SigKind.TheVariants.{Mem}
@@ -52,6 +52,10 @@ changed before after k = differs (slot_of before k) (slot_of after k)
 
 abbrev pub each_one : ℕ → Bool
 each_one k = true
+
+-- the signal is one of those that are marked
+abbrev pub marked_one : List Bool → ℕ → Bool
+marked_one marks k = slice_index_or marks k false
 
 -- the slot of an entry; one that holds 0 where it has none
 abbrev pub slot_or : ℕ → Option ℕ → ℕ

@@ -9,11 +9,12 @@ ghost use Rattle.cell_form.specs.Views.{list_of};
 ghost use Rattle.cell_steps.specs.Slots.{Grows, Gives, Longer, Nothing};
 ghost use Rattle.cell_paths.specs.Envs.{env_of, held_or, IsEntry, Fits};
 ghost use Rattle.cell_later.specs.Pendings.{slots_of, ArePending};
-ghost use Rattle.cell_waves.specs.Applies.{Applies, AreUpdatable, HasUpdate};
+ghost use Rattle.cell_waves.specs.Applies.{Applies, AreUpdatable, HasUpdate, HasUpdateIf};
+ghost use Rattle.cell_waves.specs.Copies.{marked_one};
 
 use crate::begun::Begun;
 use crate::widths::variable_width;
-use crate::writes::write_all;
+use crate::writes::{is_marked, write_marked};
 use cell_form::cell::{CellList, Write};
 use cell_steps::steps;
 use std::alloc::{AllocError, Global};
@@ -97,13 +98,40 @@ fn updated(
     }
 }
 
+/// The same where updates of the signal may be pending (`delayed`); else none.
+fn updated_if(
+    alloc: Global,
+    cells: &mut CellList,
+    signal: &Signal,
+    number: usize,
+    begun: &Begun,
+    delayed: bool,
+) -> Result<Option<u32>, AllocError>
+    requires at { number < length begun.now.at.slots.items }
+    requires update { number < length begun.now.pending.update.items }
+    requires mask { number < length begun.now.pending.mask.items }
+    requires entries { AreUpdatable (row_of signal.now) number (list_of cells.old) begun.now.at.slots.items (slots_of begun.now.pending) }
+    ensures grows { Grows (list_of cells.old) (list_of cells.new) }
+    ensures longer { IfOk result (λ e. Longer Nothing 6 (list_of cells.old) (list_of cells.new)) }
+    ensures updates { IfOk result (λ e.
+        HasUpdateIf delayed (row_of signal.now) number begun.now.at.slots.items (slots_of begun.now.pending) (list_of cells.old) (list_of cells.new) e) }
+{
+    if delayed {
+        updated(alloc, cells, signal, number, begun)
+    } else {
+        Ok(None)
+    }
+}
+
 /// The update (IEEE 1364-2005, clause 11.4): each variable takes the bits of its pending updates, and nothing is pending any more:
-/// the cells, at most six for each signal, and the writes. An `Err` is want of memory.
+/// the cells, at most six for each signal, and the writes. Where updates can be pending of the signals alone that are marked
+/// (`delayed`), the others have neither cells nor writes: they keep what was committed. An `Err` is want of memory.
 pub fn applied(
     alloc: Global,
     cells: &mut CellList,
     design: &Design,
     begun: &Begun,
+    delayed: &[bool],
     sets: &mut Vec<Write>,
 ) -> Result<(), AllocError>
     requires few { length (flat_of design.now).rows ≤ 268435456 }
@@ -113,16 +141,17 @@ pub fn applied(
     requires many { length begun.now.pending.update.items ≡ length (flat_of design.now).rows }
     ensures grows { Grows (list_of cells.old) (list_of cells.new) }
     ensures applies { OnOk result (
-        Applies (flat_of design.now) (env_of begun.now.at) (slots_of begun.now.pending) (list_of cells.old) (list_of cells.new) sets.old.items sets.new.items) }
+        Applies (flat_of design.now) (marked_one delayed.now) (env_of begun.now.at) (slots_of begun.now.pending) (list_of cells.old) (list_of cells.new) sets.old.items sets.new.items) }
 {
     let signals = design.signals.as_slice();
     let here = begun.at.here;
     let mut values = Vec::new(alloc);
     for (number, signal) in signals.iter().enumerate() {
-        let slot = updated(alloc, cells, signal, number, begun)?;
+        let marked = is_marked(delayed, number);
+        let slot = updated_if(alloc, cells, signal, number, begun, marked)?;
         values.push(slot)?;
     }
-    write_all(signals, VALUE, values.as_slice(), here, sets)?;
-    write_all(signals, WORK, values.as_slice(), here, sets)?;
-    write_all(signals, MASK, &[], here, sets)
+    write_marked(signals, VALUE, delayed, values.as_slice(), here, sets)?;
+    write_marked(signals, WORK, delayed, values.as_slice(), here, sets)?;
+    write_marked(signals, MASK, delayed, &[], here, sets)
 }

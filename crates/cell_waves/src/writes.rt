@@ -50,6 +50,16 @@ fn entry(slots: &[Option<u32>], number: usize) -> Option<u32>
     }
 }
 
+/// Whether the signal of a number is one of those that are marked; none past the last is.
+pub(crate) fn is_marked(marks: &[bool], number: usize) -> bool
+    ensures { result ≡ s.marked_one marks.now number }
+{
+    match marks.get(number) {
+        None => false,
+        Some(mark) => *mark,
+    }
+}
+
 /// Adds the write of a signal's register of a copy from a slot, where that is wanted and the register is one that writes change.
 fn write_one(
     signal: &Signal,
@@ -94,6 +104,27 @@ pub fn write_changed(
             slot.unwrap_or(here),
             sets,
         )?;
+    }
+    Ok(())
+}
+
+/// Adds writes to the registers `copy` of the signals that are marked: as `write_changed`.
+pub(crate) fn write_marked(
+    signals: &[Signal],
+    copy: u32,
+    marks: &[bool],
+    after: &[Option<u32>],
+    here: u32,
+    sets: &mut Vec<Write>,
+) -> Result<(), AllocError>
+    requires few { length signals.now ≤ 268435456 }
+    requires copy { copy ≤ 6 }
+    ensures { OnOk result (s.Sets (map row_of signals.now) copy (s.marked_one marks.now) after.now here sets.old.items sets.new.items) }
+{
+    for (number, signal) in signals.iter().enumerate() {
+        let slot = entry(after, number).unwrap_or(here);
+        let chosen = is_marked(marks, number);
+        write_one(signal, number as u32, copy, chosen, slot, sets)?;
     }
     Ok(())
 }

@@ -1,18 +1,19 @@
 mod Passes
 mod Cleared
-mod Writes
+pub mod Writes
 mod Holding
-mod Calls
+pub mod Calls
 pub mod Starting
 mod Fine
 mod Tidy
-mod Parts
-mod Regions
+pub mod Parts
+pub mod Regions
 mod Comb
 mod Cycles
 mod Ways
 mod Coming
 mod Memories
+mod Committed
 mod Narrow
 mod Signals
 mod Sample

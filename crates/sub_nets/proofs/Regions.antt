@@ -78,35 +78,35 @@ many_updates [] f = absurd (f refl)
 many_updates (p ∷ ps) f = refl
 
 module _ (d : Flat) where
-  abbrev T : Table
+  abbrev pub T : Table
   T = table_of d
 
-  abbrev ups : List Stm
+  abbrev pub ups : List Stm
   ups = bodies (blocks is_rise d.procs)
 
-  abbrev fallers : List Proc
+  abbrev pub fallers : List Proc
   fallers = blocks is_fall d.procs
 
-  abbrev inits : List Stm
+  abbrev pub inits : List Stm
   inits = bodies (blocks is_init d.procs)
 
-  abbrev from : ℕ
+  abbrev pub from : ℕ
   from = length (updates fallers 0 0)
 
-  abbrev up : List Node
+  abbrev pub up : List Node
   up = wave_nodes from 1 ups rising
 
-  abbrev down : List Node
+  abbrev pub down : List Node
   down = fall_nodes (from + length up) fallers
 
-  abbrev first : List Node
+  abbrev pub first : List Node
   first = wave_nodes (zero_low d) 0 inits still
 
   -- the waves stand one behind the other
-  stand : HasFrom T.nodes from up × HasFrom T.nodes (from + length up) down × HasFrom T.nodes (zero_low d) first
+  pub stand : HasFrom T.nodes from up × HasFrom T.nodes (from + length up) down × HasFrom T.nodes (zero_low d) first
   stand = three (updates fallers T.rise.first T.fall.first) up down first from (updates_many fallers T.rise.first T.fall.first)
 
-  all_many : length T.nodes ≡ zero_low d + length first
+  pub all_many : length T.nodes ≡ zero_low d + length first
   all_many =
       let a = length-append (updates fallers T.rise.first T.fall.first) (up ++ (down ++ first)) in
       let b = length-append up (down ++ first) in

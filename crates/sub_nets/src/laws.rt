@@ -141,6 +141,12 @@ pub fn memories_hold_the_committed_words()
         Comes o (table_of o.flat) nets c i → i.node < zero_low o.flat → MemoriesHold o.flat i }
 {}
 
+/// An update is next only where the wave that ended has just committed all values.
+pub fn an_update_begins_on_committed_values()
+    ensures { (o : Origin) (nets : State → List (List ℕ)) (c : ℕ) (i : Stage) → Comes o (table_of o.flat) nets c i → (to : ℕ) →
+        slice_get (table_of o.flat).nodes i.node ≡ Some (Apply to) → i.committed ≡ i.state.values }
+{}
+
 /// The small design that meets the rules of settling meets the other premises too.
 pub fn a_backward_design_writes_no_nets()
     ensures nets { WritesNoNets backwards }

@@ -16,6 +16,7 @@ use Rattle.sub_nets.specs.Nets.{zero_low}
 use Rattle.ten_form.specs.Banks.{IsFor}
 use Rattle.ten_form.specs.Nets.{nets_of, IsTidy}
 use Rattle.ten_form.specs.Registers.{state_register, ticks_register}
+use Rattle.ten_image.specs.Delays.{IsDue}
 use Rattle.ten_image.specs.States.{slots_in, IsStateOf, AreStates, StandsAt}
 use Rattle.ten_core.specs.Runs.{IsAt, IsTame}
 use Rattle.ten_core.specs.Tenants.{TenantData, states_of}
@@ -143,7 +144,7 @@ module _ (o : Origin) (order : List ℕ) (t : TenantData) (c : ℕ) (here : Stag
   abbrev pub OneCycle : Type 0
   OneCycle =
       (x : Node) → slice_get nodes here.node ≡ Some x → is_trap (Some x) ≡ false →
-      IsTidy o.flat o.files order (nat_le (zero_low o.flat) here.node) here.state here.committed → here.state.finished ≡ false →
+      IsTidy o.flat o.files order (nat_le (zero_low o.flat) here.node) here.state here.committed → IsDue o.flat x here → here.state.finished ≡ false →
       next.state.ticks < 2 ^ 32 → Stands (table_cycled (record { state = state_register; states = states_of t.image }) t.bank) next
 
   module _ (tame : IsTame o order) (w : t.waits ≡ false) (f : t.finished ≡ false) where
@@ -162,7 +163,7 @@ module _ (o : Origin) (order : List ℕ) (t : TenantData) (c : ℕ) (here : Stag
     next-stands law room =
         elim (number o.flat order at.image.slots nodes (states_of t.image) here.node at.image.states) [
           | inl h ↦ subst (λ r. Stands (table_cycled (record { state = r; states = states_of t.image }) t.bank) next) (sym at.image.register)
-              (law h.node h.is (sym (ap is_trap h.is) ∙ no-trap w) (tame.tidy c here at.comes alive) alive (few-next room))
+              (law h.node h.is (sym (ap is_trap h.is) ∙ no-trap w) (tame.tidy c here at.comes alive) (tame.due c here h.node at.comes h.is) alive (few-next room))
           | inr h ↦ subst (λ (i : Stage). Stands (table_cycled table t.bank) i)
               (sym (ap (λ x. cycled o.flat o.files (nets_of o.flat o.files order) x here) h.node))
               (subst (λ s. Stands (state_cycled s t.bank) here) (sym (present-here ∙ h.state)) at.stands)

@@ -9,12 +9,13 @@ use Rattle.vl_design.specs.Width.{names_of}
 use Rattle.cell_paths.specs.Envs.{HasOneWord}
 use Rattle.sub_nodes.specs.Code.{table_of}
 use Rattle.sub_nodes.specs.Cycles.{Stage, committed_in, cycle, served}
-use Rattle.sub_nodes.specs.Nodes.{Segment, WayOn, Run, Trap}
+use Rattle.sub_nodes.specs.Nodes.{Segment, WayOn, Node, Run, Trap}
 use Rattle.sub_nodes.specs.Stands.{Comes, at_trap}
 use Rattle.sub_nets.specs.Nets.{zero_low}
 use Rattle.ten_files.specs.Tables.{open_files, IsTableOf}
 use Rattle.ten_form.specs.Nets.{nets_of, IsTidy}
 use Rattle.ten_calls.specs.Works.{IsVariableRead, HaveBytes}
+use Rattle.ten_image.specs.Delays.{IsDue}
 use Rattle.ten_image.specs.States.{StandsAt}
 use Rattle.ten_core.specs.Tenants.{TenantData, states_of, IsImage}
 
@@ -53,6 +54,7 @@ pub record IsTame (o : Origin) (order : List ℕ) : Type 0 where
       IsSoundTask (names_of o.flat) task × IsVariableRead o.flat task
   pub tidy : (c : ℕ) (i : Stage) → Comes o (table_of o.flat) (nets_of o.flat o.files order) c i → i.state.finished ≡ false →
       IsTidy o.flat o.files order (nat_le (zero_low o.flat) i.node) i.state i.committed
+  pub due : (c : ℕ) (i : Stage) (x : Node) → Comes o (table_of o.flat) (nets_of o.flat o.files order) c i → slice_get (table_of o.flat).nodes i.node ≡ Some x → IsDue o.flat x i
 
 -- the tenant is somewhere in a run of such a design
 pub record Runs (t : TenantData) : Type 0 where

@@ -1,4 +1,5 @@
 pub mod Plain
 pub mod Parts
 pub mod Nodes
+pub mod Delaying
 pub mod Runs

@@ -1,12 +1,12 @@
 -- Runs of a tenant's design are tame.
-use Rattle.std.proofs.Common.{◌≡◌, ℕ, false, List, Some, subst}
+use Rattle.std.proofs.Common.{◌≡◌, ℕ, false, List, Some, ◌∙◌, ap, subst}
 use Rattle.std.specs.Prelude.{nat_le, slice_get}
 use Rattle.std.proofs.lemmas.List.Elements.{All-weaker}
 use Rattle.std.proofs.lemmas.Option.{slice_get_within, get_or_from_slice_get}
 use Rattle.vl_design.specs.Alone.{Origin}
 use Rattle.vl_design.specs.Laws.{can_act}
 use Rattle.vl_design.specs.Queue.{proc_at}
-use Rattle.sub_nodes.specs.Nodes.{Node, Run, Trap}
+use Rattle.sub_nodes.specs.Nodes.{Node, Run, Trap, Apply}
 use Rattle.sub_nodes.specs.Code.{table_of}
 use Rattle.sub_nodes.specs.Cycles.{Stage}
 use Rattle.sub_nodes.specs.Stands.{Comes}
@@ -14,8 +14,10 @@ use Rattle.sub_nets.specs.Memories.{SetsNoMemories, memory_at}
 use Rattle.sub_nets.specs.Nets.{zero_low}
 use Rattle.ten_calls.specs.Works.{HaveBytes}
 use Rattle.ten_form.specs.Nets.{nets_of, IsTidy}
+use Rattle.ten_image.specs.Delays.{IsDue}
 use Rattle.ten_core.specs.Runs.{IsTame}
 use Rattle.ten_design.specs.Designs.{IsTenantDesign}
+use Rattle.ten_design.proofs.Delaying.{delayed-alone}
 use Rattle.ten_design.proofs.Plain.{sets_none}
 use Rattle.ten_design.proofs.Parts.{Meets, IsPart, nodes_meet}
 
@@ -33,11 +35,18 @@ module _ (o : Origin) (order : List ℕ) (is : IsTenantDesign o.flat order) wher
   Tidies = (c : ℕ) (i : Stage) → Comes o (table_of o.flat) (nets_of o.flat o.files order) c i → i.state.finished ≡ false →
       IsTidy o.flat o.files order (nat_le (zero_low o.flat) i.node) i.state i.committed
 
-  pub tame : HaveBytes o.files → Tidies → IsTame o order
-  tame bytes tidy = record {
+  abbrev pub Commits : Type 0
+  Commits = (c : ℕ) (i : Stage) → Comes o (table_of o.flat) (nets_of o.flat o.files order) c i → (to : ℕ) → slice_get (table_of o.flat).nodes i.node ≡ Some (Apply to) → i.committed ≡ i.state.values
+
+  due-at : Commits → (c : ℕ) (i : Stage) (x : Node) → Comes o (table_of o.flat) (nets_of o.flat o.files order) c i → slice_get (table_of o.flat).nodes i.node ≡ Some x → IsDue o.flat x i
+  due-at commits c i x comes e = record { later = delayed-alone o (nets_of o.flat o.files order) c i comes; committed = λ to same. commits c i comes to (e ∙ ap Some same) }
+
+  pub tame : HaveBytes o.files → Tidies → Commits → IsTame o order
+  tame bytes tidy commits = record {
     one_word = is.words;
     bytes = bytes;
     quiet = λ n g on e. All-weaker (λ a. Meets o.flat a × (can_act a ≡ false)) (λ a. can_act a ≡ false) (λ a h. h.1) g.statements (node-at n (Run g on) e).0;
     calls = λ n task to e. node-at n (Trap task to) e;
     tidy = tidy;
+    due = due-at commits;
   }

@@ -14,6 +14,7 @@ ghost use Rattle.ten_image.specs.Paired.{CallsStandApart};
 ghost use Rattle.ten_core.specs.Runs.{IsTame};
 ghost use Rattle.ten_design.specs.Designs.{IsTenantDesign};
 
+use sub_nets::laws::an_update_begins_on_committed_values;
 use ten_core::laws::each_stage_is_tidy;
 
 /// Such a design is one whose nodes are compiled.
@@ -37,4 +38,5 @@ pub fn runs_of_a_tenants_design_are_tame()
     ensures { (o : Origin) (order : List ℕ) → IsTenantDesign o.flat order → HaveBytes o.files → o.resume ≡ None → IsTame o order }
 {
     each_stage_is_tidy();
+    an_update_begins_on_committed_values();
 }

@@ -24,6 +24,7 @@ use Rattle.ten_form.specs.Banks.{IsFor}
 use Rattle.ten_form.specs.Nets.{nets_of, IsTidy}
 use Rattle.ten_form.specs.Registers.{state_register}
 use Rattle.ten_calls.specs.Asked.{asked}
+use Rattle.ten_image.specs.Delays.{IsDue}
 use Rattle.ten_image.specs.Paired.{leads, GoesTo, CallsStandApart}
 use Rattle.ten_image.specs.States.{slots_in, behind, MayCycle, Does, LeadsToCall, IsStateOf, AreStates, StandsAt}
 
@@ -105,10 +106,10 @@ module _ (d : Flat) (order : List ℕ) (files : List File) where
   for-fewer n m z le f = record { regs = f.regs; mems = f.mems; slots = (let h = f.slots in omega (arith, le, h)) }
 
   pub cycled-stands : (from slots : ℕ) (nodes : List Node) (states : List StateData) (b : BankData) (i : Stage) (x : Node) → AreStates d order from slots nodes states → CallsStandApart nodes →
-      StandsAt d order files slots nodes states b i → slice_get nodes i.node ≡ Some x → is_trap (Some x) ≡ false → IsTidy d files order (nat_le from i.node) i.state i.committed → i.state.finished ≡ false →
+      StandsAt d order files slots nodes states b i → slice_get nodes i.node ≡ Some x → is_trap (Some x) ≡ false → IsTidy d files order (nat_le from i.node) i.state i.committed → IsDue d x i → i.state.finished ≡ false →
       (cycle d files (nets_of d files order) nodes i).state.ticks < 2 ^ 32 →
       StandsAt d order files slots nodes states (table_cycled (record { state = state_register; states = states }) b) (cycle d files (nets_of d files order) nodes i)
-  cycled-stands from slots nodes states b i x all apart st is free tidy alive few =
+  cycled-stands from slots nodes states b i x all apart st is free tidy due alive few =
       elim ((slice_get_cases states i.node).1) [
         | inl h ↦ subst (λ o. StandsAt d order files slots nodes states (state_cycled o b) (cycle d files (nets_of d files order) nodes i)) (sym (ap (slice_get states) st.stage.node ∙ h.2)) (stands h.0 h.2)
         | inr h ↦ (let lt = slice_get_within nodes i.node x is in let many = all.many in let past = h.0 in absurd (omega (arith, lt, many, past)))
@@ -122,7 +123,7 @@ module _ (d : Flat) (order : List ℕ) (files : List File) where
           let does = does-of (nat_le from i.node) slots nodes states x s free of in
           let fits = all.fits i.node s e in
           let shape = for-fewer (slots_in s.cells) slots (shape_of b) fits st.shape in
-          let may : MayCycle d order files (nat_le from i.node) x (slots_in s.cells) b i = record { shape = shape; tidy = tidy; alive = alive; few = subst (λ (k : Stage). k.state.ticks < 2 ^ 32) same few; holds = st.stage.holds } in
+          let may : MayCycle d order files (nat_le from i.node) x (slots_in s.cells) b i = record { shape = shape; tidy = tidy; due = due; alive = alive; few = subst (λ (k : Stage). k.state.ticks < 2 ^ 32) same few; holds = st.stage.holds } in
           subst (StandsAt d order files slots nodes states (cells.cycled s.cells b)) (sym same) (record {
             shape = for-bank slots b (cells.cycled s.cells b) (same-shape s.cells b (does.does.runs (shape_of b) shape)) st.shape;
             stage = does.does.does files b i may;

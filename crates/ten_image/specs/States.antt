@@ -15,6 +15,7 @@ use Rattle.ten_form.specs.Nets.{nets_of, IsTidy}
 use Rattle.ten_form.specs.Banks.{IsFor, HoldsState}
 use Rattle.ten_calls.specs.Asked.{asked}
 use Rattle.ten_calls.specs.Traps.{IsTrapOf}
+use Rattle.ten_image.specs.Delays.{IsDue}
 
 -- so many slots are there up to the end of a list
 abbrev pub slots_in : ListData → ℕ
@@ -35,6 +36,7 @@ module _ (d : Flat) (order : List ℕ) where
   pub record MayCycle (files : List File) (early : Bool) (x : Node) (slots : ℕ) (b : BankData) (i : Stage) : Type 0 where
     pub shape : IsFor d slots (shape_of b)
     pub tidy : IsTidy d files order early i.state i.committed
+    pub due : IsDue d x i
     pub alive : i.state.finished ≡ false
     pub few : (behind files x i).state.ticks < 2 ^ 32
     pub holds : HoldsState d b i.state i.committed

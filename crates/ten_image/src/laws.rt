@@ -9,6 +9,7 @@ ghost use Rattle.sub_nodes.specs.Nodes.{Node};
 ghost use Rattle.sub_nodes.specs.Cycles.{Stage, cycle, is_trap};
 ghost use Rattle.ten_form.specs.Nets.{nets_of, IsTidy};
 ghost use Rattle.ten_form.specs.Registers.{state_register};
+ghost use Rattle.ten_image.specs.Delays.{IsDue};
 ghost use Rattle.ten_image.specs.States.{AreStates, StandsAt};
 ghost use Rattle.ten_image.specs.Paired.{CallsStandApart};
 
@@ -17,6 +18,6 @@ ghost use Rattle.ten_image.specs.Paired.{CallsStandApart};
 pub fn a_cycle_of_states_is_one_of_nodes()
     ensures { (d : Flat) (order : List ℕ) (files : List File) (from slots : ℕ) (nodes : List Node) (states : List StateData) (b : BankData) (i : Stage) (x : Node) →
         AreStates d order from slots nodes states → CallsStandApart nodes → StandsAt d order files slots nodes states b i → slice_get nodes i.node ≡ Some x → is_trap (Some x) ≡ false →
-        IsTidy d files order (nat_le from i.node) i.state i.committed → i.state.finished ≡ false → (cycle d files (nets_of d files order) nodes i).state.ticks < 2 ^ 32 →
+        IsTidy d files order (nat_le from i.node) i.state i.committed → IsDue d x i → i.state.finished ≡ false → (cycle d files (nets_of d files order) nodes i).state.ticks < 2 ^ 32 →
         StandsAt d order files slots nodes states (table_cycled (record { state = state_register; states = states }) b) (cycle d files (nets_of d files order) nodes i) }
 {}

@@ -1,4 +1,4 @@
-use Rattle.std.proofs.Common.{◌≡◌, ℕ, ◌+◌, ◌*◌, List, [], Option, refl, length, map, sym, ap, arith, subst}
+use Rattle.std.proofs.Common.{◌≡◌, ℕ, ◌+◌, ◌*◌, Bool, List, [], Option, refl, length, map, sym, ap, arith, subst}
 use Rattle.std.specs.Prelude.{slice_get, Some}
 use Rattle.std.proofs.lemmas.List.{length-map}
 use Rattle.std.proofs.lemmas.Result.{on_ok_weaker}
@@ -11,7 +11,8 @@ use Rattle.cell_steps.proofs.Frames.{longer-grows}
 use Rattle.cell_paths.specs.Envs.{env_of}
 use Rattle.cell_later.specs.Pendings.{slots_of}
 use Rattle.cell_reads.proofs.Reading.{row-at}
-use Rattle.cell_waves.specs.Copies.{each_one, Sets}
+use Rattle.cell_waves.specs.Applies.{HasUpdateIf}
+use Rattle.cell_waves.specs.Copies.{marked_one, Sets}
 use Rattle.cell_waves.proofs.Updating.{Updated, updated-more, updatable, updatable-stays, applies}
 use Rattle.cell_waves.proofs.update.applied.Goals as goal
 
@@ -19,8 +20,8 @@ use Rattle.cell_waves.proofs.update.applied.Goals as goal
 row-of-design : (xs signals : List Signal) (n : ℕ) (x : Signal) → signals ≡ xs → slice_get (map row_of signals) n ≡ Some (row_of x) → slice_get (map row_of xs) n ≡ Some (row_of x)
 row-of-design xs signals n x e is = subst (λ ys. slice_get (map row_of ys) n ≡ Some (row_of x)) e is
 
-pub updated-requires-clause-entries : goal.updated-requires-clause-entries
-updated-requires-clause-entries c =
+pub updated_if-requires-clause-entries : goal.updated_if-requires-clause-entries
+updated_if-requires-clause-entries c =
     let d = flat_of c.args.design.now in
     let at = env_of c.args.begun.now.at in
     let p = slots_of c.args.begun.now.pending in
@@ -42,16 +43,18 @@ loop-number-preserved c =
     let x = c.index-signals-number.result in
     let old = list_of c.args.cells.now in
     let mid = list_of c.loop-number.cells in
-    let new = list_of c.updated.new.cells in
+    let new = list_of c.updated_if.new.cells in
+    let marks = marked_one c.args.delayed.now in
     let is = row-of-design c.args.design.now.signals signals n x c.as_slice-signals.ensures (row-at signals n x c.loop-number-test.true c.index-signals-number.is) in
-    let F : List (Option ℕ) → Type 0 = λ es. Updated d.rows at.slots p (n + 1) old new es in
+    let F : List (Option ℕ) → Type 0 = λ es. Updated d.rows marks at.slots p (n + 1) old new es in
     subst F (sym c.in_ok-push.ensures.items)
-    (updated-more d.rows at.slots p n old mid new c.loop-number.values.items (row_of x) c.in_ok-slot.slot is (updatable d old at p c.requires.first c.requires.fits c.requires.pending n (row_of x) is) c.loop-number.invariant
-    c.in_ok-slot.ensures.longer c.in_ok-slot.ensures.updates)
+    (updated-more d.rows marks at.slots p n old mid new c.loop-number.values.items (row_of x) c.in_ok-slot.slot is (updatable d old at p c.requires.first c.requires.fits c.requires.pending n (row_of x) is) c.loop-number.invariant
+    c.in_ok-slot.ensures.longer (subst (λ t. HasUpdateIf t (row_of x) n at.slots p mid new c.in_ok-slot.slot) c.is_marked-marked.ensures c.in_ok-slot.ensures.updates))
 
-sets-of : (xs signals : List Signal) (copy : ℕ) (es fs : List (Option ℕ)) (here : ℕ) (s0 s1 : List Write) → signals ≡ xs → fs ≡ es → Sets (map row_of signals) copy each_one fs here s0 s1 → Sets (map row_of xs) copy each_one es here s0 s1
-sets-of xs signals copy es fs here s0 s1 e f h =
-    subst (λ gs. Sets (map row_of xs) copy each_one gs here s0 s1) f (subst (λ ys. Sets (map row_of ys) copy each_one fs here s0 s1) e h)
+sets-of : (xs signals : List Signal) (copy : ℕ) (marks : List Bool) (es fs : List (Option ℕ)) (here : ℕ) (s0 s1 : List Write) → signals ≡ xs → fs ≡ es → Sets (map row_of signals) copy (marked_one marks) fs here s0 s1 →
+    Sets (map row_of xs) copy (marked_one marks) es here s0 s1
+sets-of xs signals copy marks es fs here s0 s1 e f h =
+    subst (λ gs. Sets (map row_of xs) copy (marked_one marks) gs here s0 s1) f (subst (λ ys. Sets (map row_of ys) copy (marked_one marks) fs here s0 s1) e h)
 
 pub returns-clause-applies : goal.returns-clause-applies
 returns-clause-applies c =
@@ -66,16 +69,17 @@ returns-clause-applies c =
     let old = list_of c.args.cells.now in
     let new = list_of c.loop-number.cells in
     let s0 = c.args.sets.now.items in
-    let s1 = c.write_all.new.sets.items in
-    let s2 = c.write_all-2.new.sets.items in
-    let s3 = c.write_all-3.new.sets.items in
+    let s1 = c.write_marked.new.sets.items in
+    let s2 = c.write_marked-2.new.sets.items in
+    let s3 = c.write_marked-3.new.sets.items in
+    let marks = c.args.delayed.now in
     let long = length-map xs row_of in
     let over = c.loop-number-test.false in
     let least = c.loop-number.auto.number-end in
     let size = ap (λ (ys : List Signal). length ys) same in
     let many : length d.rows ≡ n = omega (arith, long, over, least, size) in
-    on_ok_weaker c.write_all-3.result
-    (λ h. applies d at p old new n es s0 s1 s2 s3 c.requires.first c.requires.fits many c.loop-number.invariant
-    (sets-of xs signals 3 es c.as_slice.result.now at.here s0 s1 same c.as_slice.ensures.value c.in_ok-write_all.ensures)
-    (sets-of xs signals 4 es c.as_slice-2.result.now at.here s1 s2 same c.as_slice-2.ensures.value c.in_ok-write_all-2.ensures) (sets-of xs signals 6 [] [] at.here s2 s3 same refl h))
-    c.write_all-3.ensures
+    on_ok_weaker c.write_marked-3.result
+    (λ h. applies d (marked_one marks) at p old new n es s0 s1 s2 s3 c.requires.first c.requires.fits many c.loop-number.invariant
+    (sets-of xs signals 3 marks es c.as_slice.result.now at.here s0 s1 same c.as_slice.ensures.value c.in_ok-write_marked.ensures)
+    (sets-of xs signals 4 marks es c.as_slice-2.result.now at.here s1 s2 same c.as_slice-2.ensures.value c.in_ok-write_marked-2.ensures) (sets-of xs signals 6 marks [] [] at.here s2 s3 same refl h))
+    c.write_marked-3.ensures

@@ -1,6 +1,9 @@
 pub mod Adding
+pub mod Addressing
 pub mod Calling
+pub mod Choosing
 pub mod Compiling
+pub mod Delaying
 pub mod Giving
 pub mod Holding
 pub mod Labelling
@@ -15,9 +18,9 @@ pub mod Setting
 pub mod Sizes
 pub mod Spotting
 pub mod Starting
+pub mod Storing
 pub mod Trying
 pub mod Waiting
 pub mod Walking
 pub mod Wording
 pub mod Words
-pub mod Delaying

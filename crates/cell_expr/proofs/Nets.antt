@@ -1,5 +1,5 @@
 -- Statements of combinational processes and functions, part by part.
-use Rattle.std.proofs.Common.{◌≡◌, ◌<◌, ℕ, Bool, true, false, List, refl, ap, ◌∙◌, arith}
+use Rattle.std.proofs.Common.{◌≡◌, ◌<◌, ℕ, Bool, true, false, List, [], refl, ap, ◌∙◌, arith}
 use Rattle.std.proofs.lemmas.Bool.{ltb-true}
 use Rattle.std.specs.Prelude.{nat_lt}
 use Rattle.vl_base.specs.declared.bits.UnOp.TheVariants.{LogNot}
@@ -15,11 +15,12 @@ use Rattle.vl_design.specs.Plainly as plain
 use Rattle.vl_design.specs.Plainly.{called_first}
 use Rattle.vl_design.specs.Reads.{stm_writes, items_write, target_writes, targets_write}
 use Rattle.vl_design.specs.Seen as seen
-use Rattle.vl_design.specs.Syntax.{Target, Whole, WordAt, PickAt, SliceAt, Several, Targets, NoTargets, MoreTargets, Stm, Nop, Then, If, Case, For, Repeat, Set, Later, Sys, Items, NoItems, Labelled, Default}
+use Rattle.vl_design.specs.Syntax.{Exp, Target, Whole, WordAt, PickAt, SliceAt, Several, Targets, NoTargets, MoreTargets, Stm, Nop, Then, If, Case, For, Repeat, Set, Later, Sys, Items, NoItems, Labelled, Default}
 use Rattle.vl_design.specs.Trees.{exp_of, stm_of, target_of}
 use Rattle.vl_run.proofs.Statements.{if-of, set-of, later-of, for-of, repeat-of, task-of}
 use Rattle.vl_paths.specs.Nets.{AreNetItems, IsPlain, ArePlain, IsBase}
-use Rattle.cell_expr.specs.Bodies.{IsNet, IsSegment, AreSegmentItems}
+use Rattle.cell_expr.specs.Bodies.{IsNet, IsSegment, AreSegmentItems, IsAny, assignment}
+use Rattle.cell_expr.specs.Stored.{target_stored, targets_stored}
 
 -- ---- statements with nonblocking assignments, and those without
 
@@ -144,45 +145,68 @@ none-below k = of (nat_lt k 0) refl
     of false e = e
 
 mutual
-  pub plain-apart : (t : Target) → IsPlain (λ k. false) t → target_writes (λ k. nat_lt k 0) t ≡ false
-  plain-apart (Whole k) h = none-below k
-  plain-apart (WordAt m a) h = absurd h
-  plain-apart (PickAt base i from w) h = base-apart base h
-  plain-apart (SliceAt base low w) h = base-apart base h
-  plain-apart (Several ts) h = plains-apart ts h
+  pub target-apart : (t : Target) → target_writes (λ k. nat_lt k 0) t ≡ false
+  target-apart (Whole k) = none-below k
+  target-apart (WordAt m a) = none-below m
+  target-apart (PickAt base i from w) = target-apart base
+  target-apart (SliceAt base low w) = target-apart base
+  target-apart (Several ts) = targets-apart ts
 
-  plains-apart : (ts : Targets) → ArePlain (λ k. false) ts → targets_write (λ k. nat_lt k 0) ts ≡ false
-  plains-apart NoTargets h = refl
-  plains-apart (MoreTargets t ts) h = rw (plain-apart t h.0, plains-apart ts h.1) refl
-
-  base-apart : (t : Target) → IsBase (λ k. false) t → target_writes (λ k. nat_lt k 0) t ≡ false
-  base-apart (Whole k) h = none-below k
-  base-apart (WordAt m a) h = absurd h
-  base-apart (PickAt base i from w) h = absurd h
-  base-apart (SliceAt base low w) h = absurd h
-  base-apart (Several ts) h = absurd h
+  targets-apart : (ts : Targets) → targets_write (λ k. nat_lt k 0) ts ≡ false
+  targets-apart NoTargets = refl
+  targets-apart (MoreTargets t ts) = rw (target-apart t, targets-apart ts) refl
 
 mutual
-  pub segment-apart : (a : Stm) → IsSegment (IsPlain (λ k. false)) a → stm_writes (λ k. nat_lt k 0) a ≡ false
-  segment-apart Nop h = refl
-  segment-apart (Then a b) h = rw (segment-apart a h.0, segment-apart b h.1) refl
-  segment-apart (If t a b) h = rw (segment-apart a h.0, segment-apart b h.1) refl
-  segment-apart (Case e items) h = items-apart items h
-  segment-apart (Set t e) h = plain-apart t h
-  segment-apart (Later t e) h = plain-apart t h
-  segment-apart (For k start test step a) h = absurd h
-  segment-apart (Repeat n a) h = absurd h
-  segment-apart (Sys task) h = absurd h
+  pub segment-apart : (P : Target → Type 0) (a : Stm) → IsSegment P a → stm_writes (λ k. nat_lt k 0) a ≡ false
+  segment-apart P Nop h = refl
+  segment-apart P (Then a b) h = rw (segment-apart P a h.0, segment-apart P b h.1) refl
+  segment-apart P (If t a b) h = rw (segment-apart P a h.0, segment-apart P b h.1) refl
+  segment-apart P (Case e items) h = items-apart P items h
+  segment-apart P (Set t e) h = target-apart t
+  segment-apart P (Later t e) h = target-apart t
+  segment-apart P (For k start test step a) h = absurd h
+  segment-apart P (Repeat n a) h = absurd h
+  segment-apart P (Sys task) h = absurd h
 
-  items-apart : (items : Items) → AreSegmentItems (IsPlain (λ k. false)) items → items_write (λ k. nat_lt k 0) items ≡ false
-  items-apart NoItems h = refl
-  items-apart (Labelled es a others) h = rw (segment-apart a h.0, items-apart others h.1) refl
-  items-apart (Default a others) h = rw (segment-apart a h.0, items-apart others h.1) refl
+  items-apart : (P : Target → Type 0) (items : Items) → AreSegmentItems P items → items_write (λ k. nat_lt k 0) items ≡ false
+  items-apart P NoItems h = refl
+  items-apart P (Labelled es a others) h = rw (segment-apart P a h.0, items-apart P others h.1) refl
+  items-apart P (Default a others) h = rw (segment-apart P a h.0, items-apart P others h.1) refl
+
+-- ---- nonblocking assignments to any target
+
+pub segment-any : (P : Target → Type 0) (a : Stm) → IsSegment P a → IsSegment IsAny a
+segment-any P a h = segment-weaker P IsAny (λ t k. tt) a h
+
+pub plain-any : (later : Bool) (t : Target) (e : Exp) → IsPlain (λ k. false) t → IsSegment IsAny (assignment later t e)
+plain-any true t e h = tt
+plain-any false t e h = h
+
+-- ---- what is of signals is of no memory
+
+base-stored : (t : Target) → IsBase (λ k. false) t → target_stored t ≡ []
+base-stored (Whole k) h = refl
+base-stored (WordAt m a) h = absurd h
+base-stored (PickAt base i from w) h = absurd h
+base-stored (SliceAt base low w) h = absurd h
+base-stored (Several ts) h = absurd h
+
+mutual
+  pub plain-stored : (t : Target) → IsPlain (λ k. false) t → target_stored t ≡ []
+  plain-stored (Whole k) h = refl
+  plain-stored (WordAt m a) h = absurd h
+  plain-stored (PickAt base i from w) h = base-stored base h
+  plain-stored (SliceAt base low w) h = base-stored base h
+  plain-stored (Several ts) h = plains-stored ts h
+
+  plains-stored : (ts : Targets) → ArePlain (λ k. false) ts → targets_stored ts ≡ []
+  plains-stored NoTargets h = refl
+  plains-stored (MoreTargets t ts) h = rw (plain-stored t h.0, plains-stored ts h.1) refl
 
 -- ---- without nonblocking assignments
 
 pub net-path : (path other : List ℕ) (x : Stmt) → IsNet (stm_of path x) → stm_of path x ≡ stm_of other x
-net-path path other x n = any-path (IsPlain (λ k. false)) path other x (net-segment (IsPlain (λ k. false)) (stm_of path x) n)
+net-path path other x n = any-path IsAny path other x (net-segment IsAny (stm_of path x) n)
 
 pub net-apart : (a : Stm) → IsNet a → stm_writes (λ k. nat_lt k 0) a ≡ false
-net-apart a n = segment-apart a (net-segment (IsPlain (λ k. false)) a n)
+net-apart a n = segment-apart IsAny a (net-segment IsAny a n)

@@ -21,11 +21,12 @@ use Rattle.cell_later.specs.Delays.{Delays, Leaves}
 use Rattle.cell_later.proofs.Leaving.{does-later, leaves-later}
 use Rattle.cell_expr.specs.declared.spot.Spot.{Spot}
 use Rattle.cell_expr.specs.Compiled.{Compiles}
-use Rattle.cell_expr.specs.Spots.{IsSpot, spot_in, bits_of, cells_of, Spotted, Assigned}
+use Rattle.cell_expr.specs.Spots.{memory_at, IsSpot, spot_in, bits_of, cells_of, stored_by, Spotted, Assigned}
+use Rattle.cell_expr.specs.Stored.{target_stored}
 use Rattle.cell_expr.specs.Counts.{parts_count}
 use Rattle.vl_design.specs.Sound.{IsSoundExp, IsSoundTarget}
 use Rattle.vl_eval.proofs.Widths.{form-width}
-use Rattle.cell_expr.proofs.Adding.{spotted-sound, spotted-bits, spotted-cells, assigned-narrow, assigned-wide}
+use Rattle.cell_expr.proofs.Adding.{spotted-sound, spotted-bits, spotted-cells, spotted-words, assigned-narrow, assigned-wide}
 use Rattle.cell_expr.proofs.Spotting.{spots-stay, are-spots-stay, target-width}
 
 bits-both : (xs ys : List Spot) → bits_of (xs ++ ys) ≡ bits_of xs + bits_of ys
@@ -36,9 +37,13 @@ cells-both : (xs ys : List Spot) → cells_of (xs ++ ys) ≡ cells_of xs + cells
 cells-both [] ys = omega arith
 cells-both (x ∷ xs) ys = let e = cells-both xs ys in omega (arith, e)
 
+stored-both : (xs ys : List Spot) → stored_by (xs ++ ys) ≡ stored_by xs ++ stored_by ys
+stored-both [] ys = refl
+stored-both (x ∷ xs) ys = ap (λ z. memory_at x.signal x.word ++ z) (stored-both xs ys) ∙ sym (append_assoc (memory_at x.signal x.word) (stored_by xs) (stored_by ys))
+
 -- ---- spots of a target after those of others
 
-pub spotted-none : (names : Names) (at : Env) (l : ListData) (before : List Spot) → Spotted names 0 at l l before before 0 0 (λ x. [])
+pub spotted-none : (names : Names) (at : Env) (l : ListData) (before : List Spot) → Spotted names 0 at l l before before 0 0 [] (λ x. [])
 spotted-none names at l before = record {
   longer = longer-same (HasMemories names at) l;
   more = [];
@@ -47,11 +52,12 @@ spotted-none names at l before = record {
   value = λ s b x sound st. refl;
   wide = refl;
   many = refl;
+  words = refl;
 }
 
-pub spotted-then : (names : Names) (n m : ℕ) (at : Env) (old mid new : ListData) (first before after : List Spot) (v w p q : ℕ) (f g : Sample → List t.Spot) → Fits names old at →
-    Spotted names n at old mid first before v p f → Spotted names m at mid new before after w q g → Spotted names (n + m) at old new first after (v + w) (p + q) (λ x. f x ++ g x)
-spotted-then names n m at old mid new first before after v w p q f g fits a c =
+pub spotted-then : (names : Names) (n m : ℕ) (at : Env) (old mid new : ListData) (first before after : List Spot) (v w p q : ℕ) (ms ns : List ℕ) (f g : Sample → List t.Spot) → Fits names old at →
+    Spotted names n at old mid first before v p ms f → Spotted names m at mid new before after w q ns g → Spotted names (n + m) at old new first after (v + w) (p + q) (ms ++ ns) (λ x. f x ++ g x)
+spotted-then names n m at old mid new first before after v w p q ms ns f g fits a c =
     let H : Shape → Type 0 = HasMemories names at in
     let late = longer-grows H m mid new c.longer in
     let wide-a = a.wide in
@@ -68,11 +74,12 @@ spotted-then names n m at old mid new first before after v w p q f g fits a c =
       value = λ s b x sound st.
           let behind = sound-behind names at n s old mid a.longer sound in
           let st-mid = stands-stays names b old mid at x (longer-grows H n old mid a.longer) fits st in
-          map-append (spot_in b new) a.more c.more
-          ∙ ap (λ z. z ++ map (spot_in b new) c.more) (spots-stay names at.first b mid new a.more late a.sound ∙ a.value s b x sound st)
+          map-append (spot_in names.rows b new) a.more c.more
+          ∙ ap (λ z. z ++ map (spot_in names.rows b new) c.more) (spots-stay names at.first b mid new a.more late a.sound ∙ a.value s b x sound st)
           ∙ ap (λ z. f x ++ z) (c.value behind.shape b x behind.sound st-mid);
       wide = bits ∙ omega (arith, wide-a, wide-c);
       many = cells ∙ omega (arith, many-a, many-c);
+      words = stored-both a.more c.more ∙ ap (λ z. z ++ stored_by c.more) a.words ∙ ap (λ z. ms ++ z) c.words;
     }
 
 -- ---- the whole assignment
@@ -80,34 +87,36 @@ spotted-then names n m at old mid new first before after v w p q f g fits a c =
 -- a value and the spots of its target behind it
 pub are-assigned : (scope : Scope) (target : Target) (e : Exp) (n m slot : ℕ) (spots : List Spot) (at : Env) (l0 l1 l2 : ListData) → IsSoundTarget scope.names target → IsSoundExp scope.names e → Fits scope.names l0 at →
     Compiles scope.names scope n e (assigned (t.target_width scope.names target) (form scope.names e)) at l0 l1 slot →
-    Spotted scope.names m at l1 l2 [] spots (t.target_width scope.names target) (parts_count target) (λ x. t.spots scope x target) → Assigned scope (n + m) target e at l0 l2 spots slot
+    Spotted scope.names m at l1 l2 [] spots (t.target_width scope.names target) (parts_count target) (target_stored target) (λ x. t.spots scope x target) → Assigned scope (n + m) target e at l0 l2 spots slot
 are-assigned scope target e n m slot spots at l0 l1 l2 kt ke fits value-is spotted =
     let names = scope.names in
     let H : Shape → Type 0 = HasMemories names at in
     let k = parts_count target in
+    let ms = target_stored target in
     let w = t.target_width names target in
     let f = form names e in
     let g12 = longer-grows H m l1 l2 spotted.longer in
     let wide : width_at l2 slot ≡ (assigned w f).width = width-stays l1 l2 slot g12 value-is.slot.there ∙ value-is.slot.width in
-    let bits = spotted-bits names m at l1 l2 [] spots w k (λ x. t.spots scope x target) refl spotted in
+    let bits = spotted-bits names m at l1 l2 [] spots w k ms (λ x. t.spots scope x target) refl spotted in
     record {
       longer = longer-then H n m l0 l1 l2 value-is.longer spotted.longer;
-      sound = spotted-sound names m at l1 l2 [] spots w k (λ x. t.spots scope x target) refl spotted;
-      many = spotted-cells names m at l1 l2 [] spots w k (λ x. t.spots scope x target) refl spotted;
+      sound = spotted-sound names m at l1 l2 [] spots w k ms (λ x. t.spots scope x target) refl spotted;
+      many = spotted-cells names m at l1 l2 [] spots w k ms (λ x. t.spots scope x target) refl spotted;
+      words = spotted-words names m at l1 l2 [] spots w k ms (λ x. t.spots scope x target) refl spotted;
       there = in-stays l1 l2 slot g12 value-is.slot.there;
       within = rw (bits, wide) (assigned-wide w f);
       narrow = rw wide (assigned-narrow w f (target-width names target kt).narrow (form-width names e ke).narrow);
       updates = λ s b x sound st.
           let behind = sound-behind names at n s l0 l1 value-is.longer sound in
           let st1 = stands-stays names b l0 l1 at x (longer-grows H n l0 l1 value-is.longer) fits st in
-          ap (λ zs. t.updates_at (map (spot_in b l2) zs) (held b l2 slot)) spotted.are
+          ap (λ zs. t.updates_at (map (spot_in names.rows b l2) zs) (held b l2 slot)) spotted.are
           ∙ ap (λ zs. t.updates_at zs (held b l2 slot)) (spotted.value behind.shape b x behind.sound st1)
           ∙ ap (t.updates_at (t.spots scope x target)) (held-stays b l1 l2 slot g12 value-is.slot.there ∙ value-is.value s b x sound st);
     }
 
 module _ (scope : Scope) (target : Target) (e : Exp) (n slot : ℕ) (spots : List Spot) (at : Env) (l0 l1 l2 : ListData) (fits : Fits scope.names l0 at) (given : Assigned scope n target e at l0 l1 spots slot) where
   abbrev updates : BankData → List Update
-  updates b = t.updates_at (map (spot_in b l1) spots) (held b l1 slot)
+  updates b = t.updates_at (map (spot_in scope.names.rows b l1) spots) (held b l1 slot)
 
   pub set-does : (off : ℕ) (at' : Env) → IsIn l0 off → Updates scope.names (cells_of spots) updates off at at' l1 l2 → Does scope.names (n + parts_count target) (exec scope (Set target e)) off at at' l0 l2
   set-does off at' inside d =

@@ -1,5 +1,5 @@
 -- Items of cases one by one; the default is executed behind them.
-use Rattle.std.proofs.Common.{◌≡◌, ◌≢◌, ℕ, false, List, [], ◌∷◌, refl, sym, subst, nat_lt}
+use Rattle.std.proofs.Common.{◌≡◌, ◌≢◌, ℕ, false, List, [], ◌∷◌, ◌++◌, refl, sym, ap, ◌∙◌, subst, nat_lt, append_assoc}
 use Rattle.vl_design.specs.declared.design.Expr.{Expr}
 use Rattle.vl_design.specs.declared.design.Form.{Form}
 use Rattle.vl_design.specs.Acts.{default_body}
@@ -22,6 +22,7 @@ use Rattle.cell_later.proofs.Leaving.{leaves-default, leaves-labelled}
 use Rattle.cell_expr.specs.Bodies.{IsSegment, AreSegmentItems}
 use Rattle.cell_expr.specs.Counts.{labels_count, items_count, stm_count}
 use Rattle.cell_expr.specs.Items.{Item, Tried}
+use Rattle.cell_expr.specs.Stored.{stored_words, items_stored, default_stored}
 use Rattle.cell_expr.proofs.Labelling.{item-tries}
 use Rattle.cell_expr.proofs.Listing.{none-left, none-right}
 
@@ -70,6 +71,20 @@ item-apart n (p.MoreExps e es) a others h = (none-left _ _ h, none-right _ _ h)
 
 pub others-apart : (n m : ℕ) (others : Items) → m ≡ n → items_write (λ k. nat_lt k n) others ≡ false → items_write (λ k. nat_lt k m) others ≡ false
 others-apart n m others e h = subst (λ z. items_write (λ k. nat_lt k z) others ≡ false) (sym e) h
+
+-- ---- the memories whose words an item and the others write
+
+pub stored-default : (es : List Expr) (a : Stm) (others : Items) (ms : List ℕ) → es ≡ [] → ms ++ items_stored others ≡ ms ++ items_stored (plain.item (seen.exps_of es) a others)
+stored-default es a others ms e = ap (λ zs. ms ++ items_stored (plain.item (seen.exps_of zs) a others)) (sym e)
+
+pub stored-item : (es : List Expr) (a : Stm) (others : Items) (ms ns : List ℕ) → es ≢ [] → ns ≡ ms ++ stored_words a → ns ++ items_stored others ≡ ms ++ items_stored (plain.item (seen.exps_of es) a others)
+stored-item [] a others ms ns some e = absurd (some refl)
+stored-item (x ∷ xs) a others ms ns some e = ap (λ z. z ++ items_stored others) e ∙ append_assoc ms (stored_words a) (items_stored others)
+
+pub default-words : (items : Items) → stored_words (default_body items) ≡ default_stored items
+default-words NoItems = refl
+default-words (Labelled es a others) = default-words others
+default-words (Default a others) = refl
 
 -- ---- the default
 

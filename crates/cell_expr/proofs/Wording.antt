@@ -21,15 +21,13 @@ use Rattle.cell_steps.specs.Slots.{held, width_at, Gives}
 use Rattle.cell_paths.specs.Envs.{Env, entry, word_or, IsThere, Fits, Stands}
 use Rattle.cell_expr.specs.Compiled.{Compiles}
 use Rattle.cell_expr.specs.Words.{word_read, lowest_of, lowest_in}
+use Rattle.cell_expr.proofs.Choosing.{halves}
 use Rattle.cell_expr.proofs.Holding.{holds-node}
 
 past : (xs : List ℕ) (i : ℕ) → length xs ≤ i → slice_index xs i ≡ 0
 past [] i h = refl
 past (x ∷ xs) zero h = absurd (omega (arith, h))
 past (x ∷ xs) (suc i) h = past xs i (omega (arith, h))
-
-halves : (i w : ℕ) → (i < w) ⊎ (w ≤ i)
-halves i w = grind arith
 
 -- a word by its number from the lowest address on
 word-from : (ws : List ℕ) (r : Row) (z : ℤ) → length ws ≡ r.words → cell.word_at ws (z -ℤ r.lowest) ≡ slice_index ws (word_at (Some r) z)
@@ -59,7 +57,7 @@ entry-word b None ws (negsuc k) h = refl
 entry-word b (Some m) ws (pos k) h = sym (h k)
 entry-word b (Some m) ws (negsuc k) h = refl
 
-many-words : (rows : List Row) (m : ℕ) (r : Row) → slice_get rows m ≡ Some r → length (words_of (zeros rows) m) ≡ r.words
+pub many-words : (rows : List Row) (m : ℕ) (r : Row) → slice_get rows m ≡ Some r → length (words_of (zeros rows) m) ≡ r.words
 many-words rows m r e =
     let z : slice_get (zeros rows) m ≡ Some (replicate r.words 0) = slice_get-map (λ (q : Row). replicate q.words 0) rows m ∙ ap (option_map (λ (q : Row). replicate q.words 0)) e in
     rw z (length-replicate r.words 0)

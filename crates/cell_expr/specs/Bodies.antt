@@ -30,7 +30,7 @@ pub record IsCellStm (names : Names) (a : Stmt) : Type 0 where
 
 module _ (IsLate : Target → Type 0) where
   abbrev mutual
-    -- blocking assignments to whole signals or bits of them, tests and cases, and nonblocking assignments to such targets
+    -- blocking assignments to whole signals or bits of them, tests and cases, and nonblocking assignments to targets that may be such
     pub IsSegment : Stm → Type 0
     IsSegment Nop = ⊤
     IsSegment (Then a b) = IsSegment a × IsSegment b
@@ -47,19 +47,24 @@ module _ (IsLate : Target → Type 0) where
     AreSegmentItems (Labelled es a others) = IsSegment a × AreSegmentItems others
     AreSegmentItems (Default a others) = IsSegment a × AreSegmentItems others
 
--- whole signals or bits of them; of so many entries of what is pending there is one for each signal
+-- any target, also a word of a memory: a sound one has selects right on a signal or a word
+abbrev pub IsAny : Target → Type 0
+IsAny t = ⊤
+
+-- of so many entries of what is pending there is one for each signal
 abbrev pub CanWait : Names → ℕ → Target → Type 0
-CanWait names n t = IsPlain (λ k. false) t × (n ≡ length names.rows)
+CanWait names n t = n ≡ length names.rows
 
 -- there are no entries
 abbrev pub nothing_waits : PendingSlots
 nothing_waits = record { update = []; mask = []; sites = [] }
 
--- a statement of an instance of some path that is sound and only such; what is assigned are whole signals or bits of them
+-- a statement of an instance of some path that is sound and only such; blocking assignments are to whole signals or bits of them, and
+-- nonblocking ones to words of memories too
 pub record IsSegmentStm (names : Names) (a : Stmt) : Type 0 where
   pub path : List ℕ
   pub sound : IsSoundStm names (stm_of path a)
-  pub segment : IsSegment (IsPlain (λ k. false)) (stm_of path a)
+  pub segment : IsSegment IsAny (stm_of path a)
 
 -- a nonblocking assignment, or a blocking one
 abbrev pub assignment : Bool → Target → Exp → Stm

@@ -27,14 +27,15 @@ abbrev mutual
   exps_count body NoExps = 0
   exps_count body (MoreExps e es) = exp_count body e + 1 + exps_count body es
 
--- ---- assignments: the indices of selects, and 5 for each part: its bits, and at most 4 cells that write them
+-- ---- assignments: the addresses of words and the indices of selects; and for each part 5: its bits, and at most 4 cells that write
+-- them. A part of a word has 9: a nonblocking assignment may have twice as many, and chooses the word by at most 7
 
 abbrev mutual
   pub indices_count : (ℕ → ℕ) → Target → ℕ
   indices_count body (Whole k) = 0
-  indices_count body (WordAt m a) = 0
-  indices_count body (PickAt b i from w) = exp_count body i
-  indices_count body (SliceAt b low w) = 0
+  indices_count body (WordAt m a) = exp_count body a
+  indices_count body (PickAt b i from w) = indices_count body b + exp_count body i
+  indices_count body (SliceAt b low w) = indices_count body b
   indices_count body (Several ts) = all_indices_count body ts
 
   pub all_indices_count : (ℕ → ℕ) → Targets → ℕ
@@ -43,8 +44,11 @@ abbrev mutual
 
 abbrev mutual
   pub parts_count : Target → ℕ
+  parts_count (Whole k) = 5
+  parts_count (WordAt m a) = 9
+  parts_count (PickAt b i from w) = parts_count b
+  parts_count (SliceAt b low w) = parts_count b
   parts_count (Several ts) = all_parts_count ts
-  parts_count t = 5
 
   pub all_parts_count : Targets → ℕ
   all_parts_count NoTargets = 0

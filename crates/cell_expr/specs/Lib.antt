@@ -1,5 +1,6 @@
 pub mod Bodies
 pub mod Callers
+pub mod Chosen
 pub mod Compiled
 pub mod Contexts
 pub mod Counts
@@ -7,4 +8,5 @@ pub mod Items
 pub mod Labels
 pub mod Passes
 pub mod Spots
+pub mod Stored
 pub mod Words

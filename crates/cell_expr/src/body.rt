@@ -1,6 +1,6 @@
 //! Bodies of functions as cells, where calls nest (IEEE 1364-2005, clause 10.4).
 
-ghost use Rattle.std.specs.Prelude.{◌≡◌, ◌≤◌, ◌<◌, ◌-◌, ℕ, List, [], false, nat_lt, length, IfOk, OnOk, Some, slice_get};
+ghost use Rattle.std.specs.Prelude.{◌≡◌, ◌≤◌, ◌<◌, ◌-◌, ◌++◌, ℕ, List, [], false, nat_lt, length, IfOk, OnOk, Some, slice_get};
 ghost use Rattle.vl_base.specs.declared.files.File.{File};
 ghost use Rattle.vl_design.specs.Exec as x;
 ghost use Rattle.vl_design.specs.Reads.{stm_writes, target_writes};
@@ -9,7 +9,6 @@ ghost use Rattle.vl_design.specs.Syntax.{Fun};
 ghost use Rattle.vl_design.specs.Trees.{exp_of, exps_of, fun_of, stm_of, target_of};
 ghost use Rattle.vl_design.specs.Width as w;
 ghost use Rattle.vl_eval.specs.Rooms.{names_of, scope_at};
-ghost use Rattle.vl_paths.specs.Nets.{IsPlain};
 ghost use Rattle.vl_run.specs.Cases.{AreWithin};
 ghost use Rattle.vl_run.specs.Scopes.{calls_in};
 ghost use Rattle.cell_form.specs.Views.{list_of};
@@ -17,13 +16,14 @@ ghost use Rattle.cell_steps.specs.Slots.{Grows};
 ghost use Rattle.cell_paths.specs.Envs.{env_of, Fits, IsSlot};
 ghost use Rattle.cell_paths.specs.Paths.{Does};
 ghost use Rattle.cell_paths.specs.Cases.{Compares};
-ghost use Rattle.cell_later.specs.Pendings.{slots_of, ArePending};
+ghost use Rattle.cell_later.specs.Pendings.{slots_of, memories_of, ArePending};
 ghost use Rattle.cell_later.specs.Delays.{Leaves};
-ghost use Rattle.cell_expr.specs.Bodies.{IsNet, IsSegment, CanWait, nothing_waits, assignment};
+ghost use Rattle.cell_expr.specs.Bodies.{IsNet, IsSegment, IsAny, CanWait, nothing_waits, assignment};
 ghost use Rattle.cell_expr.specs.Callers.{DoesBody};
 ghost use Rattle.cell_expr.specs.Compiled.{Compiles};
 ghost use Rattle.cell_expr.specs.Counts.{exp_count, labels_count, stm_count, body_count};
 ghost use Rattle.cell_expr.specs.Passes.{AreCompiled};
+ghost use Rattle.cell_expr.specs.Stored.{stored_words};
 
 use crate::context::{Context, inner};
 use cell_form::cell::CellList;
@@ -125,6 +125,7 @@ pub fn segment_at(
         (x.exec (scope_at (names_of room.now) files (calls_in (names_of room.now) files depth)) (stm_of [] a.now)) off (env_of at.old) (env_of at.new) (list_of cells.old) (list_of cells.new)) }
     ensures leaves { OnOk result ((files : List File) → Leaves (names_of room.now) (x.exec (scope_at (names_of room.now) files (calls_in (names_of room.now) files depth)) (stm_of [] a.now)) off
         (env_of at.old) (slots_of pending.old) (slots_of pending.new) (list_of cells.old) (list_of cells.new)) }
+    ensures sites { OnOk result (memories_of pending.new.sites.items ≡ memories_of pending.old.sites.items ++ stored_words (stm_of [] a.now)) }
 {
     let compile_body = |cells: &mut CellList, at: &mut At, function: u32| -> Result<(), AllocError>
         requires deep { 1 ≤ depth }
@@ -197,7 +198,7 @@ pub fn assignment_at(
     requires functions { AreCompiled (names_of room.now) }
     requires target { IsSoundTarget (names_of room.now) (target_of target.now) }
     requires source { IsSoundExp (names_of room.now) (exp_of source.now) }
-    requires plain { IsPlain (λ k. false) (target_of target.now) }
+    requires plain { IsSegment IsAny (assignment later (target_of target.now) (exp_of source.now)) }
     requires apart { target_writes (λ k. nat_lt k at.old.first) (target_of target.now) ≡ false }
     requires fits { Fits (names_of room.now) (list_of cells.old) (env_of at.old) }
     requires pending { ArePending (names_of room.now) (list_of cells.old) (slots_of pending.old) }
@@ -208,6 +209,7 @@ pub fn assignment_at(
         (x.exec (scope_at (names_of room.now) files (calls_in (names_of room.now) files depth)) (assignment later (target_of target.now) (exp_of source.now))) off (env_of at.old) (env_of at.new) (list_of cells.old) (list_of cells.new)) }
     ensures leaves { OnOk result ((files : List File) → Leaves (names_of room.now) (x.exec (scope_at (names_of room.now) files (calls_in (names_of room.now) files depth)) (assignment later (target_of target.now) (exp_of source.now))) off
         (env_of at.old) (slots_of pending.old) (slots_of pending.new) (list_of cells.old) (list_of cells.new)) }
+    ensures sites { OnOk result (memories_of pending.new.sites.items ≡ memories_of pending.old.sites.items ++ stored_words (assignment later (target_of target.now) (exp_of source.now))) }
 {
     let compile_body = |cells: &mut CellList, at: &mut At, function: u32| -> Result<(), AllocError>
         requires deep { 1 ≤ depth }

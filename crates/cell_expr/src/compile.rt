@@ -1,6 +1,6 @@
 //! Expressions and statements of a design's processes as cells (IEEE 1364-2005, clauses 5, 9 and 10.4).
 
-ghost use Rattle.std.specs.Prelude.{◌≡◌, ◌≤◌, ℕ, false, List, All, IfOk, OnOk, length};
+ghost use Rattle.std.specs.Prelude.{◌≡◌, ◌≤◌, ◌++◌, ℕ, List, All, IfOk, OnOk, length};
 ghost use Rattle.vl_base.specs.declared.files.File.{File};
 ghost use Rattle.vl_design.specs.Exec as x;
 ghost use Rattle.vl_design.specs.Exec.{exec};
@@ -13,13 +13,13 @@ ghost use Rattle.cell_steps.specs.Slots.{Grows};
 ghost use Rattle.cell_paths.specs.Envs.{env_of, Fits, IsSlot};
 ghost use Rattle.cell_paths.specs.Paths.{Does};
 ghost use Rattle.cell_paths.specs.Cases.{Compares};
-ghost use Rattle.vl_paths.specs.Nets.{IsPlain};
 ghost use Rattle.vl_run.specs.Cases.{AreWithin};
-ghost use Rattle.cell_later.specs.Pendings.{slots_of, ArePending};
+ghost use Rattle.cell_later.specs.Pendings.{slots_of, memories_of, ArePending};
 ghost use Rattle.cell_later.specs.Delays.{Leaves};
-ghost use Rattle.cell_expr.specs.Bodies.{IsCellFun, IsCellStm, IsSegmentStm, assignment};
+ghost use Rattle.cell_expr.specs.Bodies.{IsCellFun, IsCellStm, IsSegment, IsAny, IsSegmentStm, assignment};
 ghost use Rattle.cell_expr.specs.Compiled.{Compiles};
 ghost use Rattle.cell_expr.specs.Counts.{exp_count, labels_count, stm_count, body_cells};
+ghost use Rattle.cell_expr.specs.Stored.{stored_words};
 
 use crate::body::{assignment_at, expression_at, labels_at, segment_at, statement_at};
 use crate::case;
@@ -84,7 +84,8 @@ pub fn statement(
 }
 
 /// Compiles a statement of a block without calls and loops, of an instance of any path, on a path of one bit: as `statement`, and
-/// its nonblocking assignments are pending behind those that were (IEEE 1364-2005, clause 9.2.2).
+/// its nonblocking assignments are pending behind those that were (IEEE 1364-2005, clause 9.2.2), with a site for each word of a memory
+/// that they name.
 pub fn segment(
     alloc: Global,
     cells: &mut CellList,
@@ -107,13 +108,14 @@ pub fn segment(
         (exec (scope_of (flat_of design.now) files) (stm_of path a.now)) off (env_of at.old) (env_of at.new) (list_of cells.old) (list_of cells.new)) }
     ensures leaves { OnOk result ((files : List File) (path : List ℕ) → Leaves (names_of (flat_of design.now)) (exec (scope_of (flat_of design.now) files) (stm_of path a.now)) off
         (env_of at.old) (slots_of pending.old) (slots_of pending.new) (list_of cells.old) (list_of cells.new)) }
+    ensures sites { OnOk result ((path : List ℕ) → memories_of pending.new.sites.items ≡ memories_of pending.old.sites.items ++ stored_words (stm_of path a.now)) }
 {
     let room = room_of(design);
     let depth = room.funcs.len();
     segment_at(alloc, cells, &room, depth, at, pending, off, a)
 }
 
-/// Compiles an assignment of an expression to signals or bits of them, on a path of one bit: as `segment`.
+/// Compiles an assignment of an expression on a path of one bit, a blocking one to signals or bits of them: as `segment`.
 pub fn assign(
     alloc: Global,
     cells: &mut CellList,
@@ -129,7 +131,7 @@ pub fn assign(
     requires functions { All (IsCellFun (names_of (flat_of design.now))) (flat_of design.now).funs }
     requires target { IsSoundTarget (names_of (flat_of design.now)) (target_of target.now) }
     requires source { IsSoundExp (names_of (flat_of design.now)) (exp_of source.now) }
-    requires plain { IsPlain (λ k. false) (target_of target.now) }
+    requires plain { IsSegment IsAny (assignment later (target_of target.now) (exp_of source.now)) }
     requires fits { Fits (names_of (flat_of design.now)) (list_of cells.old) (env_of at.old) }
     requires first { at.old.first ≡ 0 }
     requires off { IsSlot (list_of cells.old) off 1 }
@@ -140,6 +142,7 @@ pub fn assign(
         (exec (scope_of (flat_of design.now) files) (assignment later (target_of target.now) (exp_of source.now))) off (env_of at.old) (env_of at.new) (list_of cells.old) (list_of cells.new)) }
     ensures leaves { OnOk result ((files : List File) → Leaves (names_of (flat_of design.now)) (exec (scope_of (flat_of design.now) files) (assignment later (target_of target.now) (exp_of source.now))) off
         (env_of at.old) (slots_of pending.old) (slots_of pending.new) (list_of cells.old) (list_of cells.new)) }
+    ensures sites { OnOk result (memories_of pending.new.sites.items ≡ memories_of pending.old.sites.items ++ stored_words (assignment later (target_of target.now) (exp_of source.now))) }
 {
     let room = room_of(design);
     let depth = room.funcs.len();

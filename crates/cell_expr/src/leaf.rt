@@ -45,7 +45,7 @@ pub fn read_signal(
 }
 
 /// The lower of two numbers.
-fn lower(a: i32, b: i32) -> i64
+pub fn lower(a: i32, b: i32) -> i64
     ensures { result ≡ lower_of a b }
 {
     if a <= b { i64::from(a) } else { i64::from(b) }

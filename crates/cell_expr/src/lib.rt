@@ -1,6 +1,7 @@
 //! Expressions, calls of functions and statements as cells.
 #![tactic(auto)]
 
+mod address;
 mod body;
 mod call;
 mod case;

@@ -4,12 +4,14 @@ ghost use Rattle.std.specs.Prelude.{◌≡◌, ◌+◌, ◌++◌, ℕ, List, [],
 ghost use Rattle.vl_base.specs.declared.files.File.{File};
 ghost use Rattle.vl_design.specs.Exec as x;
 ghost use Rattle.vl_design.specs.Reads.{stm_writes, items_write, target_writes, targets_write};
+ghost use Rattle.vl_design.specs.Plainly as plain;
 ghost use Rattle.vl_design.specs.Seen as seen;
 ghost use Rattle.vl_design.specs.Sound.{AreSound, AreSoundItems, AreSoundTargets, IsSoundExp, IsSoundStm, IsSoundTarget, IsWidth};
 ghost use Rattle.vl_design.specs.Syntax as y;
+ghost use Rattle.vl_design.specs.Syntax.{Items};
 ghost use Rattle.vl_design.specs.Targets as targets;
 ghost use Rattle.vl_design.specs.Trees.{exp_of, exps_of, stm_of, then_of, target_of};
-ghost use Rattle.vl_paths.specs.Nets.{IsPlain, ArePlain};
+ghost use Rattle.vl_paths.specs.Nets.{IsPlain};
 ghost use Rattle.vl_run.specs.Cases.{items_of, AreWithin, AreLabelsWithin};
 ghost use Rattle.vl_run.specs.Lists.{targets_of};
 ghost use Rattle.cell_form.specs.Views.{list_of};
@@ -18,18 +20,19 @@ ghost use Rattle.cell_paths.specs.Envs.{env_of, Fits, IsSlot};
 ghost use Rattle.cell_paths.specs.declared.place.Place.TheVariants as place;
 ghost use Rattle.cell_paths.specs.Paths.{Does};
 ghost use Rattle.cell_paths.specs.Cases.{Compares, Tries};
-ghost use Rattle.cell_later.specs.Pendings.{slots_of, ArePending};
+ghost use Rattle.cell_later.specs.Pendings.{slots_of, memories_of, ArePending};
 ghost use Rattle.cell_later.specs.Delays.{Leaves, LeavesItems};
-ghost use Rattle.cell_expr.specs.Bodies.{IsSegment, AreSegmentItems, CanWait, assignment};
+ghost use Rattle.cell_expr.specs.Bodies.{IsSegment, AreSegmentItems, IsAny, CanWait, assignment};
 ghost use Rattle.cell_expr.specs.Contexts.{names_of, scope_of, body_of};
 ghost use Rattle.cell_expr.specs.Counts.{exp_count, labels_count, stm_count, items_count, indices_count, all_indices_count, parts_count, all_parts_count};
 ghost use Rattle.cell_expr.specs.Items.{Item, Tried};
 ghost use Rattle.cell_expr.specs.Callers.{Compilers};
 ghost use Rattle.cell_expr.specs.Spots.{Assigned};
+ghost use Rattle.cell_expr.specs.Stored.{stored_words, items_stored, target_stored};
 
 use crate::case::{care_of, default_of, items_form};
 use crate::context::Context;
-use crate::spot::{Spot, assign_all, base_signal, delay_all, target_width};
+use crate::spot::{Spot, assign_all, delay_all, target_width};
 use cell_form::cell::CellList;
 use cell_later::pending::Pending;
 use cell_paths::at::At;
@@ -102,6 +105,7 @@ impl<F: Fn(&mut CellList, &mut At, u32) -> Result<(), AllocError>> Context<'_, F
         ensures grows { Grows (list_of cells.old) (list_of cells.new) }
         ensures does { IfOk result (λ r. (files : List File) → Item (names_of self.now) (scope_of self.now files) (body_of self.now) c subject (exps_of item.now.labels.items) (stm_of [] item.now.body) rest r
             (env_of at.old) (env_of at.new) (slots_of pending.old) (slots_of pending.new) (list_of cells.old) (list_of cells.new)) }
+        ensures sites { OnOk result (memories_of pending.new.sites.items ≡ memories_of pending.old.sites.items ++ stored_words (stm_of [] item.now.body)) }
     {
         let behind = self.labels_in(alloc, cells, &*at, subject, c, rest, &item.labels)?;
         let path = taken(alloc, cells, &*at, rest, behind)?;
@@ -137,6 +141,7 @@ impl<F: Fn(&mut CellList, &mut At, u32) -> Result<(), AllocError>> Context<'_, F
         ensures grows { Grows (list_of cells.old) (list_of cells.new) }
         ensures tries { IfOk result (λ r. (files : List File) → Tried (names_of self.now) (scope_of self.now files) (body_of self.now) c subject (seen.exps_of item.now.labels.items) (stm_of [] item.now.body) rest r
             (env_of at.old) (env_of at.new) (slots_of pending.old) (slots_of pending.new) (list_of cells.old) (list_of cells.new)) }
+        ensures sites { OnOk result ((others : Items) → memories_of pending.new.sites.items ++ items_stored others ≡ memories_of pending.old.sites.items ++ items_stored (plain.item (seen.exps_of item.now.labels.items) (stm_of [] item.now.body) others)) }
     {
         if item.labels.as_slice().is_empty() {
             Ok(rest)
@@ -174,6 +179,7 @@ impl<F: Fn(&mut CellList, &mut At, u32) -> Result<(), AllocError>> Context<'_, F
             (env_of at.old) (env_of at.new) (list_of cells.old) (list_of cells.new)) }
         ensures leaves { IfOk result (λ r. (files : List File) → LeavesItems (names_of self.now) (scope_of self.now files) c subject (items_of [] items.now) off r
             (env_of at.old) (env_of at.new) (slots_of pending.old) (slots_of pending.new) (list_of cells.old) (list_of cells.new)) }
+        ensures sites { OnOk result (memories_of pending.new.sites.items ≡ memories_of pending.old.sites.items ++ items_stored (items_of [] items.now)) }
     {
         let mut rest = off;
         for item in items {
@@ -208,6 +214,7 @@ impl<F: Fn(&mut CellList, &mut At, u32) -> Result<(), AllocError>> Context<'_, F
             (x.exec (scope_of self.now files) (y.Case (exp_of subject.now) (items_of [] items.now))) off (env_of at.old) (env_of at.new) (list_of cells.old) (list_of cells.new)) }
         ensures leaves { OnOk result ((files : List File) → Leaves (names_of self.now) (x.exec (scope_of self.now files) (y.Case (exp_of subject.now) (items_of [] items.now))) off
             (env_of at.old) (slots_of pending.old) (slots_of pending.new) (list_of cells.old) (list_of cells.new)) }
+        ensures sites { OnOk result (memories_of pending.new.sites.items ≡ memories_of pending.old.sites.items ++ stored_words (y.Case (exp_of subject.now) (items_of [] items.now))) }
     {
         let c = items_form(&self.room, form_of(&self.room, subject), items);
         let subject = self.compile_in(alloc, cells, &*at, subject, c)?;
@@ -232,7 +239,6 @@ impl<F: Fn(&mut CellList, &mut At, u32) -> Result<(), AllocError>> Context<'_, F
         requires functions { Compilers (names_of self.now) self.now.depth (F.pre self.now.compile_body) (F.post self.now.compile_body) }
         requires target { IsSoundTarget (names_of self.now) (target_of target.now) }
         requires source { IsSoundExp (names_of self.now) (exp_of source.now) }
-        requires plain { IsPlain (λ k. false) (target_of target.now) }
         requires apart { target_writes (λ k. nat_lt k at.now.first) (target_of target.now) ≡ false }
         requires fits { Fits (names_of self.now) (list_of cells.old) (env_of at.now) }
         requires none { spots.old.items ≡ [] }
@@ -289,7 +295,6 @@ impl<F: Fn(&mut CellList, &mut At, u32) -> Result<(), AllocError>> Context<'_, F
         requires functions { Compilers (names_of self.now) self.now.depth (F.pre self.now.compile_body) (F.post self.now.compile_body) }
         requires target { IsSoundTarget (names_of self.now) (target_of target.now) }
         requires source { IsSoundExp (names_of self.now) (exp_of source.now) }
-        requires plain { IsPlain (λ k. false) (target_of target.now) }
         requires apart { target_writes (λ k. nat_lt k at.now.first) (target_of target.now) ≡ false }
         requires fits { Fits (names_of self.now) (list_of cells.old) (env_of at.now) }
         requires pending { ArePending (names_of self.now) (list_of cells.old) (slots_of pending.old) }
@@ -300,6 +305,7 @@ impl<F: Fn(&mut CellList, &mut At, u32) -> Result<(), AllocError>> Context<'_, F
             (x.exec (scope_of self.now files) (y.Later (target_of target.now) (exp_of source.now))) off (env_of at.now) (env_of at.now) (list_of cells.old) (list_of cells.new)) }
         ensures leaves { OnOk result ((files : List File) → Leaves (names_of self.now) (x.exec (scope_of self.now files) (y.Later (target_of target.now) (exp_of source.now))) off
             (env_of at.now) (slots_of pending.old) (slots_of pending.new) (list_of cells.old) (list_of cells.new)) }
+        ensures sites { OnOk result (memories_of pending.new.sites.items ≡ memories_of pending.old.sites.items ++ target_stored (target_of target.now)) }
     {
         let mut spots = Vec::new(alloc);
         let value = self.source_in(alloc, cells, at, target, source, &mut spots)?;
@@ -322,7 +328,7 @@ impl<F: Fn(&mut CellList, &mut At, u32) -> Result<(), AllocError>> Context<'_, F
         requires functions { Compilers (names_of self.now) self.now.depth (F.pre self.now.compile_body) (F.post self.now.compile_body) }
         requires target { IsSoundTarget (names_of self.now) (target_of target.now) }
         requires source { IsSoundExp (names_of self.now) (exp_of source.now) }
-        requires plain { IsPlain (λ k. false) (target_of target.now) }
+        requires plain { IsSegment IsAny (assignment later (target_of target.now) (exp_of source.now)) }
         requires apart { target_writes (λ k. nat_lt k at.old.first) (target_of target.now) ≡ false }
         requires fits { Fits (names_of self.now) (list_of cells.old) (env_of at.old) }
         requires pending { ArePending (names_of self.now) (list_of cells.old) (slots_of pending.old) }
@@ -333,6 +339,7 @@ impl<F: Fn(&mut CellList, &mut At, u32) -> Result<(), AllocError>> Context<'_, F
             (x.exec (scope_of self.now files) (assignment later (target_of target.now) (exp_of source.now))) off (env_of at.old) (env_of at.new) (list_of cells.old) (list_of cells.new)) }
         ensures leaves { OnOk result ((files : List File) → Leaves (names_of self.now) (x.exec (scope_of self.now files) (assignment later (target_of target.now) (exp_of source.now))) off
             (env_of at.old) (slots_of pending.old) (slots_of pending.new) (list_of cells.old) (list_of cells.new)) }
+        ensures sites { OnOk result (memories_of pending.new.sites.items ≡ memories_of pending.old.sites.items ++ stored_words (assignment later (target_of target.now) (exp_of source.now))) }
     {
         if later {
             self.later_in(alloc, cells, &*at, pending, off, target, source)
@@ -365,6 +372,7 @@ impl<F: Fn(&mut CellList, &mut At, u32) -> Result<(), AllocError>> Context<'_, F
             (x.exec (scope_of self.now files) (then_of [] list.now)) off (env_of at.old) (env_of at.new) (list_of cells.old) (list_of cells.new)) }
         ensures leaves { OnOk result ((files : List File) → Leaves (names_of self.now) (x.exec (scope_of self.now files) (then_of [] list.now)) off
             (env_of at.old) (slots_of pending.old) (slots_of pending.new) (list_of cells.old) (list_of cells.new)) }
+        ensures sites { OnOk result (memories_of pending.new.sites.items ≡ memories_of pending.old.sites.items ++ stored_words (then_of [] list.now)) }
     {
         for item in list {
             self.statement_in(alloc, cells, at, pending, off, item)?;
@@ -398,6 +406,7 @@ impl<F: Fn(&mut CellList, &mut At, u32) -> Result<(), AllocError>> Context<'_, F
             (x.exec (scope_of self.now files) (y.If (exp_of test.now) (stm_of [] first.now) (stm_of [] second.now))) off (env_of at.old) (env_of at.new) (list_of cells.old) (list_of cells.new)) }
         ensures leaves { OnOk result ((files : List File) → Leaves (names_of self.now) (x.exec (scope_of self.now files) (y.If (exp_of test.now) (stm_of [] first.now) (stm_of [] second.now))) off
             (env_of at.old) (slots_of pending.old) (slots_of pending.new) (list_of cells.old) (list_of cells.new)) }
+        ensures sites { OnOk result (memories_of pending.new.sites.items ≡ memories_of pending.old.sites.items ++ stored_words (y.If (exp_of test.now) (stm_of [] first.now) (stm_of [] second.now))) }
     {
         let test = self.own_in(alloc, cells, &*at, test)?;
         let (yes, no) = branches(alloc, cells, &*at, test, off)?;
@@ -429,6 +438,7 @@ impl<F: Fn(&mut CellList, &mut At, u32) -> Result<(), AllocError>> Context<'_, F
             (x.exec (scope_of self.now files) (stm_of [] a.now)) off (env_of at.old) (env_of at.new) (list_of cells.old) (list_of cells.new)) }
         ensures leaves { OnOk result ((files : List File) → Leaves (names_of self.now) (x.exec (scope_of self.now files) (stm_of [] a.now)) off
             (env_of at.old) (slots_of pending.old) (slots_of pending.new) (list_of cells.old) (list_of cells.new)) }
+        ensures sites { OnOk result (memories_of pending.new.sites.items ≡ memories_of pending.old.sites.items ++ stored_words (stm_of [] a.now)) }
     {
         match &a.node {
             StmtNode::Nop => Ok(()),

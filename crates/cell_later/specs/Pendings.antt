@@ -1,5 +1,5 @@
 -- Nonblocking updates that are pending, in slots (IEEE 1364-2005, clauses 9.2.2 and 11.3; own).
-use Rattle.std.specs.Prelude.{◌≡◌, ℕ, ◌<◌, ◌==◌, Bool, not, ◌&&◌, if◌then◌else◌, List, [], ◌∷◌, length, slice_index, slice_index_or, Option, None, All}
+use Rattle.std.specs.Prelude.{◌≡◌, ℕ, ◌<◌, ◌==◌, Bool, not, ◌&&◌, if◌then◌else◌, List, [], ◌∷◌, map, length, slice_index, slice_index_or, Option, None, All}
 use Rattle.vl_design.specs.Width.{Names, signal_form}
 use Rattle.vl_design.specs.Value.{words_of, value_of}
 use Rattle.vl_design.specs.Sound.{IsSignal, IsMemory}
@@ -25,6 +25,10 @@ slots_of p = record { update = p.update.items; mask = p.mask.items; sites = p.si
 -- the slot of a signal; none where nothing is pending
 abbrev pub slot_of : List (Option ℕ) → ℕ → Option ℕ
 slot_of slots k = slice_index_or slots k None
+
+-- the memories that sites write, in order
+abbrev pub memories_of : List Site → List ℕ
+memories_of xs = map (λ (x : Site). x.memory) xs
 
 -- ---- what is there
 

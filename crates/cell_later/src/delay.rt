@@ -1,12 +1,12 @@
 //! Nonblocking assignments to signals and to words of memories.
 
-ghost use Rattle.std.specs.Prelude.{◌≡◌, ◌≤◌, ◌-◌, ◌^◌, [], ◌∷◌, IfOk, OnOk};
+ghost use Rattle.std.specs.Prelude.{◌≡◌, ◌≤◌, ◌-◌, ◌^◌, ◌++◌, [], ◌∷◌, IfOk, OnOk};
 ghost use Rattle.vl_design.specs.Width.{Names};
 ghost use Rattle.cell_form.specs.Views.{list_of};
 ghost use Rattle.cell_steps.specs.Slots.{width_at, IsIn, Grows, Gives, Nothing};
 ghost use Rattle.cell_paths.specs.Envs.{IsSlot, Always};
 ghost use Rattle.cell_paths.specs.Paths.{low_of, IsLow, update_in};
-ghost use Rattle.cell_later.specs.Pendings.{slots_of};
+ghost use Rattle.cell_later.specs.Pendings.{slots_of, memories_of};
 ghost use Rattle.cell_later.specs.Delays.{IsDelayable, IsStorable, stored_in, Delays};
 
 use crate::pending::{Pending, Site};
@@ -53,6 +53,7 @@ pub fn delay(
     ensures grows { Grows (list_of cells.old) (list_of cells.new) }
     ensures delays { OnOk result ((names : Names) → IsDelayable names (list_of cells.old) (slots_of pending.old) signal wide →
         Delays names 9 (λ b. update_in b (list_of cells.old) signal (low_of low) part ∷ []) off (slots_of pending.old) (slots_of pending.new) (list_of cells.old) (list_of cells.new)) }
+    ensures sites { OnOk result (pending.new.sites.items ≡ pending.old.sites.items) }
 {
     let number = signal as usize;
     let set = ones(alloc, cells, part)?;
@@ -108,6 +109,7 @@ pub fn delay_word(
     ensures grows { Grows (list_of cells.old) (list_of cells.new) }
     ensures delays { OnOk result ((names : Names) → IsStorable names (list_of cells.old) (slots_of pending.old) memory wide →
         Delays names 9 (λ b. stored_in b (list_of cells.old) memory enable word (low_of low) part) here (slots_of pending.old) (slots_of pending.new) (list_of cells.old) (list_of cells.new)) }
+    ensures sites { OnOk result (memories_of pending.new.sites.items ≡ memories_of pending.old.sites.items ++ memory ∷ []) }
 {
     let set = ones(alloc, cells, part)?;
     let value = assigned(alloc, cells, here, None, wide, low, part, here)?;

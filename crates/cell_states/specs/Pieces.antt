@@ -21,7 +21,7 @@ pub record IsCellAssignment (names : Names) (target : Target) (source : Expr) : 
   pub source_sound : IsSoundExp names (exp_of source)
   pub plain : IsPlain (λ k. false) (target_of target)
 
--- a statement without loops and calls, or an assignment of a call's answer; what is assigned are signals
+-- a statement without loops and calls, or an assignment of a call's answer; blocking assignments are to signals
 abbrev pub IsCellPiece : Names → Piece → Type 0
 IsCellPiece names (p.Whole a) = IsSegmentStm names a.now
 IsCellPiece names (p.Loop path a) = IsSegmentStm names a.now

@@ -9,7 +9,7 @@ use Rattle.vl_design.specs.Sound.{IsMemory, IsSoundBase, IsSoundTarget, AreSound
 use Rattle.vl_design.specs.Width.{Names}
 use Rattle.vl_design.proofs.Unread.{or_false}
 use Rattle.vl_paths.specs.Nets.{IsBase, IsPlain, ArePlain}
-use Rattle.cell_expr.specs.Bodies.{IsSegment, AreSegmentItems}
+use Rattle.cell_expr.specs.Bodies.{IsSegment, AreSegmentItems, IsAny}
 use Rattle.sub_nets.specs.Memories.{stm_sets, items_set}
 
 module _ (names : Names) (none : (m : ℕ) → IsMemory names m → ⊥) where
@@ -33,7 +33,7 @@ module _ (names : Names) (none : (m : ℕ) → IsMemory names m → ⊥) where
     plains (MoreTargets t ts) h = (plain t h.0, plains ts h.1)
 
   mutual
-    pub segment : (a : Stm) → IsSoundStm names a → IsUnrolledStm a → can_act a ≡ false → IsSegment (IsPlain (λ k. false)) a
+    pub segment : (a : Stm) → IsSoundStm names a → IsUnrolledStm a → can_act a ≡ false → IsSegment IsAny a
     segment Nop h u q = tt
     segment (Then a b) h u q = let g = or_false (can_act a) (can_act b) q in (segment a h.0 u.0 g.0, segment b h.1 u.1 g.1)
     segment (If t a b) h u q =
@@ -44,10 +44,10 @@ module _ (names : Names) (none : (m : ℕ) → IsMemory names m → ⊥) where
     segment (For v start test step a) h u q = absurd u
     segment (Repeat n a) h u q = absurd u
     segment (Set t e) h u q = plain t h.0
-    segment (Later t e) h u q = plain t h.0
+    segment (Later t e) h u q = tt
     segment (Sys task) h u q = let z : ⊥ = cc in absurd z
 
-    items_segment : (items : Items) → AreSoundItems names items → AreUnrolledItems items → items_can_act items ≡ false → AreSegmentItems (IsPlain (λ k. false)) items
+    items_segment : (items : Items) → AreSoundItems names items → AreUnrolledItems items → items_can_act items ≡ false → AreSegmentItems IsAny items
     items_segment NoItems h u q = tt
     items_segment (Labelled es a others) h u q =
         let g = or_false (can_act a) (items_can_act others) q in

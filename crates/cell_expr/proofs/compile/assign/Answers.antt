@@ -11,7 +11,7 @@ use Rattle.cell_later.specs.Pendings.{slots_of}
 use Rattle.cell_expr.specs.Bodies.{assignment}
 use Rattle.cell_expr.specs.Counts.{body_cells}
 use Rattle.cell_expr.proofs.Outside.{statement-outside, pending-outside, outer-scope, outer-body, outer-compiled}
-use Rattle.cell_expr.proofs.Nets.{plain-apart}
+use Rattle.cell_expr.proofs.Nets.{target-apart}
 use Rattle.cell_expr.proofs.compile.assign.Goals as goal
 
 pub assignment_at-requires-clause-functions : goal.assignment_at-requires-clause-functions
@@ -24,7 +24,7 @@ pub assignment_at-requires-clause-source : goal.assignment_at-requires-clause-so
 assignment_at-requires-clause-source c = subst (λ (n : Names). IsSoundExp n (exp_of c.args.source.now)) (sym c.room_of-room.ensures.names) c.requires.source
 
 pub assignment_at-requires-clause-apart : goal.assignment_at-requires-clause-apart
-assignment_at-requires-clause-apart c = subst (λ n. target_writes (λ k. nat_lt k n) (target_of c.args.target.now) ≡ false) (sym c.requires.first) (plain-apart (target_of c.args.target.now) c.requires.plain)
+assignment_at-requires-clause-apart c = subst (λ n. target_writes (λ k. nat_lt k n) (target_of c.args.target.now) ≡ false) (sym c.requires.first) (target-apart (target_of c.args.target.now))
 
 pub returns-clause-does : goal.returns-clause-does
 returns-clause-does c =

@@ -1,4 +1,4 @@
-use Rattle.std.proofs.Common.{ap, sym, arith, subst, ◌+◌, ◌/◌, ◌%◌, ◌^◌, get_or, drop, All}
+use Rattle.std.proofs.Common.{ap, sym, arith, subst, ◌+◌, ◌/◌, ◌%◌, ◌^◌, get_or, drop, All, None}
 use Rattle.std.specs.Prelude.{pos}
 use Rattle.std.proofs.lemmas.List.{drop_more}
 use Rattle.vl_design.specs.declared.design.Form.{Form}
@@ -11,7 +11,7 @@ use Rattle.cell_steps.proofs.Frames.{grows-then, in-stays, width-stays}
 use Rattle.cell_paths.specs.Envs.{env_of}
 use Rattle.cell_paths.proofs.Staying.{fits-stays, is-slot-stays}
 use Rattle.cell_expr.specs.Spots.{IsSpot, bits_of}
-use Rattle.cell_expr.proofs.Spotting.{room-one, first-spot, rest-spots, are-spots-stay, updates-left, updates-over}
+use Rattle.cell_expr.proofs.Spotting.{room-one, first-spot, rest-spots, are-spots-stay, whole-spots, of-signal, updates-left, updates-over}
 use Rattle.cell_expr.proofs.spot.assign_all.Goals as goal
 
 pub assign-requires-clause-signal : goal.assign-requires-clause-signal
@@ -20,14 +20,16 @@ assign-requires-clause-signal c =
     let at = env_of c.loop-spot.at in
     let cells = list_of c.loop-spot.cells in
     let l = c.loop-spot.invariant in
-    let spot = first-spot (IsSpot names at.first cells) c.args.spots.now c.loop-spot.spot-index _ c.loop-spot-test.true l.spots in (
+    let spot = first-spot (IsSpot names at.first cells) c.args.spots.now c.loop-spot.spot-index _ c.loop-spot-test.true l.spots in
+    let none = whole-spots c.args.spots.now c.loop-spot.spot-index _ c.loop-spot-test.true l.whole in
+    let signal = of-signal names at.first cells _ _ none.0 spot.is_of in (
       names,
       record {
         one = room-one c.args.room.now;
         fits = fits-stays names cells (list_of c.part_of.new.cells) at c.in_ok-part.ensures.grows l.fits;
-        is_signal = spot.signal;
+        is_signal = signal.0;
         width = sym (ap (λ (f : Form). f.width) c.signal_form-wide.ensures.value);
-        first = spot.own;
+        first = signal.1;
       },
     )
 
@@ -37,21 +39,23 @@ loop-spot-preserved c =
     let at = env_of c.loop-spot.at in
     let spots = c.args.spots.now in
     let i = c.loop-spot.spot-index in
-    let d : Spot = record { signal = 0; low = place.Constant (pos 0); width = 0 } in
+    let d : Spot = record { signal = 0; word = None; low = place.Constant (pos 0); width = 0 } in
     let l0 = list_of c.loop-spot.cells in
     let l1 = list_of c.part_of.new.cells in
     let l2 = list_of c.assign.new.cells in
     let l = c.loop-spot.invariant in
     let there = c.loop-spot-test.true in
     let spot = first-spot (IsSpot names at.first l0) spots i d there l.spots in
+    let none = whole-spots spots i d there l.whole in
+    let signal = of-signal names at.first l0 _ _ none.0 spot.is_of in
     let g01 = c.in_ok-part.ensures.grows in
     let g02 = grows-then l0 l1 l2 g01 c.in_ok-assign.ensures.grows in
     let a = c.in_ok-assign.ensures.assigns names (record {
       one = room-one c.args.room.now;
       fits = fits-stays names l0 l1 at g01 l.fits;
-      is_signal = spot.signal;
+      is_signal = signal.0;
       width = sym (ap (λ (f : Form). f.width) c.signal_form-wide.ensures.value);
-      first = spot.own;
+      first = signal.1;
     }) in
     let rest = rest-spots (IsSpot names at.first l0) spots i d there l.spots in
     let left = l.left in
@@ -64,12 +68,13 @@ loop-spot-preserved c =
       grows = grows-then (list_of c.args.cells.now) l0 l2 l.grows g02;
       fits = a.fits;
       spots = subst (λ n. All (IsSpot names n l2) (drop (i + 1) spots)) (sym a.keeps.first) (are-spots-stay names at.first l0 l2 (drop (i + 1) spots) g02 rest);
+      whole = none.1;
       value = in-stays l0 l2 c.args.value g02 l.value;
       within = omega (arith, more, within, same);
       narrow = omega (arith, narrow, same);
       off = is-slot-stays l0 l2 c.args.off 1 g02 l.off;
       left = omega (arith, left, more);
-      leads = λ at' new u. l.leads at' new (updates-left names c.args.value c.args.off c.in_ok-part.part spots i d at (env_of c.assign.new.at) at' l0 l1 l2 new there l.fits l.off.there l.value l.spots
+      leads = λ at' new u. l.leads at' new (updates-left names c.args.value c.args.off c.in_ok-part.part spots i d at (env_of c.assign.new.at) at' l0 l1 l2 new there none.0 l.fits l.off.there l.value l.spots
           (subst (λ n. Gives Nothing 1 l0 l1 c.in_ok-part.part (get_or spots i d).width (λ b. held b l0 c.args.value / 2 ^ n % 2 ^ (get_or spots i d).width)) (omega (arith, left, more)) c.in_ok-part.ensures.gives) a u);
     }
 

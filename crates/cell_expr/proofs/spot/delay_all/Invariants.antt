@@ -1,11 +1,11 @@
-use Rattle.std.proofs.Common.{◌≡◌, ◌≤◌, ◌*◌, drop, All, length, map}
+use Rattle.std.proofs.Common.{◌≡◌, ◌≤◌, ◌*◌, ◌++◌, drop, All, length, map}
 use Rattle.vl_design.specs.Targets.{updates_at}
 use Rattle.vl_eval.specs.Rooms.{names_of}
 use Rattle.cell_form.specs.Data.{ListData}
 use Rattle.cell_form.specs.Views.{list_of}
 use Rattle.cell_steps.specs.Slots.{held, width_at, IsIn, Grows}
 use Rattle.cell_paths.specs.Envs.{env_of, Fits, IsSlot}
-use Rattle.cell_later.specs.Pendings.{PendingSlots, slots_of, ArePending}
+use Rattle.cell_later.specs.Pendings.{PendingSlots, slots_of, memories_of, ArePending}
 use Rattle.cell_later.specs.Delays.{Delays}
 use Rattle.cell_expr.specs.Spots as sp
 use Rattle.cell_expr.proofs.spot.delay_all.Given as goal
@@ -27,7 +27,8 @@ invariant-loop-spot l =
       within : sp.bits_of rest ≤ width_at cells l.value;
       narrow : width_at cells l.value ≤ 128;
       off : IsSlot cells l.off 1;
+      sites : memories_of l.pending.sites.items ++ sp.stored_by rest ≡ memories_of l.initial.pending.sites.items ++ sp.stored_by l.spots;
       below : l.below ≡ sp.bits_of rest;
-      leads : (p : PendingSlots) (new : ListData) → Delays names (2 * sp.cells_of rest) (λ b. updates_at (map (sp.spot_in b cells) rest) (held b cells l.value)) l.off (slots_of l.pending) p cells new
-          → Delays names (2 * sp.cells_of l.spots) (λ b. updates_at (map (sp.spot_in b before) l.spots) (held b before l.value)) l.off (slots_of l.initial.pending) p before new;
+      leads : (p : PendingSlots) (new : ListData) → Delays names (2 * sp.cells_of rest) (λ b. updates_at (map (sp.spot_in names.rows b cells) rest) (held b cells l.value)) l.off (slots_of l.pending) p cells new
+          → Delays names (2 * sp.cells_of l.spots) (λ b. updates_at (map (sp.spot_in names.rows b before) l.spots) (held b before l.value)) l.off (slots_of l.initial.pending) p before new;
     }

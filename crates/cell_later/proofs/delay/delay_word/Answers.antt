@@ -1,9 +1,11 @@
-use Rattle.std.proofs.Common.{sym, subst}
+use Rattle.std.proofs.Common.{sym, subst, ap, ◌∙◌, [], ◌∷◌}
+use Rattle.std.proofs.lemmas.List.{map-append}
 use Rattle.cell_form.specs.Views.{list_of}
 use Rattle.cell_steps.proofs.Frames.{grows-then}
 use Rattle.cell_paths.specs.Paths.{low_of}
 use Rattle.cell_paths.proofs.Staying.{always-stays}
-use Rattle.cell_later.specs.Pendings.{slots_of}
+use Rattle.cell_later.specs.declared.pending.Site.{Site}
+use Rattle.cell_later.specs.Pendings.{slots_of, memories_of}
 use Rattle.cell_later.specs.Delays.{stored_in, Delays}
 use Rattle.cell_later.proofs.Storing.{delays-word}
 use Rattle.cell_later.proofs.delay.delay_word.Goals as goal
@@ -29,3 +31,9 @@ returns-clause-delays c names can =
     c.requires.low c.requires.part c.requires.here.there c.requires.zero c.requires.enable c.requires.word c.in_ok-set.ensures.gives c.in_ok-value.ensures.gives c.in_ok-mask.ensures.gives in
     subst (λ xs. Delays names 9 (λ b. stored_in b l0 c.args.memory c.args.enable c.args.word (low_of c.args.low) c.args.part) c.args.here p (record { update = p.update; mask = p.mask; sites = xs }) l0 l3)
     (sym c.in_ok-push.ensures.items) done
+
+pub returns-clause-sites : goal.returns-clause-sites
+returns-clause-sites c =
+    let before = c.args.pending.now.sites.items in
+    let x : Site = record { memory = c.args.memory; enable = c.args.enable; word = c.args.word; value = c.in_ok-value.value; mask = c.in_ok-mask.mask } in
+    ap memories_of c.in_ok-push.ensures.items ∙ map-append (λ (y : Site). y.memory) before (x ∷ [])

@@ -5,8 +5,12 @@ use Rattle.cell_paths.specs.Envs.{env_of}
 use Rattle.cell_later.specs.Pendings.{slots_of}
 use Rattle.cell_expr.specs.Bodies.{assignment}
 use Rattle.cell_expr.specs.Counts.{stm_count, body_cells}
+use Rattle.cell_expr.proofs.Nets.{plain-any}
 use Rattle.cell_states.proofs.Stretching.{all-one, on-both}
 use Rattle.cell_states.proofs.stretch.answered.Goals as goal
+
+pub assign-requires-clause-plain : goal.assign-requires-clause-plain
+assign-requires-clause-plain c = plain-any c.args.later (target_of c.args.target.now) (exp_of c.args.source.now) c.requires.assignment.plain
 
 pub returns-clause-does : goal.returns-clause-does
 returns-clause-does c =

@@ -1,25 +1,19 @@
-use Rattle.cell_expr.proofs.Adding.{whole-of, slice-of, pick-of, spotted-whole, spotted-slice}
+use Rattle.cell_expr.proofs.Adding.{whole-of, word-of, slice-of, pick-of}
 use Rattle.cell_expr.proofs.Listing.{none-right, none-left}
 use Rattle.cell_expr.proofs.Setting.{spotted-none, spotted-then}
 use Rattle.cell_expr.proofs.Sizes.{targets_size, target-part}
-use Rattle.cell_expr.specs.Contexts.{names_of, body_of, scope_of}
+use Rattle.cell_expr.specs.Contexts.{names_of, body_of}
 use Rattle.cell_expr.specs.Counts.{indices_count, all_indices_count}
-use Rattle.cell_expr.specs.declared.spot.Spot.{Spot}
 use Rattle.cell_form.specs.Views.{list_of}
 use Rattle.cell_paths.proofs.Staying.{fits-stays}
 use Rattle.cell_paths.specs.Envs.{env_of}
-use Rattle.cell_paths.specs.declared.place.Place.{Place}
 use Rattle.cell_steps.proofs.Frames.{grows-then}
-use Rattle.std.proofs.Common.{◌+◌, drop, ◌≡◌, ◌++◌, [], ◌∷◌, ◌∙◌, refl, ap, rules, w32, ◌*◌, arith}
+use Rattle.std.proofs.Common.{◌+◌, drop, ◌≡◌, ◌*◌, arith, rules, w32}
 use Rattle.std.proofs.lemmas.Int.{to_z-of_z}
 use Rattle.std.proofs.lemmas.List.{drop_all}
-use Rattle.std.proofs.lemmas.Result.{on_ok_weaker}
-use Rattle.std.specs.Prelude.{pos}
 use Rattle.vl_design.specs.Trees.{target_of}
-use Rattle.vl_design.specs.declared.design.Form.{Form}
 use Rattle.vl_run.proofs.Spotting.{targets-more, list-of}
 use Rattle.vl_run.specs.Lists.{targets_of}
-use Rattle.cell_paths.specs.declared.place.Place.TheVariants as place
 use Rattle.cell_expr.proofs.context.Context.+spots.Goals as goal
 
 pub targets_in-loop-part-preserved : goal.targets_in-loop-part-preserved
@@ -32,7 +26,6 @@ targets_in-loop-part-preserved g t c =
     let l = c.loop-part.invariant in
     let e = targets-more parts i x c.loop-part-test.true c.part-item.is in
     let s = rw e at l.sound in
-    let p = rw e at l.plain in
     let w = rw e at l.apart in
     let at = env_of c.args.at.now in
     let l0 = list_of c.loop-part.cells in
@@ -42,10 +35,9 @@ targets_in-loop-part-preserved g t c =
       grows = grows-then (list_of c.args.cells.now) l0 l1 l.grows g;
       fits = fits-stays names l0 l1 at g l.fits;
       sound = s.1;
-      plain = p.1;
       apart = none-right _ _ w;
       leads = λ files after new h. l.leads files after new (rw e (spotted-then names (indices_count body (target_of x)) (all_indices_count body (targets_of (drop (i + 1) parts))) at l0 l1 new
-          c.loop-part.spots.items c.spots_in.new.spots.items after _ _ _ _ _ _ l.fits (c.in_ok-spots_in.ensures.spotted files) h));
+          c.loop-part.spots.items c.spots_in.new.spots.items after _ _ _ _ _ _ _ _ l.fits (c.in_ok-spots_in.ensures.spotted files) h));
     }
 
 pub targets_in-returns-clause-spotted : goal.targets_in-returns-clause-spotted
@@ -55,10 +47,26 @@ targets_in-returns-clause-spotted g t c = λ files.
     let cells = list_of c.loop-part.cells in
     l.leads files c.loop-part.spots.items cells (rw none (spotted-none (names_of c.args.self.now) (env_of c.args.at.now) cells c.loop-part.spots.items))
 
-pub spots_in-base_signal-requires : goal.spots_in-base_signal-requires
-spots_in-base_signal-requires g t c =
+pub spots_in-whole_in-requires-clause-sound : goal.spots_in-whole_in-requires-clause-sound
+spots_in-whole_in-requires-clause-sound g t c =
+    let e = whole-of c.args.target.now c.in-Sig.field-0 c.in-Sig.is in
+    rw e (rw e at c.requires.sound)
+
+pub spots_in-whole_in-requires-in-Word-clause-sound : goal.spots_in-whole_in-requires-in-Word-clause-sound
+spots_in-whole_in-requires-in-Word-clause-sound g t c =
+    let e = word-of c.args.target.now c.in-Word.field-0 c.in-Word.field-1 c.in-Word.is in
+    rw e (rw e at c.requires.sound)
+
+pub spots_in-slice_target_in-requires-clause-sound : goal.spots_in-slice_target_in-requires-clause-sound
+spots_in-slice_target_in-requires-clause-sound g t c =
     let e = slice-of c.args.target.now c.in-Slice.base c.in-Slice.low c.in-Slice.width c.in-Slice.is in
-    let p = rw e at c.requires.plain in
+    let p = rw e at c.requires.sound in
+    rw c.deref.ensures p
+
+pub spots_in-slice_target_in-requires-clause-apart : goal.spots_in-slice_target_in-requires-clause-apart
+spots_in-slice_target_in-requires-clause-apart g t c =
+    let e = slice-of c.args.target.now c.in-Slice.base c.in-Slice.low c.in-Slice.width c.in-Slice.is in
+    let p = rw e at c.requires.apart in
     rw c.deref.ensures p
 
 pub spots_in-pick_target_in-requires-clause-sound : goal.spots_in-pick_target_in-requires-clause-sound
@@ -67,45 +75,18 @@ spots_in-pick_target_in-requires-clause-sound g t c =
     let p = rw e at c.requires.sound in
     rw (c.deref-in-Pick.ensures, c.deref-in-Pick-2.ensures) p
 
-pub spots_in-pick_target_in-requires-clause-plain : goal.spots_in-pick_target_in-requires-clause-plain
-spots_in-pick_target_in-requires-clause-plain g t c =
-    let e = pick-of c.args.target.now c.in-Pick.base c.in-Pick.index c.in-Pick.from c.in-Pick.width c.in-Pick.is in
-    let p = rw e at c.requires.plain in
-    rw c.deref-in-Pick.ensures p
-
 pub spots_in-pick_target_in-requires-clause-apart : goal.spots_in-pick_target_in-requires-clause-apart
 spots_in-pick_target_in-requires-clause-apart g t c =
     let e = pick-of c.args.target.now c.in-Pick.base c.in-Pick.index c.in-Pick.from c.in-Pick.width c.in-Pick.is in
     let p = rw e at c.requires.apart in
     rw c.deref-in-Pick.ensures p
 
-pub spots_in-returns-in-Sig-clause-spotted : goal.spots_in-returns-in-Sig-clause-spotted
-spots_in-returns-in-Sig-clause-spotted g t c =
-    let e = whole-of c.args.target.now c.in-Sig.signal c.in-Sig.is in
-    let sound = rw e at c.requires.sound in
-    let apart = rw e at c.requires.apart in
-    let before = c.args.spots.now.items in
-    let after = c.add_spot.new.spots.items in
-    let w = c.signal_form-width.result.width in
-    let p : Spot = record { signal = c.in-Sig.signal; low = place.Constant (pos 0); width = w } in
-    rw e (on_ok_weaker c.add_spot.result
-    (λ (are : after ≡ before ++ p ∷ []) files. spotted-whole (scope_of c.args.self.now files) (env_of c.args.at.now) before after c.in-Sig.signal w (list_of c.args.cells.now) sound apart (ap (λ (f : Form). f.width) c.signal_form-width.ensures.value) are)
-    c.add_spot.ensures)
-
 pub spots_in-returns-in-Slice-clause-spotted : goal.spots_in-returns-in-Slice-clause-spotted
 spots_in-returns-in-Slice-clause-spotted g t c =
     let e = slice-of c.args.target.now c.in-Slice.base c.in-Slice.low c.in-Slice.width c.in-Slice.is in
-    let sound = rw e at c.requires.sound in
-    let apart = rw e at c.requires.apart in
-    let before = c.args.spots.now.items in
-    let after = c.add_spot-in-Slice.new.spots.items in
-    let base = rw c.deref.ensures at c.base_signal.ensures in
-    let same : c.bit_at-low.result ≡ place.Constant c.in-Slice.low = c.bit_at-low.ensures ∙ ap place.Constant (to_z-of_z w32 c.in-Slice.low (search rules)) in
-    let p : Place → Spot = λ z. record { signal = c.base_signal.result; low = z; width = c.in-Slice.width } in
-    rw e (on_ok_weaker c.add_spot-in-Slice.result
-    (λ (are : after ≡ before ++ p c.bit_at-low.result ∷ []) files. spotted-slice (scope_of c.args.self.now files) (env_of c.args.at.now) before after (target_of c.in-Slice.base.value) c.in-Slice.low c.in-Slice.low c.in-Slice.width c.base_signal.result (list_of c.args.cells.now) base sound apart refl
-    (are ∙ ap (λ (z : Place). before ++ p z ∷ []) same))
-    c.add_spot-in-Slice.ensures)
+    let plain = to_z-of_z w32 c.in-Slice.low (search rules) in
+    let done = rw (c.deref.ensures, plain) at c.slice_target_in.ensures.spotted in
+    rw e done
 
 pub spots_in-returns-in-Pick-clause-spotted : goal.spots_in-returns-in-Pick-clause-spotted
 spots_in-returns-in-Pick-clause-spotted g t c =
@@ -128,15 +109,13 @@ targets_in-spots_in-requires g t c =
     let p = target-part c.args.parts.now i x c.loop-part-test.true c.part-item.is in
     let e = targets-more c.args.parts.now i x c.loop-part-test.true c.part-item.is in
     let s = rw e at l.sound in
-    let n = rw e at l.plain in
     let w = rw e at l.apart in
-    λ κs lives. (omega (arith, m, p), (lives, (c.requires.functions, (s.0, (n.0, (none-left _ _ w, l.fits))))))
+    λ κs lives. (omega (arith, m, p), (lives, (c.requires.functions, (s.0, (none-left _ _ w, l.fits)))))
 
 pub spots_in-targets_in-requires : goal.spots_in-targets_in-requires
 spots_in-targets_in-requires g t c =
     let e = list-of c.args.target.now c.in-List.parts c.in-List.is in
     let m = rw e at c.decreases in
     let s = rw e at c.requires.sound in
-    let n = rw e at c.requires.plain in
     let w = rw e at c.requires.apart in
-    rw c.deref-in-List.ensures.value (λ κs lives. (omega (arith, m), (lives, (c.requires.functions, (s.1, (n, (w, c.requires.fits)))))))
+    rw c.deref-in-List.ensures.value (λ κs lives. (omega (arith, m), (lives, (c.requires.functions, (s.1, (w, c.requires.fits))))))

@@ -1,16 +1,17 @@
 use Rattle.cell_expr.proofs.Labelling.{case-does, case-leaves}
-use Rattle.cell_expr.proofs.Listing.{apart-at, then-more, none-left, none-right, waits-at, items-wait-at}
+use Rattle.cell_expr.proofs.Listing.{apart-at, then-more, none-left, none-right, list-then, list-both, list-none, waits-at, items-wait-at}
 use Rattle.cell_expr.proofs.Nets.{if-segment, set-segment, later-segment}
 use Rattle.cell_expr.proofs.Sizes.{exp_size, stm_size, items_size, item-part, stm-part}
-use Rattle.cell_expr.proofs.Trying.{tried-default, tried-item, item-sound, item-segment, item-apart, others-apart, default-sound, default-segment, default-apart}
+use Rattle.cell_expr.proofs.Trying.{tried-default, tried-item, item-sound, item-segment, item-apart, others-apart, stored-default, stored-item, default-words, default-sound, default-segment, default-apart}
 use Rattle.cell_expr.specs.Bodies.{IsSegment, CanWait}
 use Rattle.cell_expr.specs.Contexts.{names_of, scope_of, body_of}
 use Rattle.cell_expr.specs.Counts.{exp_count, stm_count}
+use Rattle.cell_expr.specs.Stored.{stored_words, items_stored, default_stored}
 use Rattle.cell_form.specs.Views.{list_of}
 use Rattle.cell_later.proofs.Keeping.{pending-stays}
 use Rattle.cell_later.proofs.Leaving.{leaves-nop, leaves-set, leaves-then, leaves-if, leaves-no-items}
 use Rattle.cell_later.specs.Delays.{Leaves}
-use Rattle.cell_later.specs.Pendings.{slots_of}
+use Rattle.cell_later.specs.Pendings.{slots_of, memories_of}
 use Rattle.cell_paths.proofs.Casing.{tries-none}
 use Rattle.cell_paths.proofs.Staying.{fits-stays, is-slot-stays, gives-slot}
 use Rattle.cell_paths.proofs.Testing.{does-if}
@@ -19,7 +20,7 @@ use Rattle.cell_paths.specs.Envs.{env_of}
 use Rattle.cell_paths.specs.Paths.{Does}
 use Rattle.cell_steps.proofs.Frames.{grows-then}
 use Rattle.cell_steps.specs.Slots.{Nothing}
-use Rattle.std.proofs.Common.{[], ◌≡◌, ◌+◌, List, drop, ◌∙◌, sym, subst, nat_lt, false, ◌*◌, arith, length}
+use Rattle.std.proofs.Common.{[], ◌≡◌, ◌+◌, ◌++◌, List, drop, ◌∙◌, sym, ap, subst, append-nil, nat_lt, false, ◌*◌, arith, length}
 use Rattle.std.proofs.lemmas.List.{drop_all}
 use Rattle.std.proofs.lemmas.Result.{IfOk-weaker, on_ok_weaker}
 use Rattle.vl_base.specs.declared.files.File.{File}
@@ -101,6 +102,7 @@ items_in-loop-item-preserved g t c =
       pending = (d []).pending;
       segment = items-wait-at names (length c.loop-item.pending.update.items) (length c.try_in.new.pending.update.items) others (d []).many (item-segment (CanWait names (length c.loop-item.pending.update.items)) es a others n).1;
       apart = others-apart c.loop-item.at.first c.try_in.new.at.first others (d []).first (item-apart c.loop-item.at.first es a others w).1;
+      sites = c.in_ok-rest.ensures.sites others ∙ (rw e at l.sites);
       leads = λ files r at new h. l.leads files r at new (rw e ((d files).leads others r at new h));
       leaves = λ files r at p new h. l.leaves files r at p new (rw e ((d files).leaves others r at p new h));
     }
@@ -240,6 +242,7 @@ list_in-loop-item-preserved g t c =
       pending = (c.in_ok-statement_in.ensures.leaves []).pending;
       segment = waits-at names (length c.loop-item.pending.update.items) (length c.statement_in.new.pending.update.items) rest (c.in_ok-statement_in.ensures.leaves []).many n.1;
       apart = apart-at c.loop-item.at.first c.statement_in.new.at.first rest (d []).keeps.first (none-right _ _ w);
+      sites = list-then (memories_of c.loop-item.pending.sites.items) (memories_of c.statement_in.new.pending.sites.items) (stored_words a) (stored_words rest) _ c.in_ok-statement_in.ensures.sites (rw e at l.sites);
       leads = λ files at new h. l.leads files at new (rw e (does-then names (scope_of c.args.self.now files) (stm_count body a) (stm_count body rest) c.args.off a rest (env_of c.loop-item.at) (env_of c.statement_in.new.at) at l0 l1 new l.off.there (d files) h));
       leaves = λ files p new h. l.leaves files p new (rw e (leaves-then names (stm_count body a) c.args.off (exec (scope_of c.args.self.now files) a) (exec (scope_of c.args.self.now files) rest)
           (env_of c.loop-item.at) (env_of c.statement_in.new.at) (slots_of c.loop-item.pending) (slots_of c.statement_in.new.pending) p l0 l1 new l.off.there (d files) (c.in_ok-statement_in.ensures.leaves files) h));
@@ -341,17 +344,11 @@ statement_in-later_in-requires-clause-source g t c =
     let s = rw e at c.requires.sound in
     s.1
 
-pub statement_in-later_in-requires-clause-plain : goal.statement_in-later_in-requires-clause-plain
-statement_in-later_in-requires-clause-plain g t c =
-    let e = later-segment (CanWait (names_of c.args.self.now) (length c.args.pending.now.update.items)) [] c.args.a.now c.in-Later.target c.in-Later.source c.in-Later.is c.requires.segment in
-    let s = rw e at c.requires.segment in
-    s.0
-
 pub statement_in-later_in-requires-clause-many : goal.statement_in-later_in-requires-clause-many
 statement_in-later_in-requires-clause-many g t c =
     let e = later-segment (CanWait (names_of c.args.self.now) (length c.args.pending.now.update.items)) [] c.args.a.now c.in-Later.target c.in-Later.source c.in-Later.is c.requires.segment in
     let s = rw e at c.requires.segment in
-    s.1
+    s
 
 pub statement_in-later_in-requires-clause-apart : goal.statement_in-later_in-requires-clause-apart
 statement_in-later_in-requires-clause-apart g t c =
@@ -428,6 +425,104 @@ pub statement_in-returns-in-Later-clause-does : goal.statement_in-returns-in-Lat
 statement_in-returns-in-Later-clause-does g t c =
     let e = later-segment (CanWait (names_of c.args.self.now) (length c.args.pending.now.update.items)) [] c.args.a.now c.in-Later.target c.in-Later.source c.in-Later.is c.requires.segment in
     rw e c.later_in.ensures.does
+
+-- ---- the memories whose words are written
+
+pub try_in-returns-then-is_empty-clause-sites : goal.try_in-returns-then-is_empty-clause-sites
+try_in-returns-then-is_empty-clause-sites g t c = λ others.
+    let x = c.args.item.now in
+    let test = rw c.as_slice.ensures.value at c.is_empty.ensures in
+    stored-default x.labels.items (stm_of [] x.body) others (memories_of c.args.pending.now.sites.items) (none-there x.labels.items c.is_empty.result test c.if-is_empty.true)
+
+pub try_in-returns-else-is_empty-clause-sites : goal.try_in-returns-else-is_empty-clause-sites
+try_in-returns-else-is_empty-clause-sites g t c =
+    let x = c.args.item.now in
+    let test = rw c.as_slice.ensures.value at c.is_empty.ensures in
+    let ms = memories_of c.args.pending.now.sites.items in
+    let ns = memories_of c.item_in.new.pending.sites.items in
+    on_ok_weaker c.item_in.result
+    (λ (e : ns ≡ ms ++ stored_words (stm_of [] x.body)) others. stored-item x.labels.items (stm_of [] x.body) others ms ns (some-there x.labels.items c.is_empty.result test c.if-is_empty.false) e)
+    c.item_in.ensures.sites
+
+pub items_in-returns-clause-sites : goal.items_in-returns-clause-sites
+items_in-returns-clause-sites g t c =
+    let none = drop_all c.loop-item.item-index c.args.items.now c.loop-item-test.false in
+    list-none (memories_of c.loop-item.pending.sites.items) _ (rw none at c.loop-item.invariant.sites)
+
+pub case_in-returns-in-None-clause-sites : goal.case_in-returns-in-None-clause-sites
+case_in-returns-in-None-clause-sites g t c =
+    let items = items_of [] c.args.items.now in
+    let none = rw c.in-None.is at (c.default_of.ensures.body []) in
+    let empty = ap stored_words none ∙ default-words items in
+    let ms = memories_of c.args.pending.now.sites.items in
+    let ns = memories_of c.items_in.new.pending.sites.items in
+    list-both ms ns ns (items_stored items) (default_stored items) c.in_ok-rest.ensures.sites (sym (append-nil ns) ∙ ap (λ xs. ns ++ xs) empty)
+
+pub case_in-returns-in-Some-clause-sites : goal.case_in-returns-in-Some-clause-sites
+case_in-returns-in-Some-clause-sites g t c =
+    let items = items_of [] c.args.items.now in
+    let x = c.index-items-number.result in
+    let there = rw c.in-Some.is at c.default_of.ensures.there in
+    let body = rw c.in-Some.is at (c.default_of.ensures.body []) in
+    let same = sym (body-is [] c.args.items.now c.in-Some.number x there c.index-items-number.is) ∙ body in
+    let ms = memories_of c.args.pending.now.sites.items in
+    let ns = memories_of c.items_in.new.pending.sites.items in
+    let ks = memories_of c.statement_in.new.pending.sites.items in
+    on_ok_weaker c.statement_in.result
+    (λ (e : ks ≡ ns ++ stored_words (stm_of [] x.body)).
+    list-both ms ns ks (items_stored items) (default_stored items) c.in_ok-rest.ensures.sites (e ∙ ap (λ (a : Stm). ns ++ stored_words a) same ∙ ap (λ xs. ns ++ xs) (default-words items)))
+    (rw (← c.index-items-number.is) at c.statement_in.ensures.sites)
+
+pub list_in-returns-clause-sites : goal.list_in-returns-clause-sites
+list_in-returns-clause-sites g t c =
+    let none = drop_all c.loop-item.item-index c.args.list.now c.loop-item-test.false in
+    list-none (memories_of c.loop-item.pending.sites.items) _ (rw none at c.loop-item.invariant.sites)
+
+pub if_in-returns-clause-sites : goal.if_in-returns-clause-sites
+if_in-returns-clause-sites g t c =
+    let a = stm_of [] c.args.first.now in
+    let b = stm_of [] c.args.second.now in
+    let ms = memories_of c.args.pending.now.sites.items in
+    let ns = memories_of c.statement_in.new.pending.sites.items in
+    let ks = memories_of c.statement_in-2.new.pending.sites.items in
+    on_ok_weaker c.statement_in-2.result (λ (e : ks ≡ ns ++ stored_words b). list-both ms ns ks (stored_words a) (stored_words b) c.in_ok-statement_in.ensures.sites e) c.statement_in-2.ensures.sites
+
+pub statement_in-returns-in-Nop-clause-sites : goal.statement_in-returns-in-Nop-clause-sites
+statement_in-returns-in-Nop-clause-sites g t c = rw c.in-Nop.is (sym (append-nil (memories_of c.args.pending.now.sites.items)))
+
+pub statement_in-returns-in-Seq-clause-sites : goal.statement_in-returns-in-Seq-clause-sites
+statement_in-returns-in-Seq-clause-sites g t c =
+    let e = stm_of-Seq [] c.args.a.now c.in-Seq.list c.in-Seq.is in
+    let done = rw c.deref.ensures.value at c.list_in.ensures.sites in
+    rw e done
+
+pub statement_in-returns-in-If-clause-sites : goal.statement_in-returns-in-If-clause-sites
+statement_in-returns-in-If-clause-sites g t c =
+    let e = if-segment (CanWait (names_of c.args.self.now) (length c.args.pending.now.update.items)) [] c.args.a.now c.in-If.test c.in-If.first c.in-If.second c.in-If.is c.requires.segment in
+    let done = rw (c.deref-in-If.ensures, c.deref-in-If-2.ensures) at c.if_in.ensures.sites in
+    rw e done
+
+pub statement_in-returns-in-Case-clause-sites : goal.statement_in-returns-in-Case-clause-sites
+statement_in-returns-in-Case-clause-sites g t c =
+    let e = case-of [] c.args.a.now c.in-Case.subject c.in-Case.items c.in-Case.field-2 c.in-Case.is in
+    let done = rw c.deref-in-Case.ensures.value at c.case_in.ensures.sites in
+    rw e done
+
+pub statement_in-returns-in-Set-clause-sites : goal.statement_in-returns-in-Set-clause-sites
+statement_in-returns-in-Set-clause-sites g t c =
+    let e = set-segment (CanWait (names_of c.args.self.now) (length c.args.pending.now.update.items)) [] c.args.a.now c.in-Set.target c.in-Set.source c.in-Set.is c.requires.segment in
+    rw e (
+    on_ok_weaker c.set_in.result
+    (λ (d : (files : List File) → Does (names_of c.args.self.now) (stm_count (body_of c.args.self.now) (Set (target_of c.in-Set.target) (exp_of c.in-Set.source))) (exec (scope_of c.args.self.now files) (Set (target_of c.in-Set.target) (exp_of c.in-Set.source)))
+    c.args.off (env_of c.args.at.now) (env_of c.set_in.new.at) (list_of c.args.cells.now) (list_of c.set_in.new.cells)). sym (append-nil (memories_of c.args.pending.now.sites.items)))
+    c.set_in.ensures.does)
+
+pub statement_in-returns-in-Later-clause-sites : goal.statement_in-returns-in-Later-clause-sites
+statement_in-returns-in-Later-clause-sites g t c =
+    let e = later-segment (CanWait (names_of c.args.self.now) (length c.args.pending.now.update.items)) [] c.args.a.now c.in-Later.target c.in-Later.source c.in-Later.is c.requires.segment in
+    rw e c.later_in.ensures.sites
+
+-- ---- calls
 
 pub item_in-statement_in-requires : goal.item_in-statement_in-requires
 item_in-statement_in-requires g t c =

@@ -2,15 +2,16 @@ use Rattle.cell_expr.proofs.Sizes.{exp_size, stm_size, items_size}
 use Rattle.cell_expr.specs.Bodies.{IsSegment, AreSegmentItems, CanWait}
 use Rattle.cell_expr.specs.Contexts.{names_of, scope_of, body_of}
 use Rattle.cell_expr.specs.Counts.{items_count, stm_count}
+use Rattle.cell_expr.specs.Stored.{stored_words, items_stored}
 use Rattle.cell_form.specs.Data.{ListData}
 use Rattle.cell_form.specs.Views.{list_of}
 use Rattle.cell_later.specs.Delays.{Leaves, LeavesItems}
-use Rattle.cell_later.specs.Pendings.{PendingSlots, slots_of, ArePending}
+use Rattle.cell_later.specs.Pendings.{PendingSlots, slots_of, memories_of, ArePending}
 use Rattle.cell_paths.specs.Cases.{Tries}
 use Rattle.cell_paths.specs.Envs.{Env, env_of, Fits, IsSlot}
 use Rattle.cell_paths.specs.Paths.{Does}
 use Rattle.cell_steps.specs.Slots.{Grows}
-use Rattle.std.proofs.Common.{◌≡◌, ℕ, List, [], drop, false, nat_lt, ◌+◌, ◌*◌, length}
+use Rattle.std.proofs.Common.{◌≡◌, ℕ, List, [], drop, false, nat_lt, ◌+◌, ◌*◌, ◌++◌, length}
 use Rattle.vl_base.specs.declared.files.File.{File}
 use Rattle.vl_design.specs.Exec.{exec}
 use Rattle.vl_design.specs.Reads.{items_write, stm_writes}
@@ -56,6 +57,7 @@ invariant-items_in-loop-item g l =
       pending : ArePending names cells (slots_of l.pending);
       segment : AreSegmentItems (CanWait names (length l.pending.update.items)) rest;
       apart : items_write (λ k. nat_lt k l.at.first) rest ≡ false;
+      sites : memories_of l.pending.sites.items ++ items_stored rest ≡ memories_of l.initial.pending.sites.items ++ items_stored whole;
       leads : (files : List File) (r : ℕ) (at : Env) (new : ListData) → Tries names (items_count (body_of l.self) rest) (scope_of l.self files) l.c l.subject rest l.rest r (env_of l.at) at cells new
           → Tries names (items_count (body_of l.self) whole) (scope_of l.self files) l.c l.subject whole l.initial.rest r (env_of l.initial.at) at (list_of l.initial.cells) new;
       leaves : (files : List File) (r : ℕ) (at : Env) (p : PendingSlots) (new : ListData) → LeavesItems names (scope_of l.self files) l.c l.subject rest l.rest r (env_of l.at) at (slots_of l.pending) p cells new
@@ -76,6 +78,7 @@ invariant-list_in-loop-item g l =
       pending : ArePending names cells (slots_of l.pending);
       segment : IsSegment (CanWait names (length l.pending.update.items)) rest;
       apart : stm_writes (λ k. nat_lt k l.at.first) rest ≡ false;
+      sites : memories_of l.pending.sites.items ++ stored_words rest ≡ memories_of l.initial.pending.sites.items ++ stored_words whole;
       leads : (files : List File) (at : Env) (new : ListData) → Does names (stm_count (body_of l.self) rest) (exec (scope_of l.self files) rest) l.off (env_of l.at) at cells new
           → Does names (stm_count (body_of l.self) whole) (exec (scope_of l.self files) whole) l.off (env_of l.initial.at) at (list_of l.initial.cells) new;
       leaves : (files : List File) (p : PendingSlots) (new : ListData) → Leaves names (exec (scope_of l.self files) rest) l.off (env_of l.at) (slots_of l.pending) p cells new

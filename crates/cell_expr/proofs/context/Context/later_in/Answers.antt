@@ -1,4 +1,4 @@
-use Rattle.std.proofs.Common.{◌+◌, ◌*◌, [], map}
+use Rattle.std.proofs.Common.{◌≡◌, ◌+◌, ◌*◌, ◌++◌, ◌∙◌, [], map, ap}
 use Rattle.std.proofs.lemmas.Result.{on_ok_weaker}
 use Rattle.vl_design.specs.Targets.{updates_at}
 use Rattle.vl_design.specs.Trees.{exp_of, target_of}
@@ -6,12 +6,12 @@ use Rattle.cell_form.specs.Views.{list_of}
 use Rattle.cell_steps.specs.Slots.{held}
 use Rattle.cell_paths.specs.Envs.{env_of}
 use Rattle.cell_later.specs.Delays.{Delays}
-use Rattle.cell_later.specs.Pendings.{slots_of}
+use Rattle.cell_later.specs.Pendings.{slots_of, memories_of}
 use Rattle.cell_later.proofs.Keeping.{pending-stays}
 use Rattle.cell_paths.proofs.Staying.{fits-stays}
 use Rattle.cell_expr.specs.Contexts.{names_of, scope_of, body_of}
 use Rattle.cell_expr.specs.Counts.{exp_count, indices_count}
-use Rattle.cell_expr.specs.Spots.{cells_of, spot_in}
+use Rattle.cell_expr.specs.Spots.{cells_of, spot_in, stored_by}
 use Rattle.cell_expr.proofs.Setting.{later-does, later-leaves}
 use Rattle.cell_expr.proofs.context.Context.later_in.Goals as goal
 
@@ -48,7 +48,7 @@ returns-clause-does g c =
     let slot = c.in_ok-value.value in
     let spots = c.source_in.new.spots.items in
     on_ok_weaker c.delay_all.result
-    (λ (u : Delays (names_of ctx) (2 * cells_of spots) (λ b. updates_at (map (spot_in b l1) spots) (held b l1 slot)) c.args.off p p' l1 l2) files.
+    (λ (u : Delays (names_of ctx) (2 * cells_of spots) (λ b. updates_at (map (spot_in (names_of ctx).rows b l1) spots) (held b l1 slot)) c.args.off p p' l1 l2) files.
     later-does (scope_of ctx files) target e (exp_count body e + indices_count body target) slot spots at l0 l1 l2 c.requires.fits (c.in_ok-value.ensures.assigned files) c.args.off p p' u)
     (rw c.deref.ensures.value at c.delay_all.ensures.delays)
 
@@ -67,6 +67,14 @@ returns-clause-leaves g c =
     let slot = c.in_ok-value.value in
     let spots = c.source_in.new.spots.items in
     on_ok_weaker c.delay_all.result
-    (λ (u : Delays (names_of ctx) (2 * cells_of spots) (λ b. updates_at (map (spot_in b l1) spots) (held b l1 slot)) c.args.off p p' l1 l2) files.
+    (λ (u : Delays (names_of ctx) (2 * cells_of spots) (λ b. updates_at (map (spot_in (names_of ctx).rows b l1) spots) (held b l1 slot)) c.args.off p p' l1 l2) files.
     later-leaves (scope_of ctx files) target e (exp_count body e + indices_count body target) slot spots at l0 l1 l2 c.requires.fits (c.in_ok-value.ensures.assigned files) c.args.off p p' c.requires.pending c.requires.off.there u)
     (rw c.deref.ensures.value at c.delay_all.ensures.delays)
+
+pub returns-clause-sites : goal.returns-clause-sites
+returns-clause-sites g c =
+    let ms = memories_of c.args.pending.now.sites.items in
+    let ns = memories_of c.delay_all.new.pending.sites.items in
+    on_ok_weaker c.delay_all.result
+    (λ (h : ns ≡ ms ++ stored_by c.source_in.new.spots.items). h ∙ ap (λ xs. ms ++ xs) (c.in_ok-value.ensures.assigned []).words)
+    (rw c.deref.ensures.value at c.delay_all.ensures.sites)

@@ -1,4 +1,4 @@
-use Rattle.std.proofs.Common.{◌+◌, [], map}
+use Rattle.std.proofs.Common.{◌+◌, ◌∙◌, [], map}
 use Rattle.std.proofs.lemmas.Result.{on_ok_weaker}
 use Rattle.vl_design.specs.Targets.{updates_at}
 use Rattle.vl_design.specs.Trees.{exp_of, target_of}
@@ -10,6 +10,7 @@ use Rattle.cell_paths.proofs.Staying.{fits-stays}
 use Rattle.cell_expr.specs.Contexts.{names_of, scope_of, body_of}
 use Rattle.cell_expr.specs.Counts.{exp_count, indices_count}
 use Rattle.cell_expr.specs.Spots.{cells_of, spot_in}
+use Rattle.cell_expr.proofs.Nets.{plain-stored}
 use Rattle.cell_expr.proofs.Setting.{set-does}
 use Rattle.cell_expr.proofs.context.Context.set_in.Goals as goal
 
@@ -18,6 +19,9 @@ assign_all-requires-clause-fits g c = fits-stays (names_of c.args.self.now) (lis
 
 pub assign_all-requires-clause-spots : goal.assign_all-requires-clause-spots
 assign_all-requires-clause-spots g c = rw c.deref.ensures.value (c.in_ok-value.ensures.assigned []).sound
+
+pub assign_all-requires-clause-whole : goal.assign_all-requires-clause-whole
+assign_all-requires-clause-whole g c = rw c.deref.ensures.value ((c.in_ok-value.ensures.assigned []).words ∙ plain-stored (target_of c.args.target.now) c.requires.plain)
 
 pub assign_all-requires-clause-value : goal.assign_all-requires-clause-value
 assign_all-requires-clause-value g c = (c.in_ok-value.ensures.assigned []).there
@@ -42,6 +46,6 @@ returns-clause-does g c =
     let slot = c.in_ok-value.value in
     let spots = c.source_in.new.spots.items in
     on_ok_weaker c.assign_all.result
-    (λ (u : Updates (names_of ctx) (cells_of spots) (λ b. updates_at (map (spot_in b l1) spots) (held b l1 slot)) c.args.off at at' l1 l2) files.
+    (λ (u : Updates (names_of ctx) (cells_of spots) (λ b. updates_at (map (spot_in (names_of ctx).rows b l1) spots) (held b l1 slot)) c.args.off at at' l1 l2) files.
     set-does (scope_of ctx files) target e (exp_count body e + indices_count body target) slot spots at l0 l1 l2 c.requires.fits (c.in_ok-value.ensures.assigned files) c.args.off at' c.requires.off.there u)
     (rw c.deref.ensures.value at c.assign_all.ensures.updates)

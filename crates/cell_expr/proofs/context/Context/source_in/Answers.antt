@@ -10,6 +10,7 @@ use Rattle.cell_paths.proofs.Staying.{fits-stays}
 use Rattle.cell_expr.specs.Contexts.{names_of, scope_of, body_of}
 use Rattle.cell_expr.specs.Counts.{exp_count, indices_count, parts_count}
 use Rattle.cell_expr.specs.Compiled.{Compiles}
+use Rattle.cell_expr.specs.Stored.{target_stored}
 use Rattle.cell_expr.proofs.Adding.{spotted-first, assigned-narrow}
 use Rattle.cell_expr.proofs.Setting.{are-assigned}
 use Rattle.cell_expr.proofs.Spotting.{target-width}
@@ -41,5 +42,5 @@ returns-clause-assigned g c = λ files.
     let m = indices_count body target in
     let scope = scope_of ctx files in
     let value-is = subst (λ (z : Form). Compiles names scope n e z at l0 l1 slot) is (c.in_ok-value.ensures.gives files) in
-    let spotted = spotted-first names m at l1 l2 c.args.spots.now.items c.spots_in.new.spots.items (target_width names target) (parts_count target) _ c.requires.none (c.in_ok-spots_in.ensures.spotted files) in
+    let spotted = spotted-first names m at l1 l2 c.args.spots.now.items c.spots_in.new.spots.items (target_width names target) (parts_count target) (target_stored target) _ c.requires.none (c.in_ok-spots_in.ensures.spotted files) in
     are-assigned scope target e n m slot c.spots_in.new.spots.items at l0 l1 l2 c.requires.target c.requires.source c.requires.fits value-is spotted

@@ -11,10 +11,10 @@ use Rattle.cell_form.specs.Cycle.{masked}
 use Rattle.cell_form.specs.Data.{ListData, BankData}
 use Rattle.cell_steps.specs.Slots.{held}
 use Rattle.cell_later.specs.declared.pending.Site.{Site}
-use Rattle.cell_later.specs.Pendings.{stored}
-use Rattle.cell_stores.specs.declared.store.Store.{Store}
-use Rattle.cell_stores.specs.Stores.{enable_register, word_register, value_register, mask_register, writes_word, stored_by, IsStore, IsIdle, HoldsWords}
-use Rattle.cell_stores.specs.Keeping.{EachHas}
+use Rattle.cell_later.specs.Pendings.{hits, stored}
+use Rattle.ten_stores.specs.declared.store.Store.{Store}
+use Rattle.ten_stores.specs.Holding.{enable_register, word_register, value_register, mask_register, writes_word, stored_by, IsStore, IsIdle, HoldsWords}
+use Rattle.cell_stores.specs.Reading.{EachHas}
 use Rattle.cell_stores.proofs.Listing.{all-with}
 
 -- ---- one write
@@ -47,6 +47,17 @@ by-idle b (x ∷ xs) m j v h =
     ap (stored_by b xs m j)
     (put-none x.memory m j v (slice_index b.regs (enable_register x)) (slice_index b.regs (word_register x)) (slice_index b.regs (value_register x)) (slice_index b.regs (mask_register x)) h.0)
     ∙ by-idle b xs m j v h.1
+
+-- ---- sites in order
+
+pub sites-more : (b : BankData) (l : ListData) (xs ys : List Site) (m j v : ℕ) → stored b l (xs ++ ys) m j v ≡ stored b l ys m j (stored b l xs m j v)
+sites-more b l [] ys m j v = refl
+sites-more b l (x ∷ xs) ys m j v = sites-more b l xs ys m j (if hits b l x m j then masked v (held b l x.value) (held b l x.mask) else v)
+
+pub sites-idle : (b : BankData) (l : ListData) (xs : List Site) (m j v : ℕ) → AllByRecursion (λ x. held b l x.enable ≡ 0) xs → stored b l xs m j v ≡ v
+sites-idle b l [] m j v h = refl
+sites-idle b l (x ∷ xs) m j v h =
+    ap (stored b l xs m j) (put-none x.memory m j v (held b l x.enable) (held b l x.word) (held b l x.value) (held b l x.mask) h.0) ∙ sites-idle b l xs m j v h.1
 
 -- ---- stores whose registers hold the same on two banks
 

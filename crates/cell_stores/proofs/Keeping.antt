@@ -1,7 +1,6 @@
 -- The writes of a segment's stores.
-use Rattle.std.proofs.Common.{◌≡◌, ◌≢◌, ℕ, ◌+◌, ◌<◌, ◌≤◌, List, [], ◌∷◌, ◌++◌, length, map, take, get_or, Option, Some, None, refl, sym, ap, ◌∙◌, arith, inl, inr}
+use Rattle.std.proofs.Common.{◌≡◌, ◌≢◌, ℕ, ◌≤◌, List, [], ◌∷◌, ◌++◌, length, map, Option, Some, None, refl, ap, ◌∙◌, arith, inl, inr}
 use Rattle.std.specs.List.{AllByRecursion}
-use Rattle.std.proofs.lemmas.List.{take_more, take_all, length-take-le}
 use Rattle.std.proofs.lemmas.List.Elements.{recursion_from_All}
 use Rattle.vl_design.specs.Width.{Names}
 use Rattle.cell_form.specs.declared.cell.Write.{Write}
@@ -12,10 +11,12 @@ use Rattle.cell_later.specs.declared.pending.Site.{Site}
 use Rattle.cell_later.specs.Pendings.{IsSite}
 use Rattle.cell_waves.specs.Lasts.{later_of, written_from, last_write, IsRegister}
 use Rattle.cell_waves.proofs.Lasting.{last-more, last-here, last-other}
-use Rattle.cell_stores.specs.declared.store.Store.{Store}
-use Rattle.cell_stores.specs.Stores.{enable_register, word_register, value_register, mask_register}
-use Rattle.cell_stores.specs.Keeping.{EachHas, each_written, HasStore, AreApart, AreDisjoint, IsBeside, keep_writes, IsKept, Keeps}
-use Rattle.cell_stores.proofs.Listing.{all-from, all-both, each-from, written-more, same-long}
+use Rattle.ten_stores.specs.declared.store.Store.{Store}
+use Rattle.ten_stores.specs.Holding.{enable_register, word_register, value_register, mask_register}
+use Rattle.cell_stores.specs.Reading.{EachHas, HasStore}
+use Rattle.cell_stores.specs.Keeping.{each_written, keep_writes, IsKept, Keeps}
+use Rattle.ten_stores.specs.Stores.{AreApart, AreDisjoint, IsBeside}
+use Rattle.cell_stores.proofs.Listing.{all-from, all-both, each-from}
 
 -- ---- one write
 
@@ -159,21 +160,3 @@ keeps stores sites old new e is =
       registers = λ h. rw is (all-both IsRegister old sets h (all-registers stores sites));
       sound = λ names z l h k g. rw is (all-both (IsWrite z l.first (length l.cells)) old sets g (all-writes names z l stores sites h (recursion_from_All (IsSite names l) sites k)));
     }
-
--- ---- one store after the other
-
-pub keep-more : (stores : List Store) (sites : List Site) (n : ℕ) (old mid new : List Write) (x : Store) (s : Site) → n < length stores → n < length sites →
-    mid ≡ old ++ each_written keep_writes (take n stores) (take n sites) → new ≡ mid ++ keep_writes (get_or stores n x) (get_or sites n s) →
-    new ≡ old ++ each_written keep_writes (take (n + 1) stores) (take (n + 1) sites)
-keep-more stores sites n old mid new x s lt less is more =
-    let long : length (take n stores) ≡ length (take n sites) = length-take-le n stores (omega (arith, lt)) ∙ sym (length-take-le n sites (omega (arith, less))) in
-    written-more keep_writes old mid new (take n stores) (take n sites) (get_or stores n x) (get_or sites n s) long is more
-    ∙ ap (λ xs. old ++ each_written keep_writes xs (take n sites ++ get_or sites n s ∷ [])) (sym (take_more stores n x lt))
-    ∙ ap (λ ss. old ++ each_written keep_writes (take (n + 1) stores) ss) (sym (take_more sites n s less))
-
-pub keep-all : (stores : List Store) (sites : List Site) (n : ℕ) (old new : List Write) → map (λ (x : Store). x.memory) stores ≡ map (λ (s : Site). s.memory) sites → length stores ≤ n →
-    new ≡ old ++ each_written keep_writes (take n stores) (take n sites) → Keeps stores sites old new
-keep-all stores sites n old new e le is =
-    let long = same-long stores sites e in
-    keeps stores sites old new e
-    (is ∙ ap (λ xs. old ++ each_written keep_writes xs (take n sites)) (take_all n stores le) ∙ ap (λ ss. old ++ each_written keep_writes stores ss) (take_all n sites (omega (arith, le, long))))

@@ -1,17 +1,14 @@
 -- What stores hold behind writes of registers.
-use Rattle.std.proofs.Common.{◌≡◌, ℕ, ◌^◌, ◌<◌, List, [], ◌∷◌, ◌++◌, length, Some, None, refl, sym, ap, ◌∙◌, arith, subst}
+use Rattle.std.proofs.Common.{◌≡◌, ℕ, ◌^◌, ◌<◌, List, [], ◌++◌, length, Some, None, sym, ap, ◌∙◌, arith, subst}
 use Rattle.std.specs.Prelude.{slice_index}
 use Rattle.std.specs.List.{AllByRecursion}
 use Rattle.std.proofs.Math.Pow.{pow_pos}
 use Rattle.std.proofs.lemmas.List.Elements.{recursion_from_All, All-from_recursion}
-use Rattle.vl_design.specs.Syntax.{Row, Flat}
+use Rattle.vl_design.specs.Syntax.{Flat}
 use Rattle.vl_design.specs.Width.{names_of, signal_form}
 use Rattle.vl_design.specs.Value.{words_of}
-use Rattle.vl_design.specs.State.{Update, with_update, all_updated}
+use Rattle.vl_design.specs.State.{Update}
 use Rattle.vl_design.specs.Sound.{IsMemory}
-use Rattle.vl_design.specs.Laws.{IsFine}
-use Rattle.vl_design.proofs.Ranging.{updates_in_range}
-use Rattle.vl_design.proofs.Shaping.{all_shape, shape_on}
 use Rattle.cell_form.specs.declared.cell.Write.{Write}
 use Rattle.cell_form.specs.Cycle.{written}
 use Rattle.cell_form.specs.Data.{ListData, BankData}
@@ -22,12 +19,14 @@ use Rattle.cell_paths.specs.Envs.{IsSlot}
 use Rattle.cell_later.specs.declared.pending.Site.{Site}
 use Rattle.cell_later.specs.Pendings.{IsSite, stored}
 use Rattle.cell_waves.specs.Lasts.{last_write, held_after}
-use Rattle.cell_stores.specs.declared.store.Store.{Store}
-use Rattle.cell_stores.specs.Stores.{enable_register, word_register, value_register, mask_register, stored_by, IsStore, IsIdle, HoldsWords}
-use Rattle.cell_stores.specs.Keeping.{EachHas, HasStore, IsKept, IsLeft, IsZero, IsSegment}
+use Rattle.ten_stores.specs.declared.store.Store.{Store}
+use Rattle.ten_stores.specs.Holding.{enable_register, word_register, value_register, mask_register, stored_by, IsStore, IsIdle, HoldsWords}
+use Rattle.cell_stores.specs.Reading.{EachHas, HasStore}
+use Rattle.cell_stores.specs.Keeping.{IsKept, IsLeft, IsZero, IsSegment}
 use Rattle.cell_stores.proofs.Behind.{register-behind}
 use Rattle.cell_stores.proofs.Listing.{all-front, all-back, all-both, all-from, all-with, each-with, each-store}
-use Rattle.cell_stores.proofs.Holding.{IsSame, IsOf, by-more, by-idle, by-same, by-sites, below-as, store-same, holds-same}
+use Rattle.cell_stores.proofs.Holding.{IsSame, IsOf, by-more, by-idle, by-same, by-sites, sites-more, below-as, store-same, holds-same}
+use Rattle.cell_stores.proofs.Reading.{reads-of}
 
 -- ---- writes elsewhere
 
@@ -82,18 +81,9 @@ zeros-hold d b stores h k = record {
   words = λ base m j fine i lt. sym (by-idle b stores m j (slice_index (words_of base m) j) (zeros-idle b stores k));
 }
 
--- ---- updates
-
-pub updated-behind : (rows : List Row) (values : List (List ℕ)) (later news : List Update) → all_updated rows values (later ++ news) ≡ all_updated rows (all_updated rows values later) news
-updated-behind rows values [] news = refl
-updated-behind rows values (u ∷ us) news = updated-behind rows (with_update rows values u) us news
-
-fine-behind : (rows : List Row) (values : List (List ℕ)) (later : List Update) → IsFine rows values → IsFine rows (all_updated rows values later)
-fine-behind rows values later f = record { range = updates_in_range rows later values f.range; shape = shape_on (all_shape rows later values) f.shape }
-
 -- ---- a segment
 
-module _ (d : Flat) (b : BankData) (l : ListData) (before own behind : List Store) (sites : List Site) (sets : List Write) (news : List Update) (h : IsSegment d b l before own behind sites sets news) where
+module _ (d : Flat) (b : BankData) (l : ListData) (before own behind : List Store) (sites : List Site) (sets : List Write) (later : List Update) (h : IsSegment d b l before own behind sites sets later) where
   abbrev after : BankData
   after = written (held b l) sets b
 
@@ -165,14 +155,13 @@ module _ (d : Flat) (b : BankData) (l : ListData) (before own behind : List Stor
       stays : (xs : List Store) → AllByRecursion (IsSame b after) xs → AllByRecursion (IsStore d b) xs → AllByRecursion (IsStore d after) xs
       stays xs s k = all-with (IsSame b after) (IsStore d b) (IsStore d after) (λ x e i. store-same d b after x e i) xs s k
 
-  pub holds-more : (later : List Update) → HoldsWords d b (before ++ own ++ behind) later → HoldsWords d after (before ++ own ++ behind) (later ++ news)
-  holds-more later k = record {
-    each = All-from_recursion (IsStore d after) (before ++ own ++ behind) (are-stores (recursion_from_All (IsStore d b) (before ++ own ++ behind) k.each));
-    words = λ base m j fine i lt.
-        let mid = all_updated d.rows base later in
-        let v = slice_index (words_of base m) j in
-        let long = (all_shape d.rows later base).words m in
-        ap (λ vs. slice_index (words_of vs m) j) (updated-behind d.rows base later news)
-        ∙ h.words mid m j (fine-behind d.rows base later fine) i (omega (arith, long, lt))
-        ∙ ap (stored b l sites m j) (k.words base m j fine i lt ∙ only-before m j v) ∙ sym (then-own m j v);
-  }
+  pub holds-more : (earlier : List Update) → HoldsWords d b (before ++ own ++ behind) earlier → HoldsWords d after (before ++ own ++ behind) later
+  holds-more earlier k =
+      let all = before ++ own ++ behind in
+      record {
+        each = All-from_recursion (IsStore d after) all (are-stores (recursion_from_All (IsStore d b) all k.each));
+        words = λ base m j fine i lt.
+            let v = slice_index (words_of base m) j in
+            h.words base m j fine i lt ∙ sites-more b l h.read_before sites m j v
+            ∙ ap (stored b l sites m j) (sym (by-sites b l b all h.read_before m j v (reads-of d h.shape b l all h.read_before h.sound k.each h.read)) ∙ only-before m j v) ∙ sym (then-own m j v);
+      }

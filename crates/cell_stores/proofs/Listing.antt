@@ -1,11 +1,12 @@
 -- Stores, and sites of as many.
-use Rattle.std.proofs.Common.{◌≡◌, ℕ, List, [], ◌∷◌, ◌++◌, length, map, refl, sym, ap, ◌∙◌, arith, append-nil, append_assoc}
+use Rattle.std.proofs.Common.{◌≡◌, ℕ, ◌+◌, ◌<◌, ◌≤◌, List, [], ◌∷◌, ◌++◌, length, map, take, get_or, refl, sym, ap, ◌∙◌, arith, append-nil, append_assoc}
 use Rattle.std.specs.List.{AllByRecursion}
-use Rattle.std.proofs.lemmas.List.{length-map}
+use Rattle.std.proofs.lemmas.List.{length-map, length-take-le, take_more, take_all}
 use Rattle.cell_form.specs.declared.cell.Write.{Write}
 use Rattle.cell_later.specs.declared.pending.Site.{Site}
-use Rattle.cell_stores.specs.declared.store.Store.{Store}
-use Rattle.cell_stores.specs.Keeping.{EachHas, each_written}
+use Rattle.ten_stores.specs.declared.store.Store.{Store}
+use Rattle.cell_stores.specs.Reading.{EachHas}
+use Rattle.cell_stores.specs.Keeping.{each_written}
 
 -- ---- lists
 
@@ -58,6 +59,13 @@ each-store A P Q f [] (s ∷ ss) a h = absurd h
 each-store A P Q f (x ∷ xs) [] a h = absurd h
 each-store A P Q f (x ∷ xs) (s ∷ ss) a h = (f x s a.0 h.0, each-store A P Q f xs ss a.1 h.1)
 
+-- and what each site has by its store
+pub each-site : (A : Store → Type 0) (P : Store → Site → Type 0) (Q : Site → Type 0) → ((x : Store) (s : Site) → A x → P x s → Q s) → (xs : List Store) (ss : List Site) → AllByRecursion A xs → EachHas P xs ss → AllByRecursion Q ss
+each-site A P Q f [] [] a h = tt
+each-site A P Q f [] (s ∷ ss) a h = absurd h
+each-site A P Q f (x ∷ xs) [] a h = absurd h
+each-site A P Q f (x ∷ xs) (s ∷ ss) a h = (f x s a.0 h.0, each-site A P Q f xs ss a.1 h.1)
+
 pub each-long : (P : Store → Site → Type 0) (xs : List Store) (ss : List Site) → EachHas P xs ss → length xs ≡ length ss
 each-long P [] [] h = refl
 each-long P [] (s ∷ ss) h = absurd h
@@ -79,6 +87,20 @@ pub written-more : (f : Store → Site → List Write) (old mid new : List Write
     new ≡ old ++ each_written f (xs ++ x ∷ []) (ss ++ s ∷ [])
 written-more f old mid new xs ss x s e is more =
     more ∙ ap (λ ws. ws ++ f x s) is ∙ append_assoc old (each_written f xs ss) (f x s) ∙ ap (λ ws. old ++ ws) (sym (written-push f xs ss x s e))
+
+-- so one store after the other
+pub written-step : (f : Store → Site → List Write) (xs : List Store) (ss : List Site) (n : ℕ) (old mid new : List Write) (x : Store) (s : Site) → length xs ≡ length ss → n < length xs →
+    mid ≡ old ++ each_written f (take n xs) (take n ss) → new ≡ mid ++ f (get_or xs n x) (get_or ss n s) → new ≡ old ++ each_written f (take (n + 1) xs) (take (n + 1) ss)
+written-step f xs ss n old mid new x s e lt is more =
+    let long : length (take n xs) ≡ length (take n ss) = length-take-le n xs (omega (arith, lt)) ∙ sym (length-take-le n ss (omega (arith, lt, e))) in
+    written-more f old mid new (take n xs) (take n ss) (get_or xs n x) (get_or ss n s) long is more
+    ∙ ap (λ ys. old ++ each_written f ys (take n ss ++ get_or ss n s ∷ [])) (sym (take_more xs n x lt))
+    ∙ ap (λ ts. old ++ each_written f (take (n + 1) xs) ts) (sym (take_more ss n s (omega (arith, lt, e))))
+
+pub written-all : (f : Store → Site → List Write) (xs : List Store) (ss : List Site) (n : ℕ) (old new : List Write) → length xs ≡ length ss → length xs ≤ n →
+    new ≡ old ++ each_written f (take n xs) (take n ss) → new ≡ old ++ each_written f xs ss
+written-all f xs ss n old new e le is =
+    is ∙ ap (λ ys. old ++ each_written f ys (take n ss)) (take_all n xs le) ∙ ap (λ ts. old ++ each_written f xs ts) (take_all n ss (omega (arith, le, e)))
 
 -- as many stores as sites, where they are of the same memories
 pub same-long : (xs : List Store) (ss : List Site) → map (λ (x : Store). x.memory) xs ≡ map (λ (s : Site). s.memory) ss → length xs ≡ length ss

@@ -1,19 +1,29 @@
--- The registers of a store in slots.
-use Rattle.std.proofs.Common.{◌≡◌, ℕ, ◌%◌, ◌^◌, ◌<◌, Some, refl, arith}
-use Rattle.std.specs.Prelude.{List, slice_index}
-use Rattle.vl_design.specs.Syntax.{Row}
-use Rattle.vl_design.specs.Width.{signal_form}
+-- The registers of stores in slots.
+use Rattle.std.proofs.Common.{◌≡◌, ℕ, ◌+◌, ◌*◌, ◌%◌, ◌^◌, ◌<◌, ◌≤◌, List, [], ◌∷◌, ◌++◌, length, map, take, get_or, Some, refl, sym, ap, ◌∙◌, arith, subst, append_assoc, length-append, mod-eq_of_lt}
+use Rattle.std.specs.Prelude.{slice_index, All}
+use Rattle.std.specs.List.{AllByRecursion}
+use Rattle.std.proofs.lemmas.List.{take_more, take_all, map-append}
+use Rattle.std.proofs.lemmas.List.Elements.{recursion_from_All, All-from_recursion}
+use Rattle.vl_design.specs.Syntax.{Row, Flat}
+use Rattle.vl_design.specs.Width.{names_of, signal_form}
+use Rattle.vl_design.specs.Value.{words_of}
+use Rattle.vl_design.specs.State.{Update, all_updated}
+use Rattle.vl_design.specs.Sound.{IsMemory}
+use Rattle.vl_design.specs.Laws.{IsFine}
 use Rattle.cell_form.specs.Data.{ListData, BankData}
 use Rattle.cell_form.specs.Sound.{Shape}
-use Rattle.cell_steps.specs.Slots.{Grows, Longer, Gives}
+use Rattle.cell_steps.specs.Slots.{held, AreSound, Grows, Longer, Gives}
 use Rattle.cell_steps.proofs.Frames.{grows-then, longer-grows, longer-then, longer-weaken}
+use Rattle.cell_paths.specs.Envs.{IsSlot}
 use Rattle.cell_reads.specs.Entries.{IsCopy}
 use Rattle.cell_reads.proofs.Reading.{copy-gives, copy-stays}
 use Rattle.cell_later.specs.declared.pending.Site.{Site}
-use Rattle.cell_stores.specs.declared.store.Store.{Store}
-use Rattle.cell_stores.specs.Stores.{enable_register, word_register, value_register, mask_register}
-use Rattle.cell_stores.specs.Keeping.{HasStore}
-use Rattle.cell_stores.specs.Applying.{IsRead}
+use Rattle.cell_later.specs.Pendings.{memories_of, IsSite, stored}
+use Rattle.ten_stores.specs.declared.store.Store.{Store}
+use Rattle.ten_stores.specs.Holding.{enable_register, word_register, value_register, mask_register, IsStore, IsIdle, HoldsWords}
+use Rattle.cell_stores.specs.Reading.{EachHas, HasStore, IsRead, Reads}
+use Rattle.cell_stores.proofs.Listing.{all-front, all-back, each-push, each-from, each-with, each-site}
+use Rattle.cell_stores.proofs.Holding.{IsOf, by-sites, sites-idle}
 
 -- more cells leave a slot what it is
 stays : (old new : ListData) (w register r : ℕ) → Grows old new → IsCopy old w register r → IsCopy new w register r
@@ -73,3 +83,84 @@ module _ (rows : List Row) (x : Store) (w e k v m : ℕ) (l0 l1 l2 l3 l4 : ListD
     value = stays l3 l4 (signal_form rows x.memory).width (value_register x) v from3 (copy-gives l2 l3 w (signal_form rows x.memory).width (value_register x) v is g3);
     mask = copy-gives l3 l4 w (signal_form rows x.memory).width (mask_register x) m is g4;
   }
+
+-- ---- stores one after the other
+
+module _ (rows : List Row) where
+  reads-push : (xs : List Store) (x : Store) (s : Site) (old mid new : ListData) (before between after : List Site) → Reads rows xs old mid before between → IsRead rows new x s → Longer (λ z. HasStore z x) 4 mid new →
+      after ≡ between ++ s ∷ [] → Reads rows (xs ++ x ∷ []) old new before after
+  reads-push xs x s old mid new before between after h read longer is =
+      let Has : Shape → Type 0 = λ z. AllByRecursion (HasStore z) (xs ++ x ∷ []) in
+      let many = length-append xs (x ∷ []) in
+      let first = longer-weaken (λ z. AllByRecursion (HasStore z) xs) Has (4 * length xs) (4 * length xs) old mid (λ z f. all-front (HasStore z) xs (x ∷ []) f) (omega arith) h.longer in
+      let last = longer-weaken (λ z. HasStore z x) Has 4 4 mid new (λ z f. (all-back (HasStore z) xs (x ∷ []) f).0) (omega arith) longer in
+      record {
+        longer = longer-weaken Has Has (4 * length xs + 4) (4 * length (xs ++ x ∷ [])) old new (λ z f. f) (omega (arith, many)) (longer-then Has (4 * length xs) 4 old mid new first last);
+        more = h.more ++ s ∷ [];
+        are = is ∙ ap (λ ss. ss ++ s ∷ []) h.are ∙ append_assoc before h.more (s ∷ []);
+        read = each-push (IsRead rows new) xs h.more x s
+            (each-from (IsRead rows mid) (IsRead rows new) (λ y t k. read-stays rows mid new y t (longer-grows (λ z. HasStore z x) 4 mid new longer) k) xs h.more h.read) read;
+      }
+
+  pub reads-step : (stores : List Store) (n : ℕ) (d : Store) (s : Site) (old mid new : ListData) (before between after : List Site) → n < length stores → Reads rows (take n stores) old mid before between →
+      IsRead rows new (get_or stores n d) s → Longer (λ z. HasStore z (get_or stores n d)) 4 mid new → after ≡ between ++ s ∷ [] → Reads rows (take (n + 1) stores) old new before after
+  reads-step stores n d s old mid new before between after lt h read longer is =
+      subst (λ xs. Reads rows xs old new before after) (sym (take_more stores n d lt)) (reads-push (take n stores) (get_or stores n d) s old mid new before between after h read longer is)
+
+  pub reads-all : (stores : List Store) (n : ℕ) (old new : ListData) (before after : List Site) → length stores ≤ n → Reads rows (take n stores) old new before after → Reads rows stores old new before after
+  reads-all stores n old new before after le h = subst (λ xs. Reads rows xs old new before after) (take_all n stores le) h
+
+  same-memories : (l : ListData) (xs : List Store) (ss : List Site) → EachHas (IsRead rows l) xs ss → memories_of ss ≡ map (λ (x : Store). x.memory) xs
+  same-memories l [] [] h = refl
+  same-memories l [] (s ∷ ss) h = absurd h
+  same-memories l (x ∷ xs) [] h = absurd h
+  same-memories l (x ∷ xs) (s ∷ ss) h = ap (λ n. n ∷ memories_of ss) h.0.memory ∙ ap (λ ns. x.memory ∷ ns) (same-memories l xs ss h.1)
+
+  pub reads-memories : (stores : List Store) (old new : ListData) (before after : List Site) → Reads rows stores old new before after → memories_of after ≡ memories_of before ++ map (λ (x : Store). x.memory) stores
+  reads-memories stores old new before after h =
+      ap memories_of h.are ∙ map-append (λ (s : Site). s.memory) before h.more ∙ ap (λ ns. memories_of before ++ ns) (same-memories new stores h.more h.read)
+
+-- ---- what they say
+
+copy-held : (z : Shape) (b : BankData) (l : ListData) (w register r : ℕ) → AreSound z l → IsCopy l w register r → slice_index b.regs register < 2 ^ w → slice_index b.regs register ≡ held b l r
+copy-held z b l w register r sound h lt = sym (h.value z b sound ∙ mod-eq_of_lt lt)
+
+read-of : (d : Flat) (z : Shape) (b : BankData) (l : ListData) (x : Store) (s : Site) → AreSound z l → IsStore d b x → IsRead d.rows l x s → IsOf b l b x s
+read-of d z b l x s sound h k = record {
+  memory = sym k.memory;
+  enable = copy-held z b l 1 (enable_register x) s.enable sound k.enable h.enable;
+  word = copy-held z b l 32 (word_register x) s.word sound k.word h.word;
+  value = copy-held z b l (signal_form d.rows x.memory).width (value_register x) s.value sound k.value h.value;
+  mask = copy-held z b l (signal_form d.rows x.memory).width (mask_register x) s.mask sound k.mask h.mask;
+}
+
+pub reads-of : (d : Flat) (z : Shape) (b : BankData) (l : ListData) (stores : List Store) (sites : List Site) → AreSound z l → All (IsStore d b) stores → EachHas (IsRead d.rows l) stores sites → EachHas (IsOf b l b) stores sites
+reads-of d z b l stores sites sound each read =
+    each-with (IsStore d b) (IsRead d.rows l) (IsOf b l b) (λ x s i k. read-of d z b l x s sound i k) stores sites (recursion_from_All (IsStore d b) stores each) read
+
+site-of : (d : Flat) (l : ListData) (x : Store) (s : Site) → IsMemory (names_of d) x.memory → IsRead d.rows l x s → IsSite (names_of d) l s
+site-of d l x s i k =
+    let wide : (signal_form d.rows x.memory).width ≡ (signal_form d.rows s.memory).width = ap (λ n. (signal_form d.rows n).width) (sym k.memory) in
+    record {
+      memory = subst (IsMemory (names_of d)) (sym k.memory) i;
+      enable = k.enable.slot;
+      word = k.word.slot;
+      value = subst (IsSlot l s.value) wide k.value.slot;
+      mask = subst (IsSlot l s.mask) wide k.mask.slot;
+    }
+
+pub reads-sites : (d : Flat) (l : ListData) (stores : List Store) (sites : List Site) → AllByRecursion (λ x. IsMemory (names_of d) x.memory) stores → EachHas (IsRead d.rows l) stores sites → All (IsSite (names_of d) l) sites
+reads-sites d l stores sites h k =
+    All-from_recursion (IsSite (names_of d) l) sites (each-site (λ x. IsMemory (names_of d) x.memory) (IsRead d.rows l) (IsSite (names_of d) l) (site-of d l) stores sites h k)
+
+pub reads-words : (d : Flat) (z : Shape) (b : BankData) (l : ListData) (stores : List Store) (sites : List Site) (later : List Update) → AreSound z l → EachHas (IsRead d.rows l) stores sites → HoldsWords d b stores later →
+    (base : List (List ℕ)) (m j : ℕ) → IsFine d.rows base → IsMemory (names_of d) m → j < length (words_of base m) →
+    slice_index (words_of (all_updated d.rows base later) m) j ≡ stored b l sites m j (slice_index (words_of base m) j)
+reads-words d z b l stores sites later sound read h base m j fine i lt =
+    h.words base m j fine i lt ∙ by-sites b l b stores sites m j (slice_index (words_of base m) j) (reads-of d z b l stores sites sound h.each read)
+
+pub reads-idle : (rows : List Row) (z : Shape) (b : BankData) (l : ListData) (stores : List Store) (sites : List Site) → AreSound z l → EachHas (IsRead rows l) stores sites → AllByRecursion (IsIdle b) stores → (m j v : ℕ) →
+    stored b l sites m j v ≡ v
+reads-idle rows z b l stores sites sound read idle m j v =
+    sites-idle b l sites m j v
+    (each-site (IsIdle b) (IsRead rows l) (λ s. held b l s.enable ≡ 0) (λ x s i k. k.enable.value z b sound ∙ ap (λ n. n % 2 ^ 1) i) stores sites idle read)

@@ -1,5 +1,5 @@
 -- What a bank holds behind an update of words.
-use Rattle.std.proofs.Common.{◌≡◌, ◌≢◌, ℕ, ◌<◌, ◌^◌, Bool, true, false, List, [], ◌∷◌, ◌++◌, length, map, Option, Some, None, refl, sym, ap, ◌∙◌, arith, subst, inl, inr, mod-eq_of_lt}
+use Rattle.std.proofs.Common.{◌≡◌, ◌≢◌, ℕ, ◌<◌, ◌^◌, Bool, true, false, List, [], ◌∷◌, ◌++◌, length, map, Option, Some, None, refl, sym, ap, ◌∙◌, arith, subst, inl, inr}
 use Rattle.std.specs.Prelude.{◌⊎◌, ◌==◌, not, ◌&&◌, ◌||◌, if◌then◌else◌, nat_eq, slice_index, slice_index_or}
 use Rattle.std.specs.List.{AllByRecursion, list_any}
 use Rattle.std.proofs.lemmas.Bool.{eqb-true, eqb-false}
@@ -15,23 +15,24 @@ use Rattle.cell_form.specs.declared.cell.Write.{Write}
 use Rattle.cell_form.specs.declared.cell.Write.TheVariants as w
 use Rattle.cell_form.specs.Cycle.{masked, wrote, written}
 use Rattle.cell_form.specs.Data.{ListData, BankData}
-use Rattle.cell_form.specs.Sound.{Shape, shape_of}
+use Rattle.cell_form.specs.Sound.{shape_of}
 use Rattle.cell_form.specs.Writes.{sets_register, sets_word, word_of}
 use Rattle.cell_form.proofs.Writing.{written-more, written-mems, written-lengths, register-stays, word-stays, word-stands}
-use Rattle.cell_steps.specs.Slots.{held, AreSound}
-use Rattle.cell_reads.specs.Entries.{IsCopy}
+use Rattle.cell_steps.specs.Slots.{held}
 use Rattle.cell_later.specs.declared.pending.Site.{Site}
 use Rattle.cell_later.specs.Pendings.{stored}
 use Rattle.cell_waves.specs.Lasts.{later_of, last_write, held_after}
 use Rattle.cell_waves.proofs.Lasting.{last-more, memories-after}
 use Rattle.cell_waves.proofs.Written.{both-true}
-use Rattle.cell_stores.specs.declared.store.Store.{Store}
-use Rattle.cell_stores.specs.Stores.{enable_register, word_register, value_register, mask_register, IsStore, IsIdle, HoldsWords}
-use Rattle.cell_stores.specs.Keeping.{EachHas, HasStore, IsLeft}
-use Rattle.cell_stores.specs.Applying.{IsRead, apply_writes, IsUpdate, behind_update}
+use Rattle.ten_stores.specs.declared.store.Store.{Store}
+use Rattle.ten_stores.specs.Holding.{enable_register, word_register, value_register, mask_register, IsStore, IsIdle, HoldsWords}
+use Rattle.cell_stores.specs.Reading.{EachHas, HasStore, IsRead}
+use Rattle.cell_stores.specs.Keeping.{IsLeft}
+use Rattle.cell_stores.specs.Applying.{apply_writes, IsUpdate, behind_update}
 use Rattle.cell_stores.proofs.Behind.{register-behind, words-behind}
-use Rattle.cell_stores.proofs.Listing.{all-with, each-with}
+use Rattle.cell_stores.proofs.Listing.{all-with, each-with, each-long}
 use Rattle.cell_stores.proofs.Holding.{put, IsOf, by-idle, by-sites}
+use Rattle.cell_stores.proofs.Reading.{reads-of}
 use Rattle.cell_stores.proofs.Applying.{updates, either, here-of}
 
 -- ---- one write of a word
@@ -97,20 +98,6 @@ none-set here (x ∷ xs) (s ∷ ss) r h = ap (λ t. t || list_any (sets_register
     of true e = absurd (h.0 (sym (eqb-true x.first r e)))
     of false e = e
 
--- ---- what slots hold
-
-copy-held : (z : Shape) (b : BankData) (l : ListData) (w register r : ℕ) → AreSound z l → IsCopy l w register r → slice_index b.regs register < 2 ^ w → slice_index b.regs register ≡ held b l r
-copy-held z b l w register r sound h lt = sym (h.value z b sound ∙ mod-eq_of_lt lt)
-
-read-of : (d : Flat) (z : Shape) (b : BankData) (l : ListData) (x : Store) (s : Site) → AreSound z l → IsStore d b x → IsRead d.rows l x s → IsOf b l b x s
-read-of d z b l x s sound h k = record {
-  memory = sym k.memory;
-  enable = copy-held z b l 1 (enable_register x) s.enable sound k.enable h.enable;
-  word = copy-held z b l 32 (word_register x) s.word sound k.word h.word;
-  value = copy-held z b l (signal_form d.rows x.memory).width (value_register x) s.value sound k.value h.value;
-  mask = copy-held z b l (signal_form d.rows x.memory).width (mask_register x) s.mask sound k.mask h.mask;
-}
-
 -- ---- an update
 
 module _ (d : Flat) (b : BankData) (l : ListData) (stores : List Store) (sites : List Site) (here : ℕ) (before : List Write) (values : List (List ℕ)) (later : List Update)
@@ -125,7 +112,7 @@ module _ (d : Flat) (b : BankData) (l : ListData) (stores : List Store) (sites :
   are-stores = recursion_from_All (IsStore d b) stores h.holds.each
 
   sites-of : EachHas (IsOf b l b) stores sites
-  sites-of = each-with (IsStore d b) (IsRead d.rows l) (IsOf b l b) (λ x s i k. read-of d h.shape b l x s h.sound i k) stores sites are-stores h.read
+  sites-of = reads-of d h.shape b l stores sites h.sound h.holds.each h.read
 
   in-two : after ≡ written (held b l) (updates here stores sites) now
   in-two = written-more (held b l) before (updates here stores sites) b
@@ -177,7 +164,7 @@ module _ (d : Flat) (b : BankData) (l : ListData) (stores : List Store) (sites :
   pub update-idle : AllByRecursion (IsIdle after) stores
   update-idle =
       all-with (HasStore (shape_of b)) (λ x. last_write (updates here stores sites) (enable_register x) ≡ Some here) (IsIdle after)
-      (λ x t e. (let room = t.0 in cleared (enable_register x) (omega (arith, room)) e)) stores h.there (here-of here (IsRead d.rows l) stores sites h.read)
+      (λ x t e. (let room = t.0 in cleared (enable_register x) (omega (arith, room)) e)) stores h.there (here-of here stores sites (each-long (IsRead d.rows l) stores sites h.read))
 
   stays-below : (r n : ℕ) → r < length b.regs → last_write before r ≡ None → slice_index b.regs r < n → slice_index after.regs r < n
   stays-below r n lt e small = of (either here stores sites r)

@@ -1,8 +1,8 @@
 -- The update of words (IEEE 1364-2005, clause 11.4; own).
-use Rattle.std.specs.Prelude.{◌≡◌, ◌≢◌, ℕ, ◌*◌, List, [], ◌∷◌, ◌++◌, length, slice_index_or, Some}
+use Rattle.std.specs.Prelude.{◌≡◌, ◌≢◌, ℕ, List, [], ◌∷◌, ◌++◌, length, slice_index_or, All, Some}
 use Rattle.std.specs.List.{AllByRecursion}
-use Rattle.vl_design.specs.Syntax.{Row, Flat}
-use Rattle.vl_design.specs.Width.{names_of, signal_form}
+use Rattle.vl_design.specs.Syntax.{Flat}
+use Rattle.vl_design.specs.Width.{Names, names_of}
 use Rattle.vl_design.specs.Value.{words_of}
 use Rattle.vl_design.specs.State.{Update}
 use Rattle.vl_design.specs.Sound.{IsMemory}
@@ -12,35 +12,24 @@ use Rattle.cell_form.specs.declared.cell.Write.TheVariants as w
 use Rattle.cell_form.specs.Data.{ListData, BankData}
 use Rattle.cell_form.specs.Cycle.{written}
 use Rattle.cell_form.specs.Sound.{Shape, IsWrite, shape_of}
-use Rattle.cell_steps.specs.Slots.{held, IsIn, AreSound, Longer}
-use Rattle.cell_reads.specs.Entries.{IsCopy}
+use Rattle.cell_steps.specs.Slots.{held, IsIn, AreSound}
 use Rattle.cell_later.specs.declared.pending.Site.{Site}
+use Rattle.cell_later.specs.Pendings.{IsSite}
 use Rattle.cell_waves.specs.Lasts.{last_write, IsRegister}
-use Rattle.cell_stores.specs.declared.store.Store.{Store}
-use Rattle.cell_stores.specs.Stores.{enable_register, word_register, value_register, mask_register, HoldsWords}
-use Rattle.cell_stores.specs.Keeping.{EachHas, each_written, HasStore, IsLeft}
-
--- slots hold what the registers of a store hold
-pub record IsRead (rows : List Row) (l : ListData) (x : Store) (s : Site) : Type 0 where
-  pub memory : s.memory ≡ x.memory
-  pub enable : IsCopy l 1 (enable_register x) s.enable
-  pub word : IsCopy l 32 (word_register x) s.word
-  pub value : IsCopy l (signal_form rows x.memory).width (value_register x) s.value
-  pub mask : IsCopy l (signal_form rows x.memory).width (mask_register x) s.mask
+use Rattle.ten_stores.specs.declared.store.Store.{Store}
+use Rattle.ten_stores.specs.Holding.{enable_register, HoldsWords}
+use Rattle.cell_stores.specs.Reading.{EachHas, HasStore, IsRead}
+use Rattle.cell_stores.specs.Keeping.{each_written, IsLeft}
 
 -- the writes of a store's word from slots, and of its register that says whether it writes one: to 0, which `here` holds
 abbrev pub apply_writes : ℕ → Store → Site → List Write
 apply_writes here x s = w.Mem s.memory s.enable s.word s.value s.mask ∷ w.Reg (enable_register x) here ∷ []
 
--- cells that read the registers of stores, at most four each, and writes of their words in order from these slots
-pub record Applies (rows : List Row) (stores : List Store) (here : ℕ) (old new : ListData) (before after : List Write) : Type 0 where
-  pub longer : Longer (λ z. AllByRecursion (HasStore z) stores) (4 * length stores) old new
-  pub sites : List Site
-  pub read : EachHas (IsRead rows new) stores sites
-  pub writes : after ≡ before ++ each_written (apply_writes here) stores sites
-  -- they may be done on a bank that has the stores
-  pub sound : (z : Shape) → AllByRecursion (HasStore z) stores → IsIn new here →
-      AllByRecursion (IsWrite z new.first (length new.cells)) before → AllByRecursion (IsWrite z new.first (length new.cells)) after
+-- writes with those of the words of stores behind them, in order from the slots of their sites
+pub record Applies (stores : List Store) (sites : List Site) (here : ℕ) (before after : List Write) : Type 0 where
+  -- they may be done on a bank that has the stores, where the slots are there
+  pub sound : (names : Names) (z : Shape) (l : ListData) → AllByRecursion (HasStore z) stores → All (IsSite names l) sites → IsIn l here →
+      AllByRecursion (IsWrite z l.first (length l.cells)) before → AllByRecursion (IsWrite z l.first (length l.cells)) after
   -- of the registers only those that say whether a word is written are set
   pub idle : AllByRecursion (λ x. last_write after (enable_register x) ≡ Some here) stores
   pub others : (r : ℕ) → AllByRecursion (λ x. r ≢ enable_register x) stores → last_write after r ≡ last_write before r

@@ -1,5 +1,5 @@
 -- What sites write kept in the registers of stores (IEEE 1364-2005, clause 9.2.2; own).
-use Rattle.std.specs.Prelude.{◌≡◌, ℕ, ◌<◌, ◌≤◌, ◌⊎◌, List, [], ◌∷◌, ◌++◌, length, slice_index, All, Some, None, ⊤}
+use Rattle.std.specs.Prelude.{◌≡◌, ℕ, ◌<◌, ◌≤◌, List, [], ◌∷◌, ◌++◌, length, slice_index, All, Some, None}
 use Rattle.std.specs.List.{AllByRecursion}
 use Rattle.vl_design.specs.Syntax.{Flat}
 use Rattle.vl_design.specs.Width.{Names, names_of}
@@ -15,17 +15,10 @@ use Rattle.cell_steps.specs.Slots.{AreSound}
 use Rattle.cell_later.specs.declared.pending.Site.{Site}
 use Rattle.cell_later.specs.Pendings.{IsSite, stored}
 use Rattle.cell_waves.specs.Lasts.{last_write, IsRegister}
-use Rattle.cell_stores.specs.declared.store.Store.{Store}
-use Rattle.cell_stores.specs.Stores.{enable_register, word_register, value_register, mask_register, IsIdle}
-
--- ---- stores, and sites of as many
-
--- each store has this of its site, and there are as many of both
-abbrev pub EachHas : (Store → Site → Type 0) → List Store → List Site → Type 0
-EachHas P [] [] = ⊤
-EachHas P [] (s ∷ ss) = ⊥
-EachHas P (x ∷ xs) [] = ⊥
-EachHas P (x ∷ xs) (s ∷ ss) = P x s × EachHas P xs ss
+use Rattle.ten_stores.specs.declared.store.Store.{Store}
+use Rattle.ten_stores.specs.Stores.{IsBeside, AreDisjoint}
+use Rattle.ten_stores.specs.Holding.{enable_register, word_register, value_register, mask_register, IsIdle}
+use Rattle.cell_stores.specs.Reading.{EachHas, HasStore, IsRead}
 
 -- writes of each store and its site, in order
 abbrev pub each_written : (Store → Site → List Write) → List Store → List Site → List Write
@@ -33,24 +26,7 @@ each_written f [] ss = []
 each_written f (x ∷ xs) [] = []
 each_written f (x ∷ xs) (s ∷ ss) = f x s ++ each_written f xs ss
 
--- a bank has the registers of a store, and its memory
-abbrev pub HasStore : Shape → Store → Type 0
-HasStore z x = (mask_register x < z.regs) × (x.memory < z.mems)
-
 -- ---- registers of stores
-
--- two stores have no register in common
-abbrev pub AreApart : Store → Store → Type 0
-AreApart x y = (mask_register x < y.first) ⊎ (mask_register y < x.first)
-
--- no two of these stores have one in common
-abbrev pub AreDisjoint : List Store → Type 0
-AreDisjoint [] = ⊤
-AreDisjoint (x ∷ xs) = AllByRecursion (AreApart x) xs × AreDisjoint xs
-
--- a register is none of a store's
-abbrev pub IsBeside : ℕ → Store → Type 0
-IsBeside r x = (r < x.first) ⊎ (mask_register x < r)
 
 -- the registers of a store hold 0
 abbrev pub IsZero : BankData → Store → Type 0
@@ -86,18 +62,21 @@ pub record Keeps (stores : List Store) (sites : List Site) (old new : List Write
 
 -- ---- what they leave
 
--- the writes of a segment on a bank, whose new updates sites say: its own stores take the sites' slots. Those of the segments before
--- it, and those of the segments behind it, are left, and its own and these are idle yet
-pub record IsSegment (d : Flat) (b : BankData) (l : ListData) (before own behind : List Store) (sites : List Site) (sets : List Write) (news : List Update) : Type 0 where
+-- the writes of a segment on a bank, behind which `later` is pending. It reads the registers of all stores as sites, and adds its own
+-- sites behind them; these alone it keeps: its own stores take their slots. Those of the segments before it, and those of the segments
+-- behind it, are left, and its own and these are idle yet
+pub record IsSegment (d : Flat) (b : BankData) (l : ListData) (before own behind : List Store) (sites : List Site) (sets : List Write) (later : List Update) : Type 0 where
   pub shape : Shape
   pub sound : AreSound shape l
   pub there : AllByRecursion (HasStore (shape_of b)) (before ++ own ++ behind)
+  pub read_before : List Site
+  pub read : EachHas (IsRead d.rows l) (before ++ own ++ behind) read_before
   pub slots : All (IsSite (names_of d) l) sites
   pub kept : EachHas (IsKept sets) own sites
   pub left : AllByRecursion (IsLeft sets) before
   pub left_behind : AllByRecursion (IsLeft sets) behind
   pub idle : AllByRecursion (IsIdle b) own
   pub idle_behind : AllByRecursion (IsIdle b) behind
-  -- what the new updates make of words, the slots of the sites say
+  -- what the pending updates make of words, the slots of all sites say
   pub words : (base : List (List ℕ)) (m j : ℕ) → IsFine d.rows base → IsMemory (names_of d) m → j < length (words_of base m) →
-      slice_index (words_of (all_updated d.rows base news) m) j ≡ stored b l sites m j (slice_index (words_of base m) j)
+      slice_index (words_of (all_updated d.rows base later) m) j ≡ stored b l (read_before ++ sites) m j (slice_index (words_of base m) j)

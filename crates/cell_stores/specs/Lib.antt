@@ -1,3 +1,3 @@
-pub mod Stores
+pub mod Reading
 pub mod Keeping
 pub mod Applying

@@ -2,14 +2,14 @@
 
 ghost use Rattle.std.specs.Prelude.{◌≡◌, ◌<◌, ◌^◌, ◌++◌, map, All, OnOk};
 ghost use Rattle.cell_later.specs.declared.pending.Site.{Site};
-ghost use Rattle.cell_stores.specs.declared.store.Store.{Store};
-ghost use Rattle.cell_stores.specs.Stores.{mask_register};
+ghost use Rattle.ten_stores.specs.declared.store.Store.{Store};
+ghost use Rattle.ten_stores.specs.Holding.{mask_register};
 ghost use Rattle.cell_stores.specs.Keeping.{keep_writes, Keeps};
 
-use crate::store::Store;
 use cell_form::cell::Write;
 use cell_later::pending::Site;
 use std::alloc::AllocError;
+use ten_stores::store::Store;
 
 /// Adds the writes of a store's registers from a site's slots.
 fn keep_one(store: Store, site: Site, sets: &mut Vec<Write>) -> Result<(), AllocError>

@@ -1,7 +1,8 @@
 //! What keeping and updating words come to. No function here does anything: each `ensures` is a law.
 
-ghost use Rattle.std.specs.Prelude.{◌≡◌, ◌≢◌, ℕ, ◌<◌, ◌++◌, List, [], length, map, slice_index, slice_index_or};
+ghost use Rattle.std.specs.Prelude.{◌≡◌, ◌≢◌, ℕ, ◌<◌, ◌++◌, List, [], length, map, slice_index, slice_index_or, All};
 ghost use Rattle.std.specs.List.{AllByRecursion};
+ghost use Rattle.vl_design.specs.Laws.{IsFine};
 ghost use Rattle.vl_design.specs.Sound.{IsMemory};
 ghost use Rattle.vl_design.specs.State.{Update, all_updated};
 ghost use Rattle.vl_design.specs.Syntax.{Row, Flat};
@@ -10,23 +11,38 @@ ghost use Rattle.vl_design.specs.Width.{names_of};
 ghost use Rattle.cell_form.specs.declared.cell.Write.{Write};
 ghost use Rattle.cell_form.specs.Cycle.{written};
 ghost use Rattle.cell_form.specs.Data.{ListData, BankData};
-ghost use Rattle.cell_form.specs.Sound.{shape_of};
-ghost use Rattle.cell_steps.specs.Slots.{held, Grows};
+ghost use Rattle.cell_form.specs.Sound.{Shape, shape_of};
+ghost use Rattle.cell_steps.specs.Slots.{held, AreSound, Grows};
 ghost use Rattle.cell_later.specs.declared.pending.Site.{Site};
+ghost use Rattle.cell_later.specs.Pendings.{IsSite, stored};
 ghost use Rattle.cell_waves.specs.Lasts.{last_write, held_after};
-ghost use Rattle.cell_stores.specs.declared.store.Store.{Store};
-ghost use Rattle.cell_stores.specs.Stores.{enable_register, IsIdle, HoldsWords};
-ghost use Rattle.cell_stores.specs.Keeping.{EachHas, HasStore, IsLeft, IsZero, IsSegment};
-ghost use Rattle.cell_stores.specs.Applying.{IsRead, IsUpdate, behind_update};
+ghost use Rattle.ten_stores.specs.declared.store.Store.{Store};
+ghost use Rattle.ten_stores.specs.Holding.{enable_register, IsIdle, HoldsWords};
+ghost use Rattle.cell_stores.specs.Reading.{EachHas, HasStore, IsRead};
+ghost use Rattle.cell_stores.specs.Keeping.{IsLeft, IsZero, IsSegment};
+ghost use Rattle.cell_stores.specs.Applying.{IsUpdate, behind_update};
 
-/// Behind the writes of a segment stores hold its new updates too, behind those that were pending (IEEE 1364-2005, clause 9.2.2), and
-/// the stores of the segments behind it are idle yet.
+/// Sites that say what the registers of stores hold say what the pending updates make of words (IEEE 1364-2005, clause 11.4), and leave
+/// words where the stores are idle.
+pub fn stores_in_slots_are_what_is_pending()
+    ensures sites { (d : Flat) (l : ListData) (stores : List Store) (sites : List Site) → AllByRecursion (λ x. IsMemory (names_of d) x.memory) stores →
+        EachHas (IsRead d.rows l) stores sites → All (IsSite (names_of d) l) sites }
+    ensures words { (d : Flat) (z : Shape) (b : BankData) (l : ListData) (stores : List Store) (sites : List Site) (later : List Update) →
+        AreSound z l → EachHas (IsRead d.rows l) stores sites → HoldsWords d b stores later →
+        (base : List (List ℕ)) (m j : ℕ) → IsFine d.rows base → IsMemory (names_of d) m → j < length (words_of base m) →
+        slice_index (words_of (all_updated d.rows base later) m) j ≡ stored b l sites m j (slice_index (words_of base m) j) }
+    ensures idle { (rows : List Row) (z : Shape) (b : BankData) (l : ListData) (stores : List Store) (sites : List Site) →
+        AreSound z l → EachHas (IsRead rows l) stores sites → AllByRecursion (IsIdle b) stores → (m j v : ℕ) → stored b l sites m j v ≡ v }
+{}
+
+/// Behind the writes of a segment stores hold what is pending then, its own updates behind those before it (IEEE 1364-2005, clause
+/// 9.2.2), and the stores of the segments behind it are idle yet.
 pub fn a_segment_keeps_its_updates()
-    ensures holds { (d : Flat) (b : BankData) (l : ListData) (before own behind : List Store) (sites : List Site) (sets : List Write) (later news : List Update) →
-        IsSegment d b l before own behind sites sets news → HoldsWords d b (before ++ own ++ behind) later →
-        HoldsWords d (written (held b l) sets b) (before ++ own ++ behind) (later ++ news) }
-    ensures idle { (d : Flat) (b : BankData) (l : ListData) (before own behind : List Store) (sites : List Site) (sets : List Write) (news : List Update) →
-        IsSegment d b l before own behind sites sets news → AllByRecursion (IsIdle (written (held b l) sets b)) behind }
+    ensures holds { (d : Flat) (b : BankData) (l : ListData) (before own behind : List Store) (sites : List Site) (sets : List Write) (earlier later : List Update) →
+        IsSegment d b l before own behind sites sets later → HoldsWords d b (before ++ own ++ behind) earlier →
+        HoldsWords d (written (held b l) sets b) (before ++ own ++ behind) later }
+    ensures idle { (d : Flat) (b : BankData) (l : ListData) (before own behind : List Store) (sites : List Site) (sets : List Write) (later : List Update) →
+        IsSegment d b l before own behind sites sets later → AllByRecursion (IsIdle (written (held b l) sets b)) behind }
 {}
 
 /// Writes that leave the registers of stores leave what they hold.

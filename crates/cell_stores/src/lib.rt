@@ -1,9 +1,9 @@
-//! Pending writes to words of memories: the registers that keep them, and the update that does them.
+//! Pending writes to words of memories: the registers that keep them, read as sites, and the update that does them.
 #![tactic(auto)]
 
 pub mod apply;
 pub mod keep;
 pub mod laws;
-pub mod store;
+pub mod read;
 #[cfg(test)]
 mod tests;

@@ -1,15 +1,16 @@
-//! A store of a memory of words of 8 bits: what keeps it, and its update.
+//! A store of a memory of words of 8 bits: what keeps it, its sites, and its update.
 
 ghost use Rattle.std.specs.Prelude.{◌≡◌, pos};
 ghost use Rattle.vl_design.specs.declared.design.SigKind.TheVariants as k;
 
 use crate::apply::apply;
 use crate::keep::keep;
-use crate::store::Store;
+use crate::read::read;
 use cell_form::cell::{CellList, Write};
 use cell_later::pending::Site;
 use std::alloc::Global;
 use std::test::Fail;
+use ten_stores::store::Store;
 use vl_base::items::Items;
 use vl_base::place::Place;
 use vl_design::design::{SigKind, Signal};
@@ -33,7 +34,7 @@ fn memory(alloc: Global) -> Signal
 }
 
 #[test]
-fn a_store_is_kept_and_applied(rt: HostRuntime) -> Result<(), Fail> {
+fn a_store_is_kept_read_and_applied(rt: HostRuntime) -> Result<(), Fail> {
     let alloc = rt.alloc();
     let stores = [Store {
         memory: 0,
@@ -55,8 +56,10 @@ fn a_store_is_kept_and_applied(rt: HostRuntime) -> Result<(), Fail> {
         cells: Items::new(alloc),
         sets: Items::new(alloc),
     };
-    apply(alloc, &mut cells, &stores, &signals, 9, &mut sets)?;
+    let mut pending = Vec::new(alloc);
+    read(alloc, &mut cells, &stores, &signals, &mut pending)?;
     assert_eq!(rt; cells.cells.as_slice().len(), 4);
+    apply(&stores, &pending, 9, &mut sets)?;
     assert_eq!(rt;
         sets.as_slice(),
         [

@@ -1,17 +1,25 @@
-use Rattle.std.proofs.Common.{map, arith}
-use Rattle.vl_design.specs.Trees.{row_of}
-use Rattle.cell_form.specs.Views.{list_of}
-use Rattle.cell_stores.proofs.Applying.{applied-more, applied-all}
+use Rattle.std.proofs.Common.{arith}
+use Rattle.cell_stores.specs.Applying.{apply_writes}
+use Rattle.cell_stores.proofs.Applying.{applies}
+use Rattle.cell_stores.proofs.Listing.{same-long, written-step, written-all}
 use Rattle.cell_stores.proofs.apply.apply.Goals as goal
 
-pub loop-store-preserved : goal.loop-store-preserved
-loop-store-preserved c =
-    applied-more (map row_of c.args.signals.now) c.args.stores.now c.args.here c.loop-store.store-index (list_of c.args.cells.now) (list_of c.loop-store.cells) (list_of c.read.new.cells) c.args.sets.now.items
-    c.loop-store.sets.items c.write.new.sets.items _ c.in_ok-site.site c.loop-store-test.true c.loop-store.invariant c.in_ok-site.ensures.read c.in_ok-site.ensures.longer c.in_ok-write.ensures
+pub loop-number-preserved : goal.loop-number-preserved
+loop-number-preserved c =
+    let stores = c.args.stores.now in
+    let sites = c.args.sites.now in
+    written-step (apply_writes c.args.here) stores sites c.loop-number.number c.args.sets.now.items c.loop-number.sets.items c.write.new.sets.items _ _ (same-long stores sites c.requires.same) c.loop-number-test.true
+    c.loop-number.invariant c.in_ok-write.ensures
+
+pub returns-clause-writes : goal.returns-clause-writes
+returns-clause-writes c =
+    let over = c.loop-number-test.false in
+    written-all (apply_writes c.args.here) c.args.stores.now c.args.sites.now c.loop-number.number c.args.sets.now.items c.loop-number.sets.items (same-long c.args.stores.now c.args.sites.now c.requires.same) (omega (arith, over))
+    c.loop-number.invariant
 
 pub returns-clause-applies : goal.returns-clause-applies
 returns-clause-applies c =
-    let over = c.loop-store-test.false in
-    let least = c.loop-store.auto.store-index-end in
-    applied-all (map row_of c.args.signals.now) c.args.stores.now c.args.here c.loop-store.store-index (list_of c.args.cells.now) (list_of c.loop-store.cells) c.args.sets.now.items c.loop-store.sets.items (omega (arith, over, least))
-    c.loop-store.invariant
+    let over = c.loop-number-test.false in
+    applies c.args.here c.args.stores.now c.args.sites.now c.args.sets.now.items c.loop-number.sets.items c.requires.same
+    (written-all (apply_writes c.args.here) c.args.stores.now c.args.sites.now c.loop-number.number c.args.sets.now.items c.loop-number.sets.items (same-long c.args.stores.now c.args.sites.now c.requires.same) (omega (arith, over))
+    c.loop-number.invariant)

@@ -1,4 +1,4 @@
-use Rattle.cell_stores.specs.Applying.{IsRead}
+use Rattle.cell_stores.specs.Reading.{IsRead}
 use Rattle.cell_stores.proofs.Listing.{each-from}
 use Rattle.cell_stores.proofs.Reading.{read-stays}
 use Rattle.cell_stores.proofs.laws.more_cells_leave_slots.Goals as goal

@@ -2,7 +2,7 @@ use Rattle.std.proofs.Common.{map}
 use Rattle.vl_design.specs.Trees.{row_of}
 use Rattle.cell_form.specs.Views.{list_of}
 use Rattle.cell_stores.proofs.Reading.{read-longer, read-slots}
-use Rattle.cell_stores.proofs.apply.read.Goals as goal
+use Rattle.cell_stores.proofs.read.read_one.Goals as goal
 
 pub returns-clause-longer : goal.returns-clause-longer
 returns-clause-longer c =

@@ -9,7 +9,7 @@ use Rattle.vl_design.specs.Sound.{IsMemory}
 use Rattle.vl_design.specs.Laws.{IsFine}
 use Rattle.cell_form.specs.Cycle.{masked}
 use Rattle.cell_form.specs.Data.{BankData}
-use Rattle.cell_stores.specs.declared.store.Store.{Store}
+use Rattle.ten_stores.specs.declared.store.Store.{Store}
 
 -- the registers of a store: whether a word is written, the word's number, the value, and the mask of the bits that it replaces
 abbrev pub enable_register : Store → ℕ

@@ -1,0 +1,6 @@
+pub mod Naming
+pub mod Apart
+pub mod Cutting
+pub mod Keeping
+pub mod Falling
+pub mod Waves

@@ -1,6 +1,8 @@
 -- What an accepted design of a text is built into runs as the design that the text stands for.
-use Rattle.std.proofs.Common.{◌≡◌, ℕ, true, List, length, refl, sym, ap, ◌∙◌, subst}
+use Rattle.std.proofs.Common.{◌≡◌, ◌≤◌, ℕ, Bool, true, false, List, length, refl, sym, ap, ◌∙◌, subst}
+use Rattle.std.proofs.lemmas.Bool.{leb-true, true≢false}
 use Rattle.std.specs.Prelude.{◌&&◌, not, nat_le}
+use Rattle.vl_cost.specs.Costs.{statement_cells}
 use Rattle.std.specs.List.{list_any}
 use Rattle.vl_source.specs.declared.tree.Source.{Source}
 use Rattle.vl_design.specs.declared.design.Signal.{Signal}
@@ -32,7 +34,11 @@ use Rattle.ten_core.specs.declared.image.Image.{Image}
 use Rattle.ten_core.specs.Tenants.{IsImage}
 use Rattle.ten_design.specs.Designs.{IsTenantDesign}
 use Rattle.ten_fit.specs.Kinds.{is_memory, runs_on_cells}
-use Rattle.ten_build.specs.Builds.{RunsAs, IsImageOf, IsPlainOf}
+use Rattle.ten_build.specs.Builds.{RunsAs, is_for_cells, IsImageOf, IsPlainOf}
+
+and-parts : (a b : Bool) → (a && b) ≡ true → (a ≡ true) × (b ≡ true)
+and-parts true b h = (refl, h)
+and-parts false b h = absurd (true≢false (sym h))
 
 -- the laws that are called
 abbrev pub Fits : Type 0
@@ -64,11 +70,11 @@ module _ (text : List ℕ) (a : Accepted) (is : IsAcceptedOf text a) where
   cells-there : runs_on_cells (placed a.design) ≡ true → runs_on_cells d ≡ true
   cells-there h = subst (λ (x : p.Design). by_signals x.signals) is.stands.design h
 
-  pub tenant : Fits → Owns → Writes → Lets → runs_on_cells (placed a.design) ≡ true → IsTenantDesign (flat_of a.design) a.order.items
+  pub tenant : Fits → Owns → Writes → Lets → is_for_cells a.design ≡ true → IsTenantDesign (flat_of a.design) a.order.items
   tenant fits owns writes lets h =
       let s = is.of.tree in
       let e = is.of.elaborated in
-      lets d a (fits s d e) (owns s d e) (writes s d e) is.stands (cells-there h)
+      lets d a (fits s d e) (owns s d e) (writes s d e) is.stands (cells-there (and-parts (runs_on_cells (placed a.design)) _ h).0)
 
   module _ (fits : Fits) (unroll : Unrolls) where
     fit : IsFit d
@@ -85,22 +91,24 @@ module _ (text : List ℕ) (a : Accepted) (is : IsAcceptedOf text a) where
         let can = unrolls d fit is.stands.accepted.uses in
         record { same = λ o e. subst (λ (x : Flat). IsSameRun o (record o { flat = x })) (ap unrolled_flat e ∙ sym same) (unroll o (subst CanUnroll (sym e) can)) }
 
-    pub is-plain : IsPlainOf text a
-    is-plain = record {
+    pub is-plain : is_for_cells a.design ≡ false → IsPlainOf text a
+    is-plain h = record {
       design = plain.flat d;
       stands = stands-for;
       runs = runs;
       sound = stays d a.design fit is.stands.accepted.uses is.stands.design;
       checked = subst (λ (x : p.Design). IsChecked (plain.flat x)) (sym is.stands.design) (checked d fit is.stands.accepted);
       ordered = ordered (flat_of a.design) a.order.items is.stands.order.once is.stands.order.levelled;
+      plain = h;
     }
 
-    pub is-image : (image : Image) → IsImage (flat_of a.design) a.order.items image → IsTenantDesign (flat_of a.design) a.order.items → IsImageOf text image
-    is-image image made fits = record {
+    pub is-image : (image : Image) → IsImage (flat_of a.design) a.order.items image → IsTenantDesign (flat_of a.design) a.order.items → is_for_cells a.design ≡ true → IsImageOf text image
+    is-image image made fits h = record {
       design = plain.flat d;
       stands = stands-for;
       runs = subst (λ (x : Flat). RunsAs x (plain.flat d)) made.design runs;
       order = a.order.items;
       image_is = subst (λ (x : Flat). IsImage x a.order.items image) made.design made;
       tenant = subst (λ (x : Flat). IsTenantDesign x a.order.items) made.design fits;
+      small = subst (λ (x : Flat). statement_cells x ≤ 32768) made.design (leb-true (statement_cells (flat_of a.design)) 32768 (and-parts (runs_on_cells (placed a.design)) _ h).1);
     }

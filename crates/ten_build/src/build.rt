@@ -2,10 +2,9 @@
 
 ghost use Rattle.std.specs.Prelude.{◌≡◌, ℕ, List, IfOk, true};
 ghost use Rattle.vl_design.specs.Laws.{IsUnrolled};
-ghost use Rattle.vl_design.specs.Seen.{placed};
 ghost use Rattle.vl_design.specs.Trees.{flat_of};
 ghost use Rattle.vl_front.specs.Sources.{IsAcceptedOf};
-ghost use Rattle.ten_fit.specs.Kinds as x;
+ghost use Rattle.ten_build.specs.Builds as x;
 ghost use Rattle.ten_build.specs.Builds.{IsBuild};
 
 use cell_accept::accept::Accepted;
@@ -39,7 +38,7 @@ pub enum Built {
 /// Whether a design without loops is to run on states of cells: it can, and is small.
 fn is_for_cells(alloc: Global, design: &Design) -> Result<bool, AllocError>
     requires { IsUnrolled (flat_of design.now) }
-    ensures { IfOk result (λ b. b ≡ true → x.runs_on_cells (placed design.now) ≡ true) }
+    ensures { IfOk result (λ b. b ≡ x.is_for_cells design.now) }
 {
     if !runs_on_cells(design) {
         return Ok(false);
@@ -50,7 +49,7 @@ fn is_for_cells(alloc: Global, design: &Design) -> Result<bool, AllocError>
 
 /// The image of an accepted design that runs on cells.
 fn on_cells(alloc: Global, accepted: Accepted) -> Result<Built, BuildError>
-    requires { (text : List ℕ) × IsAcceptedOf text accepted × (x.runs_on_cells (placed accepted.design) ≡ true) }
+    requires { (text : List ℕ) × IsAcceptedOf text accepted × (x.is_for_cells accepted.design ≡ true) }
     ensures { (text : List ℕ) → IsAcceptedOf text accepted → IsBuild text result }
 {
     an_elaborated_design_is_fit_to_be_judged();
@@ -73,14 +72,19 @@ fn of_accepted(alloc: Global, accepted: Accepted) -> Result<Built, BuildError>
     an_elaborated_design_is_fit_to_be_judged();
     runs_the_same();
     match is_for_cells(alloc, &accepted.design) {
-        Ok(true) => on_cells(alloc, accepted),
-        Ok(false) => Ok(Built::Plain(accepted)),
+        Ok(small) => {
+            if small {
+                on_cells(alloc, accepted)
+            } else {
+                Ok(Built::Plain(accepted))
+            }
+        }
         Err(_) => Err(BuildError::Memory),
     }
 }
 
-/// Builds the text of a source: an image of its design, or its design for the interpreter, whose run alone is that of the design that
-/// the text stands for, over all files, with all plans and from all starts; or else the place and the kind of exactly the first fault
+/// Builds the text of a source: an image of its design, or its design for the interpreter where it has a memory, more than 2^28 signals
+/// or statements of more than 32,768 cells; the run alone of either is that of the design that the text stands for, over all files, with all plans and from all starts; or else the place and the kind of exactly the first fault
 /// for which it is refused.
 pub fn build(alloc: Global, text: &[u8]) -> Result<Built, BuildError>
     ensures { IsBuild text.now result }

@@ -18,4 +18,4 @@ returns-in-Ok c = λ text is.
     let made = subst (λ (xs : List ℕ). IsImage (flat_of a.design) xs c.in-Ok.image) c.as_slice.ensures.value c.in-Ok.ensures in
     is-image text a is c.an_elaborated_design_is_fit_to_be_judged.ensures c.runs_the_same.ensures c.in-Ok.image made
     (tenant text a is c.an_elaborated_design_is_fit_to_be_judged.ensures c.functions_of_an_elaborated_design_keep_to_their_own.ensures
-    c.processes_of_an_elaborated_design_write_what_is_theirs.ensures c.a_design_that_runs_on_cells_is_a_tenants.ensures c.requires.2)
+    c.processes_of_an_elaborated_design_write_what_is_theirs.ensures c.a_design_that_runs_on_cells_is_a_tenants.ensures c.requires.2) c.requires.2

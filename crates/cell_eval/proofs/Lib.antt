@@ -1,4 +1,5 @@
 pub mod Filling
 pub mod Operands
 pub mod Selecting
+pub mod Table
 pub mod Wholes

@@ -1,10 +1,15 @@
 -- The operands of a cell behind others whose slots have their values.
-use Rattle.std.proofs.Common.{◌≡◌, ℕ, Bool, true, false, refl, ◌+◌, ◌-◌, ◌*◌, ◌/◌, ◌^◌, ◌<◌, ◌≤◌, List, length, map, get_or, sym, ap, ◌∙◌, arith, subst}
-use Rattle.std.specs.Prelude.{slice_index, if◌then◌else◌}
-use Rattle.std.proofs.Math.Pow.{pow_pos}
-use Rattle.std.proofs.lemmas.Nat.{pow-add, shr_high}
+use Rattle.std.proofs.Common.{◌≡◌, ℕ, Bool, true, ◌+◌, ◌-◌, ◌%◌, ◌^◌, ◌<◌, ◌≤◌, List, length, map, get_or, sym, ap, ◌∙◌, arith, subst}
+use Rattle.std.specs.Prelude.{slice_index}
+use Rattle.std.proofs.Math.Pow.{pow_mono}
+use Rattle.std.proofs.Math.Nat.{mod-eq_of_lt}
 use Rattle.std.proofs.lemmas.List.{length-map, get_or-map}
+use Rattle.vl_base.specs.declared.bits.UnOp.{UnOp}
+use Rattle.vl_base.specs.declared.bits.BinOp.{BinOp}
+use Rattle.vl_base.specs.Value.{unary_width, binary_width, needs_one_width}
+use Rattle.vl_base.proofs.Wrapping.{not-mod}
 use Rattle.cell_form.specs.declared.cell.Cell.{Cell}
+use Rattle.cell_form.specs.declared.cell.CellOp.TheVariants.{Un, Bin}
 use Rattle.cell_form.specs.Data.{CellData, BankData}
 use Rattle.cell_form.specs.Views.{cell_of}
 use Rattle.cell_form.specs.Values.{Slot, slot_at, slots_of, operands}
@@ -65,24 +70,32 @@ operands-make first b earlier c cell =
     = ap (λ (ws : List ℕ). map (λ (a : ℕ). slice_index ws (a - first)) c.args) (sym (slots-widths first b.regs b.mems earlier)) ∙ sym (operand-widths first s c.args) in
     subst M e cell.makes
 
--- the operand that a condition chooses
-pub chosen : (t : Bool) (xs : List Slot) → (slot_at xs (if t then 2 else 1)).value ≡ (if t then (slot_at xs 2).value else (slot_at xs 1).value)
-chosen true xs = refl
-chosen false xs = refl
+-- the width of the value of an operator is the cell's
+pub one-width : (first : ℕ) (b : BankData) (earlier : List CellData) (c : CellData) (op : UnOp) → c.op ≡ Un op → IsCell (shape_of b) first (widths_of earlier) c → c.width ≡ unary_width op (slot_at (operands first (slots_of first b.regs b.mems earlier) c.args) 0).width
+one-width first b earlier c op e cell =
+    let xs = operands first (slots_of first b.regs b.mems earlier) c.args in
+    let makes = rw e at (operands-make first b earlier c cell) in
+    makes ∙ ap (unary_width op) (sym (width-at xs 0))
 
-parts : (a b n : ℕ) → 0 < b → 0 < a → a * b ≡ n → (a - 1) * b + (b - 1) ≡ n - 1
-parts a b n h k e =
-    let t : (a - 1) + 1 ≡ a = omega arith in
-    let all : ((a - 1) + 1) * b ≡ n = ap (λ x. x * b) t ∙ e in
-    omega (arith, all)
+pub two-width : (first : ℕ) (b : BankData) (earlier : List CellData) (c : CellData) (op : BinOp) (signed : Bool) → c.op ≡ Bin op signed → IsCell (shape_of b) first (widths_of earlier) c → c.width ≡ binary_width op (slot_at (operands first (slots_of first b.regs b.mems earlier) c.args) 0).width
+two-width first b earlier c op signed e cell =
+    let xs = operands first (slots_of first b.regs b.mems earlier) c.args in
+    let makes = rw e at (operands-make first b earlier c cell) in
+    makes.0 ∙ ap (binary_width op) (sym (width-at xs 0))
 
--- as many ones as a width
-pub ones-shifted : (w : ℕ) → w ≤ 64 → 18446744073709551615 / 2 ^ (64 - w) ≡ 2 ^ w - 1
-ones-shifted w h =
-    let k : w + (64 - w) ≡ 64 = omega arith in
-    let p = pow_pos (64 - w) in
-    let q = pow_pos w in
-    let low : 2 ^ (64 - w) - 1 < 2 ^ (64 - w) = omega (arith, p) in
-    let whole : 2 ^ w * 2 ^ (64 - w) ≡ 18446744073709551616 = sym (pow-add 2 w (64 - w)) ∙ ap (λ n. 2 ^ n) k in
-    let split : (2 ^ w - 1) * 2 ^ (64 - w) + (2 ^ (64 - w) - 1) ≡ 18446744073709551615 = parts (2 ^ w) (2 ^ (64 - w)) 18446744073709551616 p q whole in
-    ap (λ n. n / 2 ^ (64 - w)) (sym split) ∙ shr_high (2 ^ w - 1) (64 - w) (2 ^ (64 - w) - 1) low
+-- operands of one width
+pub two-widths : (first : ℕ) (b : BankData) (earlier : List CellData) (c : CellData) (op : BinOp) (signed : Bool) → c.op ≡ Bin op signed → IsCell (shape_of b) first (widths_of earlier) c → needs_one_width op ≡ true → (slot_at (operands first (slots_of first b.regs b.mems earlier) c.args) 0).width ≡ (slot_at (operands first (slots_of first b.regs b.mems earlier) c.args) 1).width
+two-widths first b earlier c op signed e cell n =
+    let xs = operands first (slots_of first b.regs b.mems earlier) c.args in
+    let makes = rw e at (operands-make first b earlier c cell) in
+    width-at xs 0 ∙ makes.1 n ∙ sym (width-at xs 1)
+
+-- each bit of a number turned, cut to the width of the number
+pub turned-cut : (w x : ℕ) → w ≤ 128 → x < 2 ^ w → (340282366920938463463374607431768211455 - x) % 2 ^ w ≡ (2 ^ w - 1) - x
+turned-cut w x h b =
+    let j : (128 - w) + w ≡ 128 = omega arith in
+    let mono : 2 ^ w ≤ 2 ^ 128 = pow_mono {j = 128} h in
+    let big : x < 2 ^ 128 = omega (arith, b, mono) in
+    let P : ℕ → Type 0 = λ n. x < 2 ^ n → ((2 ^ n - 1) - x) % 2 ^ w ≡ (2 ^ w - 1) - x % 2 ^ w in
+    let all = subst P j (not-mod x (128 - w) w) in
+    all big ∙ ap (λ n. (2 ^ w - 1) - n) (mod-eq_of_lt b)

@@ -6,9 +6,10 @@ ghost use Rattle.vl_base.specs.Selects as s;
 ghost use Rattle.cell_form.specs.Values as v;
 ghost use Rattle.cell_eval.specs.Wholes.{whole_of, near};
 
+use crate::masks::half;
+use crate::placing::{pick, place_in};
 use cell_form::cell::Index;
 use vl_base::bits::Bits;
-use vl_base::select::{pick, place_in};
 
 /// A whole number by its size and its sign.
 #[derive(Clone, Copy)]
@@ -24,8 +25,14 @@ pub(crate) struct Whole {
 pub(crate) fn whole_number(bits: Bits, signed: bool) -> Whole
     ensures { whole_of result ≡ reading signed bits.width bits.value }
 {
-    let half = 1 << (bits.width - 1);
-    if signed && bits.value >= half {
+    if !signed {
+        return Whole {
+            negative: false,
+            size: bits.value,
+        };
+    }
+    let half = half(bits.width);
+    if bits.value >= half {
         Whole {
             negative: true,
             size: half - (bits.value - half),

@@ -1,19 +1,13 @@
 use Rattle.std.proofs.Common.{◌≡◌, ◌<◌, ◌%◌, ◌^◌, [], map, length, get_or, ap, sym, ◌∙◌, arith, rules}
-use Rattle.std.specs.Prelude.{◌==◌, if◌then◌else◌, ◌-ℤ◌}
+use Rattle.std.specs.Prelude.{◌-ℤ◌}
 use Rattle.std.proofs.lemmas.List.{get_or-map, length-map}
 use Rattle.vl_base.specs.Value.{reading}
 use Rattle.cell_form.specs.Views.{cell_of, bank_of}
 use Rattle.cell_form.specs.Values.{slot_at, slots_of, operands, word_at}
 use Rattle.cell_form.proofs.Slots.{width-at}
 use Rattle.cell_eval.specs.Wholes.{whole_of}
-use Rattle.cell_eval.proofs.Operands.{chosen, operands-make}
-use Rattle.cell_eval.proofs.value.value_of.Goals as goal
-
-pub binary-requires : goal.binary-requires
-binary-requires c = λ n.
-    let xs = operands c.args.first (slots_of c.args.first c.args.bank.now.regs.items (bank_of c.args.bank.now).mems (map cell_of c.args.earlier.now)) c.args.cell.now.args.items in
-    let makes = rw c.in-Bin.is at (operands-make c.args.first (bank_of c.args.bank.now) (map cell_of c.args.earlier.now) (cell_of c.args.cell.now) c.requires.cell) in
-    c.operand-left.ensures.width ∙ width-at xs 0 ∙ makes.1 n ∙ sym (width-at xs 1) ∙ sym c.operand-right.ensures.width
+use Rattle.cell_eval.proofs.Operands.{operands-make}
+use Rattle.cell_eval.proofs.value.operated.Goals as goal
 
 pub side_by_side-requires : goal.side_by_side-requires
 side_by_side-requires c =
@@ -22,14 +16,6 @@ side_by_side-requires c =
     let high = c.operand-high.ensures.width ∙ width-at xs 0 in
     let low = c.operand-low.ensures.width ∙ width-at xs 1 in
     omega (arith, makes, high, low, c.requires.cell.narrow)
-
-pub returns-in-Mux : goal.returns-in-Mux
-returns-in-Mux c =
-    let xs = operands c.args.first (slots_of c.args.first c.args.bank.now.regs.items (bank_of c.args.bank.now).mems (map cell_of c.args.earlier.now)) c.args.cell.now.args.items in
-    let all : c.operand-in-Mux.result.value ≡ (if (slot_at xs 0).value == 0 then (slot_at xs 2).value else (slot_at xs 1).value)
-    = c.operand-in-Mux.ensures.value ∙ ap (λ i. (slot_at xs i).value) c.branch-place.ensures.value
-    ∙ chosen (c.operand-test.result.value == 0) xs ∙ ap (λ t. if t == 0 then (slot_at xs 2).value else (slot_at xs 1).value) c.operand-test.ensures.value in
-    rw c.in-Mux.is all
 
 pub returns-in-MemRead : goal.returns-in-MemRead
 returns-in-MemRead c =

@@ -1,8 +1,9 @@
 -- The writes at the end of a state.
-use Rattle.std.proofs.Common.{◌≡◌, ◌≢◌, ℕ, Bool, true, false, List, [], ◌∷◌, ◌++◌, length, Option, Some, None, refl, sym, ap, ◌∙◌, arith, subst}
-use Rattle.std.specs.Prelude.{slice_get, ◌&&◌, nat_le}
+use Rattle.std.proofs.Common.{◌≡◌, ◌≢◌, ℕ, zero, suc, ◌+◌, ◌-◌, ◌*◌, ◌≤◌, Bool, true, false, List, [], ◌∷◌, ◌++◌, length, Option, Some, None, inl, inr, refl, sym, ap, ◌∙◌, arith, subst}
+use Rattle.std.specs.Prelude.{◌⊎◌, slice_get, ◌&&◌, if◌then◌else◌, nat_le}
 use Rattle.std.specs.List.{AllByRecursion}
-use Rattle.std.proofs.lemmas.Bool.{leb-true, true≢false}
+use Rattle.std.proofs.lemmas.Bool.{cases_lt, leb-true, true≢false}
+use Rattle.std.proofs.lemmas.Option.{slice_get_past}
 use Rattle.vl_design.specs.declared.design.SigKind.{SigKind}
 use Rattle.vl_design.specs.declared.design.SigKind.TheVariants.{Net, Var, Comb, Loop, Mem, Clock}
 use Rattle.vl_design.specs.Rows.{has_width}
@@ -15,16 +16,19 @@ use Rattle.cell_form.specs.Data.{ListData}
 use Rattle.cell_form.specs.Sound.{Shape, IsWrite}
 use Rattle.cell_paths.specs.Envs.{Env, entry, IsSlot, IsEntry, Fits}
 use Rattle.cell_later.specs.Pendings.{PendingSlots, ArePending, slot_of}
-use Rattle.ten_form.specs.Registers.{state_register, ticks_register}
+use Rattle.ten_form.specs.Registers.{state_register, ticks_register, register_count}
 use Rattle.ten_form.specs.Banks.{IsFor}
-use Rattle.cell_waves.specs.Copies.{is_written, has_copy, changed, each_one, IsHeld, HasSignals, Sets}
+use Rattle.cell_waves.specs.Copies.{is_written, has_copy, changed, each_one, slot_or, wanted, or_before, IsHeld, HasSignals, Sets}
 use Rattle.cell_waves.specs.Ends.{Ends}
 use Rattle.cell_waves.specs.Lasts.{last_write, IsRegister}
 use Rattle.cell_states.specs.Ended.{AreChanges, Commits, with_ticks, IsEnd}
 use Rattle.cell_states.specs.Segments.{IsTicks}
 use Rattle.cell_waves.proofs.Ending.{entry-slot, starts-none, ends-segment, ends-wave, ends-beside}
 use Rattle.cell_waves.proofs.Lasting.{last-here, last-other}
-use Rattle.cell_states.proofs.Applying.{all-push}
+
+all-push : {X : Type 0} (P : X → Type 0) (xs : List X) (x : X) → AllByRecursion P xs → P x → AllByRecursion P (xs ++ x ∷ [])
+all-push P [] x h p = (p, tt)
+all-push P (y ∷ xs) x h p = (h.0, all-push P xs x h.1 p)
 
 and-parts : (a b : Bool) → (a && b) ≡ true → (a ≡ true) × (b ≡ true)
 and-parts true b h = (refl, h)
@@ -53,6 +57,43 @@ held-entry : (l : ListData) (w : ℕ) (e : Option ℕ) → IsEntry l w e → IsH
 held-entry l w None h = tt
 held-entry l w (Some r) h = h.there
 
+-- ---- registers behind those of signals
+
+times-four : (s : ℕ) → ((k : ℕ) × (s ≡ 4 * k)) ⊎ ((k : ℕ) → s ≢ 4 * k)
+times-four zero = inl (0, omega arith)
+times-four (suc zero) = inr (λ k e. omega (arith, e))
+times-four (suc (suc zero)) = inr (λ k e. omega (arith, e))
+times-four (suc (suc (suc zero))) = inr (λ k e. omega (arith, e))
+times-four (suc (suc (suc (suc s)))) = of (times-four s)
+  where
+    of : ((k : ℕ) × (s ≡ 4 * k)) ⊎ ((k : ℕ) → s ≢ 4 * k) → ((k : ℕ) × (suc (suc (suc (suc s))) ≡ 4 * k)) ⊎ ((k : ℕ) → suc (suc (suc (suc s))) ≢ 4 * k)
+    of (inl h) = let is = h.1 in inl (h.0 + 1, omega (arith, is))
+    of (inr f) = inr (λ k e. (let same : s ≡ 4 * (k - 1) = omega (arith, e) in f (k - 1) same))
+
+-- a register is that of a signal's copy, or of none
+copy-at : (copy r : ℕ) → ((k : ℕ) × (r ≡ 4 * k + copy)) ⊎ ((k : ℕ) → r ≢ 4 * k + copy)
+copy-at copy r = elim (cases_lt r copy) [ inl lt ↦ inr (λ k e. omega (arith, e, lt)) | inr le ↦ of le (times-four (r - copy)) ]
+  where
+    of : copy ≤ r → ((k : ℕ) × (r - copy ≡ 4 * k)) ⊎ ((k : ℕ) → r - copy ≢ 4 * k) → ((k : ℕ) × (r ≡ 4 * k + copy)) ⊎ ((k : ℕ) → r ≢ 4 * k + copy)
+    of le (inl h) = let is = h.1 in inl (h.0, omega (arith, is, le))
+    of le (inr f) = inr (λ k e. f k (omega (arith, e)))
+
+-- writes of copies of signals leave the registers behind them
+sets-past : (rows : List Row) (copy : ℕ) (chosen : ℕ → Bool) (after : List (Option ℕ)) (here : ℕ) (old new : List Write) → Sets rows copy chosen after here old new → copy ≤ 6 → (r : ℕ) → register_count (length rows) ≤ r →
+    last_write new r ≡ last_write old r
+sets-past rows copy chosen after here old new h low r le = of (copy-at copy r)
+  where
+    none : (k : ℕ) → length rows ≤ k → or_before (wanted rows copy chosen after here k) (last_write old (4 * k + copy)) ≡ last_write old (4 * k + copy)
+    none k past = ap (λ o. or_before (if is_written copy o && chosen k then Some (slot_or here (slot_of after k)) else None) (last_write old (4 * k + copy))) (slice_get_past rows k past)
+
+    of : ((k : ℕ) × (r ≡ 4 * k + copy)) ⊎ ((k : ℕ) → r ≢ 4 * k + copy) → last_write new r ≡ last_write old r
+    of (inl e) =
+        let k = e.0 in
+        let is = e.1 in
+        let past : length rows ≤ k = omega (arith, is, le, low) in
+        ap (last_write new) is ∙ h.each k ∙ none k past ∙ ap (last_write old) (sym is)
+    of (inr f) = h.others r f
+
 module _ (d : Flat) (commits : Bool) (at0 at1 : Env) (p0 p1 : PendingSlots) (ticks : Option ℕ) (next : ℕ) (s1 s2 s3 s4 : List Write)
     (a : Sets d.rows 4 (changed at0.slots at1.slots) at1.slots at1.here [] s1) (b : Sets d.rows 5 (changed p0.update p1.update) p1.update at1.here s1 s2) (c : Sets d.rows 6 (changed p0.mask p1.mask) p1.mask at1.here s2 s3) where
   abbrev names : Names
@@ -80,13 +121,14 @@ module _ (d : Flat) (commits : Bool) (at0 at1 : Env) (p0 p1 : PendingSlots) (tic
       ticks-in None t = sets
       ticks-in (Some r) t = all-push (IsWrite z l.first (length l.cells)) s4 (w.Reg ticks_register r) sets (let q = h.regs in (omega (arith, q), t.there))
 
-  finish : Ends d.rows commits at0 at1 p0 p1 at1.here s4 → last_write s4 ticks_register ≡ None →
+  finish : Ends d.rows commits at0 at1 p0 p1 at1.here s4 → last_write s4 ticks_register ≡ None → ((r : ℕ) → register_count (length d.rows) ≤ r → last_write s4 r ≡ None) →
       ((z : Shape) (l : ListData) → IsFor d 0 z → Fits names l at1 → at1.first ≡ 0 → ArePending names l p1 → AllByRecursion (IsWrite z l.first (length l.cells)) s4) → IsEnd d commits at0 at1 p0 p1 ticks next all
-  finish e none sound = record {
+  finish e none past sound = record {
     ends = ends-beside d.rows commits at0 at1 p0 p1 at1.here s4 all e (all-push IsRegister (with_ticks ticks s4) (w.Reg state_register next) (registers-ticks ticks e.registers) tt)
-        (λ r h k. last-other (with_ticks ticks s4) state_register r next h ∙ other-ticks ticks r k);
+        (λ r h k lt. last-other (with_ticks ticks s4) state_register r next h ∙ other-ticks ticks r k);
     node = last-here (with_ticks ticks s4) state_register next;
     counts = last-other (with_ticks ticks s4) state_register ticks_register next (λ z. omega (arith, z)) ∙ last-ticks ticks none;
+    beside = λ r le. last-other (with_ticks ticks s4) state_register r next (λ z. omega (arith, z, le)) ∙ (other-ticks ticks r (λ z. omega (arith, z, le)) ∙ past r le);
     sound = λ z l h fits first pending t n. all-in z l h (sound z l h fits first pending) t n;
   }
 
@@ -106,19 +148,25 @@ module _ (d : Flat) (commits : Bool) (at0 at1 : Env) (p0 p1 : PendingSlots) (tic
   no-ticks3 : last_write s3 ticks_register ≡ None
   no-ticks3 = c.others 2 (λ k z. omega (arith, z)) ∙ b.others 2 (λ k z. omega (arith, z)) ∙ a.others 2 (λ k z. omega (arith, z))
 
+  past3 : (r : ℕ) → register_count (length d.rows) ≤ r → last_write s3 r ≡ None
+  past3 r le =
+      sets-past d.rows 6 (changed p0.mask p1.mask) p1.mask at1.here s2 s3 c (omega arith) r le
+      ∙ (sets-past d.rows 5 (changed p0.update p1.update) p1.update at1.here s1 s2 b (omega arith) r le ∙ sets-past d.rows 4 (changed at0.slots at1.slots) at1.slots at1.here [] s1 a (omega arith) r le)
+
   -- behind a segment
   pub end-segment : commits ≡ false → s4 ≡ s3 → IsEnd d commits at0 at1 p0 p1 ticks next all
   end-segment e same =
-      let ends = ends-segment d.rows at0 at1 p0 p1 at1.here [] s1 s2 s3 starts-none a b c in
+      let ends = ends-segment d.rows at0 at1 p0 p1 at1.here [] s1 s2 s3 (starts-none (length d.rows)) a b c in
       finish (subst (λ q. Ends d.rows q at0 at1 p0 p1 at1.here s4) (sym e) (subst (Ends d.rows false at0 at1 p0 p1 at1.here) (sym same) ends))
-      (ap (λ xs. last_write xs ticks_register) same ∙ no-ticks3)
+      (ap (λ xs. last_write xs ticks_register) same ∙ no-ticks3) (λ r le. ap (λ xs. last_write xs r) same ∙ past3 r le)
       (λ z l h fits first pending. subst (AllByRecursion (IsWrite z l.first (length l.cells))) (sym same) (sound3 z l h fits first pending))
 
   -- at the end of a wave
   pub end-wave : commits ≡ true → Sets d.rows 3 each_one at1.slots at1.here s3 s4 → IsEnd d commits at0 at1 p0 p1 ticks next all
   end-wave e v =
-      let ends = ends-wave d.rows at0 at1 p0 p1 at1.here [] s1 s2 s3 starts-none a b c s4 v in
+      let ends = ends-wave d.rows at0 at1 p0 p1 at1.here [] s1 s2 s3 (starts-none (length d.rows)) a b c s4 v in
       finish (subst (λ q. Ends d.rows q at0 at1 p0 p1 at1.here s4) (sym e) ends) (v.others 2 (λ k z. omega (arith, z)) ∙ no-ticks3)
+      (λ r le. sets-past d.rows 3 each_one at1.slots at1.here s3 s4 v (omega arith) r le ∙ past3 r le)
       (λ z l h fits first pending. v.sound z l (signals-held z l h) fits.here.there (slots-held l 3 fits first) (sound3 z l h fits first pending))
 
 -- the writes of a state

@@ -1,10 +1,14 @@
+mod Storing
+mod Waving
 mod Stretching
 mod Alone
 mod Making
 mod Trimming
 mod Applying
+mod Counting
 mod Finishing
 mod Tabling
 mod Asking
 mod Noding
+mod Wording
 pub mod Marking

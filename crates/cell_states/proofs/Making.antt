@@ -1,14 +1,15 @@
 -- The cells and writes of a segment's state.
-use Rattle.std.proofs.Common.{◌≡◌, ℕ, ◌+◌, ◌<◌, ◌^◌, Bool, true, false, List, [], map, Option, Some, None, refl, sym, ap, ◌∙◌, arith, subst}
-use Rattle.std.specs.Prelude.{◌==◌, not, if◌then◌else◌, slice_index}
+use Rattle.std.proofs.Common.{◌≡◌, ℕ, ◌+◌, ◌<◌, ◌≤◌, ◌^◌, Bool, true, false, List, [], ◌++◌, map, Option, Some, None, refl, sym, ap, ◌∙◌, arith, subst}
+use Rattle.std.specs.Prelude.{◌==◌, not, if◌then◌else◌, slice_get, slice_index, slice_index_or}
 use Rattle.std.specs.List.{AllByRecursion}
+use Rattle.std.proofs.lemmas.List.Elements.{recursion_from_All}
 use Rattle.vl_base.specs.declared.files.File.{File}
 use Rattle.vl_design.specs.Functions.{scope_of}
 use Rattle.vl_design.specs.Sound.{IsMemory}
 use Rattle.vl_design.specs.State.{State, sample, counted}
 use Rattle.vl_design.specs.Syntax.{Task, Flat}
-use Rattle.vl_design.specs.Value.{Sample, own_value}
-use Rattle.vl_design.specs.Width.{Names, names_of, signal_form}
+use Rattle.vl_design.specs.Value.{Sample, own_value, words_of}
+use Rattle.vl_design.specs.Width.{Names, names_of}
 use Rattle.cell_form.specs.declared.cell.Write.{Write}
 use Rattle.cell_form.specs.Cycle.{written}
 use Rattle.cell_form.specs.Data.{ListData, BankData}
@@ -16,29 +17,42 @@ use Rattle.cell_form.specs.Sound.{Shape, shape_of}
 use Rattle.cell_steps.specs.Slots.{held, IsIn, AreSound, Grows}
 use Rattle.cell_steps.proofs.Frames.{held-stays, longer-grows, grows-then}
 use Rattle.cell_paths.specs.Envs.{Env, IsThere, Fits, HasMemories, Stands}
-use Rattle.cell_paths.proofs.Staying.{fits-stays, stands-stays, held-or-stays, is-slot-stays}
-use Rattle.cell_later.specs.Pendings.{PendingSlots, Pends, slot_of}
+use Rattle.cell_paths.proofs.Staying.{fits-stays, stands-stays, is-slot-stays}
+use Rattle.cell_later.specs.declared.pending.Site.{Site}
+use Rattle.cell_later.specs.Pendings.{PendingSlots, memories_of, IsSite, ArePending, Pends}
 use Rattle.cell_later.proofs.Keeping.{pending-stays, pends-stays}
 use Rattle.cell_expr.specs.Compiled.{Holds}
 use Rattle.cell_next.specs.Next.{next_node}
 use Rattle.cell_waves.specs.Begins.{Begins, IsPendingRead}
-use Rattle.cell_waves.specs.Ends.{Leads, IsLike}
+use Rattle.cell_waves.specs.Ends.{Ends, Leads, IsLike}
 use Rattle.cell_waves.specs.Lasts.{last_write, held_after}
-use Rattle.cell_waves.proofs.Ending.{segment-writes, commit-writes}
-use Rattle.cell_waves.proofs.Lasting.{register-after}
-use Rattle.sub_nodes.specs.Nodes.{Segment, WayOn, Go, Branch, Switch, Commit, Run}
+use Rattle.cell_waves.proofs.Beginning.{read-stays, settles-stay}
+use Rattle.cell_waves.proofs.Ending.{ends-beside, memories-hold, segment-writes, commit-writes}
+use Rattle.cell_waves.proofs.Lasting.{register-behind}
+use Rattle.sub_nodes.specs.Nodes.{Segment, WayOn, Go, Branch, Switch, Commit, Node, Run}
 use Rattle.sub_nodes.specs.Cycles.{Stage, goes_on, segment_done, settled}
+use Rattle.ten_stores.specs.declared.store.Store.{Store}
+use Rattle.ten_stores.specs.Holding.{IsStore, IsIdle, HoldsWords}
+use Rattle.ten_stores.specs.Stores.{all_stored}
+use Rattle.ten_stores.proofs.Cutting.{below-fewer}
+use Rattle.ten_stores.proofs.Same.{all-from}
 use Rattle.ten_form.specs.Registers.{state_register, ticks_register}
 use Rattle.ten_form.specs.Nets.{nets_of}
-use Rattle.ten_form.specs.Banks.{IsFor, HoldsState}
+use Rattle.ten_form.specs.Banks.{cell_nodes, stores_in, stores_before, stores_after, IsFor, HoldsSignals, HoldsState}
 use Rattle.ten_calls.specs.Asked.{asked}
-use Rattle.ten_image.specs.States.{behind, MayCycle, HoldsStage}
+use Rattle.ten_image.specs.States.{idle_before, behind, MayCycle, HoldsStage}
+use Rattle.cell_stores.specs.Reading.{EachHas, HasStore, IsRead, Reads}
+use Rattle.cell_stores.specs.Keeping.{IsLeft, Keeps, IsSegment}
+use Rattle.cell_stores.proofs.Leaving.{idle-yet, holds-more, holds-fewer}
+use Rattle.cell_stores.proofs.Reading.{reads-memories, reads-words}
 use Rattle.cell_states.specs.Designs.{ComputesAlone}
 use Rattle.cell_states.specs.Ended.{IsEnd}
-use Rattle.cell_states.specs.Mades.{is_end, IsMade, AsksBehind}
+use Rattle.cell_states.specs.Mades.{is_end, IsMade, Starts, AsksBehind}
 use Rattle.cell_states.specs.Segments.{HoldsTicks, IsTicks, DoesSegment}
 use Rattle.cell_states.proofs.Alone.{pass-keeps}
+use Rattle.cell_states.proofs.Storing.{memory-plain, own-memories, of-sites, from, mid, kept-cut, after-disjoint, signals-beside, before-beside, before-within, has-in, has-after}
 use Rattle.cell_states.proofs.Stretching.{segment-ticks}
+use Rattle.cell_states.proofs.Waving.{idle-next}
 
 -- ---- where a node goes on
 
@@ -49,12 +63,11 @@ if-not v x y = of (v == 0)
     of true = refl
     of false = refl
 
--- counting an act leaves what a bank holds
-holds-counted : (d : Flat) (b : BankData) (t : State) (committed : List (List ℕ)) → HoldsState d b t committed → HoldsState d b (counted t) committed
+-- counting an act leaves what registers hold
+holds-counted : (d : Flat) (b : BankData) (t : State) (committed : List (List ℕ)) → HoldsSignals d b t committed → HoldsSignals d b (counted t) committed
 holds-counted d b t committed h = record {
   works = h.works;
   values = h.values;
-  memories = h.memories;
   pending = h.pending;
   ticks = h.ticks;
   few = h.few;
@@ -75,27 +88,56 @@ module _ (d : Flat) (order : List ℕ) (files : List File) where
   goes-ticks (Switch e ws other) t committed = refl
   goes-ticks (Commit to) t committed = refl
 
-  like-settled : ComputesAlone d → ((m : ℕ) → IsMemory (names_of d) m → ⊥) → (t : State) → IsLike d t (settled d files (nets_of d files order) (counted t))
-  like-settled alone free t = record {
+  goes-later : (on : WayOn) (t : State) (committed : List (List ℕ)) → (goes_on d files (nets_of d files order) on t committed).state.later ≡ t.later
+  goes-later (Go to) t committed = refl
+  goes-later (Branch e first second) t committed = refl
+  goes-later (Switch e ws other) t committed = refl
+  goes-later (Commit to) t committed = refl
+
+  -- nets are no memories
+  goes-memories : ComputesAlone d → (m : ℕ) → IsMemory (names_of d) m → (on : WayOn) (t : State) (committed : List (List ℕ)) →
+      words_of (goes_on d files (nets_of d files order) on t committed).state.values m ≡ words_of t.values m
+  goes-memories alone m i (Go to) t committed = refl
+  goes-memories alone m i (Branch e first second) t committed = refl
+  goes-memories alone m i (Switch e ws other) t committed = refl
+  goes-memories alone m i (Commit to) t committed = pass-keeps d files (counted t) m alone (memory-plain (names_of d) m i) order t.values
+
+  like-settled : ComputesAlone d → (t : State) → IsLike d t (settled d files (nets_of d files order) (counted t))
+  like-settled alone t = record {
     values = λ k i other. ap (λ ws. slice_index ws 0) (pass-keeps d files (counted t) k alone other order t.values);
-    memories = λ m i. absurd (free m i);
     later = refl;
     answer = refl;
     ticks = refl;
   }
 
-module _ (d : Flat) (order : List ℕ) (early : Bool) (g : Segment) (on : WayOn) (l0 l1 l2 : ListData) (at0 at1 : Env) (p0 p1 : PendingSlots) (ticks : Option ℕ) (next n : ℕ) (sets : List Write)
-    (begins : Begins d order early (record { first = 0; cells = []; sets = [] }) l0 at0 p0) (seg : DoesSegment d g at0 at1 p0 p1 l0 l1 ticks)
-    (goes : (files : List File) → Holds (names_of d) n at1 l1 l2 next 32 (λ x. next_node (scope_of d files) x on))
-    (end : IsEnd d (is_end on) at0 at1 p0 p1 ticks next sets) (alone : ComputesAlone d) (free : (m : ℕ) → IsMemory (names_of d) m → ⊥) where
+-- ---- a segment's state
+
+-- the sites behind a segment are of the stores that its state keeps
+pub starts-same : (d : Flat) (order : List ℕ) (n : ℕ) (g : Segment) (on : WayOn) (l : ListData) (at at' : Env) (p p' : PendingSlots) (ticks : Option ℕ) → slice_get (cell_nodes d) n ≡ Some (Run g on) →
+    Starts d order (n + 1) g l at at' p p' ticks → map (λ (x : Store). x.memory) (stores_after d n) ≡ memories_of p'.sites
+starts-same d order n g on l at at' p p' ticks there st =
+    own-memories d n (Run g on) there
+    ∙ (ap (λ ms. ms ++ all_stored g.statements) (sym (reads-memories d.rows (stores_after d (n + 1)) st.first st.second [] st.sites st.reads)) ∙ sym st.does.sites)
+
+module _ (d : Flat) (order : List ℕ) (n : ℕ) (g : Segment) (on : WayOn) (l0 l1 l2 l3 : ListData) (at0 at1 : Env) (p0 p1 : PendingSlots) (sites : List Site) (ticks : Option ℕ) (next count : ℕ) (ends sets : List Write)
+    (begins : Begins d order (record { first = 0; cells = []; sets = [] }) l0 at0 p0) (reads : Reads d.rows (stores_after d (n + 1)) l0 l1 [] sites)
+    (seg : DoesSegment d g at0 at1 (record p0 { sites = sites }) p1 l1 l2 ticks) (goes : (files : List File) → Holds (names_of d) count at1 l2 l3 next 32 (λ x. next_node (scope_of d files) x on))
+    (end : IsEnd d (is_end on) at0 at1 p0 p1 ticks next ends) (keeps : Keeps (stores_after d n) p1.sites ends sets) (same : map (λ (x : Store). x.memory) (stores_after d n) ≡ memories_of p1.sites)
+    (above : AllByRecursion (λ x. IsMemory (names_of d) x.memory) (stores_after d (n + 1))) (alone : ComputesAlone d) where
   abbrev names : Names
   names = names_of d
 
-  g12 : Grows l1 l2
-  g12 = longer-grows (HasMemories names at1) n l1 l2 (goes []).longer
+  g01 : Grows l0 l1
+  g01 = longer-grows (λ z. AllByRecursion (HasStore z) (stores_after d (n + 1))) _ l0 l1 reads.longer
 
-  g02 : Grows l0 l2
-  g02 = grows-then l0 l1 l2 seg.grows g12
+  g23 : Grows l2 l3
+  g23 = longer-grows (HasMemories names at1) count l2 l3 (goes []).longer
+
+  g13 : Grows l1 l3
+  g13 = grows-then l1 l2 l3 seg.grows g23
+
+  g03 : Grows l0 l3
+  g03 = grows-then l0 l1 l3 g01 g13
 
   memories-there : (z : Shape) → IsFor d 0 z → HasMemories names at1 z
   memories-there z h m i = subst (IsThere z) (sym (seg.memories m i)) (begins.memories z h m i)
@@ -104,15 +146,46 @@ module _ (d : Flat) (order : List ℕ) (early : Bool) (g : Segment) (on : WayOn)
   sound0 z h = begins.sound z h tt
 
   sound1 : (z : Shape) → IsFor d 0 z → AreSound z l1
-  sound1 z h = seg.sound z (begins.memories z h) (sound0 z h)
+  sound1 z h = reads.longer.sound z (has-after d (n + 1) z h above) (sound0 z h)
 
   sound2 : (z : Shape) → IsFor d 0 z → AreSound z l2
-  sound2 z h = (goes []).longer.sound z (memories-there z h) (sound1 z h)
+  sound2 z h = seg.sound z (begins.memories z h) (sound1 z h)
 
-  fits2 : Fits names l2 at1
-  fits2 = fits-stays names l1 l2 at1 g12 seg.fits
+  sound3 : (z : Shape) → IsFor d 0 z → AreSound z l3
+  sound3 z h = (goes []).longer.sound z (memories-there z h) (sound2 z h)
 
-  module _ (files : List File) (b : BankData) (i : Stage) (may : MayCycle d order files early (Run g on) 0 b i) where
+  fits3 : Fits names l3 at1
+  fits3 = fits-stays names l2 l3 at1 g23 seg.fits
+
+  pending3 : ArePending names l3 p1
+  pending3 = pending-stays names l2 l3 p1 g23 seg.pending
+
+  -- the stores of the nodes from this one on are of memories
+  kept-memories : AllByRecursion (λ x. IsMemory names x.memory) (stores_after d n)
+  kept-memories = of-sites names l3 (stores_after d n) p1.sites same (recursion_from_All (IsSite names l3) p1.sites pending3.sites)
+
+  -- ---- the writes
+
+  signal-write : (r : ℕ) → r < from d → last_write sets r ≡ last_write ends r
+  signal-write r lt = keeps.others r (signals-beside d n r lt)
+
+  all-ends : Ends d.rows (is_end on) at0 at1 p0 p1 at1.here sets
+  all-ends = ends-beside d.rows (is_end on) at0 at1 p0 p1 at1.here ends sets end.ends (keeps.registers end.ends.registers) (λ r h k lt. signal-write r lt)
+
+  node-write : last_write sets state_register ≡ Some next
+  node-write = signal-write state_register (omega arith) ∙ end.node
+
+  ticks-write : last_write sets ticks_register ≡ ticks
+  ticks-write = signal-write ticks_register (omega arith) ∙ end.counts
+
+  -- the stores before the node aren't written
+  left-one : (x : Store) → mid d n ≤ x.first → IsLeft sets x
+  left-one x h r low high = keeps.others r (before-beside d n r (omega (arith, h, low))) ∙ end.beside r (omega (arith, h, low))
+
+  left : AllByRecursion (IsLeft sets) (stores_before d n)
+  left = all-from (λ x. mid d n ≤ x.first) (IsLeft sets) left-one (stores_before d n) (before-within d n)
+
+  module _ (files : List File) (b : BankData) (i : Stage) (may : MayCycle d order files n (Run g on) 0 b i) where
     abbrev t : State
     t = segment_done (scope_of d files) g i.state
 
@@ -125,88 +198,158 @@ module _ (d : Flat) (order : List ℕ) (early : Bool) (g : Segment) (on : WayOn)
     a0 : AreSound (shape_of b) l0
     a0 = sound0 (shape_of b) may.shape
 
-    stands0 : Stands names b l0 at0 (sample i.state)
-    stands0 = begins.stands files (shape_of b) b i.state i.committed tt may.alive may.tidy may.holds
+    a1 : AreSound (shape_of b) l1
+    a1 = sound1 (shape_of b) may.shape
 
-    pends0 : Pends names b l0 p0 i.state.later
-    pends0 = begins.pends (shape_of b) b i.state i.committed tt may.holds
+    abbrev was : HoldsState d b i.state i.committed
+    was = may.stage.holds
+
+    -- ---- what is idle before the segment
+
+    idle-now : AllByRecursion (IsIdle b) (stores_before d (n + 1))
+    idle-now =
+        let there : slice_get (cell_nodes d) i.node ≡ Some (Run g on) = ap (slice_get (cell_nodes d)) may.at ∙ may.there in
+        subst (λ k. AllByRecursion (IsIdle b) (stores_before d (k + 1))) may.at (may.stage.idle (Run g on) there)
+
+    words-above : HoldsWords d b (stores_after d (n + 1)) i.state.later
+    words-above = holds-fewer d b (stores_after d (n + 1)) (stores_before d (n + 1)) i.state.later (subst (λ xs. HoldsWords d b xs i.state.later) (kept-cut d (n + 1)) was.words) idle-now
+
+    -- ---- what slots hold
+
+    stands0 : Stands names b l0 at0 (sample i.state)
+    stands0 = begins.stands files (shape_of b) b i.state i.committed tt may.alive may.tidy was
+
+    stands01 : Stands names b l1 at0 (sample i.state)
+    stands01 = stands-stays names b l0 l1 at0 (sample i.state) g01 begins.fits stands0
+
+    read1 : EachHas (IsRead d.rows l1) (stores_after d (n + 1)) sites
+    read1 = subst (EachHas (IsRead d.rows l1) (stores_after d (n + 1))) (sym reads.are) reads.read
+
+    pends1 : Pends names b l1 (record p0 { sites = sites }) i.state.later
+    pends1 = record {
+      values = settles-stay d b l0 l1 p0 i.state.later g01 begins.pending (begins.pends (shape_of b) b i.state i.committed tt was.signals);
+      words = reads-words d (shape_of b) b l1 (stores_after d (n + 1)) sites i.state.later a1 read1 words-above;
+    }
 
     read0 : IsPendingRead d b l0 p0
-    read0 = begins.read (shape_of b) b i.state i.committed tt may.holds
+    read0 = begins.read (shape_of b) b i.state i.committed tt was.signals
 
-    pub stands1 : Stands names b l1 at1 (sample t)
-    stands1 = seg.stands files (shape_of b) b i.state a0 may.alive few-rising stands0
+    pub stands2 : Stands names b l2 at1 (sample t)
+    stands2 = seg.stands files (shape_of b) b i.state a1 may.alive few-rising stands01
 
-    stands2 : Stands names b l2 at1 (sample t)
-    stands2 = stands-stays names b l1 l2 at1 (sample t) g12 seg.fits stands1
+    stands3 : Stands names b l3 at1 (sample t)
+    stands3 = stands-stays names b l2 l3 at1 (sample t) g23 seg.fits stands2
 
-    stands02 : Stands names b l2 at0 (sample i.state)
-    stands02 = stands-stays names b l0 l2 at0 (sample i.state) g02 begins.fits stands0
+    stands03 : Stands names b l3 at0 (sample i.state)
+    stands03 = stands-stays names b l0 l3 at0 (sample i.state) g03 begins.fits stands0
 
-    leads : Leads d b l2 i.state t i.committed at0 at1 p0 p1 at1.here
+    pends3 : Pends names b l3 p1 t.later
+    pends3 = pends-stays names b l2 l3 p1 t.later g23 seg.pending (seg.later files (shape_of b) b i.state a1 may.alive few-rising stands01 pends1)
+
+    leads : Leads d b l3 i.state t i.committed at0 at1 p0 p1 at1.here
     leads = record {
       shape = shape_of b;
-      sound = sound2 (shape_of b) may.shape;
+      sound = sound3 (shape_of b) may.shape;
       bank = may.shape;
-      before = may.holds;
+      before = was.signals;
       first = begins.first;
       first_behind = seg.first ∙ begins.first;
-      stands = stands02;
-      stands_behind = stands2;
-      memories = seg.memories;
-      read = record {
-        update = λ k j. held-or-stays b l0 l2 (signal_form names.rows k).width (slot_of p0.update k) g02 (begins.pending.update k j) ∙ read0.update k j;
-        mask = λ k j. held-or-stays b l0 l2 (signal_form names.rows k).width (slot_of p0.mask k) g02 (begins.pending.mask k j) ∙ read0.mask k j;
-      };
-      pending = pending-stays names l1 l2 p1 g12 seg.pending;
-      pends = pends-stays names b l1 l2 p1 t.later g12 seg.pending (seg.later files (shape_of b) b i.state a0 may.alive few-rising stands0 pends0);
-      words = λ base m fine j. absurd (free m j);
-      zero = fits2.is_here (shape_of b) b (sound2 (shape_of b) may.shape);
-      answer = sym stands2.answer ∙ ap (held b l2) seg.answer ∙ stands02.answer;
+      stands = stands03;
+      stands_behind = stands3;
+      read = read-stays d b l0 l3 p0 g03 begins.pending read0;
+      pending = pending3;
+      pends = pends3.values;
+      zero = fits3.is_here (shape_of b) b (sound3 (shape_of b) may.shape);
+      answer = sym stands3.answer ∙ ap (held b l3) seg.answer ∙ stands03.answer;
       few = few;
     }
 
-    ticks-held : held_after (held b l2) (last_write sets ticks_register) i.state.ticks ≡ t.ticks
-    ticks-held = ap (λ o. held_after (held b l2) o i.state.ticks) end.counts ∙ of g.rises refl ticks seg.slot (seg.counted (shape_of b) b i.state a0 few-rising stands0) ∙ sym (segment-ticks (scope_of d files) g i.state)
+    ticks-held : held_after (held b l3) (last_write sets ticks_register) i.state.ticks ≡ t.ticks
+    ticks-held = ap (λ o. held_after (held b l3) o i.state.ticks) ticks-write ∙ of g.rises refl ticks seg.slot (seg.counted (shape_of b) b i.state a1 few-rising stands01) ∙ sym (segment-ticks (scope_of d files) g i.state)
       where
-        of : (r : Bool) → g.rises ≡ r → (o : Option ℕ) → IsTicks l1 o → HoldsTicks r b l1 o (i.state.ticks + 1) → held_after (held b l2) o i.state.ticks ≡ (if r then i.state.ticks + 1 else i.state.ticks)
-        of true e (Some q) slot h = held-stays b l1 l2 q g12 slot.there ∙ h
+        of : (r : Bool) → g.rises ≡ r → (o : Option ℕ) → IsTicks l2 o → HoldsTicks r b l2 o (i.state.ticks + 1) → held_after (held b l3) o i.state.ticks ≡ (if r then i.state.ticks + 1 else i.state.ticks)
+        of true e (Some q) slot h = held-stays b l2 l3 q g23 slot.there ∙ h
         of true e None slot h = absurd h
-        of false e o slot h = ap (λ u. held_after (held b l2) u i.state.ticks) h
+        of false e o slot h = ap (λ u. held_after (held b l3) u i.state.ticks) h
 
-    node-held : slice_index (written (held b l2) sets b).regs state_register ≡ next_node (scope_of d files) (sample t) on
+    -- ---- behind its writes
+
+    abbrev end-bank : BankData
+    end-bank = written (held b l3) sets b
+
+    node-held : slice_index end-bank.regs state_register ≡ next_node (scope_of d files) (sample t) on
     node-held =
-        register-after (held b l2) sets b state_register end.ends.registers (let r = may.shape.regs in omega (arith, r))
-        ∙ ap (λ o. held_after (held b l2) o (slice_index b.regs state_register)) end.node
-        ∙ (goes files).value (shape_of b) b (sample t) (sound1 (shape_of b) may.shape) stands1
+        register-behind (held b l3) sets b state_register (let r = may.shape.regs in omega (arith, r))
+        ∙ ap (λ o. held_after (held b l3) o (slice_index b.regs state_register)) node-write
+        ∙ (goes files).value (shape_of b) b (sample t) (sound2 (shape_of b) may.shape) stands2
 
-    holds : (w : WayOn) → on ≡ w → (let j = goes_on d files (nets_of d files order) w t i.committed in HoldsState d (written (held b l2) sets b) j.state j.committed)
-    holds (Go to) e = segment-writes d b l2 i.state t i.committed at0 at1 p0 p1 at1.here (is_end on) sets leads end.ends (ap is_end e) ticks-held
-    holds (Branch x first second) e = holds-counted d _ t i.committed (segment-writes d b l2 i.state t i.committed at0 at1 p0 p1 at1.here (is_end on) sets leads end.ends (ap is_end e) ticks-held)
-    holds (Switch x ws other) e = holds-counted d _ t i.committed (segment-writes d b l2 i.state t i.committed at0 at1 p0 p1 at1.here (is_end on) sets leads end.ends (ap is_end e) ticks-held)
-    holds (Commit to) e = commit-writes d b l2 i.state t i.committed at0 at1 p0 p1 at1.here (is_end on) sets leads end.ends (ap is_end e) ticks-held (settled d files (nets_of d files order) (counted t)) (like-settled d order files alone free t)
+    signals : (w : WayOn) → on ≡ w → (let j = goes_on d files (nets_of d files order) w t i.committed in HoldsSignals d end-bank j.state j.committed)
+    signals (Go to) e = segment-writes d b l3 i.state t i.committed at0 at1 p0 p1 at1.here (is_end on) sets leads all-ends (ap is_end e) ticks-held
+    signals (Branch x first second) e = holds-counted d end-bank t i.committed (segment-writes d b l3 i.state t i.committed at0 at1 p0 p1 at1.here (is_end on) sets leads all-ends (ap is_end e) ticks-held)
+    signals (Switch x ws other) e = holds-counted d end-bank t i.committed (segment-writes d b l3 i.state t i.committed at0 at1 p0 p1 at1.here (is_end on) sets leads all-ends (ap is_end e) ticks-held)
+    signals (Commit to) e = commit-writes d b l3 i.state t i.committed at0 at1 p0 p1 at1.here (is_end on) sets leads all-ends (ap is_end e) ticks-held (settled d files (nets_of d files order) (counted t)) (like-settled d order files alone t)
 
-    stage-held : HoldsStage d (written (held b l2) sets b) (behind d order files (Run g on) i)
-    stage-held = record {
-      node = node-held ∙ sym (goes-node d order files on t i.committed);
-      holds = holds on refl;
+    memories : (m : ℕ) → IsMemory names m → slice_index_or end-bank.mems m [] ≡ words_of (goes_on d files (nets_of d files order) on t i.committed).state.values m
+    memories m k =
+        memories-hold d b l3 at0 at1 i.state t i.committed (held b l3) sets m (keeps.registers end.ends.registers) was stands03 stands3 k (seg.memories m k)
+        ∙ sym (goes-memories d order files alone m k on t i.committed)
+
+    store-memories : AllByRecursion (λ x. IsMemory names x.memory) (stores_in d)
+    store-memories = all-from (IsStore d b) (λ x. IsMemory names x.memory) (λ x h. h.memory) (stores_in d) (recursion_from_All (IsStore d b) (stores_in d) was.words.each)
+
+    kept : IsSegment d b l3 (stores_after d n) (stores_before d n) p1.sites sets t.later
+    kept = record {
+      shape = shape_of b;
+      sound = sound3 (shape_of b) may.shape;
+      there = subst (AllByRecursion (HasStore (shape_of b))) (kept-cut d n) (has-in d (shape_of b) may.shape store-memories);
+      slots = pending3.sites;
+      each = keeps.each (after-disjoint d n);
+      left = left;
+      idle = below-fewer (IsIdle b) (from d) (cell_nodes d) (n + 1) n idle-now (omega arith);
+      words = pends3.words;
     }
 
-  pub is-made : IsMade d order early (Run g on) l2 sets
+    words-kept : HoldsWords d end-bank (stores_in d) t.later
+    words-kept =
+        subst (λ xs. HoldsWords d end-bank xs t.later) (sym (kept-cut d n))
+        (holds-more d b l3 (stores_after d n) (stores_before d n) p1.sites sets t.later kept i.state.later (subst (λ xs. HoldsWords d b xs i.state.later) (kept-cut d n) was.words))
+
+    holds : let j = goes_on d files (nets_of d files order) on t i.committed in HoldsState d end-bank j.state j.committed
+    holds = record {
+      signals = signals on refl;
+      memories = memories;
+      words = subst (HoldsWords d end-bank (stores_in d)) (sym (goes-later d order files on t i.committed)) words-kept;
+    }
+
+    idle-behind : (y : Node) → slice_get (cell_nodes d) (goes_on d files (nets_of d files order) on t i.committed).node ≡ Some y →
+        AllByRecursion (IsIdle end-bank) (stores_before d (idle_before (goes_on d files (nets_of d files order) on t i.committed).node y))
+    idle-behind y e =
+        below-fewer (IsIdle end-bank) (from d) (cell_nodes d) n (idle_before (goes_on d files (nets_of d files order) on t i.committed).node y)
+        (idle-yet d b l3 (stores_after d n) (stores_before d n) p1.sites sets t.later kept) (idle-next d files (nets_of d files order) n g on t i.committed may.there y e)
+
+    stage-held : HoldsStage d end-bank (behind d order files (Run g on) i)
+    stage-held = record {
+      node = node-held ∙ sym (goes-node d order files on t i.committed);
+      holds = holds;
+      idle = idle-behind;
+    }
+
+  pub is-made : IsMade d order n (Run g on) l3 sets
   is-made = record {
-    sound = sound2;
-    writes = λ z h. end.sound z l2 h fits2 (seg.first ∙ begins.first) (pending-stays names l1 l2 p1 g12 seg.pending) (ticks-stay ticks seg.slot) (goes []).slot;
+    sound = sound3;
+    writes = λ z h.
+        keeps.sound names z l3 (has-after d n z h kept-memories) pending3.sites (end.sound z l3 h fits3 (seg.first ∙ begins.first) pending3 (ticks-stay ticks seg.slot) (goes []).slot);
     does = stage-held;
   }
     where
-      ticks-stay : (o : Option ℕ) → IsTicks l1 o → IsTicks l2 o
+      ticks-stay : (o : Option ℕ) → IsTicks l2 o → IsTicks l3 o
       ticks-stay None h = tt
-      ticks-stay (Some r) h = is-slot-stays l1 l2 r 32 g12 h
+      ticks-stay (Some r) h = is-slot-stays l2 l3 r 32 g23 h
 
   -- what a call is given behind the segment
-  pub asks-behind : (task : Task) (args : List ℕ) → AllByRecursion (IsIn l2) args →
-      ((files : List File) (z : Shape) (b : BankData) (x : Sample) → AreSound z l1 → Stands names b l1 at1 x → map (held b l2) args ≡ asked (scope_of d files) x task) → AsksBehind d order early g (Run g on) l2 task args
+  pub asks-behind : (task : Task) (args : List ℕ) → AllByRecursion (IsIn l3) args →
+      ((files : List File) (z : Shape) (b : BankData) (x : Sample) → AreSound z l2 → Stands names b l2 at1 x → map (held b l3) args ≡ asked (scope_of d files) x task) → AsksBehind d order n g (Run g on) l3 task args
   asks-behind task args there values = record {
     there = there;
-    asks = λ files b i may. values files (shape_of b) b (sample (segment_done (scope_of d files) g i.state)) (sound1 (shape_of b) may.shape) (stands1 files b i may);
+    asks = λ files b i may. values files (shape_of b) b (sample (segment_done (scope_of d files) g i.state)) (sound2 (shape_of b) may.shape) (stands2 files b i may);
   }

@@ -1,7 +1,7 @@
 -- The states that a node adds.
-use Rattle.std.proofs.Common.{◌≡◌, ◌≢◌, ℕ, ◌+◌, ◌<◌, Bool, true, false, List, [], ◌∷◌, ◌++◌, length, map, get_or, Option, Some, None, refl, sym, ap, ◌∙◌, arith, subst}
-use Rattle.std.specs.Prelude.{slice_get, nat_le, option_map}
-use Rattle.std.proofs.lemmas.Bool.{leb-true, true≢false, false_from_ne_true}
+use Rattle.std.proofs.Common.{◌≡◌, ◌≢◌, ℕ, ◌+◌, ◌<◌, Bool, true, false, List, [], ◌∷◌, ◌++◌, length, length-append, map, get_or, Option, Some, None, Result, Ok, Err, refl, sym, ap, ◌∙◌, arith, subst}
+use Rattle.std.specs.Prelude.{slice_get, option_map, OnOk}
+use Rattle.std.proofs.lemmas.Bool.{true≢false}
 use Rattle.std.proofs.lemmas.List.{length-map}
 use Rattle.std.proofs.lemmas.Option.{slice_get-map, slice_get_read, slice_get_within, none-some}
 use Rattle.vl_design.specs.Syntax.{Task, Flat}
@@ -12,20 +12,31 @@ use Rattle.sub_nodes.specs.Nodes.{Segment, WayOn, Go, Node, Run, Trap, Apply}
 use Rattle.sub_nodes.specs.Cycles.{is_trap}
 use Rattle.sub_split.specs.declared.table.Node.{Node as NodeCode}
 use Rattle.sub_split.specs.Views.{node_view}
+use Rattle.ten_form.specs.Banks.{stores_after}
 use Rattle.ten_image.specs.States.{slots_in, Does, IsStateOf}
 use Rattle.cell_states.specs.Trims.{Calls}
-use Rattle.cell_states.specs.Tables.{go_of, AreFirst, HasOneMore, HasTwoMore, UpdatesAreBefore}
+use Rattle.cell_states.specs.Tables.{go_of, AreFirst, HasOneMore, HasTwoMore}
 use Rattle.cell_states.proofs.Tabling.{go-is, comes-call, one-more, two-more, plain-run}
 
 map-push : {A B : Type 0} (f : A → B) (xs : List A) (x : A) → map f (xs ++ x ∷ []) ≡ map f xs ++ f x ∷ []
 map-push f [] x = refl
 map-push f (y ∷ xs) x = ap (λ zs. f y ∷ zs) (map-push f xs x)
 
+-- of two facts on success
+pub on-both : {T E P Q R : Type 0} (r : Result T E) → OnOk r P → OnOk r Q → (P → Q → R) → OnOk r R
+on-both (Ok x) p q f = f p q
+on-both (Err e) p q f = tt
+
+-- a state more
+pub has-one : (d : Flat) (order : List ℕ) (n : ℕ) (x : Node) (old new : List State) (s : State) (before after : ℕ) → new ≡ old ++ s ∷ [] → after ≡ slots_in (list_of s.cells) → s.cells.first ≡ before → Does d order n x (state_of s) →
+    HasOneMore d order n x (map state_of old) before (map state_of new) after
+has-one d order n x old new s before after e a first does = record { state = state_of s; is = ap (map state_of) e ∙ map-push state_of old s; grows = omega (arith, a, first); slots = sym a; does = does }
+
 -- two states more
-pub has-two : (d : Flat) (order : List ℕ) (early : Bool) (g : Segment) (trap : ℕ) (task : Task) (to : ℕ) (old mid new : List State) (run wait : State) (before after : ℕ) → mid ≡ old ++ run ∷ [] → new ≡ mid ++ wait ∷ [] →
-    after ≡ slots_in (list_of wait.cells) → slots_in (list_of wait.cells) ≡ slots_in (list_of run.cells) → run.cells.first ≡ before → Calls d order early g trap task to (state_of run) (state_of wait) →
-    HasTwoMore d order early g trap task to (map state_of old) before (map state_of new) after
-has-two d order early g trap task to old mid new run wait before after m e a behind first calls = record {
+pub has-two : (d : Flat) (order : List ℕ) (n : ℕ) (g : Segment) (trap : ℕ) (task : Task) (to : ℕ) (old mid new : List State) (run wait : State) (before after : ℕ) → mid ≡ old ++ run ∷ [] → new ≡ mid ++ wait ∷ [] →
+    after ≡ slots_in (list_of wait.cells) → slots_in (list_of wait.cells) ≡ slots_in (list_of run.cells) → run.cells.first ≡ before → Calls d order n g trap task to (state_of run) (state_of wait) →
+    HasTwoMore d order n g trap task to (map state_of old) before (map state_of new) after
+has-two d order n g trap task to old mid new run wait before after m e a behind first calls = record {
   run = state_of run;
   wait = state_of wait;
   is = ap (map state_of) e ∙ map-push state_of mid wait ∙ ap (λ ss. ss ++ state_of wait ∷ []) (ap (map state_of) m ∙ map-push state_of old run);
@@ -52,37 +63,35 @@ abbrev is-run : Node → Bool
 is-run (Run g on) = true
 is-run x = false
 
-module _ (d : Flat) (order : List ℕ) (from : ℕ) (nodes : List Node) (old : List StateData) (before : ℕ) (first : AreFirst d order from nodes old before) where
-  add-one : (early : Bool) (x : Node) (new : List StateData) (after : ℕ) → HasOneMore d order early x old before new after → early ≡ nat_le from (length old) → slice_get nodes (length old) ≡ Some x → is_trap (Some x) ≡ false →
-      ((g : Segment) (k : ℕ) → x ≢ Run g (Go k)) → ((n : ℕ) (ss : List StateData) (s : StateData) → Does d order early x s → IsStateOf d order early n nodes ss x s) → AreFirst d order from nodes new after
-  add-one early x new after h e there free apart plain =
-      subst (λ ss. AreFirst d order from nodes ss after) (sym h.is)
-      (one-more d order nodes from old before after first h.grows x h.state there free apart (let s = h.slots in omega (arith, s))
-      (subst (λ q. IsStateOf d order q after nodes (old ++ h.state ∷ []) x h.state) e (plain after (old ++ h.state ∷ []) h.state h.does)))
+module _ (d : Flat) (order : List ℕ) (nodes : List Node) (old : List StateData) (before stores : ℕ) (first : AreFirst d order nodes old before stores) where
+  add-one : (x : Node) (new : List StateData) (after left : ℕ) → HasOneMore d order (length old) x old before new after → slice_get nodes (length old) ≡ Some x → is_trap (Some x) ≡ false →
+      ((g : Segment) (k : ℕ) → x ≢ Run g (Go k)) → left ≡ length (stores_after d (length old + 1)) →
+      ((n : ℕ) (ss : List StateData) (s : StateData) → Does d order (length old) x s → IsStateOf d order (length old) n nodes ss x s) → AreFirst d order nodes new after left
+  add-one x new after left h there free apart less plain =
+      subst (λ ss. AreFirst d order nodes ss after left) (sym h.is)
+      (one-more d order nodes old before after stores first h.grows x h.state left there free apart (let s = h.slots in omega (arith, s)) less (plain after (old ++ h.state ∷ []) h.state h.does))
 
-  pub add-run-state : (early : Bool) (g : Segment) (on : WayOn) (new : List StateData) (after : ℕ) → go_of on ≡ None → HasOneMore d order early (Run g on) old before new after → early ≡ nat_le from (length old) →
-      slice_get nodes (length old) ≡ Some (Run g on) → AreFirst d order from nodes new after
-  add-run-state early g on new after none h e there =
-      add-one early (Run g on) new after h e there refl (λ q k z. none-some k (sym none ∙ ap way-go z)) (λ n ss s does. plain-run d order nodes early n ss g on s none does)
+  pub add-run-state : (g : Segment) (on : WayOn) (new : List StateData) (after left : ℕ) → go_of on ≡ None → HasOneMore d order (length old) (Run g on) old before new after → slice_get nodes (length old) ≡ Some (Run g on) →
+      left ≡ length (stores_after d (length old + 1)) → AreFirst d order nodes new after left
+  add-run-state g on new after left none h there less =
+      add-one (Run g on) new after left h there refl (λ q k z. none-some k (sym none ∙ ap way-go z)) less (λ n ss s does. plain-run d order nodes (length old) n ss g on s none does)
 
-  pub add-update-state : (to : ℕ) (new : List StateData) (after : ℕ) → HasOneMore d order false (Apply to) old before new after → UpdatesAreBefore from nodes → slice_get nodes (length old) ≡ Some (Apply to) → AreFirst d order from nodes new after
-  add-update-state to new after h updates there =
-      let lt = updates (length old) to there in
-      add-one false (Apply to) new after h (sym (false_from_ne_true (nat_le from (length old)) (λ e. (let le = leb-true from (length old) e in omega (arith, lt, le))))) there refl (λ q k z. apart z) (λ n ss s does. does)
+  pub add-update-state : (to : ℕ) (new : List StateData) (after left : ℕ) → HasOneMore d order (length old) (Apply to) old before new after → slice_get nodes (length old) ≡ Some (Apply to) →
+      left ≡ length (stores_after d (length old + 1)) → AreFirst d order nodes new after left
+  add-update-state to new after left h there less = add-one (Apply to) new after left h there refl (λ q k z. apart z) less (λ n ss s does. does)
     where
       apart : {g : Segment} {k : ℕ} → Apply to ≡ Run g (Go k) → ⊥
       apart z = true≢false (sym (ap is-run z))
 
-  pub add-call-states : (early : Bool) (g : Segment) (on : WayOn) (trap to : ℕ) (task : Task) (new : List StateData) (after : ℕ) → go_of on ≡ Some trap → HasTwoMore d order early g trap task to old before new after → early ≡ nat_le from (length old) →
-      slice_get nodes (length old) ≡ Some (Run g on) → slice_get nodes (length old + 1) ≡ Some (Trap task to) → AreFirst d order from nodes new after
-  add-call-states early g on trap to task new after go h e there behind =
+  pub add-call-states : (g : Segment) (on : WayOn) (trap to : ℕ) (task : Task) (new : List StateData) (after left : ℕ) → go_of on ≡ Some trap → HasTwoMore d order (length old) g trap task to old before new after →
+      slice_get nodes (length old) ≡ Some (Run g on) → slice_get nodes (length old + 1) ≡ Some (Trap task to) → left ≡ length (stores_after d (length old + 2)) → AreFirst d order nodes new after left
+  add-call-states g on trap to task new after left go h there behind less =
       let at = there ∙ ap (λ w. Some (Run g w)) (go-is d order nodes on trap go) in
       let c = comes-call d order nodes (length old) g trap at first.rest in
       let run = h.slots in
       let wait = h.slots_behind in
-      subst (λ ss. AreFirst d order from nodes ss after) (sym h.is)
-      (two-more d order nodes from old before after first h.grows g trap h.run h.wait at (record { task = task; to = to; is = c.is; node = behind; rest = c.rest }) (omega (arith, run)) (omega (arith, wait))
-      (subst (λ q. Calls d order q g trap task to h.run h.wait) e h.calls))
+      subst (λ ss. AreFirst d order nodes ss after left) (sym h.is)
+      (two-more d order nodes old before after stores first h.grows g trap h.run h.wait left at (record { task = task; to = to; is = c.is; node = behind; rest = c.rest }) (omega (arith, run)) (omega (arith, wait)) less h.calls)
 
   -- behind a segment that comes to a call, nothing else is next
   pub call-behind : (g : Segment) (on : WayOn) (trap : ℕ) (y : Node) → go_of on ≡ Some trap → slice_get nodes (length old) ≡ Some (Run g on) → slice_get nodes (length old + 1) ≡ Some y → is_trap (Some y) ≡ false → ⊥
@@ -97,3 +106,22 @@ module _ (d : Flat) (order : List ℕ) (from : ℕ) (nodes : List Node) (old : L
       let at = there ∙ ap (λ w. Some (Run g w)) (go-is d order nodes on trap go) in
       let c = comes-call d order nodes (length old) g trap at first.rest in
       slice_get_within nodes (length old + 1) (Trap c.task c.to) c.node
+
+-- ---- there are more states then
+
+pub one-longer : (d : Flat) (order : List ℕ) (n : ℕ) (x : Node) (old new : List State) (before after : ℕ) → HasOneMore d order n x (map state_of old) before (map state_of new) after → length old < length new
+one-longer d order n x old new before after h =
+    let a = length-map old state_of in
+    let b = length-map new state_of in
+    let e = ap (λ (ss : List StateData). length ss) h.is in
+    let f = length-append (map state_of old) (h.state ∷ []) in
+    omega (arith, a, b, e, f)
+
+pub two-longer : (d : Flat) (order : List ℕ) (n : ℕ) (g : Segment) (trap : ℕ) (task : Task) (to : ℕ) (old new : List State) (before after : ℕ) → HasTwoMore d order n g trap task to (map state_of old) before (map state_of new) after → length old < length new
+two-longer d order n g trap task to old new before after h =
+    let a = length-map old state_of in
+    let b = length-map new state_of in
+    let e = ap (λ (ss : List StateData). length ss) h.is in
+    let f = length-append (map state_of old) (h.run ∷ []) in
+    let i = length-append (map state_of old ++ h.run ∷ []) (h.wait ∷ []) in
+    omega (arith, a, b, e, f, i)

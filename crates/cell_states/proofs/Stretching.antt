@@ -1,5 +1,5 @@
 -- Statements one after another, and the rise before them.
-use Rattle.std.proofs.Common.{◌≡◌, ℕ, ◌+◌, Bool, true, false, List, [], ◌∷◌, ◌++◌, Option, Some, None, refl, sym, ap, ◌∙◌, arith, subst}
+use Rattle.std.proofs.Common.{◌≡◌, ℕ, ◌+◌, Bool, true, false, List, [], ◌∷◌, ◌++◌, Option, Some, None, refl, sym, ap, ◌∙◌, arith, subst, append-nil, append_assoc}
 use Rattle.std.specs.Prelude.{if◌then◌else◌, Result, Ok, Err, OnOk}
 use Rattle.vl_base.specs.declared.files.File.{File}
 use Rattle.vl_design.specs.Exec.{exec}
@@ -15,7 +15,9 @@ use Rattle.cell_steps.proofs.Frames.{held-stays, longer-grows, longer-same, long
 use Rattle.cell_paths.specs.Envs.{Env, entry, Fits, HasMemories, Stands}
 use Rattle.cell_paths.specs.Paths.{on, Does}
 use Rattle.cell_paths.proofs.Staying.{keeps-same, keeps-then, memories-kept, sound-behind, is-slot-stays}
-use Rattle.cell_later.specs.Pendings.{PendingSlots, ArePending, Pends}
+use Rattle.cell_later.specs.Pendings.{PendingSlots, memories_of, ArePending, Pends}
+use Rattle.cell_expr.specs.Stored.{stored_words}
+use Rattle.ten_stores.specs.Stores.{all_stored}
 use Rattle.cell_later.specs.Delays.{Leaves}
 use Rattle.cell_later.proofs.Keeping.{pending-stays, pends-stays}
 use Rattle.sub_nodes.specs.Nodes.{Segment}
@@ -26,6 +28,10 @@ use Rattle.cell_states.specs.Segments.{DoesAll, RisesWhere, DoesSegment}
 execs-more : (scope : Scope) (xs ys : List Stm) (s : State) → execs scope (xs ++ ys) s ≡ execs scope ys (execs scope xs s)
 execs-more scope [] ys s = refl
 execs-more scope (x ∷ xs) ys s = execs-more scope xs ys (exec scope x s)
+
+stored-more : (xs ys : List Stm) → all_stored (xs ++ ys) ≡ all_stored xs ++ all_stored ys
+stored-more [] ys = refl
+stored-more (a ∷ xs) ys = ap (λ (ms : List ℕ). stored_words a ++ ms) (stored-more xs ys) ∙ sym (append_assoc (stored_words a) (all_stored xs) (all_stored ys))
 
 module _ (d : Flat) where
   abbrev names : Names
@@ -39,6 +45,7 @@ module _ (d : Flat) where
     keeps = keeps-same names at;
     pending = pending;
     many = refl;
+    sites = sym (append-nil (memories_of p.sites));
     alive = λ files t h. h;
     does = λ files z b t sound alive st. st;
     later = λ files z b t sound alive st ps. ps;
@@ -46,14 +53,16 @@ module _ (d : Flat) where
 
   -- a statement on the path that is always taken
   pub all-one : (a : Stm) (n off : ℕ) (at at' : Env) (p p' : PendingSlots) (old new : ListData) → off ≡ at.here → Fits names old at →
-      ((files : List File) → Does names n (exec (scope_of d files) a) off at at' old new) → ((files : List File) → Leaves names (exec (scope_of d files) a) off at p p' old new) → DoesAll d (a ∷ []) at at' p p' old new
-  all-one a n off at at' p p' old new here fits does leaves = record {
+      ((files : List File) → Does names n (exec (scope_of d files) a) off at at' old new) → ((files : List File) → Leaves names (exec (scope_of d files) a) off at p p' old new) →
+      memories_of p'.sites ≡ memories_of p.sites ++ stored_words a → DoesAll d (a ∷ []) at at' p p' old new
+  all-one a n off at at' p p' old new here fits does leaves sites = record {
     count = n;
     longer = (does []).longer;
     fits = (does []).fits;
     keeps = (does []).keeps;
     pending = (leaves []).pending;
     many = (leaves []).many;
+    sites = sites ∙ ap (λ (xs : List ℕ). memories_of p.sites ++ xs) (sym (append-nil (stored_words a)));
     alive = λ files t h. (does files).alive t h;
     does = λ files z b t sound alive st. subst (λ o. Stands names b new at' (sample (on o (exec (scope_of d files) a t) t))) (clear z b sound) ((does files).does z b t sound alive st);
     later = λ files z b t sound alive st ps. subst (λ o. Pends names b new p' (on o (exec (scope_of d files) a t) t).later) (clear z b sound) ((leaves files).later z b t sound alive st ps);
@@ -72,6 +81,8 @@ module _ (d : Flat) where
         keeps = keeps-then names at0 at1 at2 f.keeps g.keeps;
         pending = g.pending;
         many = g.many ∙ f.many;
+        sites = g.sites ∙ (ap (λ (ms : List ℕ). ms ++ all_stored ys) f.sites
+            ∙ (append_assoc (memories_of p0.sites) (all_stored xs) (all_stored ys) ∙ ap (λ (ms : List ℕ). memories_of p0.sites ++ ms) (sym (stored-more xs ys))));
         alive = λ files t h. subst (λ (s : State). s.finished ≡ false) (sym (execs-more (scope_of d files) xs ys t)) (g.alive files (execs (scope_of d files) xs t) (f.alive files t h));
         does = λ files z b t sound alive st.
             let behind = sound-behind names at0 f.count z l0 l1 f.longer sound in
@@ -95,6 +106,7 @@ module _ (d : Flat) where
     fits = f.fits;
     memories = f.keeps.memories;
     pending = f.pending;
+    sites = f.sites;
     slot = tt;
     alive = f.alive;
     stands = λ files z b t sound alive few st. f.does files z b t sound alive st;
@@ -118,6 +130,7 @@ module _ (d : Flat) where
         fits = f.fits;
         memories = λ m h. f.keeps.memories m h ∙ ap (λ (a : Env). entry a m) r.kept;
         pending = f.pending;
+        sites = f.sites;
         slot = is-slot-stays l1 l2 ticks 32 g12 r.slot;
         alive = λ files t h. f.alive files (ticked t) h;
         stands = λ files z b t sound alive few st. f.does files z b (ticked t) (r.longer.sound z tt sound) alive (r.stands names z b t sound fits st (few refl));
@@ -138,10 +151,10 @@ segment-ticks scope g s = of g.rises
     of true = execs-ticks scope g.statements (ticked s)
     of false = execs-ticks scope g.statements s
 
--- two facts on what was done give a third
-pub on-both : {T E P Q R : Type 0} (r : Result T E) → OnOk r P → OnOk r Q → (P → Q → R) → OnOk r R
-on-both (Ok x) p q f = f p q
-on-both (Err e) p q f = tt
+-- three facts on what was done give a fourth
+pub on-three : {T E P Q S R : Type 0} (r : Result T E) → OnOk r P → OnOk r Q → OnOk r S → (P → Q → S → R) → OnOk r R
+on-three (Ok x) p q s f = f p q s
+on-three (Err e) p q s f = tt
 
 -- ---- a rise, where there is one, and what stays over it
 

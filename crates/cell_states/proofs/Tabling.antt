@@ -1,6 +1,6 @@
 -- One more state, or two.
-use Rattle.std.proofs.Common.{◌≡◌, ◌≢◌, ℕ, zero, suc, ◌+◌, ◌≤◌, Bool, false, List, [], ◌∷◌, ◌++◌, length, length-append, drop, Some, None, inl, inr, refl, sym, ap, ◌∙◌, arith, subst}
-use Rattle.std.specs.Prelude.{slice_get, nat_le, ◌⊎◌}
+use Rattle.std.proofs.Common.{◌≡◌, ◌≢◌, ℕ, zero, suc, ◌+◌, ◌≤◌, false, List, [], ◌∷◌, ◌++◌, length, length-append, drop, Some, None, inl, inr, refl, sym, ap, ◌∙◌, arith, subst}
+use Rattle.std.specs.Prelude.{slice_get, ◌⊎◌}
 use Rattle.std.proofs.lemmas.Bool.{true≢false}
 use Rattle.std.proofs.lemmas.List.{drop_all}
 use Rattle.std.proofs.lemmas.Option.{slice_get_within, slice_get_cases, none-some, same_Some}
@@ -10,6 +10,7 @@ use Rattle.sub_nodes.specs.Nodes.{Segment, WayOn, Go, Branch, Switch, Commit, No
 use Rattle.sub_nodes.specs.Cycles.{is_trap}
 use Rattle.sub_facts.specs.Pairs.{ArePaired}
 use Rattle.ten_calls.specs.Traps.{IsTrapOf}
+use Rattle.ten_form.specs.Banks.{stores_after}
 use Rattle.ten_image.specs.States.{slots_in, Does, HasTrap, IsStateOf, AreStates}
 use Rattle.cell_states.specs.Trims.{Calls}
 use Rattle.cell_states.specs.Tables.{go_of, AreFirst}
@@ -53,22 +54,22 @@ module _ (d : Flat) (order : List ℕ) (nodes : List Node) where
   slots-more : (task : Task) (n m : ℕ) (t : _) → n ≤ m → IsTrapOf d task n t → IsTrapOf d task m t
   slots-more task n m t le h = record { call = h.call; answer = h.answer; args = λ i a lt. (let k = h.args i a lt in omega (arith, le, k)) }
 
-  state-stays : (early : Bool) (n m : ℕ) (states more : List StateData) (x : Node) (s : StateData) → n ≤ m → IsStateOf d order early n nodes states x s → IsStateOf d order early m nodes (states ++ more) x s
-  state-stays early n m states more (Run g (Go to)) s le h =
+  state-stays : (number : ℕ) (n m : ℕ) (states more : List StateData) (x : Node) (s : StateData) → n ≤ m → IsStateOf d order number n nodes states x s → IsStateOf d order number m nodes (states ++ more) x s
+  state-stays number n m states more (Run g (Go to)) s le h =
       let c = h.1 in
       (h.0, record { task = c.task; to = c.to; trap = c.trap; node = c.node; there = trap-stays states more to c.trap c.there; asks = c.asks })
-  state-stays early n m states more (Run g (Branch t first second)) s le h = h
-  state-stays early n m states more (Run g (Switch e ws other)) s le h = h
-  state-stays early n m states more (Run g (Commit to)) s le h = h
-  state-stays early n m states more (Trap task to) s le h = record { trap = h.trap; is = h.is; next = h.next; call = slots-more task n m h.trap le h.call }
-  state-stays early n m states more (Apply to) s le h = h
+  state-stays number n m states more (Run g (Branch t first second)) s le h = h
+  state-stays number n m states more (Run g (Switch e ws other)) s le h = h
+  state-stays number n m states more (Run g (Commit to)) s le h = h
+  state-stays number n m states more (Trap task to) s le h = record { trap = h.trap; is = h.is; next = h.next; call = slots-more task n m h.trap le h.call }
+  state-stays number n m states more (Apply to) s le h = h
 
   -- a state that does a node is the node's, where this comes to no call
-  pub plain-run : (early : Bool) (n : ℕ) (states : List StateData) (g : Segment) (on : WayOn) (s : StateData) → go_of on ≡ None → Does d order early (Run g on) s → IsStateOf d order early n nodes states (Run g on) s
-  plain-run early n states g (Go to) s e h = absurd (none-some to (sym e))
-  plain-run early n states g (Branch t first second) s e h = h
-  plain-run early n states g (Switch x ws other) s e h = h
-  plain-run early n states g (Commit to) s e h = h
+  pub plain-run : (number : ℕ) (n : ℕ) (states : List StateData) (g : Segment) (on : WayOn) (s : StateData) → go_of on ≡ None → Does d order number (Run g on) s → IsStateOf d order number n nodes states (Run g on) s
+  plain-run number n states g (Go to) s e h = absurd (none-some to (sym e))
+  plain-run number n states g (Branch t first second) s e h = h
+  plain-run number n states g (Switch x ws other) s e h = h
+  plain-run number n states g (Commit to) s e h = h
 
   pub go-is : (on : WayOn) (to : ℕ) → go_of on ≡ Some to → on ≡ Go to
   go-is (Go m) to e = ap Go (same_Some m to e)
@@ -121,34 +122,35 @@ module _ (d : Flat) (order : List ℕ) (nodes : List Node) where
 
   -- ---- one state more, and two
 
-  module _ (from : ℕ) (states : List StateData) (n m : ℕ) (h : AreFirst d order from nodes states n) (le : n ≤ m) where
-    pub one-more : (x : Node) (s : StateData) → slice_get nodes (length states) ≡ Some x → is_trap (Some x) ≡ false → ((g : Segment) (k : ℕ) → x ≢ Run g (Go k)) → slots_in s.cells ≤ m →
-        IsStateOf d order (nat_le from (length states)) m nodes (states ++ s ∷ []) x s → AreFirst d order from nodes (states ++ s ∷ []) m
-    one-more x s there free apart fits is =
+  module _ (states : List StateData) (n m stores : ℕ) (h : AreFirst d order nodes states n stores) (le : n ≤ m) where
+    pub one-more : (x : Node) (s : StateData) (left : ℕ) → slice_get nodes (length states) ≡ Some x → is_trap (Some x) ≡ false → ((g : Segment) (k : ℕ) → x ≢ Run g (Go k)) → slots_in s.cells ≤ m →
+        left ≡ length (stores_after d (length states + 1)) → IsStateOf d order (length states) m nodes (states ++ s ∷ []) x s → AreFirst d order nodes (states ++ s ∷ []) m left
+    one-more x s left there free apart fits less is =
         let long = length-append states (s ∷ []) in
         let lt = slice_get_within nodes (length states) x there in
         record {
           many = omega (arith, long, lt);
           fits = λ k z e. elim (get-one states s z k e) [ inl i ↦ (let f = h.fits k z i in omega (arith, f, le)) | inr i ↦ subst (λ (u : StateData). slots_in u.cells ≤ m) i.1 fits ];
           each = λ k y z e f. elim (get-one states s z k f) [
-            | inl i ↦ state-stays (nat_le from k) n m states (s ∷ []) y z le (h.each k y z e i)
-            | inr i ↦ subst (λ (u : StateData). IsStateOf d order (nat_le from k) m nodes (states ++ s ∷ []) y u) i.1
-                (subst (λ j. IsStateOf d order (nat_le from j) m nodes (states ++ s ∷ []) y s) (sym i.0)
-                (subst (λ u. IsStateOf d order (nat_le from (length states)) m nodes (states ++ s ∷ []) u s) (same_Some x y (sym there ∙ ap (slice_get nodes) (sym i.0) ∙ e)) is))
+            | inl i ↦ state-stays k n m states (s ∷ []) y z le (h.each k y z e i)
+            | inr i ↦ subst (λ (u : StateData). IsStateOf d order k m nodes (states ++ s ∷ []) y u) i.1
+                (subst (λ j. IsStateOf d order j m nodes (states ++ s ∷ []) y s) (sym i.0)
+                (subst (λ u. IsStateOf d order (length states) m nodes (states ++ s ∷ []) u s) (same_Some x y (sym there ∙ ap (slice_get nodes) (sym i.0) ∙ e)) is))
           ];
           rest = subst (λ k. ArePaired k (drop k nodes)) (sym long) (rest-plain (length states) x there free apart h.rest);
+          left = less ∙ ap (λ k. length (stores_after d k)) (sym long);
         }
 
     -- the state of a segment that comes to a call, and that of the call
-    pub two-more : (g : Segment) (k : ℕ) (s u : StateData) → slice_get nodes (length states) ≡ Some (Run g (Go k)) → (c : Comes (length states) k) → slots_in s.cells ≤ m → slots_in u.cells ≤ m →
-        Calls d order (nat_le from (length states)) g k c.task c.to s u → AreFirst d order from nodes ((states ++ s ∷ []) ++ u ∷ []) m
-    two-more g k s u there c fits fits2 calls =
+    pub two-more : (g : Segment) (k : ℕ) (s u : StateData) (left : ℕ) → slice_get nodes (length states) ≡ Some (Run g (Go k)) → (c : Comes (length states) k) → slots_in s.cells ≤ m → slots_in u.cells ≤ m →
+        left ≡ length (stores_after d (length states + 2)) → Calls d order (length states) g k c.task c.to s u → AreFirst d order nodes ((states ++ s ∷ []) ++ u ∷ []) m left
+    two-more g k s u left there c fits fits2 less calls =
         let long = length-append states (s ∷ []) in
         let long2 = length-append (states ++ s ∷ []) (u ∷ []) in
         let lt = slice_get_within nodes (length states + 1) (Trap c.task c.to) c.node in
         let all = (states ++ s ∷ []) ++ u ∷ [] in
         let seam : slice_get all (length (states ++ s ∷ [])) ≡ Some u = get-seam (states ++ s ∷ []) [] u in
-        let first : IsStateOf d order (nat_le from (length states)) m nodes all (Run g (Go k)) s = (
+        let first : IsStateOf d order (length states) m nodes all (Run g (Go k)) s = (
           calls.does,
           record {
             task = c.task;
@@ -159,8 +161,9 @@ module _ (d : Flat) (order : List ℕ) (nodes : List Node) where
             asks = calls.asks;
           },
         ) in
-        let second : (early : Bool) → IsStateOf d order early m nodes all (Trap c.task c.to) u = λ early. record { trap = calls.trap; is = calls.is; next = calls.next; call = calls.call m fits } in
+        let second : (number : ℕ) → IsStateOf d order number m nodes all (Trap c.task c.to) u = λ number. record { trap = calls.trap; is = calls.is; next = calls.next; call = calls.call m fits } in
         let both : length states + 1 + 1 ≡ length states + 2 = omega arith in
+        let two : length states + 2 ≡ length all = sym both ∙ ap (λ q. q + 1) (sym long) ∙ sym long2 in
         record {
           many = omega (arith, long, long2, lt);
           fits = λ j z e. elim (get-one (states ++ s ∷ []) u z j e) [
@@ -169,21 +172,22 @@ module _ (d : Flat) (order : List ℕ) (nodes : List Node) where
           ];
           each = λ j y z e f. elim (get-one (states ++ s ∷ []) u z j f) [
             | inl i ↦ elim (get-one states s z j i) [
-              | inl a ↦ subst (λ ss. IsStateOf d order (nat_le from j) m nodes ss y z) (append-two states s u) (state-stays (nat_le from j) n m states (s ∷ u ∷ []) y z le (h.each j y z e a))
-              | inr a ↦ subst (λ (v : StateData). IsStateOf d order (nat_le from j) m nodes all y v) a.1
-                  (subst (λ q. IsStateOf d order (nat_le from q) m nodes all y s) (sym a.0)
-                  (subst (λ v. IsStateOf d order (nat_le from (length states)) m nodes all v s) (same_Some (Run g (Go k)) y (sym there ∙ ap (slice_get nodes) (sym a.0) ∙ e)) first))
+              | inl a ↦ subst (λ ss. IsStateOf d order j m nodes ss y z) (append-two states s u) (state-stays j n m states (s ∷ u ∷ []) y z le (h.each j y z e a))
+              | inr a ↦ subst (λ (v : StateData). IsStateOf d order j m nodes all y v) a.1
+                  (subst (λ q. IsStateOf d order q m nodes all y s) (sym a.0)
+                  (subst (λ v. IsStateOf d order (length states) m nodes all v s) (same_Some (Run g (Go k)) y (sym there ∙ ap (slice_get nodes) (sym a.0) ∙ e)) first))
             ]
-            | inr i ↦ subst (λ (v : StateData). IsStateOf d order (nat_le from j) m nodes all y v) i.1
-                (subst (λ v. IsStateOf d order (nat_le from j) m nodes all v u) (same_Some (Trap c.task c.to) y (sym c.node ∙ ap (slice_get nodes) (sym long ∙ sym i.0) ∙ e)) (second (nat_le from j)))
+            | inr i ↦ subst (λ (v : StateData). IsStateOf d order j m nodes all y v) i.1
+                (subst (λ v. IsStateOf d order j m nodes all v u) (same_Some (Trap c.task c.to) y (sym c.node ∙ ap (slice_get nodes) (sym long ∙ sym i.0) ∙ e)) (second j))
           ];
-          rest = subst (λ q. ArePaired q (drop q nodes)) (sym both ∙ ap (λ q. q + 1) (sym long) ∙ sym long2) c.rest;
+          rest = subst (λ q. ArePaired q (drop q nodes)) two c.rest;
+          left = less ∙ ap (λ q. length (stores_after d q)) two;
         }
 
 -- all of them
-pub all-made : (d : Flat) (order : List ℕ) (from : ℕ) (nodes : List Node) (states : List StateData) (n : ℕ) → AreFirst d order from nodes states n → length nodes ≤ length states → AreStates d order from n nodes states
-all-made d order from nodes states n h le = record { many = (let m = h.many in omega (arith, m, le)); fits = h.fits; each = h.each }
+pub all-made : (d : Flat) (order : List ℕ) (nodes : List Node) (states : List StateData) (n stores : ℕ) → AreFirst d order nodes states n stores → length nodes ≤ length states → AreStates d order n nodes states
+all-made d order nodes states n stores h le = record { many = (let m = h.many in omega (arith, m, le)); fits = h.fits; each = h.each }
 
 -- none yet
-pub none-made : (d : Flat) (order : List ℕ) (from : ℕ) (nodes : List Node) → ArePaired 0 nodes → AreFirst d order from nodes [] 0
-none-made d order from nodes h = record { many = omega arith; fits = λ n s e. absurd (none-some s e); each = λ n x s e f. absurd (none-some s f); rest = h }
+pub none-made : (d : Flat) (order : List ℕ) (nodes : List Node) (stores : ℕ) → ArePaired 0 nodes → stores ≡ length (stores_after d 0) → AreFirst d order nodes [] 0 stores
+none-made d order nodes stores h left = record { many = omega arith; fits = λ n s e. absurd (none-some s e); each = λ n x s e f. absurd (none-some s f); rest = h; left = left }

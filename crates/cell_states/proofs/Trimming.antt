@@ -16,9 +16,12 @@ use Rattle.cell_form.proofs.Cycling.{slot-held}
 use Rattle.cell_steps.specs.Slots.{slot, held, IsIn}
 use Rattle.sub_nodes.specs.Nodes.{Segment, Go, Node, Run}
 use Rattle.sub_nodes.specs.Cycles.{Stage}
-use Rattle.ten_form.specs.Banks.{IsFor, HoldsState}
+use Rattle.ten_stores.specs.declared.store.Store.{Store}
+use Rattle.ten_stores.specs.Holding.{enable_register, word_register, value_register, mask_register, IsIdle}
+use Rattle.ten_stores.proofs.Same.{IsSame, all-from, holds-same}
+use Rattle.ten_form.specs.Banks.{stores_in, stores_before, IsFor, HoldsSignals, HoldsState}
 use Rattle.ten_calls.specs.Traps.{IsCallOf, IsTrapOf}
-use Rattle.ten_image.specs.States.{slots_in, behind, MayCycle, HoldsStage, DoesNode, AsksFor}
+use Rattle.ten_image.specs.States.{slots_in, idle_before, behind, MayCycle, HoldsStage, DoesNode, AsksFor}
 use Rattle.cell_states.specs.Mades.{IsMade, AsksBehind}
 use Rattle.cell_states.specs.Trims.{IsTrimmed, Calls}
 
@@ -51,23 +54,49 @@ written-mems : (value : ℕ → ℕ) (xs : List Write) (b c : BankData) → b.me
 written-mems value [] b c e = e
 written-mems value (x ∷ xs) b c e = written-mems value xs (wrote value x b) (wrote value x c) (wrote-mems value x b c e)
 
-holds-in : (d : Flat) (b c : BankData) (s : State) (committed : List (List ℕ)) → c.regs ≡ b.regs → c.mems ≡ b.mems → HoldsState d b s committed → HoldsState d c s committed
-holds-in d b c s committed regs mems h =
-    let F : List ℕ → List (List ℕ) → Type 0 = λ rs ms. HoldsState d (record { regs = rs; mems = ms; slots = c.slots }) s committed in
-    let same : F b.regs b.mems = record {
+-- banks with the same registers and memories hold the same
+same-all : (b c : BankData) → c.regs ≡ b.regs → (xs : List Store) → AllByRecursion (IsSame b c) xs
+same-all b c e [] = tt
+same-all b c e (x ∷ xs) = (
+  record {
+    enable = ap (λ (rs : List ℕ). slice_index rs (enable_register x)) e;
+    word = ap (λ (rs : List ℕ). slice_index rs (word_register x)) e;
+    value = ap (λ (rs : List ℕ). slice_index rs (value_register x)) e;
+    mask = ap (λ (rs : List ℕ). slice_index rs (mask_register x)) e;
+  },
+  same-all b c e xs,
+)
+
+signals-in : (d : Flat) (b c : BankData) (s : State) (committed : List (List ℕ)) → c.regs ≡ b.regs → HoldsSignals d b s committed → HoldsSignals d c s committed
+signals-in d b c s committed regs h =
+    let F : List ℕ → Type 0 = λ rs. HoldsSignals d (record { regs = rs; mems = c.mems; slots = c.slots }) s committed in
+    let same : F b.regs = record {
       works = h.works;
       values = h.values;
-      memories = h.memories;
-      pending = record { updates = h.pending.updates; words = h.pending.words; update_fits = h.pending.update_fits; mask_fits = h.pending.mask_fits };
+      pending = record { updates = h.pending.updates; update_fits = h.pending.update_fits; mask_fits = h.pending.mask_fits };
       ticks = h.ticks;
       few = h.few;
       answer = h.answer;
       small = h.small;
     } in
-    subst (λ rs. F rs c.mems) (sym regs) (subst (λ ms. F b.regs ms) (sym mems) same)
+    subst F (sym regs) same
+
+holds-in : (d : Flat) (b c : BankData) (s : State) (committed : List (List ℕ)) → c.regs ≡ b.regs → c.mems ≡ b.mems → HoldsState d b s committed → HoldsState d c s committed
+holds-in d b c s committed regs mems h = record {
+  signals = signals-in d b c s committed regs h.signals;
+  memories = λ m i. ap (λ (ms : List (List ℕ)). slice_index_or ms m []) mems ∙ h.memories m i;
+  words = holds-same d b c (stores_in d) s.later (same-all b c regs (stores_in d)) h.words;
+}
+
+idle-in : (b c : BankData) (xs : List Store) → c.regs ≡ b.regs → AllByRecursion (IsIdle b) xs → AllByRecursion (IsIdle c) xs
+idle-in b c xs e h = all-from (IsIdle b) (IsIdle c) (λ x i. ap (λ (rs : List ℕ). slice_index rs (enable_register x)) e ∙ i) xs h
 
 stage-in : (d : Flat) (b c : BankData) (i : Stage) → c.regs ≡ b.regs → c.mems ≡ b.mems → HoldsStage d b i → HoldsStage d c i
-stage-in d b c i regs mems h = record { node = ap (λ (rs : List ℕ). slice_index rs 0) regs ∙ h.node; holds = holds-in d b c i.state i.committed regs mems h.holds }
+stage-in d b c i regs mems h = record {
+  node = ap (λ (rs : List ℕ). slice_index rs 0) regs ∙ h.node;
+  holds = holds-in d b c i.state i.committed regs mems h.holds;
+  idle = λ x e. idle-in b c (stores_before d (idle_before i.node x)) regs (h.idle x e);
+}
 
 held-is : (b : BankData) (l : ListData) (r : ℕ) → held b l r ≡ value_at l.first (slots_of l.first b.regs b.mems l.cells) r
 unfolding slot
@@ -86,11 +115,20 @@ written-same v u (x ∷ xs) b e = written-same v u xs (wrote v x b) e ∙ ap (wr
 for-none : (d : Flat) (n : ℕ) (z : Shape) → IsFor d n z → IsFor d 0 z
 for-none d n z h = record { regs = h.regs; mems = h.mems; slots = omega arith }
 
-may-none : (d : Flat) (order : List ℕ) (files : List File) (early : Bool) (x : Node) (n : ℕ) (b : BankData) (i : Stage) → MayCycle d order files early x n b i → MayCycle d order files early x 0 b i
-may-none d order files early x n b i h = record { shape = for-none d n (shape_of b) h.shape; tidy = h.tidy; due = h.due; alive = h.alive; few = h.few; holds = h.holds }
+may-none : (d : Flat) (order : List ℕ) (files : List File) (n : ℕ) (x : Node) (slots : ℕ) (b : BankData) (i : Stage) → MayCycle d order files n x slots b i → MayCycle d order files n x 0 b i
+may-none d order files n x slots b i h = record {
+  at = h.at;
+  there = h.there;
+  shape = for-none d slots (shape_of b) h.shape;
+  tidy = h.tidy;
+  due = h.due;
+  alive = h.alive;
+  few = h.few;
+  stage = h.stage;
+}
 
-module _ (d : Flat) (order : List ℕ) (early : Bool) (x : Node) (l : ListData) (sets : List Write) (wanted : List ℕ) (first : ℕ) (new : ListData) (slots : List ℕ)
-    (trim : IsTrimmed l sets wanted first new slots) (made : IsMade d order early x l sets) where
+module _ (d : Flat) (order : List ℕ) (n : ℕ) (x : Node) (l : ListData) (sets : List Write) (wanted : List ℕ) (first : ℕ) (new : ListData) (slots : List ℕ)
+    (trim : IsTrimmed l sets wanted first new slots) (made : IsMade d order n x l sets) where
   runs : (z : Shape) → IsFor d (slots_in new) z → IsList z new
   runs z h =
       let room = h.slots in
@@ -104,11 +142,11 @@ module _ (d : Flat) (order : List ℕ) (early : Bool) (x : Node) (l : ListData) 
       let F : ℕ → Type 0 = λ f. written (value_at f (slots_of f b.regs b.mems new.cells)) new.sets c ≡ written (value_at l.first (slots_of l.first b.regs b.mems l.cells)) sets c in
       subst F (sym trim.first_is) (trim.writes b c) ∙ written-same (value_at l.first (slots_of l.first b.regs b.mems l.cells)) (held b l) sets c (λ r. sym (held-is b l r))
 
-  pub does-trimmed : DoesNode d order early x new
+  pub does-trimmed : DoesNode d order n x new
   does-trimmed = record {
     runs = runs;
     does = λ files b i may.
-        let h = made.does files b i (may-none d order files early x (slots_in new) b i may) in
+        let h = made.does files b i (may-none d order files n x (slots_in new) b i may) in
         let c = filled new.first new.cells b in
         let one = written-regs (held b l) sets c b refl in
         let two = written-mems (held b l) sets c b refl in
@@ -136,12 +174,12 @@ module _ (d : Flat) (order : List ℕ) (early : Bool) (x : Node) (l : ListData) 
   wanted-held b list h = held-all b slots list (trim.there h) ∙ value-map b new slots ∙ ap (map (λ (s : Slot). s.value)) (trim.values b) ∙ sym (value-map b l wanted)
 
 -- what a call is given stands in its slots
-pub asks-trimmed : (d : Flat) (order : List ℕ) (early : Bool) (g : Segment) (m : ℕ) (l : ListData) (sets : List Write) (wanted : List ℕ) (first : ℕ) (new : ListData) (slots : List ℕ) (task : Task) →
-    IsTrimmed l sets wanted first new slots → IsMade d order early (Run g (Go m)) l sets → AsksBehind d order early g (Run g (Go m)) l task wanted → AsksFor d order early (Run g (Go m)) new task slots
-asks-trimmed d order early g m l sets wanted first new slots task trim made asks = record {
+pub asks-trimmed : (d : Flat) (order : List ℕ) (n : ℕ) (g : Segment) (m : ℕ) (l : ListData) (sets : List Write) (wanted : List ℕ) (first : ℕ) (new : ListData) (slots : List ℕ) (task : Task) →
+    IsTrimmed l sets wanted first new slots → IsMade d order n (Run g (Go m)) l sets → AsksBehind d order n g (Run g (Go m)) l task wanted → AsksFor d order n (Run g (Go m)) new task slots
+asks-trimmed d order n g m l sets wanted first new slots task trim made asks = record {
   asks = λ files b i may.
-      wanted-held d order early (Run g (Go m)) l sets wanted first new slots trim made b (runs d order early (Run g (Go m)) l sets wanted first new slots trim made (shape_of b) may.shape) asks.there
-      ∙ asks.asks files b i (may-none d order files early (Run g (Go m)) (slots_in new) b i may);
+      wanted-held d order n (Run g (Go m)) l sets wanted first new slots trim made b (runs d order n (Run g (Go m)) l sets wanted first new slots trim made (shape_of b) may.shape) asks.there
+      ∙ asks.asks files b i (may-none d order files n (Run g (Go m)) (slots_in new) b i may);
 }
 
 -- ---- traps
@@ -164,13 +202,13 @@ below-all l n (r ∷ rs) le h zero d lt = let high = h.0.1 in omega (arith, le, 
 below-all l n (r ∷ rs) le h (suc i) d lt = below-all l n rs le h.1 i d (omega (arith, lt))
 
 -- the states of a segment that comes to a call, and of the call
-pub calls-trimmed : (d : Flat) (order : List ℕ) (early : Bool) (g : Segment) (m to : ℕ) (task : Task) (l : ListData) (sets : List Write) (t : TrapOf) (first : ℕ) (new behind : ListData) (slots nexts waits : List ℕ) → IsTrimmed l sets t.args first new slots →
-    IsMade d order early (Run g (Go m)) l sets → IsTrapOf d task (slots_in l) t → AsksBehind d order early g (Run g (Go m)) l task t.args → waits ≡ to ∷ [] →
-    Calls d order early g m task to (record { cells = new; trap = None; nexts = nexts }) (record { cells = behind; trap = Some (record t { args = slots }); nexts = waits })
-calls-trimmed d order early g m to task l sets t first new behind slots nexts waits trim made call asks next = record {
-  does = record { none = refl; does = does-trimmed d order early (Run g (Go m)) l sets t.args first new slots trim made };
+pub calls-trimmed : (d : Flat) (order : List ℕ) (n : ℕ) (g : Segment) (m to : ℕ) (task : Task) (l : ListData) (sets : List Write) (t : TrapOf) (first : ℕ) (new behind : ListData) (slots nexts waits : List ℕ) → IsTrimmed l sets t.args first new slots →
+    IsMade d order n (Run g (Go m)) l sets → IsTrapOf d task (slots_in l) t → AsksBehind d order n g (Run g (Go m)) l task t.args → waits ≡ to ∷ [] →
+    Calls d order n g m task to (record { cells = new; trap = None; nexts = nexts }) (record { cells = behind; trap = Some (record t { args = slots }); nexts = waits })
+calls-trimmed d order n g m to task l sets t first new behind slots nexts waits trim made call asks next = record {
+  does = record { none = refl; does = does-trimmed d order n (Run g (Go m)) l sets t.args first new slots trim made };
   trap = record t { args = slots };
-  asks = asks-trimmed d order early g m l sets t.args first new slots task trim made asks;
+  asks = asks-trimmed d order n g m l sets t.args first new slots task trim made asks;
   is = refl;
   next = next;
   call = λ n le. record { call = with-args d task t slots call.call; answer = call.answer; args = below-all new n slots le (trim.there asks.there) };

@@ -2,7 +2,7 @@
 use Rattle.std.specs.Prelude.{◌≡◌, ℕ, ◌≤◌, ◌==◌, true, false, List, length, All}
 use Rattle.vl_design.specs.Queue.{proc_at}
 use Rattle.vl_design.specs.Reads.{stm_writes}
-use Rattle.vl_design.specs.Sound.{IsSound, IsMemory}
+use Rattle.vl_design.specs.Sound.{IsSound}
 use Rattle.vl_design.specs.Syntax.{Flat}
 use Rattle.vl_design.specs.Width.{names_of}
 use Rattle.settling.specs.Nets.{AllBelow}
@@ -16,7 +16,7 @@ abbrev pub ComputesAlone : Flat → Type 0
 ComputesAlone d = (i k : ℕ) → comb_at d i ≡ true → computed_at d.rows k ≡ false → stm_writes (λ x. x == k) (proc_at d i).body ≡ false
 
 -- designs that are compiled, with an order of their processes: sound ones that meet the rules of settling, of which functions can be
--- compiled, and combinational processes write computed signals alone; without memories, so far
+-- compiled, and combinational processes write computed signals alone
 pub record IsCellDesign (d : Flat) (order : List ℕ) : Type 0 where
   pub sound : IsSound d
   pub functions : All (IsCellFun (names_of d)) d.funs
@@ -24,4 +24,3 @@ pub record IsCellDesign (d : Flat) (order : List ℕ) : Type 0 where
   pub there : AllBelow (length d.procs) order
   pub few : length d.rows ≤ 268435456
   pub alone : ComputesAlone d
-  pub no_memory : (m : ℕ) → IsMemory (names_of d) m → ⊥

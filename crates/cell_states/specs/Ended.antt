@@ -1,5 +1,5 @@
 -- The writes at the end of a state (own).
-use Rattle.std.specs.Prelude.{◌≡◌, ℕ, Bool, true, false, List, [], ◌∷◌, ◌++◌, length, Option, Some, None}
+use Rattle.std.specs.Prelude.{◌≡◌, ℕ, ◌≤◌, Bool, true, false, List, [], ◌∷◌, ◌++◌, length, Option, Some, None}
 use Rattle.std.specs.List.{AllByRecursion}
 use Rattle.vl_design.specs.Syntax.{Row, Flat}
 use Rattle.vl_design.specs.Width.{names_of}
@@ -9,11 +9,13 @@ use Rattle.cell_form.specs.Data.{ListData}
 use Rattle.cell_form.specs.Sound.{Shape, IsWrite}
 use Rattle.cell_paths.specs.Envs.{Env, IsSlot, Fits}
 use Rattle.cell_later.specs.Pendings.{PendingSlots, ArePending}
-use Rattle.ten_form.specs.Registers.{state_register, ticks_register}
+use Rattle.ten_stores.specs.declared.store.Store.{Store}
+use Rattle.ten_form.specs.Registers.{state_register, ticks_register, register_count}
 use Rattle.ten_form.specs.Banks.{IsFor}
 use Rattle.cell_waves.specs.Copies.{changed, each_one, Sets}
 use Rattle.cell_waves.specs.Lasts.{last_write}
 use Rattle.cell_waves.specs.Ends.{Ends}
+use Rattle.cell_stores.specs.Keeping.{Keeps}
 use Rattle.cell_states.specs.Segments.{IsTicks}
 
 -- writes of the registers of signals that changed: work copies, and what is pending
@@ -39,5 +41,13 @@ pub record IsEnd (d : Flat) (commits : Bool) (at at' : Env) (p p' : PendingSlots
   pub ends : Ends d.rows commits at at' p p' at'.here sets
   pub node : last_write sets state_register ≡ Some next
   pub counts : last_write sets ticks_register ≡ ticks
+  -- and no register of a store
+  pub beside : (r : ℕ) → register_count (length d.rows) ≤ r → last_write sets r ≡ None
   pub sound : (z : Shape) (l : ListData) → IsFor d 0 z → Fits (names_of d) l at' → at'.first ≡ 0 → ArePending (names_of d) l p' → IsTicks l ticks → IsSlot l next 32 →
       AllByRecursion (IsWrite z l.first (length l.cells)) sets
+
+-- and behind them the registers of stores, from the slots of the sites that are pending
+pub record IsKeptEnd (d : Flat) (commits : Bool) (at at' : Env) (p p' : PendingSlots) (ticks : Option ℕ) (next : ℕ) (stores : List Store) (sets : List Write) : Type 0 where
+  pub before : List Write
+  pub end : IsEnd d commits at at' p p' ticks next before
+  pub keeps : Keeps stores p'.sites before sets

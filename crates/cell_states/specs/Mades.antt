@@ -1,5 +1,5 @@
 -- That cells and writes do what a node does, before the cells that aren't needed are left out (own).
-use Rattle.std.specs.Prelude.{◌≡◌, ℕ, Bool, true, false, List, [], length, map, Option}
+use Rattle.std.specs.Prelude.{◌≡◌, ℕ, ◌+◌, Bool, true, false, List, [], length, map, slice_get, Option, Some}
 use Rattle.std.specs.List.{AllByRecursion}
 use Rattle.vl_base.specs.declared.files.File.{File}
 use Rattle.vl_design.specs.Functions.{scope_of}
@@ -11,13 +11,16 @@ use Rattle.cell_form.specs.Data.{ListData, BankData}
 use Rattle.cell_form.specs.Sound.{Shape, IsWrite}
 use Rattle.cell_steps.specs.Slots.{held, IsIn, AreSound}
 use Rattle.cell_paths.specs.Envs.{Env}
+use Rattle.cell_later.specs.declared.pending.Site.{Site}
 use Rattle.cell_later.specs.Pendings.{PendingSlots}
+use Rattle.cell_stores.specs.Reading.{Reads}
 use Rattle.cell_waves.specs.Begins.{Begins}
 use Rattle.sub_nodes.specs.Nodes.{Segment, WayOn, Commit, Node}
 use Rattle.sub_nodes.specs.Cycles.{Stage, segment_done}
-use Rattle.ten_form.specs.Banks.{IsFor}
+use Rattle.ten_form.specs.Banks.{cell_nodes, stores_after, IsFor}
 use Rattle.ten_calls.specs.Asked.{asked}
 use Rattle.ten_image.specs.States.{behind, MayCycle, HoldsStage}
+use Rattle.cell_states.specs.declared.run.Kept.{Kept}
 use Rattle.cell_states.specs.Segments.{DoesSegment}
 
 -- the wave ends there
@@ -26,18 +29,28 @@ is_end (Commit to) = true
 is_end on = false
 
 -- cells from slot 0 on, and writes behind them, do what a node does
-pub record IsMade (d : Flat) (order : List ℕ) (early : Bool) (x : Node) (l : ListData) (sets : List Write) : Type 0 where
+pub record IsMade (d : Flat) (order : List ℕ) (n : ℕ) (x : Node) (l : ListData) (sets : List Write) : Type 0 where
   pub sound : (z : Shape) → IsFor d 0 z → AreSound z l
   pub writes : (z : Shape) → IsFor d 0 z → AllByRecursion (IsWrite z l.first (length l.cells)) sets
-  pub does : (files : List File) (b : BankData) (i : Stage) → MayCycle d order files early x 0 b i → HoldsStage d (written (held b l) sets b) (behind d order files x i)
+  pub does : (files : List File) (b : BankData) (i : Stage) → MayCycle d order files n x 0 b i → HoldsStage d (written (held b l) sets b) (behind d order files x i)
 
--- cells from slot 0 on do what a state begins with, and then a segment
-pub record Starts (d : Flat) (order : List ℕ) (early : Bool) (g : Segment) (l : ListData) (at at' : Env) (p p' : PendingSlots) (ticks : Option ℕ) : Type 0 where
+-- cells from slot 0 on do what a state begins with, read what is pending in the stores of the nodes from this number on, and then do a
+-- segment
+pub record Starts (d : Flat) (order : List ℕ) (n : ℕ) (g : Segment) (l : ListData) (at at' : Env) (p p' : PendingSlots) (ticks : Option ℕ) : Type 0 where
   pub first : ListData
-  pub begins : Begins d order early (record { first = 0; cells = []; sets = [] }) first at p
-  pub does : DoesSegment d g at at' p p' first l ticks
+  pub second : ListData
+  pub sites : List Site
+  pub begins : Begins d order (record { first = 0; cells = []; sets = [] }) first at p
+  pub reads : Reads d.rows (stores_after d n) first second [] sites
+  pub does : DoesSegment d g at at' (record p { sites = sites }) p' second l ticks
 
 -- slots of a list hold what a call is given behind a segment
-pub record AsksBehind (d : Flat) (order : List ℕ) (early : Bool) (g : Segment) (x : Node) (l : ListData) (task : Task) (args : List ℕ) : Type 0 where
+pub record AsksBehind (d : Flat) (order : List ℕ) (n : ℕ) (g : Segment) (x : Node) (l : ListData) (task : Task) (args : List ℕ) : Type 0 where
   pub there : AllByRecursion (IsIn l) args
-  pub asks : (files : List File) (b : BankData) (i : Stage) → MayCycle d order files early x 0 b i → map (held b l) args ≡ asked (scope_of d files) (sample (segment_done (scope_of d files) g i.state)) task
+  pub asks : (files : List File) (b : BankData) (i : Stage) → MayCycle d order files n x 0 b i → map (held b l) args ≡ asked (scope_of d files) (sample (segment_done (scope_of d files) g i.state)) task
+
+-- the stores that the state of a node reads, and those that it keeps
+pub record IsKept (d : Flat) (n : ℕ) (kept : Kept) (x : Node) : Type 0 where
+  pub there : slice_get (cell_nodes d) n ≡ Some x
+  pub above : kept.above.now ≡ stores_after d (n + 1)
+  pub all : kept.all.now ≡ stores_after d n

@@ -15,17 +15,16 @@ use Rattle.sub_split.specs.declared.table.Node.{Node}
 use Rattle.sub_split.specs.declared.table.Node.TheVariants as v
 use Rattle.sub_split.specs.Views.{call_view}
 
--- an assignment of a sound expression to signals or bits of them
+-- an assignment of a sound expression
 pub record IsCellAssignment (names : Names) (target : Target) (source : Expr) : Type 0 where
   pub target_sound : IsSoundTarget names (target_of target)
   pub source_sound : IsSoundExp names (exp_of source)
-  pub plain : IsPlain (λ k. false) (target_of target)
 
--- a statement without loops and calls, or an assignment of a call's answer; blocking assignments are to signals
+-- a statement without loops and calls, or an assignment of a call's answer; blocking assignments are to signals or bits of them
 abbrev pub IsCellPiece : Names → Piece → Type 0
 IsCellPiece names (p.Whole a) = IsSegmentStm names a.now
 IsCellPiece names (p.Loop path a) = IsSegmentStm names a.now
-IsCellPiece names (p.Set target source) = IsCellAssignment names target.now source.now
+IsCellPiece names (p.Set target source) = IsCellAssignment names target.now source.now × IsPlain (λ k. false) (target_of target.now)
 IsCellPiece names (p.Later target source) = IsCellAssignment names target.now source.now
 
 abbrev pub IsCellWay : Names → WayOn → Type 0

@@ -1,5 +1,5 @@
 -- That cells do the statements of a segment (IEEE 1364-2005, clauses 9.2 and 11.3; own).
-use Rattle.std.specs.Prelude.{◌≡◌, ℕ, ◌+◌, ◌<◌, ◌^◌, Bool, true, false, List, length, Option, Some, None, ⊤}
+use Rattle.std.specs.Prelude.{◌≡◌, ℕ, ◌+◌, ◌<◌, ◌^◌, Bool, true, false, List, ◌++◌, length, Option, Some, None, ⊤}
 use Rattle.vl_base.specs.declared.files.File.{File}
 use Rattle.vl_design.specs.Functions.{scope_of}
 use Rattle.vl_design.specs.Sound.{IsMemory}
@@ -11,10 +11,11 @@ use Rattle.cell_form.specs.Sound.{Shape}
 use Rattle.cell_steps.specs.Slots.{held, AreSound, Longer, Grows}
 use Rattle.cell_paths.specs.Envs.{Env, entry, IsSlot, Fits, HasMemories, Stands}
 use Rattle.cell_paths.specs.Paths.{Keeps}
-use Rattle.cell_later.specs.Pendings.{PendingSlots, ArePending, Pends}
+use Rattle.cell_later.specs.Pendings.{PendingSlots, memories_of, ArePending, Pends}
 use Rattle.cell_waves.specs.Rises.{Rises}
 use Rattle.sub_nodes.specs.Nodes.{Segment}
 use Rattle.sub_nodes.specs.Cycles.{execs, segment_done}
+use Rattle.ten_stores.specs.Stores.{all_stored}
 
 -- cells do statements one after another: what is read, and what is pending
 pub record DoesAll (d : Flat) (as' : List Stm) (at at' : Env) (p p' : PendingSlots) (old new : ListData) : Type 0 where
@@ -24,6 +25,8 @@ pub record DoesAll (d : Flat) (as' : List Stm) (at at' : Env) (p p' : PendingSlo
   pub keeps : Keeps (names_of d) at at'
   pub pending : ArePending (names_of d) new p'
   pub many : length p'.update ≡ length p.update
+  -- a site more for each word that a nonblocking assignment names, in order
+  pub sites : memories_of p'.sites ≡ memories_of p.sites ++ all_stored as'
   pub alive : (files : List File) (t : State) → t.finished ≡ false → (execs (scope_of d files) as' t).finished ≡ false
   pub does : (files : List File) (z : Shape) (b : BankData) (t : State) → AreSound z old → t.finished ≡ false → Stands (names_of d) b old at (sample t) →
       Stands (names_of d) b new at' (sample (execs (scope_of d files) as' t))
@@ -57,6 +60,7 @@ pub record DoesSegment (d : Flat) (g : Segment) (at at' : Env) (p p' : PendingSl
   pub fits : Fits (names_of d) new at'
   pub memories : (m : ℕ) → IsMemory (names_of d) m → entry at' m ≡ entry at m
   pub pending : ArePending (names_of d) new p'
+  pub sites : memories_of p'.sites ≡ memories_of p.sites ++ all_stored g.statements
   pub slot : IsTicks new ticks
   pub alive : (files : List File) (t : State) → t.finished ≡ false → (segment_done (scope_of d files) g t).finished ≡ false
   pub stands : (files : List File) (z : Shape) (b : BankData) (t : State) → AreSound z old → t.finished ≡ false → (g.rises ≡ true → t.ticks + 1 < 2 ^ 32) → Stands (names_of d) b old at (sample t) →

@@ -1,5 +1,5 @@
 -- States of the cells that are needed (own).
-use Rattle.std.specs.Prelude.{◌≡◌, ℕ, ◌+◌, ◌≤◌, Bool, List, [], ◌∷◌, length, map, Some}
+use Rattle.std.specs.Prelude.{◌≡◌, ℕ, ◌+◌, ◌≤◌, List, [], ◌∷◌, length, map, Some}
 use Rattle.std.specs.List.{AllByRecursion}
 use Rattle.vl_design.specs.Syntax.{Task, Flat}
 use Rattle.cell_form.specs.declared.cell.Write.{Write}
@@ -22,10 +22,10 @@ pub record IsTrimmed (l : ListData) (sets : List Write) (wanted : List ℕ) (fir
   pub writes : (b c : BankData) → written (value_at first (slots_of first b.regs b.mems new.cells)) new.sets c ≡ written (value_at l.first (slots_of l.first b.regs b.mems l.cells)) sets c
 
 -- the state of a segment that comes to a call, and that of the call's trap, behind which the state `to` is next
-pub record Calls (d : Flat) (order : List ℕ) (early : Bool) (g : Segment) (m : ℕ) (task : Task) (to : ℕ) (run wait : StateData) : Type 0 where
-  pub does : Does d order early (Run g (Go m)) run
+pub record Calls (d : Flat) (order : List ℕ) (n : ℕ) (g : Segment) (m : ℕ) (task : Task) (to : ℕ) (run wait : StateData) : Type 0 where
+  pub does : Does d order n (Run g (Go m)) run
   pub trap : Trap
-  pub asks : AsksFor d order early (Run g (Go m)) run.cells task trap.args
+  pub asks : AsksFor d order n (Run g (Go m)) run.cells task trap.args
   pub is : wait.trap ≡ Some trap
   pub next : wait.nexts ≡ to ∷ []
   pub call : (slots : ℕ) → slots_in run.cells ≤ slots → IsTrapOf d task slots trap

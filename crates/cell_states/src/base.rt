@@ -12,7 +12,7 @@ ghost use Rattle.cell_states.specs.Designs.{IsCellDesign};
 use cell_form::cell::CellList;
 use cell_later::pending::Pending;
 use cell_paths::at::At;
-use cell_waves::begin::{begun, begun_early};
+use cell_waves::begin::begun;
 use cell_waves::begun::Begun;
 use std::alloc::{AllocError, Global};
 use vl_base::items::Items;
@@ -29,23 +29,18 @@ pub fn no_cells(alloc: Global) -> CellList
     }
 }
 
-/// What a state begins with: in time zero's wave (`early`), or behind it.
+/// What a state begins with.
 pub fn begin_in(
     alloc: Global,
     cells: &mut CellList,
     design: &Design,
     order: &[u32],
-    early: bool,
 ) -> Result<Begun, AllocError>
     requires design { IsCellDesign (flat_of design.now) order.now }
     ensures grows { Grows (list_of cells.old) (list_of cells.new) }
-    ensures begins { IfOk result (λ x. Begins (flat_of design.now) order.now early (list_of cells.old) (list_of cells.new) (env_of x.at) (slots_of x.pending)) }
+    ensures begins { IfOk result (λ x. Begins (flat_of design.now) order.now (list_of cells.old) (list_of cells.new) (env_of x.at) (slots_of x.pending)) }
 {
-    if early {
-        begun_early(alloc, cells, design)
-    } else {
-        begun(alloc, cells, design, order)
-    }
+    begun(alloc, cells, design, order)
 }
 
 /// A copy of what a state begins with.

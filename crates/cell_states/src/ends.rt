@@ -1,17 +1,21 @@
 //! The writes at the end of a state.
 
-ghost use Rattle.std.specs.Prelude.{◌≡◌, ◌≤◌, length, map, IfOk, OnOk};
+ghost use Rattle.std.specs.Prelude.{◌≡◌, ◌≤◌, ◌<◌, ◌^◌, All, length, map, IfOk, OnOk};
 ghost use Rattle.vl_design.specs.Trees.{flat_of, row_of};
 ghost use Rattle.cell_paths.specs.Envs.{env_of};
-ghost use Rattle.cell_later.specs.Pendings.{slots_of};
-ghost use Rattle.cell_states.specs.Ended.{AreChanges, Commits, with_ticks, IsEnd};
+ghost use Rattle.cell_later.specs.Pendings.{memories_of, slots_of};
+ghost use Rattle.ten_stores.specs.declared.store.Store.{Store};
+ghost use Rattle.ten_stores.specs.Holding.{mask_register};
+ghost use Rattle.cell_states.specs.Ended.{AreChanges, Commits, with_ticks, IsEnd, IsKeptEnd};
 
 use cell_form::cell::Write;
 use cell_paths::at::At;
+use cell_stores::keep::keep;
 use cell_waves::begun::Begun;
 use cell_waves::writes::{write_all, write_changed};
 use std::alloc::{AllocError, Global};
 use ten_form::places::{MASK, STATE, TICKS, UPDATE, VALUE, WORK};
+use ten_stores::store::Store;
 use vl_design::design::{Design, Signal};
 
 /// The writes of the registers of signals that changed.
@@ -84,7 +88,7 @@ fn count(ticks: Option<u32>, sets: &mut Vec<Write>) -> Result<(), AllocError>
 }
 
 /// The writes of what changed; at the end of a wave, of what is committed; of the ticks, and of the node that is next.
-pub(crate) fn ends(
+fn ends(
     alloc: Global,
     design: &Design,
     before: &Begun,
@@ -101,5 +105,26 @@ pub(crate) fn ends(
     commit(signals, &after.at, commits, &mut sets)?;
     count(ticks, &mut sets)?;
     sets.push(Write::Reg(STATE, next))?;
+    Ok(sets)
+}
+
+/// The same, and behind them those of the registers of stores: what is pending in them is kept.
+pub(crate) fn writes(
+    alloc: Global,
+    design: &Design,
+    stores: &[Store],
+    before: &Begun,
+    after: &Begun,
+    commits: bool,
+    ticks: Option<u32>,
+    next: u32,
+) -> Result<Vec<Write>, AllocError>
+    requires few { length (flat_of design.now).rows ≤ 268435456 }
+    requires registers { All (λ x. mask_register x < 2 ^ 32) stores.now }
+    requires same { map (λ (x : Store). x.memory) stores.now ≡ memories_of after.now.pending.sites.items }
+    ensures { IfOk result (λ sets. IsKeptEnd (flat_of design.now) commits (env_of before.now.at) (env_of after.now.at) (slots_of before.now.pending) (slots_of after.now.pending) ticks next stores.now sets.items) }
+{
+    let mut sets = ends(alloc, design, before, after, commits, ticks, next)?;
+    keep(stores, after.pending.sites.as_slice(), &mut sets)?;
     Ok(sets)
 }

@@ -1,6 +1,7 @@
-//! Cells and writes of states.
+//! Cells and writes of states, and the states of a design.
 
 use cell_form::cell::{CellList, Write};
+use cell_form::table::StateTable;
 
 /// Cells and writes of a state, of which some cells aren't needed.
 #[derive(Drop)]
@@ -9,4 +10,15 @@ pub struct Made {
     pub cells: CellList,
     /// The writes.
     pub sets: Vec<Write>,
+}
+
+/// The states of a design, and how much room they take.
+#[derive(Drop)]
+pub struct States {
+    /// The states, of the nodes behind time zero's wave.
+    pub table: StateTable,
+    /// How many slots they have together.
+    pub slots: u32,
+    /// How many stores keep pending writes to words of memories.
+    pub stores: u32,
 }

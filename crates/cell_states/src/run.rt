@@ -1,9 +1,9 @@
 //! States of segments: what they begin with, their statements, the node that is next, and the writes.
 
-ghost use Rattle.std.specs.Prelude.{◌≡◌, ◌≤◌, ℕ, List, All, length, IfOk};
+ghost use Rattle.std.specs.Prelude.{◌≡◌, ℕ, ◌+◌, ◌<◌, ◌^◌, List, All, IfOk};
 ghost use Rattle.vl_base.specs.declared.files.File.{File};
 ghost use Rattle.vl_design.specs.Functions.{scope_of};
-ghost use Rattle.vl_design.specs.Sound.{IsSound, IsSoundTask};
+ghost use Rattle.vl_design.specs.Sound.{IsMemory, IsSound, IsSoundTask};
 ghost use Rattle.vl_design.specs.Trees.{flat_of};
 ghost use Rattle.vl_design.specs.Width.{names_of};
 ghost use Rattle.cell_form.specs.Views.{list_of};
@@ -15,14 +15,16 @@ ghost use Rattle.cell_expr.specs.Compiled.{Holds};
 ghost use Rattle.sub_nodes.specs.Nodes as n;
 ghost use Rattle.sub_split.specs.Views.{call_view, segment_view, way_on_view};
 ghost use Rattle.cell_next.specs.Next.{next_node};
+ghost use Rattle.ten_stores.specs.Holding.{mask_register};
+ghost use Rattle.ten_form.specs.Banks.{stores_after};
 ghost use Rattle.ten_calls.specs.Traps.{IsTrapOf};
 ghost use Rattle.ten_image.specs.States.{slots_in};
-ghost use Rattle.cell_states.specs.Mades.{is_end, IsMade, Starts, AsksBehind};
+ghost use Rattle.cell_states.specs.Mades.{is_end, IsMade, Starts, AsksBehind, IsKept};
 ghost use Rattle.cell_states.specs.Designs.{IsCellDesign};
 ghost use Rattle.cell_states.specs.Pieces.{IsCellPiece, IsCellWay};
 
 use crate::base::{begin_in, copied, no_cells};
-use crate::ends::ends;
+use crate::ends::writes;
 use crate::made::Made;
 use crate::stretch::segment_in;
 use cell_calls::call::call_of;
@@ -30,9 +32,11 @@ use cell_form::cell::CellList;
 use cell_form::table::Trap;
 use cell_next::next::{branch, number, switch};
 use cell_paths::at::At;
+use cell_stores::read::read;
 use cell_waves::begun::Begun;
 use std::alloc::{AllocError, Global};
 use sub_split::table::{Segment, WayOn};
+use ten_stores::store::Store;
 use vl_base::items::Text;
 use vl_design::design::{Design, SysCall};
 
@@ -47,6 +51,15 @@ struct Started {
     after: Begun,
     /// The slot of the new number of ticks, where the clock rises.
     ticks: Option<u32>,
+}
+
+/// The stores of a segment's state: it reads those of the nodes behind it, and keeps what is pending in these and its own.
+#[derive(Clone, Copy)]
+pub struct Kept<'a> {
+    /// Those of the nodes behind it in the table.
+    pub above: &'a [Store],
+    /// These, and then its own.
+    pub all: &'a [Store],
 }
 
 /// The slot of the number of the node that is next.
@@ -85,21 +98,30 @@ fn commits(on: &WayOn<'_>) -> bool
     matches!(on, WayOn::Commit(_))
 }
 
-/// The cells of a state up to the end of its segment.
+/// The cells of a state up to the end of its segment, before which it reads what is pending in the stores of the nodes behind it.
 fn up_to_segment(
     alloc: Global,
     design: &Design,
     order: &[u32],
-    early: bool,
+    above: &[Store],
     segment: &Segment<'_>,
 ) -> Result<Started, AllocError>
     requires design { IsCellDesign (flat_of design.now) order.now }
+    requires memories { All (λ x. IsMemory (names_of (flat_of design.now)) x.memory) above.now }
+    requires few { All (λ x. mask_register x < 2 ^ 32) above.now }
     requires pieces { All (IsCellPiece (names_of (flat_of design.now))) segment.now.statements.items }
-    ensures { IfOk result (λ x. Starts (flat_of design.now) order.now early (segment_view segment.now) (list_of x.cells) (env_of x.before.at) (env_of x.after.at) (slots_of x.before.pending) (slots_of x.after.pending) x.ticks) }
+    ensures { IfOk result (λ x. (n : ℕ) → above.now ≡ stores_after (flat_of design.now) (n + 1) → Starts (flat_of design.now) order.now (n + 1) (segment_view segment.now) (list_of x.cells) (env_of x.before.at) (env_of x.after.at) (slots_of x.before.pending) (slots_of x.after.pending) x.ticks) }
 {
     let mut cells = no_cells(alloc);
-    let before = begin_in(alloc, &mut cells, design, order, early)?;
+    let before = begin_in(alloc, &mut cells, design, order)?;
     let mut after = copied(alloc, &before)?;
+    read(
+        alloc,
+        &mut cells,
+        above,
+        design.signals.as_slice(),
+        &mut after.pending.sites,
+    )?;
     let ticks = segment_in(alloc, &mut cells, design, &mut after, segment)?;
     Ok(Started {
         cells,
@@ -109,59 +131,78 @@ fn up_to_segment(
     })
 }
 
-/// The cells and writes of a segment's state.
+/// The cells and writes of a segment's state: what is pending in the stores of the nodes behind it, and by its own statements, it keeps
+/// in those and in its own. An `Err` is want of memory.
 pub fn made(
     alloc: Global,
     design: &Design,
     order: &[u32],
-    early: bool,
+    kept: Kept<'_>,
     segment: &Segment<'_>,
     on: &WayOn<'_>,
 ) -> Result<Made, AllocError>
     requires design { IsCellDesign (flat_of design.now) order.now }
+    requires stores { (number : ℕ) × IsKept (flat_of design.now) number kept (n.Run (segment_view segment.now) (way_on_view on.now)) }
+    requires memories { All (λ x. IsMemory (names_of (flat_of design.now)) x.memory) kept.above.now }
+    requires few { All (λ x. mask_register x < 2 ^ 32) kept.all.now }
     requires pieces { All (IsCellPiece (names_of (flat_of design.now))) segment.now.statements.items }
     requires way { IsCellWay (names_of (flat_of design.now)) on.now }
-    ensures { IfOk result (λ m. IsMade (flat_of design.now) order.now early (n.Run (segment_view segment.now) (way_on_view on.now)) (list_of m.cells) m.sets.items) }
+    ensures { IfOk result (λ m. (number : ℕ) → IsKept (flat_of design.now) number kept.entry (n.Run (segment_view segment.now) (way_on_view on.now)) →
+        IsMade (flat_of design.now) order.now number (n.Run (segment_view segment.now) (way_on_view on.now)) (list_of m.cells) m.sets.items) }
 {
     let Started {
         mut cells,
         before,
         after,
         ticks,
-    } = up_to_segment(alloc, design, order, early, segment)?;
+    } = up_to_segment(alloc, design, order, kept.above, segment)?;
     let next = next_in(alloc, &mut cells, design, &after.at, on)?;
-    let sets = ends(alloc, design, &before, &after, commits(on), ticks, next)?;
+    let sets = writes(
+        alloc,
+        design,
+        kept.all,
+        &before,
+        &after,
+        commits(on),
+        ticks,
+        next,
+    )?;
     Ok(Made { cells, sets })
 }
 
-/// The cells and writes of the state of a segment that comes to a call, whose trap is the state `trap`, and the call with the slots of
-/// what it is given.
+/// The cells and writes of the state of a segment that comes to a call, whose trap is the state `trap`, as `made`, and the call with the
+/// slots of what it is given.
 pub fn made_call(
     alloc: Global,
     design: &Design,
     order: &[u32],
-    early: bool,
+    kept: Kept<'_>,
     segment: &Segment<'_>,
     trap: u32,
     path: &Text,
     call: &SysCall,
 ) -> Result<(Made, Trap), AllocError>
     requires design { IsCellDesign (flat_of design.now) order.now }
+    requires stores { (number : ℕ) × IsKept (flat_of design.now) number kept (n.Run (segment_view segment.now) (n.Go trap)) }
+    requires memories { All (λ x. IsMemory (names_of (flat_of design.now)) x.memory) kept.above.now }
+    requires few { All (λ x. mask_register x < 2 ^ 32) kept.all.now }
     requires pieces { All (IsCellPiece (names_of (flat_of design.now))) segment.now.statements.items }
     requires task { IsSoundTask (names_of (flat_of design.now)) (call_view path.now call.now) }
-    ensures made { IfOk result (λ m. IsMade (flat_of design.now) order.now early (n.Run (segment_view segment.now) (n.Go trap)) (list_of m.0.cells) m.0.sets.items) }
+    ensures made { IfOk result (λ m. (number : ℕ) → IsKept (flat_of design.now) number kept.entry (n.Run (segment_view segment.now) (n.Go trap)) →
+        IsMade (flat_of design.now) order.now number (n.Run (segment_view segment.now) (n.Go trap)) (list_of m.0.cells) m.0.sets.items) }
     ensures call { IfOk result (λ m. IsTrapOf (flat_of design.now) (call_view path.now call.now) (slots_in (list_of m.0.cells)) m.1) }
-    ensures asks { IfOk result (λ m. AsksBehind (flat_of design.now) order.now early (segment_view segment.now) (n.Run (segment_view segment.now) (n.Go trap)) (list_of m.0.cells) (call_view path.now call.now) m.1.args) }
+    ensures asks { IfOk result (λ m. (number : ℕ) → IsKept (flat_of design.now) number kept.entry (n.Run (segment_view segment.now) (n.Go trap)) →
+        AsksBehind (flat_of design.now) order.now number (segment_view segment.now) (n.Run (segment_view segment.now) (n.Go trap)) (list_of m.0.cells) (call_view path.now call.now) m.1.args) }
 {
     let Started {
         mut cells,
         before,
         after,
         ticks,
-    } = up_to_segment(alloc, design, order, early, segment)?;
+    } = up_to_segment(alloc, design, order, kept.above, segment)?;
     let next = number(alloc, &mut cells, trap)?;
     let asked = call_of(alloc, &mut cells, design, path, &after.at, call)?;
-    let sets = ends(alloc, design, &before, &after, false, ticks, next)?;
+    let sets = writes(alloc, design, kept.all, &before, &after, false, ticks, next)?;
     let made = Made { cells, sets };
     Ok((made, asked))
 }

@@ -31,7 +31,7 @@ fn trimmed(alloc: Global, made: &Made, wanted: &[u32], first: u32) -> Result<Tri
 /// The state of cells that come to no call, with slots from `first` on, and the states that it leads to.
 pub fn plain_state(alloc: Global, made: &Made, nexts: Nums, first: u32) -> Result<State, AllocError>
     ensures first { IfOk result (λ s. s.cells.first ≡ first) }
-    ensures does { IfOk result (λ s. (d : y.Flat) (order : List ℕ) (early : Bool) (x : n.Node) → IsMade d order early x (list_of made.now.cells) made.now.sets.items → Does d order early x (state_of s)) }
+    ensures does { IfOk result (λ s. (d : y.Flat) (order : List ℕ) (k : ℕ) (x : n.Node) → IsMade d order k x (list_of made.now.cells) made.now.sets.items → Does d order k x (state_of s)) }
 {
     let trimmed = trimmed(alloc, made, &[], first)?;
     Ok(State {
@@ -75,9 +75,9 @@ pub fn call_states(
 ) -> Result<(State, State), AllocError>
     ensures first { IfOk result (λ s. s.0.cells.first ≡ first) }
     ensures behind { IfOk result (λ s. slots_in (list_of s.1.cells) ≡ slots_in (list_of s.0.cells)) }
-    ensures calls { IfOk result (λ s. (d : y.Flat) (order : List ℕ) (early : Bool) (g : n.Segment) (task : y.Task) → IsMade d order early (n.Run g (n.Go number)) (list_of made.now.cells) made.now.sets.items →
-        IsTrapOf d task (slots_in (list_of made.now.cells)) call → AsksBehind d order early g (n.Run g (n.Go number)) (list_of made.now.cells) task call.args →
-        Calls d order early g number task to (state_of s.0) (state_of s.1)) }
+    ensures calls { IfOk result (λ s. (d : y.Flat) (order : List ℕ) (k : ℕ) (g : n.Segment) (task : y.Task) → IsMade d order k (n.Run g (n.Go number)) (list_of made.now.cells) made.now.sets.items →
+        IsTrapOf d task (slots_in (list_of made.now.cells)) call → AsksBehind d order k g (n.Run g (n.Go number)) (list_of made.now.cells) task call.args →
+        Calls d order k g number task to (state_of s.0) (state_of s.1)) }
 {
     let trimmed = trimmed(alloc, made, call.args.as_slice(), first)?;
     let nexts = one(alloc, number)?;

@@ -8,7 +8,7 @@ ghost use Rattle.cell_form.specs.Views.{list_of};
 ghost use Rattle.cell_steps.specs.Slots.{Grows};
 ghost use Rattle.cell_paths.specs.Envs.{env_of, Fits, IsSlot};
 ghost use Rattle.cell_later.specs.Pendings.{slots_of, ArePending};
-ghost use Rattle.cell_expr.specs.Bodies.{IsCellFun, IsSegmentStm, assignment};
+ghost use Rattle.cell_expr.specs.Bodies.{IsAny, IsCellFun, IsSegment, IsSegmentStm, assignment};
 ghost use Rattle.sub_split.specs.Views.{piece_view, segment_view};
 ghost use Rattle.cell_states.specs.Pieces.{IsCellPiece, IsCellAssignment};
 ghost use Rattle.cell_states.specs.Segments.{DoesAll, RisesWhere, DoesSegment};
@@ -66,6 +66,7 @@ fn answered(
     requires sound { IsSound (flat_of design.now) }
     requires functions { All (IsCellFun (names_of (flat_of design.now))) (flat_of design.now).funs }
     requires assignment { IsCellAssignment (names_of (flat_of design.now)) target.now source.now }
+    requires plain { IsSegment IsAny (assignment later (target_of target.now) (exp_of source.now)) }
     requires fits { Fits (names_of (flat_of design.now)) (list_of cells.old) (env_of begun.old.at) }
     requires first { begun.old.at.first ≡ 0 }
     requires pending { ArePending (names_of (flat_of design.now)) (list_of cells.old) (slots_of begun.old.pending) }

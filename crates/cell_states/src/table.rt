@@ -1,26 +1,37 @@
 //! The states of a design's table of nodes.
 
-ghost use Rattle.std.specs.Prelude.{◌≡◌, ◌<◌, ◌++◌, ◌∷◌, [], false, All, length, map, IfOk, OnOk};
-ghost use Rattle.vl_design.specs.Sound.{IsSoundTask};
+ghost use Rattle.std.specs.Prelude.{◌≡◌, ◌<◌, ◌≤◌, ◌+◌, ◌-◌, ◌^◌, ◌++◌, ◌∷◌, [], ℕ, All, length, map, take, slice_get, Some, IfOk, OnOk};
+ghost use Rattle.vl_design.specs.Sound.{IsMemory, IsSoundTask};
 ghost use Rattle.vl_design.specs.Trees.{flat_of};
 ghost use Rattle.vl_design.specs.Width.{names_of};
 ghost use Rattle.cell_form.specs.Views.{state_of};
-ghost use Rattle.sub_nodes.specs.Nodes as n;
+ghost use Rattle.sub_facts.specs.Early.{early_from};
 ghost use Rattle.sub_facts.specs.Pairs.{ArePaired};
+ghost use Rattle.sub_nodes.specs.Code.{table_of};
+ghost use Rattle.sub_nodes.specs.Nodes as n;
 ghost use Rattle.sub_split.specs.Views.{call_view, node_view, segment_view, way_on_view};
+ghost use Rattle.ten_form.specs.Banks.{cell_nodes, stores_in, stores_after};
 ghost use Rattle.ten_form.specs.Registers.{state_register};
 ghost use Rattle.ten_image.specs.States.{slots_in, AreStates};
+ghost use Rattle.ten_stores.specs.Holding.{mask_register};
+ghost use Rattle.ten_stores.specs.Stores.{node_words};
 ghost use Rattle.cell_states.specs.Designs.{IsCellDesign};
+ghost use Rattle.cell_states.specs.Mades.{IsKept};
+ghost use Rattle.cell_states.specs.Marks.{AreDelayed};
 ghost use Rattle.cell_states.specs.Pieces.{IsCellNode, IsCellPiece, IsCellWay};
 ghost use Rattle.cell_states.specs.Tables as s;
 
-use crate::run::{made, made_call};
+use crate::delays::delayed;
+use crate::made::States;
+use crate::run::{Kept, made, made_call};
 use crate::state::{call_states, one, plain_state, slots_behind};
 use crate::update::made_update;
 use cell_form::table::{State, StateTable};
 use std::alloc::{AllocError, Global};
 use sub_split::table::{Node, Segment, Table, WayOn};
-use ten_form::places::STATE;
+use ten_form::places::{STATE, VALUE};
+use ten_stores::store::Store;
+use ten_stores::stores;
 use vl_base::items::{Items, Nums, Text};
 use vl_design::design::{Design, SysCall};
 
@@ -31,18 +42,22 @@ struct Built {
     states: Items<State>,
     /// How many slots they have together.
     slots: u32,
+    /// How many stores the other nodes have.
+    left: usize,
 }
 
 impl Built {
-    /// Adds a state, whose slots stand behind all others.
-    fn add(&mut self, state: State) -> Result<(), AllocError>
+    /// Adds a state, whose slots stand behind all others; so many stores have the nodes that have no state then.
+    fn add(&mut self, state: State, left: usize) -> Result<(), AllocError>
         ensures states { OnOk result (self.new.states ≡ self.old.states ++ state ∷ []) }
         ensures slots { OnOk result (self.new.slots ≡ slots_in (state_of state).cells) }
+        ensures left { OnOk result (self.new.left ≡ left) }
     {
         let slots = slots_behind(&state.cells)?;
         match self.states.push(state) {
             Ok(()) => {
                 self.slots = slots;
+                self.left = left;
                 Ok(())
             }
             Err(_) => Err(AllocError),
@@ -82,25 +97,53 @@ fn nexts_of(alloc: Global, on: &WayOn<'_>) -> Result<Nums, AllocError> {
     Ok(Nums::from_vec(nexts))
 }
 
+/// How many stores the node of a number has.
+fn own_stores(alloc: Global, nodes: &[Node<'_>], number: usize) -> Result<usize, AllocError>
+    requires there { number < length nodes.now }
+    ensures { IfOk result (λ own. (x : n.Node) → slice_get (map node_view nodes.now) number ≡ Some x → own ≡ length (node_words x)) }
+{
+    let own = stores::stores(alloc, 0, &nodes[number..number + 1])?;
+    Ok(own.as_slice().len())
+}
+
+/// The stores that a node's state reads and keeps, where so many are its own, and with these so many are left of all nodes' stores: those
+/// of the nodes behind it stand first.
+fn kept_of(stores: &[Store], left: usize, own: usize) -> Kept<'_>
+    requires own { own ≤ left }
+    requires left { left ≤ length stores.now }
+    ensures above { result.above.now ≡ take (left - own) stores.now }
+    ensures all { result.all.now ≡ take left stores.now }
+{
+    Kept {
+        above: &stores[..left - own],
+        all: &stores[..left],
+    }
+}
+
 /// Adds the state of a segment that comes to no call.
 fn add_run(
     alloc: Global,
     design: &Design,
     order: &[u32],
-    early: bool,
+    kept: Kept<'_>,
     segment: &Segment<'_>,
     on: &WayOn<'_>,
     built: &mut Built,
 ) -> Result<(), AllocError>
     requires design { IsCellDesign (flat_of design.now) order.now }
+    requires stores { (number : ℕ) × IsKept (flat_of design.now) number kept (n.Run (segment_view segment.now) (way_on_view on.now)) }
+    requires memories { All (λ x. IsMemory (names_of (flat_of design.now)) x.memory) kept.above.now }
+    requires few { All (λ x. mask_register x < 2 ^ 32) kept.all.now }
     requires pieces { All (IsCellPiece (names_of (flat_of design.now))) segment.now.statements.items }
     requires way { IsCellWay (names_of (flat_of design.now)) on.now }
-    ensures { OnOk result (s.HasOneMore (flat_of design.now) order.now early (n.Run (segment_view segment.now) (way_on_view on.now)) (map state_of built.old.states) built.old.slots (map state_of built.new.states) built.new.slots) }
+    ensures more { OnOk result ((number : ℕ) → IsKept (flat_of design.now) number kept.entry (n.Run (segment_view segment.now) (way_on_view on.now)) →
+        s.HasOneMore (flat_of design.now) order.now number (n.Run (segment_view segment.now) (way_on_view on.now)) (map state_of built.old.states) built.old.slots (map state_of built.new.states) built.new.slots) }
+    ensures left { OnOk result (built.new.left ≡ length kept.entry.above.now) }
 {
-    let made = made(alloc, design, order, early, segment, on)?;
+    let made = made(alloc, design, order, kept, segment, on)?;
     let nexts = nexts_of(alloc, on)?;
     let state = plain_state(alloc, &made, nexts, built.slots)?;
-    built.add(state)
+    built.add(state, kept.above.len())
 }
 
 /// Adds the state of an update.
@@ -108,16 +151,24 @@ fn add_update(
     alloc: Global,
     design: &Design,
     order: &[u32],
+    stores: &[Store],
+    delayed: &[bool],
     to: u32,
     built: &mut Built,
 ) -> Result<(), AllocError>
     requires design { IsCellDesign (flat_of design.now) order.now }
-    ensures { OnOk result (s.HasOneMore (flat_of design.now) order.now false (n.Apply to) (map state_of built.old.states) built.old.slots (map state_of built.new.states) built.new.slots) }
+    requires stores { stores.now ≡ stores_in (flat_of design.now) }
+    requires memories { All (λ x. IsMemory (names_of (flat_of design.now)) x.memory) stores.now }
+    requires few { All (λ x. mask_register x < 2 ^ 32) stores.now }
+    requires delayed { AreDelayed (flat_of design.now) delayed.now }
+    ensures more { OnOk result ((number : ℕ) → s.HasOneMore (flat_of design.now) order.now number (n.Apply to) (map state_of built.old.states) built.old.slots (map state_of built.new.states) built.new.slots) }
+    ensures left { OnOk result (built.new.left ≡ built.old.left) }
 {
-    let made = made_update(alloc, design, order, to)?;
+    let made = made_update(alloc, design, order, stores, delayed, to)?;
     let nexts = one(alloc, to)?;
     let state = plain_state(alloc, &made, nexts, built.slots)?;
-    built.add(state)
+    let left = built.left;
+    built.add(state, left)
 }
 
 /// Adds the state of a segment that comes to a call, whose trap has this number, and that of the call, behind which the state `to` is
@@ -126,7 +177,7 @@ fn add_call(
     alloc: Global,
     design: &Design,
     order: &[u32],
-    early: bool,
+    kept: Kept<'_>,
     segment: &Segment<'_>,
     trap: u32,
     path: &Text,
@@ -135,90 +186,142 @@ fn add_call(
     built: &mut Built,
 ) -> Result<(), AllocError>
     requires design { IsCellDesign (flat_of design.now) order.now }
+    requires stores { (number : ℕ) × IsKept (flat_of design.now) number kept (n.Run (segment_view segment.now) (n.Go trap)) }
+    requires memories { All (λ x. IsMemory (names_of (flat_of design.now)) x.memory) kept.above.now }
+    requires few { All (λ x. mask_register x < 2 ^ 32) kept.all.now }
     requires pieces { All (IsCellPiece (names_of (flat_of design.now))) segment.now.statements.items }
     requires task { IsSoundTask (names_of (flat_of design.now)) (call_view path.now call.now) }
-    ensures { OnOk result (s.HasTwoMore (flat_of design.now) order.now early (segment_view segment.now) trap (call_view path.now call.now) to (map state_of built.old.states) built.old.slots (map state_of built.new.states) built.new.slots) }
+    ensures more { OnOk result ((number : ℕ) → IsKept (flat_of design.now) number kept.entry (n.Run (segment_view segment.now) (n.Go trap)) →
+        s.HasTwoMore (flat_of design.now) order.now number (segment_view segment.now) trap (call_view path.now call.now) to (map state_of built.old.states) built.old.slots (map state_of built.new.states) built.new.slots) }
+    ensures left { OnOk result (built.new.left ≡ length kept.entry.above.now) }
 {
-    let (made, asked) = made_call(alloc, design, order, early, segment, trap, path, call)?;
+    let (made, asked) = made_call(alloc, design, order, kept, segment, trap, path, call)?;
     let (run, wait) = call_states(alloc, &made, asked, trap, to, built.slots)?;
-    built.add(run)?;
-    built.add(wait)
+    let left = kept.above.len();
+    built.add(run, left)?;
+    built.add(wait, left)
 }
 
-/// Adds the state of the next node, and where that comes to a call, the call's too. Those from number `from` on are of time zero's
-/// wave.
+/// Adds the state of the next node, and where that comes to a call, the call's too. The stores are those of all nodes.
 fn add_node(
     alloc: Global,
     design: &Design,
     order: &[u32],
     nodes: &[Node<'_>],
-    from: usize,
+    stores: &[Store],
+    delayed: &[bool],
     built: &mut Built,
 ) -> Result<(), AllocError>
     requires design { IsCellDesign (flat_of design.now) order.now }
     requires nodes { All (IsCellNode (names_of (flat_of design.now))) nodes.now }
-    requires updates { s.UpdatesAreBefore from (map node_view nodes.now) }
-    requires first { s.AreFirst (flat_of design.now) order.now from (map node_view nodes.now) (map state_of built.old.states) built.old.slots }
+    requires table { map node_view nodes.now ≡ cell_nodes (flat_of design.now) }
+    requires stores { stores.now ≡ stores_in (flat_of design.now) }
+    requires few { All (λ x. mask_register x < 2 ^ 32) stores.now }
+    requires delayed { AreDelayed (flat_of design.now) delayed.now }
+    requires first { s.AreFirst (flat_of design.now) order.now (cell_nodes (flat_of design.now)) (map state_of built.old.states) built.old.slots built.old.left }
     requires more { length built.old.states < length nodes.now }
-    ensures first { OnOk result (s.AreFirst (flat_of design.now) order.now from (map node_view nodes.now) (map state_of built.new.states) built.new.slots) }
+    ensures first { OnOk result (s.AreFirst (flat_of design.now) order.now (cell_nodes (flat_of design.now)) (map state_of built.new.states) built.new.slots built.new.left) }
     ensures more { OnOk result (length built.old.states < length built.new.states) }
 {
     let number = built.states.as_slice().len();
     match &nodes[number] {
-        Node::Run(segment, on) => match go_of(on) {
-            None => add_run(alloc, design, order, number >= from, segment, on, built),
-            Some(trap) => match &nodes[number + 1] {
-                Node::Trap(path, call, to) => add_call(
-                    alloc,
-                    design,
-                    order,
-                    number >= from,
-                    segment,
-                    trap,
-                    path,
-                    call,
-                    *to,
-                    built,
-                ),
-                Node::Run(_, _) => unreachable!(),
-                Node::Apply(_) => unreachable!(),
-            },
-        },
-        Node::Apply(to) => add_update(alloc, design, order, *to, built),
+        Node::Run(segment, on) => {
+            let own = own_stores(alloc, nodes, number)?;
+            let kept = kept_of(stores, built.left, own);
+            match go_of(on) {
+                None => add_run(alloc, design, order, kept, segment, on, built),
+                Some(trap) => match &nodes[number + 1] {
+                    Node::Trap(path, call, to) => add_call(
+                        alloc, design, order, kept, segment, trap, path, call, *to, built,
+                    ),
+                    Node::Run(_, _) => unreachable!(),
+                    Node::Apply(_) => unreachable!(),
+                },
+            }
+        }
+        Node::Apply(to) => add_update(alloc, design, order, stores, delayed, *to, built),
         Node::Trap(_, _, _) => unreachable!(),
     }
 }
 
-/// The states of a table of nodes of a design, of which those from number `from` on are of time zero's wave, and how many slots they
-/// have together: each does what its node does, or has its call. An `Err` is want of memory, also where there would be 2 ^ 32 slots.
+/// The states of nodes. The stores are those of all of them.
+fn all_built(
+    alloc: Global,
+    design: &Design,
+    order: &[u32],
+    nodes: &[Node<'_>],
+    stores: &[Store],
+) -> Result<Built, AllocError>
+    requires design { IsCellDesign (flat_of design.now) order.now }
+    requires nodes { All (IsCellNode (names_of (flat_of design.now))) nodes.now }
+    requires table { map node_view nodes.now ≡ cell_nodes (flat_of design.now) }
+    requires stores { stores.now ≡ stores_in (flat_of design.now) }
+    requires few { All (λ x. mask_register x < 2 ^ 32) stores.now }
+    requires paired { ArePaired 0 (cell_nodes (flat_of design.now)) }
+    ensures { IfOk result (λ r. AreStates (flat_of design.now) order.now r.slots (cell_nodes (flat_of design.now)) (map state_of r.states)) }
+{
+    let delayed = delayed(alloc, design)?;
+    let mut built = Built {
+        states: Items::new(alloc),
+        slots: 0,
+        left: stores.len(),
+    };
+    while built.states.as_slice().len() < nodes.len() {
+        add_node(
+            alloc,
+            design,
+            order,
+            nodes,
+            stores,
+            delayed.as_slice(),
+            &mut built,
+        )?;
+    }
+    Ok(built)
+}
+
+/// The stores of nodes, whose registers stand behind those of the signals.
+fn stores_of(alloc: Global, design: &Design, nodes: &[Node<'_>]) -> Result<Vec<Store>, AllocError>
+    requires few { length (flat_of design.now).rows ≤ 268435456 }
+    requires table { map node_view nodes.now ≡ cell_nodes (flat_of design.now) }
+    ensures stores { IfOk result (λ xs. xs.items ≡ stores_in (flat_of design.now)) }
+    ensures few { IfOk result (λ xs. All (λ x. mask_register x < 2 ^ 32) xs.items) }
+{
+    let signals = design.signals.as_slice().len();
+    stores::stores(alloc, 4 * signals as u32 + VALUE, nodes)
+}
+
+/// The states of the nodes of a design's table behind time zero's wave, and how many slots and stores they have together: each does what
+/// its node does, or has its call. An `Err` is want of memory, also where the number of a slot or of a register would be 2 ^ 32.
 pub fn states(
     alloc: Global,
     design: &Design,
     order: &[u32],
     table: &Table<'_>,
-    from: usize,
-) -> Result<(StateTable, u32), AllocError>
+) -> Result<States, AllocError>
     requires design { IsCellDesign (flat_of design.now) order.now }
-    requires nodes { All (IsCellNode (names_of (flat_of design.now))) table.now.nodes.items }
-    requires updates { s.UpdatesAreBefore from (map node_view table.now.nodes.items) }
-    requires paired { ArePaired 0 (map node_view table.now.nodes.items) }
-    ensures state { IfOk result (λ r. r.0.state ≡ state_register) }
-    ensures states { IfOk result (λ r. AreStates (flat_of design.now) order.now from r.1 (map node_view table.now.nodes.items) (map state_of r.0.states)) }
+    requires nodes { All (IsCellNode (names_of (flat_of design.now))) (take table.now.early table.now.nodes.items) }
+    requires table { map node_view table.now.nodes.items ≡ (table_of (flat_of design.now)).nodes }
+    requires early { table.now.early ≡ early_from (flat_of design.now) }
+    requires paired { ArePaired 0 (cell_nodes (flat_of design.now)) }
+    ensures state { IfOk result (λ r. r.table.state ≡ state_register) }
+    ensures states { IfOk result (λ r. AreStates (flat_of design.now) order.now r.slots (cell_nodes (flat_of design.now)) (map state_of r.table.states)) }
+    ensures stores { IfOk result (λ r. r.stores ≡ length (stores_in (flat_of design.now))) }
 {
     let nodes = table.nodes.as_slice();
-    let mut built = Built {
-        states: Items::new(alloc),
-        slots: 0,
+    let nodes = &nodes[..table.early as usize];
+    let all = stores_of(alloc, design, nodes)?;
+    let Ok(stores) = u32::try_from(all.as_slice().len()) else {
+        return Err(AllocError);
     };
-    while built.states.as_slice().len() < nodes.len() {
-        add_node(alloc, design, order, nodes, from, &mut built)?;
-    }
-    let slots = built.slots;
-    Ok((
-        StateTable {
-            state: STATE,
-            states: built.states,
-        },
+    let Built { states, slots, .. } = all_built(alloc, design, order, nodes, all.as_slice())?;
+    let table = StateTable {
+        state: STATE,
+        states,
+    };
+    Ok(States {
+        table,
         slots,
-    ))
+        stores,
+    })
 }

@@ -1,45 +1,60 @@
-//! States of updates (IEEE 1364-2005, clause 11.4.1).
+//! States of updates (IEEE 1364-2005, clause 11.4).
 
-ghost use Rattle.std.specs.Prelude.{false, IfOk};
+ghost use Rattle.std.specs.Prelude.{◌≡◌, ◌<◌, ◌^◌, ℕ, All, IfOk};
+ghost use Rattle.vl_design.specs.Sound.{IsMemory};
 ghost use Rattle.vl_design.specs.Trees.{flat_of};
+ghost use Rattle.vl_design.specs.Width.{names_of};
 ghost use Rattle.cell_form.specs.Views.{list_of};
 ghost use Rattle.sub_nodes.specs.Nodes as n;
-ghost use Rattle.cell_states.specs.Mades.{IsMade};
+ghost use Rattle.ten_form.specs.Banks.{stores_in};
+ghost use Rattle.ten_stores.specs.Holding.{mask_register};
 ghost use Rattle.cell_states.specs.Designs.{IsCellDesign};
+ghost use Rattle.cell_states.specs.Mades.{IsMade};
+ghost use Rattle.cell_states.specs.Marks.{AreDelayed};
 
 use crate::base::{begin_in, no_cells};
-use crate::delays::delayed;
 use crate::made::Made;
 use cell_form::cell::Write;
 use cell_next::next::number;
+use cell_stores::apply::apply;
+use cell_stores::read::read;
 use cell_waves::update::applied;
 use std::alloc::{AllocError, Global};
 use ten_form::places::STATE;
+use ten_stores::store::Store;
 use vl_design::design::Design;
 
-/// The cells and writes of an update's state, behind which the state `to` is next.
+/// The cells and writes of an update's state, behind which the state `to` is next: the variables take the bits of their pending updates,
+/// and the stores, which are those of all nodes, write their words. Of which signals updates can be pending is `delayed`.
 pub fn made_update(
     alloc: Global,
     design: &Design,
     order: &[u32],
+    stores: &[Store],
+    delayed: &[bool],
     to: u32,
 ) -> Result<Made, AllocError>
     requires design { IsCellDesign (flat_of design.now) order.now }
-    ensures { IfOk result (λ m. IsMade (flat_of design.now) order.now false (n.Apply to) (list_of m.cells) m.sets.items) }
+    requires stores { stores.now ≡ stores_in (flat_of design.now) }
+    requires memories { All (λ x. IsMemory (names_of (flat_of design.now)) x.memory) stores.now }
+    requires few { All (λ x. mask_register x < 2 ^ 32) stores.now }
+    requires delayed { AreDelayed (flat_of design.now) delayed.now }
+    ensures { IfOk result (λ m. (number : ℕ) → IsMade (flat_of design.now) order.now number (n.Apply to) (list_of m.cells) m.sets.items) }
 {
     let mut cells = no_cells(alloc);
-    let begun = begin_in(alloc, &mut cells, design, order, false)?;
-    let mut sets = Vec::new(alloc);
-    let delayed = delayed(alloc, design)?;
-    applied(
+    let begun = begin_in(alloc, &mut cells, design, order)?;
+    let mut sites = Vec::new(alloc);
+    read(
         alloc,
         &mut cells,
-        design,
-        &begun,
-        delayed.as_slice(),
-        &mut sets,
+        stores,
+        design.signals.as_slice(),
+        &mut sites,
     )?;
+    let mut sets = Vec::new(alloc);
+    applied(alloc, &mut cells, design, &begun, delayed, &mut sets)?;
     let next = number(alloc, &mut cells, to)?;
     sets.push(Write::Reg(STATE, next))?;
+    apply(stores, sites.as_slice(), begun.at.here, &mut sets)?;
     Ok(Made { cells, sets })
 }

@@ -17,16 +17,15 @@ use Rattle.cell_steps.specs.Slots.{held}
 use Rattle.cell_steps.proofs.Frames.{held-fits}
 use Rattle.cell_paths.specs.Envs.{IsSlot}
 use Rattle.cell_later.specs.declared.pending.Site.{Site}
-use Rattle.cell_later.specs.Pendings.{IsSite, stored}
+use Rattle.cell_later.specs.Pendings.{IsSite}
 use Rattle.cell_waves.specs.Lasts.{last_write, held_after}
 use Rattle.ten_stores.specs.declared.store.Store.{Store}
 use Rattle.ten_stores.specs.Holding.{enable_register, word_register, value_register, mask_register, stored_by, IsStore, IsIdle, HoldsWords}
 use Rattle.cell_stores.specs.Reading.{EachHas, HasStore}
 use Rattle.cell_stores.specs.Keeping.{IsKept, IsLeft, IsZero, IsSegment}
-use Rattle.cell_stores.proofs.Behind.{register-behind}
+use Rattle.cell_waves.proofs.Lasting.{register-behind}
 use Rattle.cell_stores.proofs.Listing.{all-front, all-back, all-both, all-from, all-with, each-with, each-store}
-use Rattle.cell_stores.proofs.Holding.{IsSame, IsOf, by-more, by-idle, by-same, by-sites, sites-more, below-as, store-same, holds-same}
-use Rattle.cell_stores.proofs.Reading.{reads-of}
+use Rattle.cell_stores.proofs.Holding.{IsSame, IsOf, by-more, by-idle, by-sites, below-as, store-same, holds-same}
 
 -- ---- writes elsewhere
 
@@ -83,7 +82,7 @@ zeros-hold d b stores h k = record {
 
 -- ---- a segment
 
-module _ (d : Flat) (b : BankData) (l : ListData) (before own behind : List Store) (sites : List Site) (sets : List Write) (later : List Update) (h : IsSegment d b l before own behind sites sets later) where
+module _ (d : Flat) (b : BankData) (l : ListData) (kept behind : List Store) (sites : List Site) (sets : List Write) (later : List Update) (h : IsSegment d b l kept behind sites sets later) where
   abbrev after : BankData
   after = written (held b l) sets b
 
@@ -116,52 +115,36 @@ module _ (d : Flat) (b : BankData) (l : ListData) (before own behind : List Stor
         mask = below-as _ _ (2 ^ (signal_form d.rows x.memory).width) k.mask (subst (Below (held b l s.mask)) wide (slot-below s.mask (signal_form d.rows s.memory).width site.mask));
       }
 
-  there-front : AllByRecursion Has (before ++ own)
-  there-front = all-front Has (before ++ own) behind h.there
-
-  same-before : AllByRecursion (IsSame b after) before
-  same-before = stores-left (held b l) sets b before (all-front Has before own there-front) h.left
-
   same-behind : AllByRecursion (IsSame b after) behind
-  same-behind = stores-left (held b l) sets b behind (all-back Has (before ++ own) behind h.there) h.left_behind
+  same-behind = stores-left (held b l) sets b behind (all-back Has kept behind h.there) h.left
 
-  own-of : EachHas (IsOf b l after) own sites
-  own-of = each-with Has (IsKept sets) (IsOf b l after) kept-of own sites (all-back Has before own there-front) h.kept
+  kept-each : EachHas (IsOf b l after) kept sites
+  kept-each = each-with Has (IsKept sets) (IsOf b l after) kept-of kept sites (all-front Has kept behind h.there) h.each
 
   pub idle-yet : AllByRecursion (IsIdle after) behind
-  idle-yet = all-with (IsSame b after) (IsIdle b) (IsIdle after) (λ x s i. s.enable ∙ i) behind same-behind h.idle_behind
+  idle-yet = all-with (IsSame b after) (IsIdle b) (IsIdle after) (λ x s i. s.enable ∙ i) behind same-behind h.idle
 
-  -- up to then only the stores of the segments before it say something
-  only-before : (m j v : ℕ) → stored_by b (before ++ own ++ behind) m j v ≡ stored_by b before m j v
-  only-before m j v =
-      by-more b (before ++ own) behind m j v ∙ by-idle b behind m j (stored_by b (before ++ own) m j v) h.idle_behind
-      ∙ by-more b before own m j v ∙ by-idle b own m j (stored_by b before m j v) h.idle
-
-  -- and then its own too
-  then-own : (m j v : ℕ) → stored_by after (before ++ own ++ behind) m j v ≡ stored b l sites m j (stored_by b before m j v)
-  then-own m j v =
-      by-more after (before ++ own) behind m j v ∙ by-idle after behind m j (stored_by after (before ++ own) m j v) idle-yet
-      ∙ by-more after before own m j v ∙ ap (stored_by after own m j) (by-same b after before m j v same-before)
-      ∙ by-sites b l after own sites m j (stored_by b before m j v) own-of
-
-  are-stores : AllByRecursion (IsStore d b) (before ++ own ++ behind) → AllByRecursion (IsStore d after) (before ++ own ++ behind)
+  are-stores : AllByRecursion (IsStore d b) (kept ++ behind) → AllByRecursion (IsStore d after) (kept ++ behind)
   are-stores k =
-      let front = all-front (IsStore d b) (before ++ own) behind k in
-      all-both (IsStore d after) (before ++ own) behind
-      (all-both (IsStore d after) before own (stays before same-before (all-front (IsStore d b) before own front))
-      (each-store (IsSite (names_of d) l) (IsOf b l after) (IsStore d after) store-of own sites (recursion_from_All (IsSite (names_of d) l) sites h.slots) own-of))
-      (stays behind same-behind (all-back (IsStore d b) (before ++ own) behind k))
-    where
-      stays : (xs : List Store) → AllByRecursion (IsSame b after) xs → AllByRecursion (IsStore d b) xs → AllByRecursion (IsStore d after) xs
-      stays xs s k = all-with (IsSame b after) (IsStore d b) (IsStore d after) (λ x e i. store-same d b after x e i) xs s k
+      all-both (IsStore d after) kept behind
+      (each-store (IsSite (names_of d) l) (IsOf b l after) (IsStore d after) store-of kept sites (recursion_from_All (IsSite (names_of d) l) sites h.slots) kept-each)
+      (all-with (IsSame b after) (IsStore d b) (IsStore d after) (λ x e i. store-same d b after x e i) behind same-behind (all-back (IsStore d b) kept behind k))
 
-  pub holds-more : (earlier : List Update) → HoldsWords d b (before ++ own ++ behind) earlier → HoldsWords d after (before ++ own ++ behind) later
-  holds-more earlier k =
-      let all = before ++ own ++ behind in
-      record {
-        each = All-from_recursion (IsStore d after) all (are-stores (recursion_from_All (IsStore d b) all k.each));
-        words = λ base m j fine i lt.
-            let v = slice_index (words_of base m) j in
-            h.words base m j fine i lt ∙ sites-more b l h.read_before sites m j v
-            ∙ ap (stored b l sites m j) (sym (by-sites b l b all h.read_before m j v (reads-of d h.shape b l all h.read_before h.sound k.each h.read)) ∙ only-before m j v) ∙ sym (then-own m j v);
-      }
+  pub holds-more : (earlier : List Update) → HoldsWords d b (kept ++ behind) earlier → HoldsWords d after (kept ++ behind) later
+  holds-more earlier k = record {
+    each = All-from_recursion (IsStore d after) (kept ++ behind) (are-stores (recursion_from_All (IsStore d b) (kept ++ behind) k.each));
+    words = λ base m j fine i lt.
+        let v = slice_index (words_of base m) j in
+        h.words base m j fine i lt
+        ∙ sym (by-more after kept behind m j v ∙ (by-idle after behind m j (stored_by after kept m j v) idle-yet ∙ by-sites b l after kept sites m j v kept-each));
+  }
+
+-- ---- idle stores
+
+pub holds-fewer : (d : Flat) (b : BankData) (xs ys : List Store) (later : List Update) → HoldsWords d b (xs ++ ys) later → AllByRecursion (IsIdle b) ys → HoldsWords d b xs later
+holds-fewer d b xs ys later h idle = record {
+  each = All-from_recursion (IsStore d b) xs (all-front (IsStore d b) xs ys (recursion_from_All (IsStore d b) (xs ++ ys) h.each));
+  words = λ base m j fine i lt.
+      let v = slice_index (words_of base m) j in
+      h.words base m j fine i lt ∙ (by-more b xs ys m j v ∙ by-idle b ys m j (stored_by b xs m j v) idle);
+}

@@ -29,7 +29,8 @@ use Rattle.ten_stores.specs.Holding.{enable_register, word_register, value_regis
 use Rattle.cell_stores.specs.Reading.{EachHas, HasStore, IsRead}
 use Rattle.cell_stores.specs.Keeping.{IsLeft}
 use Rattle.cell_stores.specs.Applying.{apply_writes, IsUpdate, behind_update}
-use Rattle.cell_stores.proofs.Behind.{register-behind, words-behind}
+use Rattle.cell_waves.proofs.Lasting.{register-behind}
+use Rattle.cell_stores.proofs.Behind.{words-behind}
 use Rattle.cell_stores.proofs.Listing.{all-with, each-with, each-long}
 use Rattle.cell_stores.proofs.Holding.{put, IsOf, by-idle, by-sites}
 use Rattle.cell_stores.proofs.Reading.{reads-of}

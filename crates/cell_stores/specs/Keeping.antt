@@ -18,7 +18,7 @@ use Rattle.cell_waves.specs.Lasts.{last_write, IsRegister}
 use Rattle.ten_stores.specs.declared.store.Store.{Store}
 use Rattle.ten_stores.specs.Stores.{IsBeside, AreDisjoint}
 use Rattle.ten_stores.specs.Holding.{enable_register, word_register, value_register, mask_register, IsIdle}
-use Rattle.cell_stores.specs.Reading.{EachHas, HasStore, IsRead}
+use Rattle.cell_stores.specs.Reading.{EachHas, HasStore}
 
 -- writes of each store and its site, in order
 abbrev pub each_written : (Store → Site → List Write) → List Store → List Site → List Write
@@ -62,21 +62,16 @@ pub record Keeps (stores : List Store) (sites : List Site) (old new : List Write
 
 -- ---- what they leave
 
--- the writes of a segment on a bank, behind which `later` is pending. It reads the registers of all stores as sites, and adds its own
--- sites behind them; these alone it keeps: its own stores take their slots. Those of the segments before it, and those of the segments
--- behind it, are left, and its own and these are idle yet
-pub record IsSegment (d : Flat) (b : BankData) (l : ListData) (before own behind : List Store) (sites : List Site) (sets : List Write) (later : List Update) : Type 0 where
+-- the writes of a segment on a bank, behind which `later` is pending. It reads the registers of the stores of segments before it as
+-- sites, adds its own sites behind them, and keeps all of these. The stores of the segments behind it are left, and idle yet
+pub record IsSegment (d : Flat) (b : BankData) (l : ListData) (kept behind : List Store) (sites : List Site) (sets : List Write) (later : List Update) : Type 0 where
   pub shape : Shape
   pub sound : AreSound shape l
-  pub there : AllByRecursion (HasStore (shape_of b)) (before ++ own ++ behind)
-  pub read_before : List Site
-  pub read : EachHas (IsRead d.rows l) (before ++ own ++ behind) read_before
+  pub there : AllByRecursion (HasStore (shape_of b)) (kept ++ behind)
   pub slots : All (IsSite (names_of d) l) sites
-  pub kept : EachHas (IsKept sets) own sites
-  pub left : AllByRecursion (IsLeft sets) before
-  pub left_behind : AllByRecursion (IsLeft sets) behind
-  pub idle : AllByRecursion (IsIdle b) own
-  pub idle_behind : AllByRecursion (IsIdle b) behind
-  -- what the pending updates make of words, the slots of all sites say
+  pub each : EachHas (IsKept sets) kept sites
+  pub left : AllByRecursion (IsLeft sets) behind
+  pub idle : AllByRecursion (IsIdle b) behind
+  -- what the pending updates make of words, the slots of the sites say
   pub words : (base : List (List ℕ)) (m j : ℕ) → IsFine d.rows base → IsMemory (names_of d) m → j < length (words_of base m) →
-      slice_index (words_of (all_updated d.rows base later) m) j ≡ stored b l (read_before ++ sites) m j (slice_index (words_of base m) j)
+      slice_index (words_of (all_updated d.rows base later) m) j ≡ stored b l sites m j (slice_index (words_of base m) j)

@@ -35,14 +35,20 @@ pub fn stores_in_slots_are_what_is_pending()
         AreSound z l → EachHas (IsRead rows l) stores sites → AllByRecursion (IsIdle b) stores → (m j v : ℕ) → stored b l sites m j v ≡ v }
 {}
 
-/// Behind the writes of a segment stores hold what is pending then, its own updates behind those before it (IEEE 1364-2005, clause
-/// 9.2.2), and the stores of the segments behind it are idle yet.
+/// Behind the writes of a segment stores hold all that is pending then (IEEE 1364-2005, clause 9.2.2), and the stores of the segments
+/// behind it are idle yet.
 pub fn a_segment_keeps_its_updates()
-    ensures holds { (d : Flat) (b : BankData) (l : ListData) (before own behind : List Store) (sites : List Site) (sets : List Write) (earlier later : List Update) →
-        IsSegment d b l before own behind sites sets later → HoldsWords d b (before ++ own ++ behind) earlier →
-        HoldsWords d (written (held b l) sets b) (before ++ own ++ behind) later }
-    ensures idle { (d : Flat) (b : BankData) (l : ListData) (before own behind : List Store) (sites : List Site) (sets : List Write) (later : List Update) →
-        IsSegment d b l before own behind sites sets later → AllByRecursion (IsIdle (written (held b l) sets b)) behind }
+    ensures holds { (d : Flat) (b : BankData) (l : ListData) (kept behind : List Store) (sites : List Site) (sets : List Write) (earlier later : List Update) →
+        IsSegment d b l kept behind sites sets later → HoldsWords d b (kept ++ behind) earlier →
+        HoldsWords d (written (held b l) sets b) (kept ++ behind) later }
+    ensures idle { (d : Flat) (b : BankData) (l : ListData) (kept behind : List Store) (sites : List Site) (sets : List Write) (later : List Update) →
+        IsSegment d b l kept behind sites sets later → AllByRecursion (IsIdle (written (held b l) sets b)) behind }
+{}
+
+/// What stores hold, those hold alone that aren't idle.
+pub fn idle_stores_may_be_left_out()
+    ensures { (d : Flat) (b : BankData) (xs ys : List Store) (later : List Update) → HoldsWords d b (xs ++ ys) later →
+        AllByRecursion (IsIdle b) ys → HoldsWords d b xs later }
 {}
 
 /// Writes that leave the registers of stores leave what they hold.

@@ -1,6 +1,6 @@
 -- What a bank holds behind the writes of a segment, and of a wave.
 use Rattle.std.proofs.Common.{◌≡◌, ◌≢◌, ℕ, ◌+◌, ◌*◌, ◌-◌, ◌<◌, ◌≤◌, ◌^◌, Bool, true, false, List, [], length, Option, Some, None, refl, sym, ap, ◌∙◌, arith, subst}
-use Rattle.std.specs.Prelude.{◌==◌, ◌||◌, not, nat_lt, if◌then◌else◌, slice_get, slice_index, slice_index_or}
+use Rattle.std.specs.Prelude.{◌==◌, not, nat_lt, if◌then◌else◌, slice_get, slice_index, slice_index_or}
 use Rattle.std.specs.List.{AllByRecursion}
 use Rattle.std.proofs.Math.Pow.{pow_pos}
 use Rattle.std.proofs.lemmas.Bool.{eqb-true, le-ltb}
@@ -10,9 +10,7 @@ use Rattle.vl_design.specs.Syntax.{Row, Flat}
 use Rattle.vl_design.specs.Width.{Names, names_of, signal_form}
 use Rattle.vl_design.specs.Value.{words_of, value_of}
 use Rattle.vl_design.specs.Sound.{HasValue, IsSignal, IsMemory}
-use Rattle.vl_design.specs.State.{State, Update, all_updated, sample}
-use Rattle.vl_design.specs.Laws.{IsFine}
-use Rattle.vl_design.proofs.Shaping.{all_shape}
+use Rattle.vl_design.specs.State.{State, sample}
 use Rattle.vl_settle.specs.Computed.{computed_at}
 use Rattle.cell_form.specs.declared.cell.Write.{Write}
 use Rattle.cell_form.specs.Data.{ListData, BankData}
@@ -21,18 +19,18 @@ use Rattle.cell_form.specs.Sound.{Shape}
 use Rattle.cell_steps.specs.Slots.{held, AreSound}
 use Rattle.cell_steps.proofs.Frames.{held-fits}
 use Rattle.cell_paths.specs.Envs.{Env, entry, IsEntry, held_or, word_or, Fits, Stands}
-use Rattle.cell_later.specs.Pendings.{PendingSlots, slot_of, stored, ArePending, Pends}
+use Rattle.cell_later.specs.Pendings.{PendingSlots, slot_of, ArePending}
 use Rattle.cell_reads.proofs.Samples.{named}
-use Rattle.ten_form.specs.Registers.{answer_register, ticks_register, value_register, work_register, update_register, mask_register}
+use Rattle.ten_form.specs.Registers.{answer_register, ticks_register, value_register, work_register, update_register, mask_register, register_count}
 use Rattle.ten_form.specs.Nets.{cleared}
-use Rattle.ten_form.specs.Banks.{HoldsPending, HoldsState}
+use Rattle.ten_form.specs.Banks.{HoldsPending, HoldsSignals, HoldsState}
 use Rattle.cell_waves.specs.Lasts.{last_write, held_after, IsRegister}
 use Rattle.cell_waves.specs.Copies.{is_written, differs, changed, each_one, slot_or, wanted, or_before, IsHeld, Sets}
 use Rattle.cell_waves.specs.Ends.{Ends, Leads, IsLike}
 use Rattle.cell_waves.proofs.Clearing.{cleared-computed, cleared-kept}
-use Rattle.cell_waves.proofs.Lasting.{register-after, memories-after}
+use Rattle.cell_waves.proofs.Lasting.{register-behind, memories-after}
 use Rattle.cell_waves.proofs.Setting.{wanted-some, wanted-not, wanted-left}
-use Rattle.cell_waves.proofs.Written.{signal-written, written-signal}
+use Rattle.cell_waves.proofs.Written.{written-if, written-signal}
 
 -- ---- signals
 
@@ -40,6 +38,10 @@ pub signal-below : (names : Names) (k : ℕ) → IsSignal names k → k < length
 signal-below names k i =
     let n = named HasValue (slice_get names.rows k) i in
     slice_get_within names.rows k n.row n.is
+
+-- a variable's value stays where those of computed signals are taken as 0
+pub value-kept : (d : Flat) (values : List (List ℕ)) (k : ℕ) → IsSignal (names_of d) k → computed_at d.rows k ≡ false → value_of (cleared d.rows values) k ≡ value_of values k
+value-kept d values k i c = ap (λ ws. slice_index ws 0) (cleared-kept d.rows values k (signal-below (names_of d) k i) c)
 
 -- ---- entries
 
@@ -99,20 +101,18 @@ entry-left rows copy chosen after none k b l last old w is = ap (λ e. held_afte
 
 -- ---- memories
 
--- where no site is, no word of a memory is updated
-pub words-kept : (names : Names) (b : BankData) (l : ListData) (p : PendingSlots) (later : List Update) (base : List (List ℕ)) (m : ℕ) → Pends names b l p later → p.sites ≡ [] → IsFine names.rows base → IsMemory names m →
-    words_of (all_updated names.rows base later) m ≡ words_of base m
-words-kept names b l p later base m pends none fine i =
-    let long = (all_shape names.rows later base).words m in
-    ext_get_or 0 (words_of (all_updated names.rows base later) m) (words_of base m) long
-    (λ j lt. pends.words base m j fine i (omega (arith, long, lt)) ∙ ap (λ xs. stored b l xs m j (slice_index (words_of base m) j)) none)
-
 -- two samples whose memory has one entry have the same words
 pub words-same : (names : Names) (b : BankData) (l : ListData) (at0 at1 : Env) (s t : State) (m : ℕ) → Stands names b l at0 (sample s) → Stands names b l at1 (sample t) → IsMemory names m → entry at1 m ≡ entry at0 m →
     words_of t.values m ≡ words_of s.values m
 words-same names b l at0 at1 s t m h k i e =
     ext_get_or 0 (words_of t.values m) (words_of s.values m) (k.fine.shape.words m ∙ sym (h.fine.shape.words m))
     (λ j lt. k.words m j i ∙ ap (λ x. word_or b x j) e ∙ sym (h.words m j i))
+
+-- a bank holds the memories of a state behind writes of registers, where slots say that they are those of a state that it held
+pub memories-hold : (d : Flat) (b : BankData) (l : ListData) (at0 at1 : Env) (s t : State) (committed : List (List ℕ)) (value : ℕ → ℕ) (sets : List Write) (m : ℕ) → AllByRecursion IsRegister sets → HoldsState d b s committed →
+    Stands (names_of d) b l at0 (sample s) → Stands (names_of d) b l at1 (sample t) → IsMemory (names_of d) m → entry at1 m ≡ entry at0 m → slice_index_or (written value sets b).mems m [] ≡ words_of t.values m
+memories-hold d b l at0 at1 s t committed value sets m registers holds h k i e =
+    ap (λ (ms : List (List ℕ)). slice_index_or ms m []) (memories-after value sets b registers) ∙ holds.memories m i ∙ sym (words-same (names_of d) b l at0 at1 s t m h k i e)
 
 -- ---- the writes of a segment, and of a wave
 
@@ -125,7 +125,7 @@ module _ (d : Flat) (b : BankData) (l : ListData) (s t : State) (committed : Lis
   behind = written (held b l) sets b
 
   after : (r : ℕ) → r < 4 * length d.rows + 3 → slice_index behind.regs r ≡ held_after (held b l) (last_write sets r) (slice_index b.regs r)
-  after r lt = let many = h.bank.regs in register-after (held b l) sets b r e.registers (omega (arith, many, lt))
+  after r lt = let many = h.bank.regs in register-behind (held b l) sets b r (omega (arith, many, lt))
 
   room : (k : ℕ) → IsSignal names k → 4 * k + 6 < 4 * length d.rows + 3
   room k i = let lt = signal-below names k i in omega (arith, lt)
@@ -135,48 +135,40 @@ module _ (d : Flat) (b : BankData) (l : ListData) (s t : State) (committed : Lis
 
   work-before : (k : ℕ) → IsSignal names k → computed_at d.rows k ≡ false → changed at0.slots at1.slots k ≡ false → slice_index b.regs (work_register k) ≡ held_or b l (slot_of at1.slots k)
   work-before k i c same =
-      h.before.works k i ∙ ap (λ ws. slice_index ws 0) (cleared-kept d.rows s.values k (signal-below names k i) c) ∙ h.stands.values k i
+      h.before.works k i ∙ value-kept d s.values k i c ∙ h.stands.values k i
       ∙ ap (held_or b l) (entry-slot at0 k h.first ∙ differs-not (slot_of at0.slots k) (slot_of at1.slots k) same)
-
-  written-if : (copy : ℕ) (k : ℕ) (c x : Bool) → IsSignal names k → computed_at d.rows k ≡ c → (nat_lt 4 copy || not c) ≡ x → is_written copy (slice_get d.rows k) ≡ x
-  written-if copy k c x i is y = signal-written names copy k i ∙ ap (λ q. nat_lt 4 copy || not q) is ∙ y
 
   works-hold : (k : ℕ) → IsSignal names k → (c : Bool) → computed_at d.rows k ≡ c → (u : List (List ℕ)) → (computed_at d.rows k ≡ false → value_of u k ≡ value_of t.values k) →
       slice_index behind.regs (work_register k) ≡ value_of (cleared d.rows u) k
   works-hold k i true c u like =
       let lt = room k i in
-      after (work_register k) (omega (arith, lt)) ∙ entry-left d.rows 4 (changed at0.slots at1.slots) at1.slots none k b l _ _ (written-if 4 k true false i c refl) (e.works k)
+      after (work_register k) (omega (arith, lt)) ∙ entry-left d.rows 4 (changed at0.slots at1.slots) at1.slots none k b l _ _ (written-if names 4 k true false i c refl) (e.works k (signal-below names k i))
       ∙ h.before.works k i ∙ cleared-computed d.rows s.values k c ∙ sym (cleared-computed d.rows u k c)
   works-hold k i false c u like =
       let lt = room k i in
-      after (work_register k) (omega (arith, lt)) ∙ entry-written d.rows 4 (changed at0.slots at1.slots) at1.slots none k b l _ _ h.zero (written-if 4 k false true i c refl) (e.works k) (work-before k i c)
-      ∙ work-value k i c ∙ sym (like c) ∙ sym (ap (λ ws. slice_index ws 0) (cleared-kept d.rows u k (signal-below names k i) c))
+      after (work_register k) (omega (arith, lt)) ∙ entry-written d.rows 4 (changed at0.slots at1.slots) at1.slots none k b l _ _ h.zero (written-if names 4 k false true i c refl) (e.works k (signal-below names k i)) (work-before k i c)
+      ∙ work-value k i c ∙ sym (like c) ∙ sym (value-kept d u k i c)
 
   updates-hold : (k : ℕ) → IsSignal names k → slice_index behind.regs (update_register k) ≡ held_or b l (slot_of p1.update k)
   updates-hold k i =
       let lt = room k i in
       after (update_register k) (omega (arith, lt))
-      ∙ entry-written d.rows 5 (changed p0.update p1.update) p1.update none k b l _ _ h.zero (written-if 5 k (computed_at d.rows k) true i refl refl) (e.updates k)
+      ∙ entry-written d.rows 5 (changed p0.update p1.update) p1.update none k b l _ _ h.zero (written-if names 5 k (computed_at d.rows k) true i refl refl) (e.updates k (signal-below names k i))
       (λ same. sym (h.read.update k i) ∙ ap (held_or b l) (differs-not (slot_of p0.update k) (slot_of p1.update k) same))
 
   masks-hold : (k : ℕ) → IsSignal names k → slice_index behind.regs (mask_register k) ≡ held_or b l (slot_of p1.mask k)
   masks-hold k i =
       after (mask_register k) (room k i)
-      ∙ entry-written d.rows 6 (changed p0.mask p1.mask) p1.mask none k b l _ _ h.zero (written-if 6 k (computed_at d.rows k) true i refl refl) (e.masks k)
+      ∙ entry-written d.rows 6 (changed p0.mask p1.mask) p1.mask none k b l _ _ h.zero (written-if names 6 k (computed_at d.rows k) true i refl refl) (e.masks k (signal-below names k i))
       (λ same. sym (h.read.mask k i) ∙ ap (held_or b l) (differs-not (slot_of p0.mask k) (slot_of p1.mask k) same))
 
   pending-hold : HoldsPending d behind t.later
   pending-hold = record {
-    updates = λ base k fine i. h.pends.values base k fine i ∙ ap (λ x. masked (value_of base k) x (held_or b l (slot_of p1.mask k))) (sym (updates-hold k i))
+    updates = λ base k fine i. h.pends base k fine i ∙ ap (λ x. masked (value_of base k) x (held_or b l (slot_of p1.mask k))) (sym (updates-hold k i))
         ∙ ap (masked (value_of base k) (slice_index behind.regs (update_register k))) (sym (masks-hold k i));
-    words = λ base m fine i. h.words base m fine i;
     update_fits = λ k i. subst (λ v. v < 2 ^ (signal_form d.rows k).width) (sym (updates-hold k i)) (entry-fits h.shape b l (signal_form d.rows k).width (slot_of p1.update k) h.sound (h.pending.update k i));
     mask_fits = λ k i. subst (λ v. v < 2 ^ (signal_form d.rows k).width) (sym (masks-hold k i)) (entry-fits h.shape b l (signal_form d.rows k).width (slot_of p1.mask k) h.sound (h.pending.mask k i));
   }
-
-  memories-hold : (m : ℕ) → IsMemory names m → slice_index_or behind.mems m [] ≡ words_of t.values m
-  memories-hold m i =
-      ap (λ (ms : List (List ℕ)). slice_index_or ms m []) (memories-after (held b l) sets b e.registers) ∙ h.before.memories m i ∙ sym (words-same names b l at0 at1 s t m h.stands h.stands_behind i (h.memories m i))
 
   ticks-hold : held_after (held b l) (last_write sets ticks_register) s.ticks ≡ t.ticks → slice_index behind.regs ticks_register ≡ t.ticks
   ticks-hold is = after ticks_register (omega arith) ∙ ap (held_after (held b l) (last_write sets ticks_register)) h.before.ticks ∙ is
@@ -191,26 +183,25 @@ module _ (d : Flat) (b : BankData) (l : ListData) (s t : State) (committed : Lis
   values-kept c k i =
       let lt = room k i in
       after (value_register k) (omega (arith, lt))
-      ∙ ap (λ x. held_after (held b l) x (slice_index b.regs (value_register k))) (e.values k ∙ ap (λ q. if q then wanted d.rows 3 each_one at1.slots none k else None) c) ∙ h.before.values k i
+      ∙ ap (λ x. held_after (held b l) x (slice_index b.regs (value_register k))) (e.values k (signal-below names k i) ∙ ap (λ q. if q then wanted d.rows 3 each_one at1.slots none k else None) c) ∙ h.before.values k i
 
   values-done : commits ≡ true → (k : ℕ) → IsSignal names k → (c : Bool) → computed_at d.rows k ≡ c → (u : List (List ℕ)) → (computed_at d.rows k ≡ false → value_of u k ≡ value_of t.values k) →
       slice_index behind.regs (value_register k) ≡ value_of (cleared d.rows u) k
   values-done all k i true c u like =
       let lt = room k i in
-      let is : last_write sets (value_register k) ≡ wanted d.rows 3 each_one at1.slots none k = e.values k ∙ ap (λ q. if q then wanted d.rows 3 each_one at1.slots none k else None) all in
-      after (value_register k) (omega (arith, lt)) ∙ entry-left d.rows 3 each_one at1.slots none k b l _ _ (written-if 3 k true false i c refl) is
+      let is : last_write sets (value_register k) ≡ wanted d.rows 3 each_one at1.slots none k = e.values k (signal-below names k i) ∙ ap (λ q. if q then wanted d.rows 3 each_one at1.slots none k else None) all in
+      after (value_register k) (omega (arith, lt)) ∙ entry-left d.rows 3 each_one at1.slots none k b l _ _ (written-if names 3 k true false i c refl) is
       ∙ h.before.values k i ∙ cleared-computed d.rows committed k c ∙ sym (cleared-computed d.rows u k c)
   values-done all k i false c u like =
       let lt = room k i in
-      let is : last_write sets (value_register k) ≡ wanted d.rows 3 each_one at1.slots none k = e.values k ∙ ap (λ q. if q then wanted d.rows 3 each_one at1.slots none k else None) all in
-      after (value_register k) (omega (arith, lt)) ∙ entry-written d.rows 3 each_one at1.slots none k b l _ _ h.zero (written-if 3 k false true i c refl) is (λ f. absurd (cc))
-      ∙ work-value k i c ∙ sym (like c) ∙ sym (ap (λ ws. slice_index ws 0) (cleared-kept d.rows u k (signal-below names k i) c))
+      let is : last_write sets (value_register k) ≡ wanted d.rows 3 each_one at1.slots none k = e.values k (signal-below names k i) ∙ ap (λ q. if q then wanted d.rows 3 each_one at1.slots none k else None) all in
+      after (value_register k) (omega (arith, lt)) ∙ entry-written d.rows 3 each_one at1.slots none k b l _ _ h.zero (written-if names 3 k false true i c refl) is (λ f. absurd (cc))
+      ∙ work-value k i c ∙ sym (like c) ∙ sym (value-kept d u k i c)
 
-  pub segment-writes : commits ≡ false → held_after (held b l) (last_write sets ticks_register) s.ticks ≡ t.ticks → HoldsState d (written (held b l) sets b) t committed
+  pub segment-writes : commits ≡ false → held_after (held b l) (last_write sets ticks_register) s.ticks ≡ t.ticks → HoldsSignals d (written (held b l) sets b) t committed
   segment-writes c ticks = record {
     works = λ k i. works-hold k i (computed_at d.rows k) refl t.values (λ z. refl);
     values = values-kept c;
-    memories = memories-hold;
     pending = pending-hold;
     ticks = ticks-hold ticks;
     few = h.few;
@@ -218,11 +209,10 @@ module _ (d : Flat) (b : BankData) (l : ListData) (s t : State) (committed : Lis
     small = small;
   }
 
-  pub commit-writes : commits ≡ true → held_after (held b l) (last_write sets ticks_register) s.ticks ≡ t.ticks → (u : State) → IsLike d t u → HoldsState d (written (held b l) sets b) u u.values
+  pub commit-writes : commits ≡ true → held_after (held b l) (last_write sets ticks_register) s.ticks ≡ t.ticks → (u : State) → IsLike d t u → HoldsSignals d (written (held b l) sets b) u u.values
   commit-writes c ticks u like = record {
     works = λ k i. works-hold k i (computed_at d.rows k) refl u.values (like.values k i);
     values = λ k i. values-done c k i (computed_at d.rows k) refl u.values (like.values k i);
-    memories = λ m i. memories-hold m i ∙ sym (like.memories m i);
     pending = subst (HoldsPending d behind) (sym like.later) pending-hold;
     ticks = ticks-hold ticks ∙ sym like.ticks;
     few = subst (λ n. n < 2 ^ 32) (sym like.ticks) h.few;
@@ -233,35 +223,35 @@ module _ (d : Flat) (b : BankData) (l : ListData) (s t : State) (committed : Lis
 -- ---- how such writes are made
 
 -- writes before those of signals: none is of a register of a signal, or of the answer
-pub record Starts (sets : List Write) : Type 0 where
+pub record Starts (n : ℕ) (sets : List Write) : Type 0 where
   pub registers : AllByRecursion IsRegister sets
-  pub signals : (r : ℕ) → 3 ≤ r → last_write sets r ≡ None
+  pub signals : (r : ℕ) → 3 ≤ r → r < register_count n → last_write sets r ≡ None
   pub answer : last_write sets answer_register ≡ None
 
-pub starts-none : Starts []
-starts-none = record { registers = tt; signals = λ r h. refl; answer = refl }
+pub starts-none : (n : ℕ) → Starts n []
+starts-none n = record { registers = tt; signals = λ r h i. refl; answer = refl }
 
 pub or-none : (e : Option ℕ) → or_before e None ≡ e
 or-none None = refl
 or-none (Some s) = refl
 
-module _ (rows : List Row) (at0 at1 : Env) (p0 p1 : PendingSlots) (none : ℕ) (s0 s1 s2 s3 : List Write) (start : Starts s0)
+module _ (rows : List Row) (at0 at1 : Env) (p0 p1 : PendingSlots) (none : ℕ) (s0 s1 s2 s3 : List Write) (start : Starts (length rows) s0)
     (a : Sets rows 4 (changed at0.slots at1.slots) at1.slots none s0 s1) (b : Sets rows 5 (changed p0.update p1.update) p1.update none s1 s2) (c : Sets rows 6 (changed p0.mask p1.mask) p1.mask none s2 s3) where
-  first-work : (k : ℕ) → last_write s1 (4 * k + 4) ≡ wanted rows 4 (changed at0.slots at1.slots) at1.slots none k
-  first-work k = a.each k ∙ ap (or_before (wanted rows 4 (changed at0.slots at1.slots) at1.slots none k)) (start.signals (4 * k + 4) (omega arith)) ∙ or-none _
+  first-work : (k : ℕ) → k < length rows → last_write s1 (4 * k + 4) ≡ wanted rows 4 (changed at0.slots at1.slots) at1.slots none k
+  first-work k lt = a.each k ∙ ap (or_before (wanted rows 4 (changed at0.slots at1.slots) at1.slots none k)) (start.signals (4 * k + 4) (omega arith) (omega (arith, lt))) ∙ or-none _
 
-  first-update : (k : ℕ) → last_write s2 (4 * k + 5) ≡ wanted rows 5 (changed p0.update p1.update) p1.update none k
-  first-update k =
-      b.each k ∙ ap (or_before (wanted rows 5 (changed p0.update p1.update) p1.update none k)) (a.others (4 * k + 5) (λ j z. omega (arith, z)) ∙ start.signals (4 * k + 5) (omega arith)) ∙ or-none _
+  first-update : (k : ℕ) → k < length rows → last_write s2 (4 * k + 5) ≡ wanted rows 5 (changed p0.update p1.update) p1.update none k
+  first-update k lt =
+      b.each k ∙ ap (or_before (wanted rows 5 (changed p0.update p1.update) p1.update none k)) (a.others (4 * k + 5) (λ j z. omega (arith, z)) ∙ start.signals (4 * k + 5) (omega arith) (omega (arith, lt))) ∙ or-none _
 
-  first-mask : (k : ℕ) → last_write s3 (4 * k + 6) ≡ wanted rows 6 (changed p0.mask p1.mask) p1.mask none k
-  first-mask k =
+  first-mask : (k : ℕ) → k < length rows → last_write s3 (4 * k + 6) ≡ wanted rows 6 (changed p0.mask p1.mask) p1.mask none k
+  first-mask k lt =
       c.each k ∙ ap (or_before (wanted rows 6 (changed p0.mask p1.mask) p1.mask none k))
-      (b.others (4 * k + 6) (λ j z. omega (arith, z)) ∙ a.others (4 * k + 6) (λ j z. omega (arith, z)) ∙ start.signals (4 * k + 6) (omega arith)) ∙ or-none _
+      (b.others (4 * k + 6) (λ j z. omega (arith, z)) ∙ a.others (4 * k + 6) (λ j z. omega (arith, z)) ∙ start.signals (4 * k + 6) (omega arith) (omega (arith, lt))) ∙ or-none _
 
-  no-value : (k : ℕ) → last_write s3 (4 * k + 3) ≡ None
-  no-value k =
-      c.others (4 * k + 3) (λ j z. omega (arith, z)) ∙ b.others (4 * k + 3) (λ j z. omega (arith, z)) ∙ a.others (4 * k + 3) (λ j z. omega (arith, z)) ∙ start.signals (4 * k + 3) (omega arith)
+  no-value : (k : ℕ) → k < length rows → last_write s3 (4 * k + 3) ≡ None
+  no-value k lt =
+      c.others (4 * k + 3) (λ j z. omega (arith, z)) ∙ b.others (4 * k + 3) (λ j z. omega (arith, z)) ∙ a.others (4 * k + 3) (λ j z. omega (arith, z)) ∙ start.signals (4 * k + 3) (omega arith) (omega (arith, lt))
 
   no-answer : last_write s3 1 ≡ None
   no-answer = c.others 1 (λ j z. omega (arith, z)) ∙ b.others 1 (λ j z. omega (arith, z)) ∙ a.others 1 (λ j z. omega (arith, z)) ∙ start.answer
@@ -269,8 +259,8 @@ module _ (rows : List Row) (at0 at1 : Env) (p0 p1 : PendingSlots) (none : ℕ) (
   pub ends-segment : Ends rows false at0 at1 p0 p1 none s3
   ends-segment = record {
     registers = c.registers (b.registers (a.registers start.registers));
-    works = λ k. c.others (4 * k + 4) (λ j z. omega (arith, z)) ∙ b.others (4 * k + 4) (λ j z. omega (arith, z)) ∙ first-work k;
-    updates = λ k. c.others (4 * k + 5) (λ j z. omega (arith, z)) ∙ first-update k;
+    works = λ k lt. c.others (4 * k + 4) (λ j z. omega (arith, z)) ∙ b.others (4 * k + 4) (λ j z. omega (arith, z)) ∙ first-work k lt;
+    updates = λ k lt. c.others (4 * k + 5) (λ j z. omega (arith, z)) ∙ first-update k lt;
     masks = first-mask;
     values = no-value;
     answer = no-answer;
@@ -279,21 +269,21 @@ module _ (rows : List Row) (at0 at1 : Env) (p0 p1 : PendingSlots) (none : ℕ) (
   pub ends-wave : (s4 : List Write) → Sets rows 3 each_one at1.slots none s3 s4 → Ends rows true at0 at1 p0 p1 none s4
   ends-wave s4 v = record {
     registers = v.registers (c.registers (b.registers (a.registers start.registers)));
-    works = λ k. v.others (4 * k + 4) (λ j z. omega (arith, z)) ∙ c.others (4 * k + 4) (λ j z. omega (arith, z)) ∙ b.others (4 * k + 4) (λ j z. omega (arith, z)) ∙ first-work k;
-    updates = λ k. v.others (4 * k + 5) (λ j z. omega (arith, z)) ∙ c.others (4 * k + 5) (λ j z. omega (arith, z)) ∙ first-update k;
-    masks = λ k. v.others (4 * k + 6) (λ j z. omega (arith, z)) ∙ first-mask k;
-    values = λ k. v.each k ∙ ap (or_before (wanted rows 3 each_one at1.slots none k)) (no-value k) ∙ or-none _;
+    works = λ k lt. v.others (4 * k + 4) (λ j z. omega (arith, z)) ∙ c.others (4 * k + 4) (λ j z. omega (arith, z)) ∙ b.others (4 * k + 4) (λ j z. omega (arith, z)) ∙ first-work k lt;
+    updates = λ k lt. v.others (4 * k + 5) (λ j z. omega (arith, z)) ∙ c.others (4 * k + 5) (λ j z. omega (arith, z)) ∙ first-update k lt;
+    masks = λ k lt. v.others (4 * k + 6) (λ j z. omega (arith, z)) ∙ first-mask k lt;
+    values = λ k lt. v.each k ∙ ap (or_before (wanted rows 3 each_one at1.slots none k)) (no-value k lt) ∙ or-none _;
     answer = v.others 1 (λ j z. omega (arith, z)) ∙ no-answer;
   }
 
--- writes of the next state and of the ticks may come too, before or behind
+-- writes of the next state, of the ticks, and of registers behind those of signals may come too, before or behind
 pub ends-beside : (rows : List Row) (commits : Bool) (at0 at1 : Env) (p0 p1 : PendingSlots) (none : ℕ) (sets more : List Write) → Ends rows commits at0 at1 p0 p1 none sets → AllByRecursion IsRegister more →
-    ((r : ℕ) → r ≢ 0 → r ≢ 2 → last_write more r ≡ last_write sets r) → Ends rows commits at0 at1 p0 p1 none more
+    ((r : ℕ) → r ≢ 0 → r ≢ 2 → r < register_count (length rows) → last_write more r ≡ last_write sets r) → Ends rows commits at0 at1 p0 p1 none more
 ends-beside rows commits at0 at1 p0 p1 none sets more h registers same = record {
   registers = registers;
-  works = λ k. same (4 * k + 4) (λ z. omega (arith, z)) (λ z. omega (arith, z)) ∙ h.works k;
-  updates = λ k. same (4 * k + 5) (λ z. omega (arith, z)) (λ z. omega (arith, z)) ∙ h.updates k;
-  masks = λ k. same (4 * k + 6) (λ z. omega (arith, z)) (λ z. omega (arith, z)) ∙ h.masks k;
-  values = λ k. same (4 * k + 3) (λ z. omega (arith, z)) (λ z. omega (arith, z)) ∙ h.values k;
-  answer = same 1 (λ z. omega (arith, z)) (λ z. omega (arith, z)) ∙ h.answer;
+  works = λ k lt. same (4 * k + 4) (λ z. omega (arith, z)) (λ z. omega (arith, z)) (omega (arith, lt)) ∙ h.works k lt;
+  updates = λ k lt. same (4 * k + 5) (λ z. omega (arith, z)) (λ z. omega (arith, z)) (omega (arith, lt)) ∙ h.updates k lt;
+  masks = λ k lt. same (4 * k + 6) (λ z. omega (arith, z)) (λ z. omega (arith, z)) (omega (arith, lt)) ∙ h.masks k lt;
+  values = λ k lt. same (4 * k + 3) (λ z. omega (arith, z)) (λ z. omega (arith, z)) (omega (arith, lt)) ∙ h.values k lt;
+  answer = same 1 (λ z. omega (arith, z)) (λ z. omega (arith, z)) (omega arith) ∙ h.answer;
 }

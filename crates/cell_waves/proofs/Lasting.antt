@@ -1,13 +1,13 @@
 -- What registers hold behind writes.
 use Rattle.std.proofs.Common.{◌≡◌, ◌≢◌, ℕ, ◌<◌, Bool, true, false, List, [], ◌∷◌, ◌++◌, length, set, Option, Some, None, refl, sym, ap, ◌∙◌, arith}
-use Rattle.std.specs.Prelude.{◌==◌, if◌then◌else◌, slice_index}
+use Rattle.std.specs.Prelude.{◌==◌, if◌then◌else◌, slice_index, slice_index_or, slice_set}
 use Rattle.std.specs.List.{AllByRecursion}
 use Rattle.std.proofs.lemmas.Bool.{eq-eqb, eqb-true, eqb-false}
 use Rattle.std.proofs.lemmas.List.{get_or-set_same, get_or-set_other}
 use Rattle.cell_form.specs.declared.cell.Write.{Write}
 use Rattle.cell_form.specs.declared.cell.Write.TheVariants as w
 use Rattle.cell_form.specs.Data.{BankData}
-use Rattle.cell_form.specs.Cycle.{wrote, written}
+use Rattle.cell_form.specs.Cycle.{with_word, wrote, written}
 use Rattle.cell_form.proofs.Writing.{written-regs}
 use Rattle.cell_waves.specs.Lasts.{later_of, written_from, last_write, held_after, IsRegister}
 
@@ -50,8 +50,12 @@ last-other sets k r s n = last-more sets (w.Reg k s ∷ []) r ∙ ap (later_of (
 -- ---- what is held
 
 module _ (value : ℕ → ℕ) where
-  wrote-held : (x : Write) (b : BankData) (r : ℕ) → IsRegister x → r < length b.regs → slice_index (wrote value x b).regs r ≡ held_after value (written_from x r) (slice_index b.regs r)
-  wrote-held (w.Reg k s) b r h lt = of (k == r) refl
+  either-way : (q : Bool) (a b : BankData) (r : ℕ) → a.regs ≡ b.regs → slice_index (if q then b else a).regs r ≡ slice_index b.regs r
+  either-way true a b r e = refl
+  either-way false a b r e = ap (λ rs. slice_index rs r) e
+
+  wrote-held : (x : Write) (b : BankData) (r : ℕ) → r < length b.regs → slice_index (wrote value x b).regs r ≡ held_after value (written_from x r) (slice_index b.regs r)
+  wrote-held (w.Reg k s) b r lt = of (k == r) refl
     where
       of : (t : Bool) → (k == r) ≡ t → slice_index (set b.regs k (value s)) r ≡ held_after value (if k == r then Some s else None) (slice_index b.regs r)
       of true e =
@@ -59,22 +63,23 @@ module _ (value : ℕ → ℕ) where
           ap (λ j. slice_index (set b.regs j (value s)) r) same ∙ get_or-set_same b.regs r (value s) 0 lt ∙ sym (ap (λ t. held_after value (if t then Some s else None) (slice_index b.regs r)) e)
       of false e =
           get_or-set_other b.regs k r (value s) 0 (λ z. eqb-false k r e (sym z)) ∙ sym (ap (λ t. held_after value (if t then Some s else None) (slice_index b.regs r)) e)
-  wrote-held (w.Mem m enable word new mask) b r h lt = absurd h
+  wrote-held (w.Mem m enable word new mask) b r lt =
+      either-way (value enable == 0) (record b { mems = slice_set b.mems m (with_word (slice_index_or b.mems m []) (value word) (value new) (value mask)) }) b r refl
 
-  -- a register holds what its last write set it to
-  pub register-after : (sets : List Write) (b : BankData) (r : ℕ) → AllByRecursion IsRegister sets → r < length b.regs →
+  -- a register holds what its last write set it to, behind writes of any kind
+  pub register-behind : (sets : List Write) (b : BankData) (r : ℕ) → r < length b.regs →
       slice_index (written value sets b).regs r ≡ held_after value (last_write sets r) (slice_index b.regs r)
-  register-after [] b r h lt = refl
-  register-after (x ∷ xs) b r h lt =
+  register-behind [] b r lt = refl
+  register-behind (x ∷ xs) b r lt =
       let long = written-regs value (x ∷ []) b in
-      register-after xs (wrote value x b) r h.1 (omega (arith, long))
-      ∙ ap (held_after value (last_write xs r)) (wrote-held x b r h.0 lt) ∙ held-later value (written_from x r) (last_write xs r) (slice_index b.regs r)
+      register-behind xs (wrote value x b) r (omega (arith, long)) ∙ ap (held_after value (last_write xs r)) (wrote-held x b r lt)
+      ∙ held-later value (written_from x r) (last_write xs r) (slice_index b.regs r)
 
+  -- writes of registers leave memories as they were
   wrote-mems : (x : Write) (b : BankData) → IsRegister x → (wrote value x b).mems ≡ b.mems
   wrote-mems (w.Reg k s) b h = refl
   wrote-mems (w.Mem m enable word new mask) b h = absurd h
 
-  -- memories stay
   pub memories-after : (sets : List Write) (b : BankData) → AllByRecursion IsRegister sets → (written value sets b).mems ≡ b.mems
   memories-after [] b h = refl
   memories-after (x ∷ xs) b h = memories-after xs (wrote value x b) h.1 ∙ wrote-mems x b h.0

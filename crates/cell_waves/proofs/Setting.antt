@@ -1,5 +1,5 @@
 -- Writes of registers of signals, one signal after the other.
-use Rattle.std.proofs.Common.{◌≡◌, ◌≢◌, ℕ, ◌+◌, ◌*◌, ◌<◌, ◌≤◌, Bool, true, false, List, [], ◌∷◌, ◌++◌, length, Option, Some, None, refl, sym, ap, ◌∙◌, arith, subst, inl, inr}
+use Rattle.std.proofs.Common.{◌≡◌, ◌≢◌, ℕ, ◌+◌, ◌-◌, ◌*◌, ◌/◌, ◌<◌, ◌≤◌, Bool, true, false, List, [], ◌∷◌, ◌++◌, length, Option, Some, None, refl, sym, ap, ◌∙◌, arith, subst, inl, inr}
 use Rattle.std.specs.Prelude.{◌⊎◌, ◌&&◌, nat_lt, if◌then◌else◌, slice_get}
 use Rattle.std.proofs.lemmas.Bool.{ltb-true, ltb-false, lt-ltb, le-ltb, cases_eq}
 use Rattle.std.proofs.lemmas.Option.{slice_get_within, slice_get_past}
@@ -132,3 +132,16 @@ module _ (rows : List Row) (copy : ℕ) (after : List (Option ℕ)) (here : ℕ)
               subst (λ xs. Sets rows copy (below (n + 1) chosen) after here old xs) (sym (ap (λ t. with_write t (4 * n + copy) (slot_or here (slot_of after n)) mid) e)) (done small lt e)
           of small lt false e =
               subst (λ xs. Sets rows copy (below (n + 1) chosen) after here old xs) (sym (ap (λ t. with_write t (4 * n + copy) (slot_or here (slot_of after n)) mid) e)) (left e)
+
+-- ---- registers behind those of signals
+
+-- they are as they were
+pub sets-beyond : (rows : List Row) (copy : ℕ) (chosen : ℕ → Bool) (after : List (Option ℕ)) (here : ℕ) (old new : List Write) (r : ℕ) → 3 ≤ copy → copy ≤ 6 → 4 * length rows + 3 ≤ r →
+    Sets rows copy chosen after here old new → last_write new r ≡ last_write old r
+sets-beyond rows copy chosen after here old new r low high far h =
+    elim (cases_eq r (4 * ((r - copy) / 4) + copy)) [
+      | inl e ↦ (let k = (r - copy) / 4 in
+          let past : is_written copy (slice_get rows k) ≡ false = ap (is_written copy) (slice_get_past rows k (omega (arith, far, high, e))) in
+          ap (last_write new) e ∙ h.each k ∙ ap (λ x. or_before x (last_write old (4 * k + copy))) (wanted-not rows copy after here chosen k past) ∙ ap (last_write old) (sym e))
+      | inr n ↦ h.others r (λ j e. n (omega (arith, e)))
+    ]

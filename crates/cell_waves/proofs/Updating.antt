@@ -1,6 +1,6 @@
 -- The update, one signal after the other, and its writes.
 use Rattle.std.proofs.Common.{◌≡◌, ℕ, ◌+◌, ◌*◌, ◌<◌, ◌≤◌, ◌^◌, Bool, true, false, List, [], ◌∷◌, ◌++◌, length, Option, Some, None, refl, sym, ap, ◌∙◌, arith, subst, length-append}
-use Rattle.std.specs.Prelude.{◌==◌, ◌||◌, not, nat_lt, slice_get, slice_index, slice_index_or, All}
+use Rattle.std.specs.Prelude.{◌==◌, ◌||◌, nat_lt, slice_get, slice_index, slice_index_or, All}
 use Rattle.std.specs.List.{AllByRecursion}
 use Rattle.std.proofs.Math.Pow.{pow_pos}
 use Rattle.std.proofs.lemmas.Bool.{eq-eqb}
@@ -23,21 +23,22 @@ use Rattle.cell_steps.specs.Slots.{held, IsIn, AreSound, Grows, Longer, Nothing}
 use Rattle.cell_steps.proofs.Frames.{held-stays, in-stays, grows-then, longer-grows, longer-same, longer-then, longer-weaken}
 use Rattle.cell_paths.specs.Envs.{Env, IsEntry, held_or, Fits, Stands}
 use Rattle.cell_paths.proofs.Staying.{is-slot-stays, entry-stays, held-or-stays}
-use Rattle.cell_later.specs.Pendings.{PendingSlots, slot_of, settled, ArePending, Pends}
+use Rattle.cell_later.specs.Pendings.{PendingSlots, slot_of, settled, ArePending}
 use Rattle.cell_later.proofs.Masking.{masked-none}
 use Rattle.cell_reads.proofs.Reading.{each-more}
 use Rattle.cell_reads.proofs.Samples.{named}
-use Rattle.ten_form.specs.Registers.{answer_register, ticks_register, update_register, mask_register}
+use Rattle.ten_form.specs.Registers.{answer_register, ticks_register, update_register, mask_register, register_count}
 use Rattle.ten_form.specs.Nets.{cleared}
-use Rattle.ten_form.specs.Banks.{IsFor, HoldsPending, HoldsState}
+use Rattle.ten_form.specs.Banks.{IsFor, HoldsPending, HoldsSignals}
 use Rattle.cell_waves.specs.Lasts.{last_write, held_after}
+use Rattle.cell_waves.specs.Begins.{SettlesSignals}
 use Rattle.cell_waves.specs.Copies.{has_copy, is_written, wanted, or_before, IsHeld, Sets}
-use Rattle.cell_waves.specs.Applies.{IsUpdated, ArePendingOf, SameWrites, Applies, AreUpdatable, HoldsUpdate, HasUpdate, HasUpdateIf}
-use Rattle.cell_waves.proofs.Clearing.{cleared-computed, cleared-kept}
-use Rattle.cell_waves.proofs.Lasting.{register-after, memories-after}
-use Rattle.cell_waves.proofs.Setting.{wanted-left}
-use Rattle.cell_waves.proofs.Written.{both-true, is-width, value-kind, not-computed, signal-written}
-use Rattle.cell_waves.proofs.Ending.{signal-below, entry-slot, entry-written, entry-left, or-none}
+use Rattle.cell_waves.specs.Applies.{IsUpdated, ArePendingOf, SameWrites, NoWrites, Applies, AreUpdatable, HoldsUpdate, HasUpdate, HasUpdateIf}
+use Rattle.cell_waves.proofs.Clearing.{cleared-computed}
+use Rattle.cell_waves.proofs.Lasting.{register-behind}
+use Rattle.cell_waves.proofs.Setting.{wanted-left, sets-beyond}
+use Rattle.cell_waves.proofs.Written.{both-true, is-width, value-kind, not-computed, written-if}
+use Rattle.cell_waves.proofs.Ending.{signal-below, value-kept, entry-slot, entry-written, entry-left, or-none}
 
 -- ---- one signal
 
@@ -136,8 +137,8 @@ of-others p [] h = tt
 of-others p (u ∷ us) h = (All-head (λ (u : Update). p u.signal ≡ false) u us h, of-others p us (All-tail (λ (u : Update). p u.signal ≡ false) u us h))
 
 -- keeps its value
-value-kept : (rows : List Row) (k : ℕ) (us : List Update) (values : List (List ℕ)) → All (λ u. (u.signal == k) ≡ false) us → value_of (all_updated rows values us) k ≡ value_of values k
-value-kept rows k us values h =
+value-stays : (rows : List Row) (k : ℕ) (us : List Update) (values : List (List ℕ)) → All (λ u. (u.signal == k) ≡ false) us → value_of (all_updated rows values us) k ≡ value_of values k
+value-stays rows k us values h =
     sym (ap (λ ws. slice_index ws 0) (updates_keep (λ j. j == k) k (eq-eqb k k refl) rows us (of-others (λ j. j == k) us h) values))
 
 -- ---- the whole update
@@ -157,43 +158,43 @@ module _ (d : Flat) (delayed : ℕ → Bool) (at : Env) (p : PendingSlots) (old 
       let long : length d.rows ≤ n = omega (arith, many) in
       e.sound z new room here-in (λ j w. tt) (c.sound z new room here-in (λ j w. held-if d.rows delayed at.slots p n 4 old new es j long refl h w) (a.sound z new room here-in (λ j w. held-if d.rows delayed at.slots p n 3 old new es j long refl h w) k))
 
-  module _ (z : Shape) (b : BankData) (s t : State) (committed : List (List ℕ)) (l : ListData) (sets : List Write) (sound : AreSound z old) (bank : IsFor d 0 (shape_of b)) (none : (r : ℕ) → 1 ≤ r → last_write s0 r ≡ None)
-      (holds : HoldsState d b s committed) (stands : Stands (names_of d) b old at (sample s)) (pends : Pends (names_of d) b old p s.later) (more : Grows new l) (same : SameWrites s3 sets) (like : IsUpdated d s t)
+  module _ (z : Shape) (b : BankData) (s t : State) (committed : List (List ℕ)) (l : ListData) (sets : List Write) (sound : AreSound z old) (bank : IsFor d 0 (shape_of b)) (none : NoWrites d s0)
+      (holds : HoldsSignals d b s committed) (stands : Stands (names_of d) b old at (sample s)) (pends : SettlesSignals d b old p s.later) (more : Grows new l) (same : SameWrites d s3 sets) (like : IsUpdated d s t)
       (late : ArePendingOf d delayed s.later) (ready : committed ≡ s.values) where
     abbrev behind : BankData
     behind = written (held b l) sets b
 
-    after : (r : ℕ) → r < 4 * length d.rows + 3 → slice_index behind.regs r ≡ held_after (held b l) (last_write sets r) (slice_index b.regs r)
-    after r lt = let size = bank.regs in register-after (held b l) sets b r same.registers (omega (arith, size, lt))
+    after : (r : ℕ) → r < register_count (length d.rows) → slice_index behind.regs r ≡ held_after (held b l) (last_write sets r) (slice_index b.regs r)
+    after r lt = let size = bank.regs in register-behind (held b l) sets b r (omega (arith, size, lt))
 
-    room : (k : ℕ) → IsSignal (names_of d) k → 4 * k + 6 < 4 * length d.rows + 3
-    room k i = let lt = signal-below (names_of d) k i in omega (arith, lt)
+    in-room : (k copy : ℕ) → IsSignal (names_of d) k → copy ≤ 6 → 4 * k + copy < register_count (length d.rows)
+    in-room k copy i small = let lt = signal-below (names_of d) k i in omega (arith, lt, small)
 
     zero : held b l at.here ≡ 0
     zero = held-stays b old l at.here (grows-then old new l grows more) fits.here.there ∙ fits.is_here z b sound
 
-    last-value : (k : ℕ) → last_write sets (4 * k + 3) ≡ wanted d.rows 3 delayed es at.here k
-    last-value k =
-        same.same (4 * k + 3) (omega arith) ∙ e.others (4 * k + 3) (λ j x. omega (arith, x)) ∙ c.others (4 * k + 3) (λ j x. omega (arith, x)) ∙ a.each k
-        ∙ ap (or_before (wanted d.rows 3 delayed es at.here k)) (none (4 * k + 3) (omega arith)) ∙ or-none _
+    last-value : (k : ℕ) → IsSignal (names_of d) k → last_write sets (4 * k + 3) ≡ wanted d.rows 3 delayed es at.here k
+    last-value k i =
+        same (4 * k + 3) (omega arith) (in-room k 3 i (omega arith)) ∙ e.others (4 * k + 3) (λ j x. omega (arith, x)) ∙ c.others (4 * k + 3) (λ j x. omega (arith, x)) ∙ a.each k
+        ∙ ap (or_before (wanted d.rows 3 delayed es at.here k)) (none (4 * k + 3) (omega arith) (in-room k 3 i (omega arith))) ∙ or-none _
 
-    last-work : (k : ℕ) → last_write sets (4 * k + 4) ≡ wanted d.rows 4 delayed es at.here k
-    last-work k =
-        same.same (4 * k + 4) (omega arith) ∙ e.others (4 * k + 4) (λ j x. omega (arith, x)) ∙ c.each k
-        ∙ ap (or_before (wanted d.rows 4 delayed es at.here k)) (a.others (4 * k + 4) (λ j x. omega (arith, x)) ∙ none (4 * k + 4) (omega arith)) ∙ or-none _
+    last-work : (k : ℕ) → IsSignal (names_of d) k → last_write sets (4 * k + 4) ≡ wanted d.rows 4 delayed es at.here k
+    last-work k i =
+        same (4 * k + 4) (omega arith) (in-room k 4 i (omega arith)) ∙ e.others (4 * k + 4) (λ j x. omega (arith, x)) ∙ c.each k
+        ∙ ap (or_before (wanted d.rows 4 delayed es at.here k)) (a.others (4 * k + 4) (λ j x. omega (arith, x)) ∙ none (4 * k + 4) (omega arith) (in-room k 4 i (omega arith))) ∙ or-none _
 
-    last-update : (k : ℕ) → last_write sets (4 * k + 5) ≡ None
-    last-update k =
-        same.same (4 * k + 5) (omega arith) ∙ e.others (4 * k + 5) (λ j x. omega (arith, x)) ∙ c.others (4 * k + 5) (λ j x. omega (arith, x)) ∙ a.others (4 * k + 5) (λ j x. omega (arith, x)) ∙ none (4 * k + 5) (omega arith)
+    last-update : (k : ℕ) → IsSignal (names_of d) k → last_write sets (4 * k + 5) ≡ None
+    last-update k i =
+        same (4 * k + 5) (omega arith) (in-room k 5 i (omega arith)) ∙ e.others (4 * k + 5) (λ j x. omega (arith, x)) ∙ c.others (4 * k + 5) (λ j x. omega (arith, x)) ∙ a.others (4 * k + 5) (λ j x. omega (arith, x)) ∙ none (4 * k + 5) (omega arith) (in-room k 5 i (omega arith))
 
-    last-mask : (k : ℕ) → last_write sets (4 * k + 6) ≡ wanted d.rows 6 delayed [] at.here k
-    last-mask k =
-        same.same (4 * k + 6) (omega arith) ∙ e.each k
-        ∙ ap (or_before (wanted d.rows 6 delayed [] at.here k)) (c.others (4 * k + 6) (λ j x. omega (arith, x)) ∙ a.others (4 * k + 6) (λ j x. omega (arith, x)) ∙ none (4 * k + 6) (omega arith)) ∙ or-none _
+    last-mask : (k : ℕ) → IsSignal (names_of d) k → last_write sets (4 * k + 6) ≡ wanted d.rows 6 delayed [] at.here k
+    last-mask k i =
+        same (4 * k + 6) (omega arith) (in-room k 6 i (omega arith)) ∙ e.each k
+        ∙ ap (or_before (wanted d.rows 6 delayed [] at.here k)) (c.others (4 * k + 6) (λ j x. omega (arith, x)) ∙ a.others (4 * k + 6) (λ j x. omega (arith, x)) ∙ none (4 * k + 6) (omega arith) (in-room k 6 i (omega arith))) ∙ or-none _
 
     last-none : (r : ℕ) → 1 ≤ r → r < 3 → last_write sets r ≡ None
     last-none r low high =
-        same.same r low ∙ e.others r (λ j x. omega (arith, x, high)) ∙ c.others r (λ j x. omega (arith, x, high)) ∙ a.others r (λ j x. omega (arith, x, high)) ∙ none r low
+        same r low (omega (arith, high)) ∙ e.others r (λ j x. omega (arith, x, high)) ∙ c.others r (λ j x. omega (arith, x, high)) ∙ a.others r (λ j x. omega (arith, x, high)) ∙ none r low (omega (arith, high))
 
     -- what the slot of a variable holds
     new-value : (k : ℕ) → IsSignal (names_of d) k → delayed k ≡ true → computed_at d.rows k ≡ false → held_or b l (slot_of es k) ≡ value_of t.values k
@@ -203,49 +204,43 @@ module _ (d : Flat) (delayed : ℕ → Bool) (at : Env) (p : PendingSlots) (old 
         let u = (h.each k m.row (omega (arith, lt, many)) m.is).there q m.kind (sym (ap is_computed_row m.is) ∙ c) m.width in
         of m.row.width (slot_of es k) u
         ∙ ap (λ x. settled b old p k x) (ap (held_or b old) (sym (entry-slot at k first)) ∙ sym (stands.values k i))
-        ∙ sym (pends.values s.values k stands.fine i) ∙ sym (like.values k i c)
+        ∙ sym (pends s.values k stands.fine i) ∙ sym (like.values k i c)
       where
         of : (w : ℕ) (x : Option ℕ) → HoldsUpdate w k at.slots p old new x → held_or b l x ≡ settled b old p k (held_or b old (slot_of at.slots k))
         of w None u = absurd u
         of w (Some r) u = held-stays b new l r more u.0.there ∙ u.1 z b sound
 
-    written-if : (copy : ℕ) (k : ℕ) (q x : Bool) → IsSignal (names_of d) k → computed_at d.rows k ≡ q → (nat_lt 4 copy || not q) ≡ x → is_written copy (slice_get d.rows k) ≡ x
-    written-if copy k q x i is y = signal-written (names_of d) copy k i ∙ ap (λ v. nat_lt 4 copy || not v) is ∙ y
-
     -- a variable of which no update is pending has kept its value
     old-value : (k : ℕ) → IsSignal (names_of d) k → delayed k ≡ false → computed_at d.rows k ≡ false → value_of s.values k ≡ value_of t.values k
-    old-value k i q c = sym (value-kept d.rows k s.later s.values (late k i q)) ∙ sym (like.values k i c)
+    old-value k i q c = sym (value-stays d.rows k s.later s.values (late k i q)) ∙ sym (like.values k i c)
 
-    cleared-value : (k : ℕ) (values : List (List ℕ)) → IsSignal (names_of d) k → computed_at d.rows k ≡ false → value_of (cleared d.rows values) k ≡ value_of values k
-    cleared-value k values i c = ap (λ ws. slice_index ws 0) (cleared-kept d.rows values k (signal-below (names_of d) k i) c)
-
-    copy-holds : (copy : ℕ) (k : ℕ) → nat_lt 4 copy ≡ false → 4 * k + copy < 4 * length d.rows + 3 → IsSignal (names_of d) k → last_write sets (4 * k + copy) ≡ wanted d.rows copy delayed es at.here k →
+    copy-holds : (copy : ℕ) (k : ℕ) → nat_lt 4 copy ≡ false → 4 * k + copy < register_count (length d.rows) → IsSignal (names_of d) k → last_write sets (4 * k + copy) ≡ wanted d.rows copy delayed es at.here k →
         slice_index b.regs (4 * k + copy) ≡ value_of (cleared d.rows s.values) k → (q : Bool) → computed_at d.rows k ≡ q → slice_index behind.regs (4 * k + copy) ≡ value_of (cleared d.rows t.values) k
     copy-holds copy k low lt i is was true q =
-        after (4 * k + copy) lt ∙ entry-left d.rows copy delayed es at.here k b l _ _ (written-if copy k true false i q (ap (λ v. v || false) low)) is
+        after (4 * k + copy) lt ∙ entry-left d.rows copy delayed es at.here k b l _ _ (written-if (names_of d) copy k true false i q (ap (λ v. v || false) low)) is
         ∙ was ∙ cleared-computed d.rows s.values k q ∙ sym (cleared-computed d.rows t.values k q)
-    copy-holds copy k low lt i is was false q = of (delayed k) refl ∙ sym (cleared-value k t.values i q)
+    copy-holds copy k low lt i is was false q = of (delayed k) refl ∙ sym (value-kept d t.values k i q)
       where
         of : (m : Bool) → delayed k ≡ m → slice_index behind.regs (4 * k + copy) ≡ value_of t.values k
         of true m =
-            after (4 * k + copy) lt ∙ entry-written d.rows copy delayed es at.here k b l _ _ zero (written-if copy k false true i q (ap (λ v. v || true) low)) is (λ f. absurd (cc))
+            after (4 * k + copy) lt ∙ entry-written d.rows copy delayed es at.here k b l _ _ zero (written-if (names_of d) copy k false true i q (ap (λ v. v || true) low)) is (λ f. absurd (cc))
             ∙ new-value k i m q
         of false m =
             after (4 * k + copy) lt ∙ ap (λ x. held_after (held b l) x (slice_index b.regs (4 * k + copy))) (is ∙ wanted-left d.rows copy es at.here delayed k m)
-            ∙ was ∙ cleared-value k s.values i q ∙ old-value k i m q
+            ∙ was ∙ value-kept d s.values k i q ∙ old-value k i m q
 
     mask-null : (k : ℕ) → IsSignal (names_of d) k → delayed k ≡ true → slice_index behind.regs (mask_register k) ≡ 0
     mask-null k i m =
-        after (mask_register k) (room k i)
-        ∙ entry-written d.rows 6 delayed [] at.here k b l _ _ zero (written-if 6 k (computed_at d.rows k) true i refl refl) (last-mask k) (λ f. absurd (cc))
+        after (mask_register k) (in-room k 6 i (omega arith))
+        ∙ entry-written d.rows 6 delayed [] at.here k b l _ _ zero (written-if (names_of d) 6 k (computed_at d.rows k) true i refl refl) (last-mask k i) (λ f. absurd (cc))
 
     mask-kept : (k : ℕ) → IsSignal (names_of d) k → delayed k ≡ false → slice_index behind.regs (mask_register k) ≡ slice_index b.regs (mask_register k)
     mask-kept k i m =
-        after (mask_register k) (room k i)
-        ∙ ap (λ x. held_after (held b l) x (slice_index b.regs (mask_register k))) (last-mask k ∙ wanted-left d.rows 6 [] at.here delayed k m)
+        after (mask_register k) (in-room k 6 i (omega arith))
+        ∙ ap (λ x. held_after (held b l) x (slice_index b.regs (mask_register k))) (last-mask k i ∙ wanted-left d.rows 6 [] at.here delayed k m)
 
     update-kept : (k : ℕ) → IsSignal (names_of d) k → slice_index behind.regs (update_register k) ≡ slice_index b.regs (update_register k)
-    update-kept k i = let lt = room k i in after (update_register k) (omega (arith, lt)) ∙ ap (λ x. held_after (held b l) x (slice_index b.regs (update_register k))) (last-update k)
+    update-kept k i = after (update_register k) (in-room k 5 i (omega arith)) ∙ ap (λ x. held_after (held b l) x (slice_index b.regs (update_register k))) (last-update k i)
 
     nothing-replaced : (base : List (List ℕ)) (k : ℕ) → IsFine d.rows base → IsSignal (names_of d) k →
         value_of base k ≡ masked (value_of base k) (slice_index behind.regs (update_register k)) (slice_index behind.regs (mask_register k))
@@ -255,7 +250,7 @@ module _ (d : Flat) (delayed : ℕ → Bool) (at : Env) (p : PendingSlots) (old 
         of true m =
             sym (ap (masked (value_of base k) (slice_index behind.regs (update_register k))) (mask-null k i m) ∙ masked-none (value_of base k) (slice_index behind.regs (update_register k)))
         of false m =
-            sym (value-kept d.rows k s.later base (late k i m)) ∙ holds.pending.updates base k fine i
+            sym (value-stays d.rows k s.later base (late k i m)) ∙ holds.pending.updates base k fine i
             ∙ ap (λ v. masked (value_of base k) v (slice_index b.regs (mask_register k))) (sym (update-kept k i))
             ∙ ap (masked (value_of base k) (slice_index behind.regs (update_register k))) (sym (mask-kept k i m))
 
@@ -269,17 +264,14 @@ module _ (d : Flat) (delayed : ℕ → Bool) (at : Env) (p : PendingSlots) (old 
     nothing-pends : HoldsPending d behind []
     nothing-pends = record {
       updates = nothing-replaced;
-      words = λ base m fine i. refl;
       update_fits = λ k i. subst (λ v. v < 2 ^ (signal_form d.rows k).width) (sym (update-kept k i)) (holds.pending.update_fits k i);
       mask_fits = mask-narrow;
     }
 
-    apply-holds : HoldsState d (written (held b l) sets b) t t.values
+    apply-holds : HoldsSignals d (written (held b l) sets b) t t.values
     apply-holds = record {
-      works = λ k i. (let lt = room k i in copy-holds 4 k refl (omega (arith, lt)) i (last-work k) (holds.works k i) (computed_at d.rows k) refl);
-      values = λ k i. (let lt = room k i in
-          copy-holds 3 k refl (omega (arith, lt)) i (last-value k) (holds.values k i ∙ ap (λ v. value_of (cleared d.rows v) k) ready) (computed_at d.rows k) refl);
-      memories = λ m i. ap (λ (ms : List (List ℕ)). slice_index_or ms m []) (memories-after (held b l) sets b same.registers) ∙ holds.memories m i ∙ sym (like.memories m i);
+      works = λ k i. copy-holds 4 k refl (in-room k 4 i (omega arith)) i (last-work k i) (holds.works k i) (computed_at d.rows k) refl;
+      values = λ k i. copy-holds 3 k refl (in-room k 3 i (omega arith)) i (last-value k i) (holds.values k i ∙ ap (λ v. value_of (cleared d.rows v) k) ready) (computed_at d.rows k) refl;
       pending = subst (HoldsPending d behind) (sym like.later) nothing-pends;
       ticks = after ticks_register (omega arith) ∙ ap (λ x. held_after (held b l) x (slice_index b.regs ticks_register)) (last-none 2 (omega arith) (omega arith)) ∙ holds.ticks ∙ sym like.ticks;
       few = subst (λ v. v < 2 ^ 32) (sym like.ticks) holds.few;
@@ -292,5 +284,8 @@ module _ (d : Flat) (delayed : ℕ → Bool) (at : Env) (p : PendingSlots) (old 
     longer = subst (λ m. Longer Nothing (6 * m) old new) (sym many) h.longer;
     sound = apply-sound;
     registers = λ k. e.registers (c.registers (a.registers k));
+    others = λ r far.
+        sets-beyond d.rows 6 delayed [] at.here s2 s3 r (omega arith) (omega arith) far e ∙ sets-beyond d.rows 4 delayed es at.here s1 s2 r (omega arith) (omega arith) far c
+        ∙ sets-beyond d.rows 3 delayed es at.here s0 s1 r (omega arith) (omega arith) far a;
     holds = apply-holds;
   }

@@ -60,7 +60,7 @@ not-computed copy kind low e = of (is_computed kind) (sym (ap (λ t. t || not (i
     of true h = absurd (cc)
 
 -- of a signal those registers are written that aren't of a computed one, or are of what is pending
-pub signal-written : (names : Names) (copy k : ℕ) → IsSignal names k → is_written copy (slice_get names.rows k) ≡ (nat_lt 4 copy || not (computed_at names.rows k))
+signal-written : (names : Names) (copy k : ℕ) → IsSignal names k → is_written copy (slice_get names.rows k) ≡ (nat_lt 4 copy || not (computed_at names.rows k))
 signal-written names copy k i =
     let n = named HasValue (slice_get names.rows k) i in
     let r = n.row in
@@ -70,6 +70,9 @@ signal-written names copy k i =
     with-true : (t : Bool) → (t && true) ≡ t
     with-true true = refl
     with-true false = refl
+
+pub written-if : (names : Names) (copy k : ℕ) (c x : Bool) → IsSignal names k → computed_at names.rows k ≡ c → (nat_lt 4 copy || not c) ≡ x → is_written copy (slice_get names.rows k) ≡ x
+written-if names copy k c x i is y = signal-written names copy k i ∙ ap (λ q. nat_lt 4 copy || not q) is ∙ y
 
 -- and only of signals
 pub written-signal : (copy : ℕ) (o : Option Row) → is_written copy o ≡ true → IsOf HasValue o

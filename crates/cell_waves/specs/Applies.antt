@@ -1,11 +1,11 @@
 -- The update in cells (IEEE 1364-2005, clause 11.4; own).
-use Rattle.std.specs.Prelude.{◌≡◌, ℕ, ◌≤◌, ◌*◌, ◌==◌, Bool, true, false, List, [], length, All, Option, Some, None}
+use Rattle.std.specs.Prelude.{◌≡◌, ℕ, ◌≤◌, ◌<◌, ◌*◌, ◌==◌, Bool, true, false, List, [], length, All, Option, Some, None}
 use Rattle.std.specs.List.{AllByRecursion}
 use Rattle.vl_design.specs.Syntax.{Row, Flat}
 use Rattle.vl_design.specs.Width.{names_of}
-use Rattle.vl_design.specs.Sound.{HasValue, IsWidth, IsSignal, IsMemory}
+use Rattle.vl_design.specs.Sound.{HasValue, IsWidth, IsSignal}
 use Rattle.vl_design.specs.State.{State, Update, all_updated, sample}
-use Rattle.vl_design.specs.Value.{words_of, value_of}
+use Rattle.vl_design.specs.Value.{value_of}
 use Rattle.vl_settle.specs.Computed.{is_computed, computed_at}
 use Rattle.cell_form.specs.declared.cell.Write.{Write}
 use Rattle.cell_form.specs.Cycle.{written}
@@ -13,14 +13,15 @@ use Rattle.cell_form.specs.Data.{ListData, BankData}
 use Rattle.cell_form.specs.Sound.{Shape, IsWrite, shape_of}
 use Rattle.cell_steps.specs.Slots.{held, AreSound, Grows, Longer, Nothing}
 use Rattle.cell_paths.specs.Envs.{Env, IsSlot, IsEntry, held_or, Stands}
-use Rattle.cell_later.specs.Pendings.{PendingSlots, slot_of, settled, Pends}
-use Rattle.ten_form.specs.Banks.{IsFor, HoldsState}
+use Rattle.cell_later.specs.Pendings.{PendingSlots, slot_of, settled}
+use Rattle.ten_form.specs.Banks.{IsFor, HoldsSignals}
+use Rattle.ten_form.specs.Registers.{register_count}
+use Rattle.cell_waves.specs.Begins.{SettlesSignals}
 use Rattle.cell_waves.specs.Lasts.{last_write, IsRegister}
 
--- a state behind the update of another: each variable has the bits of its pending updates, and nothing is pending
+-- the signals of a state behind the update of another: each variable has the bits of its pending updates, and nothing is pending
 pub record IsUpdated (d : Flat) (s t : State) : Type 0 where
   pub values : (k : ℕ) → IsSignal (names_of d) k → computed_at d.rows k ≡ false → value_of t.values k ≡ value_of (all_updated d.rows s.values s.later) k
-  pub memories : (m : ℕ) → IsMemory (names_of d) m → words_of t.values m ≡ words_of s.values m
   pub later : t.later ≡ []
   pub answer : t.answer ≡ s.answer
   pub ticks : t.ticks ≡ s.ticks
@@ -29,22 +30,27 @@ pub record IsUpdated (d : Flat) (s t : State) : Type 0 where
 abbrev pub ArePendingOf : Flat → (ℕ → Bool) → List Update → Type 0
 ArePendingOf d delayed later = (k : ℕ) → IsSignal (names_of d) k → delayed k ≡ false → All (λ u. (u.signal == k) ≡ false) later
 
--- other writes of registers leave each register but that of the next state the same
-pub record SameWrites (xs ys : List Write) : Type 0 where
-  pub registers : AllByRecursion IsRegister ys
-  pub same : (r : ℕ) → 1 ≤ r → last_write ys r ≡ last_write xs r
+-- other writes, of any kind, leave each register of signals, of the answer and of the ticks the same
+abbrev pub SameWrites : Flat → List Write → List Write → Type 0
+SameWrites d xs ys = (r : ℕ) → 1 ≤ r → r < register_count (length d.rows) → last_write ys r ≡ last_write xs r
 
--- cells and writes behind others make the update: whatever cells and writes of the next state come too, the bank then holds the
--- updated state, committed
+-- writes leave those registers as they were
+abbrev pub NoWrites : Flat → List Write → Type 0
+NoWrites d xs = SameWrites d [] xs
+
+-- cells and writes behind others make the update of signals: whatever cells come too, and whatever writes of the next state, of
+-- registers behind those of signals and of memories, the registers of signals then hold the updated state, committed
 pub record Applies (d : Flat) (delayed : ℕ → Bool) (at : Env) (p : PendingSlots) (old new : ListData) (before after : List Write) : Type 0 where
   pub longer : Longer Nothing (6 * length d.rows) old new
   pub sound : (z : Shape) → IsFor d 0 z → AllByRecursion (IsWrite z new.first (length new.cells)) before →
       AllByRecursion (IsWrite z new.first (length new.cells)) after
   pub registers : AllByRecursion IsRegister before → AllByRecursion IsRegister after
+  -- no register behind those of signals is written
+  pub others : (r : ℕ) → register_count (length d.rows) ≤ r → last_write after r ≡ last_write before r
   pub holds : (z : Shape) (b : BankData) (s t : State) (committed : List (List ℕ)) (l : ListData) (sets : List Write) → AreSound z old →
-      IsFor d 0 (shape_of b) → ((r : ℕ) → 1 ≤ r → last_write before r ≡ None) → HoldsState d b s committed → Stands (names_of d) b old at (sample s) →
-      Pends (names_of d) b old p s.later → Grows new l → SameWrites after sets → IsUpdated d s t → ArePendingOf d delayed s.later → committed ≡ s.values →
-      HoldsState d (written (held b l) sets b) t t.values
+      IsFor d 0 (shape_of b) → NoWrites d before → HoldsSignals d b s committed → Stands (names_of d) b old at (sample s) →
+      SettlesSignals d b old p s.later → Grows new l → SameWrites d after sets → IsUpdated d s t → ArePendingOf d delayed s.later → committed ≡ s.values →
+      HoldsSignals d (written (held b l) sets b) t t.values
 
 -- ---- one signal
 

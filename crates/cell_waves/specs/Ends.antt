@@ -1,32 +1,32 @@
 -- The writes at the end of a segment, and of a wave (IEEE 1364-2005, clauses 9.2.2 and 11.4; own).
-use Rattle.std.specs.Prelude.{◌≡◌, ℕ, ◌<◌, ◌^◌, Bool, false, if◌then◌else◌, List, None}
+use Rattle.std.specs.Prelude.{◌≡◌, ℕ, ◌<◌, ◌^◌, Bool, false, if◌then◌else◌, List, length, None}
 use Rattle.std.specs.List.{AllByRecursion}
 use Rattle.vl_design.specs.Syntax.{Row, Flat}
 use Rattle.vl_design.specs.Width.{names_of}
-use Rattle.vl_design.specs.Sound.{IsSignal, IsMemory}
-use Rattle.vl_design.specs.Laws.{IsFine}
-use Rattle.vl_design.specs.State.{State, sample, all_updated}
-use Rattle.vl_design.specs.Value.{words_of, value_of}
+use Rattle.vl_design.specs.Sound.{IsSignal}
+use Rattle.vl_design.specs.State.{State, sample}
+use Rattle.vl_design.specs.Value.{value_of}
 use Rattle.vl_settle.specs.Computed.{computed_at}
 use Rattle.cell_form.specs.declared.cell.Write.{Write}
 use Rattle.cell_form.specs.Data.{ListData, BankData}
 use Rattle.cell_form.specs.Sound.{Shape, shape_of}
 use Rattle.cell_steps.specs.Slots.{held, AreSound}
-use Rattle.cell_paths.specs.Envs.{Env, entry, Stands}
-use Rattle.cell_later.specs.Pendings.{PendingSlots, ArePending, Pends}
-use Rattle.ten_form.specs.Banks.{IsFor, HoldsState}
+use Rattle.cell_paths.specs.Envs.{Env, Stands}
+use Rattle.cell_later.specs.Pendings.{PendingSlots, ArePending}
+use Rattle.ten_form.specs.Banks.{IsFor, HoldsSignals}
 use Rattle.ten_form.specs.Registers.{answer_register, value_register, work_register, update_register, mask_register}
-use Rattle.cell_waves.specs.Begins.{IsPendingRead}
+use Rattle.cell_waves.specs.Begins.{IsPendingRead, SettlesSignals}
 use Rattle.cell_waves.specs.Lasts.{last_write, IsRegister}
 use Rattle.cell_waves.specs.Copies.{changed, each_one, wanted}
 
--- behind a segment each entry that changed is written to its register; at the end of a wave each variable's value is committed too
+-- behind a segment each entry that changed is written to its register; at the end of a wave each variable's value is committed too;
+-- registers behind those of signals may be written as well
 pub record Ends (rows : List Row) (commits : Bool) (at0 at1 : Env) (p0 p1 : PendingSlots) (none : ℕ) (sets : List Write) : Type 0 where
   pub registers : AllByRecursion IsRegister sets
-  pub works : (k : ℕ) → last_write sets (work_register k) ≡ wanted rows 4 (changed at0.slots at1.slots) at1.slots none k
-  pub updates : (k : ℕ) → last_write sets (update_register k) ≡ wanted rows 5 (changed p0.update p1.update) p1.update none k
-  pub masks : (k : ℕ) → last_write sets (mask_register k) ≡ wanted rows 6 (changed p0.mask p1.mask) p1.mask none k
-  pub values : (k : ℕ) → last_write sets (value_register k) ≡ (if commits then wanted rows 3 each_one at1.slots none k else None)
+  pub works : (k : ℕ) → k < length rows → last_write sets (work_register k) ≡ wanted rows 4 (changed at0.slots at1.slots) at1.slots none k
+  pub updates : (k : ℕ) → k < length rows → last_write sets (update_register k) ≡ wanted rows 5 (changed p0.update p1.update) p1.update none k
+  pub masks : (k : ℕ) → k < length rows → last_write sets (mask_register k) ≡ wanted rows 6 (changed p0.mask p1.mask) p1.mask none k
+  pub values : (k : ℕ) → k < length rows → last_write sets (value_register k) ≡ (if commits then wanted rows 3 each_one at1.slots none k else None)
   pub answer : last_write sets answer_register ≡ None
 
 -- a segment leads from a state that a bank holds to another, and slots hold what they differ in
@@ -35,25 +35,21 @@ pub record Leads (d : Flat) (b : BankData) (l : ListData) (s t : State) (committ
   pub shape : Shape
   pub sound : AreSound shape l
   pub bank : IsFor d 0 (shape_of b)
-  pub before : HoldsState d b s committed
+  pub before : HoldsSignals d b s committed
   pub first : at0.first ≡ 0
   pub first_behind : at1.first ≡ 0
   pub stands : Stands (names_of d) b l at0 (sample s)
   pub stands_behind : Stands (names_of d) b l at1 (sample t)
-  pub memories : (m : ℕ) → IsMemory (names_of d) m → entry at1 m ≡ entry at0 m
   pub read : IsPendingRead d b l p0
   pub pending : ArePending (names_of d) l p1
-  pub pends : Pends (names_of d) b l p1 t.later
-  -- no word of a memory is updated
-  pub words : (base : List (List ℕ)) (m : ℕ) → IsFine d.rows base → IsMemory (names_of d) m → words_of (all_updated d.rows base t.later) m ≡ words_of base m
+  pub pends : SettlesSignals d b l p1 t.later
   pub zero : held b l none ≡ 0
   pub answer : t.answer ≡ s.answer
   pub few : t.ticks < 2 ^ 32
 
--- a state is another one but for the values of computed signals
+-- a state is another one but for the values of computed signals, and for memories
 pub record IsLike (d : Flat) (s t : State) : Type 0 where
   pub values : (k : ℕ) → IsSignal (names_of d) k → computed_at d.rows k ≡ false → value_of t.values k ≡ value_of s.values k
-  pub memories : (m : ℕ) → IsMemory (names_of d) m → words_of t.values m ≡ words_of s.values m
   pub later : t.later ≡ s.later
   pub answer : t.answer ≡ s.answer
   pub ticks : t.ticks ≡ s.ticks

@@ -1,6 +1,6 @@
 //! What a state begins with (IEEE 1364-2005, clauses 6.1, 9.2.2 and 11.3).
 
-ghost use Rattle.std.specs.Prelude.{◌≡◌, ◌≤◌, true, false, List, ℕ, length, All, IfOk};
+ghost use Rattle.std.specs.Prelude.{◌≤◌, length, All, IfOk};
 ghost use Rattle.vl_design.specs.Sound.{IsSound};
 ghost use Rattle.vl_design.specs.Trees.{flat_of};
 ghost use Rattle.vl_design.specs.Width.{names_of};
@@ -17,7 +17,6 @@ use crate::begun::Begun;
 use crate::copies::pending;
 use cell_begin::begin::begin;
 use cell_form::cell::CellList;
-use cell_reads::reads::reads;
 use std::alloc::{AllocError, Global};
 use ten_form::places::{ANSWER, TICKS, VALUE, WORK, places};
 use vl_design::design::Design;
@@ -36,7 +35,7 @@ pub fn begun(
     requires there { AllBelow (length (flat_of design.now).procs) order.now }
     requires few { length (flat_of design.now).rows ≤ 268435456 }
     ensures grows { Grows (list_of cells.old) (list_of cells.new) }
-    ensures begins { IfOk result (λ x. Begins (flat_of design.now) order.now false (list_of cells.old) (list_of cells.new) (env_of x.at) (slots_of x.pending)) }
+    ensures begins { IfOk result (λ x. Begins (flat_of design.now) order.now (list_of cells.old) (list_of cells.new) (env_of x.at) (slots_of x.pending)) }
 {
     let signals = design.signals.as_slice();
     let values = places(alloc, signals, VALUE)?;
@@ -51,25 +50,6 @@ pub fn begun(
         TICKS,
         ANSWER,
     )?;
-    let pending = pending(alloc, cells, signals)?;
-    Ok(Begun { at, pending })
-}
-
-/// The cells that a state of time zero's wave begins with: signals from their work copies, where nets are 0, and pending updates
-/// from their registers. An `Err` is want of memory.
-pub fn begun_early(
-    alloc: Global,
-    cells: &mut CellList,
-    design: &Design,
-) -> Result<Begun, AllocError>
-    requires few { length (flat_of design.now).rows ≤ 268435456 }
-    ensures grows { Grows (list_of cells.old) (list_of cells.new) }
-    ensures begins { IfOk result (λ x. (order : List ℕ) →
-        Begins (flat_of design.now) order true (list_of cells.old) (list_of cells.new) (env_of x.at) (slots_of x.pending)) }
-{
-    let signals = design.signals.as_slice();
-    let works = places(alloc, signals, WORK)?;
-    let at = reads(alloc, cells, design, works.as_slice(), TICKS, ANSWER)?;
     let pending = pending(alloc, cells, signals)?;
     Ok(Begun { at, pending })
 }

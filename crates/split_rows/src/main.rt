@@ -1,10 +1,11 @@
 //! Reads sources, each behind a line `= ` of its name and lines `> ` of the table that is wanted, and prints whether this is the
 //! table of nodes that their blocks are split into; of a long one `> nodes ` and their number is wanted. Where the first line is
 //! `> states ` the states are wanted that are made of the nodes; where it is `> run ` and a number, how the run alone of as many ticks
-//! ends on them: its ticks, its acts, how many bytes it prints, and these.
+//! ends on them: its ticks, its acts, how many bytes it prints, and these. A line `< ` gives it a file, by name and bytes.
 #![tactic(auto)]
 
 mod ended;
+mod files;
 mod judge;
 mod row;
 mod show;

@@ -9,6 +9,8 @@ pub struct Row {
     pub name: String,
     /// The lines of the table that is wanted.
     pub wanted: String,
+    /// The lines of the files that the source may open.
+    pub files: String,
     /// The source.
     pub source: String,
 }
@@ -19,21 +21,22 @@ impl Row {
         Ok(Row {
             name: String::from_str(alloc, name)?,
             wanted: String::new(alloc),
+            files: String::new(alloc),
             source: String::new(alloc),
         })
     }
 
     /// Reads one more line.
     pub fn read(&mut self, line: &str) -> Result<(), AllocError> {
-        match line.strip_prefix("> ") {
-            Some(wanted) => {
-                self.wanted.push_str(wanted)?;
-                self.wanted.push('\n')
-            }
-            None => {
-                self.source.push_str(line)?;
-                self.source.push('\n')
-            }
+        if let Some(wanted) = line.strip_prefix("> ") {
+            self.wanted.push_str(wanted)?;
+            return self.wanted.push('\n');
         }
+        if let Some(file) = line.strip_prefix("< ") {
+            self.files.push_str(file)?;
+            return self.files.push('\n');
+        }
+        self.source.push_str(line)?;
+        self.source.push('\n')
     }
 }

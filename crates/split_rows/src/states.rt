@@ -13,7 +13,7 @@ fn registers(alloc: Global, sets: &[Write]) -> Result<Vec<u32>, AllocError> {
     for write in sets {
         match write {
             Write::Reg(register, _) => all.push(*register)?,
-            Write::Mem(_, _, _, _, _) => all.push(u32::MAX)?,
+            Write::Mem(_, _, _, _, _) => (),
         }
     }
     all.sort()?;
@@ -30,23 +30,52 @@ fn copy_word(register: u32) -> &'static str {
     }
 }
 
-/// Adds a register by its name.
+/// Which of the registers of a pending write to a word it is.
+fn store_word(register: u32) -> &'static str {
+    match register % 4 {
+        3 => " enable",
+        0 => " word",
+        1 => " new",
+        _ => " bits",
+    }
+}
+
+/// Adds the name of a signal of this number.
+fn push_signal(text: &mut String, signals: &[Signal], number: u32) -> Result<(), AllocError> {
+    match signals.get(number as usize) {
+        Some(signal) => push_name(text, signal.name.as_slice()),
+        None => text.push('?'),
+    }
+}
+
+/// Adds a register by its name. Those behind the signals' are of pending writes to words of memories.
 fn push_register(text: &mut String, signals: &[Signal], register: u32) -> Result<(), AllocError> {
-    if register == 0 {
-        return text.push_str(" state");
+    if register < 3 {
+        return text.push_str(match register {
+            0 => " state",
+            1 => " answer",
+            _ => " ticks",
+        });
     }
-    if register == 1 {
-        return text.push_str(" answer");
-    }
-    if register == 2 {
-        return text.push_str(" ticks");
+    let number = (register - 3) / 4;
+    if number as usize >= signals.len() {
+        return text.push_str(store_word(register));
     }
     text.push(' ')?;
-    match signals.get(((register - 3) / 4) as usize) {
-        Some(signal) => push_name(text, signal.name.as_slice())?,
-        None => text.push('?')?,
-    }
+    push_signal(text, signals, number)?;
     text.push_str(copy_word(register))
+}
+
+/// Adds the memories of which words are written.
+fn push_memories(text: &mut String, signals: &[Signal], sets: &[Write]) -> Result<(), AllocError> {
+    for write in sets {
+        if let Write::Mem(memory, _, _, _, _) = write {
+            text.push(' ')?;
+            push_signal(text, signals, *memory)?;
+            text.push_str("[]")?;
+        }
+    }
+    Ok(())
 }
 
 /// Adds what a state sets, or how many values its trap is given.
@@ -66,7 +95,7 @@ fn push_work(
             for register in &registers(alloc, state.cells.sets.as_slice())? {
                 push_register(text, signals, *register)?;
             }
-            Ok(())
+            push_memories(text, signals, state.cells.sets.as_slice())
         }
     }
 }

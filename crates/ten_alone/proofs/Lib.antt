@@ -1,2 +1,3 @@
+mod Ending
+mod Resting
 mod Tenants
-mod Loading

@@ -1,4 +1,4 @@
--- The image of a tenant's design can be run.
+-- The image of a tenant's design can be run, and no file has bytes.
 use Rattle.std.proofs.Common.{◌≡◌, ℕ, ◌<◌, List, [], None, refl, sym, subst}
 use Rattle.std.specs.Prelude.{All}
 use Rattle.std.proofs.lemmas.List.Elements.{All-nil}
@@ -14,10 +14,9 @@ use Rattle.ten_core.specs.Tenants.{IsImage}
 use Rattle.ten_design.specs.Designs.{IsTenantDesign}
 use Rattle.ten_run.specs.Runnable.{CanBeRun}
 
-pub can-be-run : (d : Flat) (order : List ℕ) (budget : ℕ) (files : List File) (image : Image) → IsTenantDesign d order → files ≡ [] → IsImage d order image
+pub can-be-run : (d : Flat) (order : List ℕ) (budget : ℕ) (files : List File) (image : Image) → IsTenantDesign d order → HaveBytes files → IsImage d order image
     → ((o : Origin) (order : List ℕ) → IsTenantDesign o.flat order → HaveBytes o.files → o.resume ≡ None → IsTame o order) → CanBeRun (flat_of image.design) files budget image
-can-be-run d order budget files image is none made tame =
-    let bytes : HaveBytes files = subst HaveBytes (sym none) (All-nil (λ (f : File). All (λ b. b < 256) f.bytes)) in
+can-be-run d order budget files image is bytes made tame =
     let can : CanBeRun d files budget image = record {
       order = order;
       image_is = made;
@@ -27,3 +26,6 @@ can-be-run d order budget files image is none made tame =
       ordered = is.ordered;
     } in
     subst (λ (x : Flat). CanBeRun x files budget image) made.design can
+
+pub no-bytes : (files : List File) → files ≡ [] → HaveBytes files
+no-bytes files none = subst HaveBytes (sym none) (All-nil (λ (f : File). All (λ b. b < 256) f.bytes))

@@ -1,9 +1,8 @@
 -- What an accepted design of a text is built into runs as the design that the text stands for.
 use Rattle.std.proofs.Common.{◌≡◌, ◌≤◌, ℕ, Bool, true, false, List, length, refl, sym, ap, ◌∙◌, subst}
 use Rattle.std.proofs.lemmas.Bool.{leb-true, true≢false}
-use Rattle.std.specs.Prelude.{◌&&◌, not, nat_le}
+use Rattle.std.specs.Prelude.{◌&&◌, nat_le}
 use Rattle.vl_cost.specs.Costs.{statement_cells}
-use Rattle.std.specs.List.{list_any}
 use Rattle.vl_source.specs.declared.tree.Source.{Source}
 use Rattle.vl_design.specs.declared.design.Signal.{Signal}
 use Rattle.std.specs.Prelude.{Ok}
@@ -33,7 +32,7 @@ use Rattle.vl_front.specs.Sources.{StandsFor, IsAcceptedOf}
 use Rattle.ten_core.specs.declared.image.Image.{Image}
 use Rattle.ten_core.specs.Tenants.{IsImage}
 use Rattle.ten_design.specs.Designs.{IsTenantDesign}
-use Rattle.ten_fit.specs.Kinds.{is_memory, runs_on_cells}
+use Rattle.ten_fit.specs.Kinds.{runs_on_cells}
 use Rattle.ten_build.specs.Builds.{RunsAs, is_for_cells, IsImageOf, IsPlainOf}
 
 and-parts : (a b : Bool) → (a && b) ≡ true → (a ≡ true) × (b ≡ true)
@@ -58,7 +57,7 @@ Unrolls = (o : Origin) → CanUnroll o.flat → IsSameRun o (record o { flat = u
 
 -- whether a design runs on cells its signals say
 abbrev by_signals : List Signal → Type 0
-by_signals signals = (nat_le (length signals) 268435456 && not (list_any (λ x. is_memory x.kind) signals)) ≡ true
+by_signals signals = nat_le (length signals) 268435456 ≡ true
 
 module _ (text : List ℕ) (a : Accepted) (is : IsAcceptedOf text a) where
   abbrev d : p.Design

@@ -31,7 +31,7 @@ const MOST_CELLS: u64 = 32_768;
 pub enum Built {
     /// The image of its design, which tenants run on states of cells.
     Cells(Image),
-    /// Its design with the loops unrolled, and an order of its processes, for the interpreter of designs: it has a memory, or is large.
+    /// Its design with the loops unrolled, and an order of its processes, for the interpreter of designs: it is large.
     Plain(Accepted),
 }
 
@@ -58,7 +58,7 @@ fn on_cells(alloc: Global, accepted: Accepted) -> Result<Built, BuildError>
     a_design_that_runs_on_cells_is_a_tenants();
     runs_the_same();
     let Accepted { design, order } = accepted;
-    match image(alloc, design, order.as_slice()) {
+    match image(alloc, design, order) {
         Ok(image) => Ok(Built::Cells(image)),
         Err(_) => Err(BuildError::Memory),
     }
@@ -83,9 +83,9 @@ fn of_accepted(alloc: Global, accepted: Accepted) -> Result<Built, BuildError>
     }
 }
 
-/// Builds the text of a source: an image of its design, or its design for the interpreter where it has a memory, more than 2^28 signals
-/// or statements of more than 32,768 cells; the run alone of either is that of the design that the text stands for, over all files, with all plans and from all starts; or else the place and the kind of exactly the first fault
-/// for which it is refused.
+/// Builds the text of a source: an image of its design, or its design for the interpreter where it has more than 2^28 signals or
+/// statements of more than 32,768 cells; the run alone of either is that of the design that the text stands for, over all files, with
+/// all plans and from all starts; or else the place and the kind of exactly the first fault for which it is refused.
 pub fn build(alloc: Global, text: &[u8]) -> Result<Built, BuildError>
     ensures { IsBuild text.now result }
 {

@@ -1,9 +1,9 @@
 -- A served trap does its call.
-use Rattle.std.proofs.Common.{◌≡◌, refl, sym, ap, ◌∙◌, subst, arith, ℕ, zero, suc, ◌+◌, ◌^◌, ◌<◌, Bool, true, false, List, [], ◌∷◌, ◌++◌, append-nil, map, length, Option, Some, None}
+use Rattle.std.proofs.Common.{◌≡◌, refl, sym, ap, ◌∙◌, subst, arith, ℕ, zero, suc, ◌+◌, ◌^◌, ◌<◌, ◌≤◌, Bool, true, false, List, [], ◌∷◌, ◌++◌, append-nil, map, length, Option, Some, None}
 use Rattle.std.specs.Prelude.{◌↔◌, All, codes, if◌then◌else◌, slice_get, slice_set, slice_index, slice_index_or, replicate}
 use Rattle.std.specs.List.{AllByRecursion}
 use Rattle.std.proofs.Math.Pow.{pow_pos}
-use Rattle.std.proofs.lemmas.List.{length-set, length-map, length-replicate}
+use Rattle.std.proofs.lemmas.List.{get_or-set_other, length-set, length-map, length-replicate}
 use Rattle.std.proofs.lemmas.List.Elements.{recursion_from_All}
 use Rattle.std.proofs.lemmas.Option.{slice_get_within}
 use Rattle.vl_base.specs.declared.files.File.{File}
@@ -34,7 +34,7 @@ use Rattle.trap_runtime.specs.declared.served.Served.TheVariants as w
 use Rattle.trap_runtime.specs.Served.{Works, served, served_call, held, parts_text, descriptor, variable_at, memory_at, with_memory, loaded, way_of}
 use Rattle.trap_runtime.specs.Traps as traps
 use Rattle.ten_form.specs.Banks.{HoldsState}
-use Rattle.ten_form.specs.Registers.{work_register}
+use Rattle.ten_form.specs.Registers.{work_register, register_count}
 use Rattle.ten_calls.specs.Asked.{shown, own_widths, asked}
 use Rattle.ten_calls.specs.Traps.{shown_text, item_widths}
 use Rattle.ten_calls.specs.Works.{works_of, HaveBytes, IsBefore, saved, DoesCall}
@@ -106,7 +106,7 @@ module _ (d : Flat) (files : List File) (slots : ℕ) (t : Trap) (b : BankData) 
 
   -- the variable of `$fread`
   variable-held : (k : ℕ) (fd : Exp) → IsBefore d files (Fread k fd) slots t b s committed → slice_index b.regs (work_register k) ≡ value_of s.values k
-  variable-held k fd h = h.holds.works k h.sound.0 ∙ ap (λ (z : List ℕ). slice_index z 0) (cleared-kept d.rows s.values k h.variable (signal-there d.rows k h.sound.0))
+  variable-held k fd h = h.holds.signals.works k h.sound.0 ∙ ap (λ (z : List ℕ). slice_index z 0) (cleared-kept d.rows s.values k h.variable (signal-there d.rows k h.sound.0))
 
   value-small : (k : ℕ) (fd : Exp) → IsBefore d files (Fread k fd) slots t b s committed → value_of s.values k < 2 ^ (signal_form d.rows k).width
   value-small k fd h = at (words_of s.values k) (h.fine.range k)
@@ -176,14 +176,16 @@ module _ (d : Flat) (files : List File) (slots : ℕ) (t : Trap) (b : BankData) 
 
   -- what the served trap leaves, by its call
   leaves : (task : Task) (c : TrapCall) (y : Works) → IsBefore d files task slots t b s committed → t.call ≡ c → served_call files t c (works_of b s) ≡ y →
-      HoldsState d y.bank (called (scope_of d files) task s) committed → shape_of y.bank ≡ shape_of b → y.table ≡ (called (scope_of d files) task s).table → y.printed ≡ (called (scope_of d files) task s).printed →
+      HoldsState d y.bank (called (scope_of d files) task s) committed → shape_of y.bank ≡ shape_of b →
+      ((r : ℕ) → register_count (length d.rows) ≤ r → slice_index y.bank.regs r ≡ slice_index b.regs r) → y.table ≡ (called (scope_of d files) task s).table → y.printed ≡ (called (scope_of d files) task s).printed →
       ((way_of c ≡ w.Finish) ↔ ((called (scope_of d files) task s).finished ≡ true)) → (called (scope_of d files) task s).saves ≡ s.saves ++ saved (way_of c) →
       DoesCall d files task t b s committed
-  leaves task c y h e same bank shape table printed finishes saves =
+  leaves task c y h e same bank shape stores table printed finishes saves =
       let is : served files t (works_of b s) ≡ y = ap (λ z. served_call files t z (works_of b s)) e ∙ same in
       record {
         bank = rw is bank;
         shape = ap (λ (z : Works). shape_of z.bank) is ∙ shape;
+        stores = λ r l. ap (λ (z : Works). slice_index z.bank.regs r) is ∙ stores r l;
         table = ap (λ (z : Works). z.table) is ∙ table;
         printed = ap (λ (z : Works). z.printed) is ∙ printed;
         finishes = rw e finishes;
@@ -202,7 +204,7 @@ module _ (d : Flat) (files : List File) (slots : ℕ) (t : Trap) (b : BankData) 
       let text : parts_text parts (held b t.args) ≡ pieces_text scope (sample s) pieces =
       prints.text (held b t.args) ∙ (ap (shown_text (names_of d) pieces) h.args ∙ shown-is scope (sample s) pieces) in
       leaves (Print pieces newline) (call.Print parts newline) (served_call files t (call.Print parts newline) (works_of b s)) h h.trap.call.1 refl
-      (holds-same d committed b s (called scope (Print pieces newline) s) refl refl refl refl h.holds) refl refl
+      (holds-same d committed b s (called scope (Print pieces newline) s) refl refl refl refl h.holds) refl (λ r l. refl) refl
       (ap (λ z. s.printed ++ (z ++ (if newline then codes "\n" else []))) text) (going w.Went s.finished h.goes_on no-finish) (sym (append-nil s.saves))
 
   -- a call that gives an answer, and may change the table
@@ -214,7 +216,7 @@ module _ (d : Flat) (files : List File) (slots : ℕ) (t : Trap) (b : BankData) 
       let l : 1 < length b.regs = (let a = has-answer task h in let e = h.trap.answer in omega (arith, a, e)) in
       leaves task c (record { bank = record b { regs = slice_set b.regs t.answer v }; table = table; printed = s.printed }) h e same
       (holds-answer d committed b s s' t.answer v h.trap.answer l small (ap (λ (z : State). z.values) is) (ap (λ (z : State). z.later) is) (ap (λ (z : State). z.ticks) is) (ap (λ (z : State). z.answer) is) h.holds)
-      (shape-set t.answer v) (sym (ap (λ (z : State). z.table) is)) (sym (ap (λ (z : State). z.printed) is))
+      (shape-set t.answer v) (λ r m. get_or-set_other b.regs t.answer r v 0 (λ z. (let a = h.trap.answer in omega (arith, z, m, a)))) (sym (ap (λ (z : State). z.table) is)) (sym (ap (λ (z : State). z.printed) is))
       (going (way_of c) s'.finished (ap (λ (z : State). z.finished) is ∙ h.goes_on) (λ z. no-finish (sym went ∙ z)))
       (ap (λ (z : State). z.saves) is ∙ (sym (append-nil s.saves) ∙ ap (λ z. s.saves ++ saved z) (sym went)))
 
@@ -233,6 +235,8 @@ module _ (d : Flat) (files : List File) (slots : ℕ) (t : Trap) (b : BankData) 
       (holds-read d committed b s s' t.answer (work_register k) r.value r.count k h.trap.answer refl (variable-there k fd h) (count-small files s.table (descriptor_of scope (sample s) fd) width (value_of s.values k) wide.narrow)
       h.one_word h.fine h.sound.0 h.variable refl refl refl refl h.holds)
       (ap (λ n. record { regs = n; mems = length b.mems; slots = length b.slots }) (length-set (slice_set b.regs (work_register k) r.value) t.answer r.count ∙ length-set b.regs (work_register k) r.value))
+      (λ j m. get_or-set_other (slice_set b.regs (work_register k) r.value) t.answer j r.count 0 (λ z. (let a = h.trap.answer in omega (arith, z, m, a)))
+      ∙ get_or-set_other b.regs (work_register k) j r.value 0 (λ z. (let l = signal-there d.rows k h.sound.0 in omega (arith, z, m, l))))
       refl refl (going w.Went s.finished h.goes_on no-finish) (sym (append-nil s.saves))
 
   load-does : (name : List ℕ) (m : ℕ) → IsBefore d files (ReadHex name m) slots t b s committed → DoesCall d files (ReadHex name m) t b s committed
@@ -248,7 +252,7 @@ module _ (d : Flat) (files : List File) (slots : ℕ) (t : Trap) (b : BankData) 
           ∙ ap (λ z. (let y = memory_read m (Some h.trap.call.3) z s in record y { count = y.count + 1 })) e in
           leaves (ReadHex name m) loading (works_of b s) h h.trap.call.4 same
           (holds-same d committed b s s' (ap (λ (z : State). z.values) is) (ap (λ (z : State). z.later) is) (ap (λ (z : State). z.ticks) is) (ap (λ (z : State). z.answer) is) h.holds)
-          refl (sym (ap (λ (z : State). z.table) is)) (sym (ap (λ (z : State). z.printed) is))
+          refl (λ r l. refl) (sym (ap (λ (z : State). z.table) is)) (sym (ap (λ (z : State). z.printed) is))
           (going w.Went s'.finished (ap (λ (z : State). z.finished) is ∙ h.goes_on) no-finish)
           (ap (λ (z : State). z.saves) is ∙ sym (append-nil s.saves))
       at (Some text) e =
@@ -272,6 +276,7 @@ module _ (d : Flat) (files : List File) (slots : ℕ) (t : Trap) (b : BankData) 
           leaves (ReadHex name m) loading (record { bank = bank; table = s.table; printed = s.printed }) h h.trap.call.4 same
           (holds-loaded d committed b s s' m ws in-bank in-values h.sound (ap (λ (z : State). z.values) is) (ap (λ (z : State). z.later) is) (ap (λ (z : State). z.ticks) is) (ap (λ (z : State). z.answer) is) h.holds)
           (ap (λ n. record { regs = length b.regs; mems = n; slots = length b.slots }) (length-set b.mems m ws))
+          (λ r l. refl)
           (sym (ap (λ (z : State). z.table) is)) (sym (ap (λ (z : State). z.printed) is))
           (going w.Went s'.finished (ap (λ (z : State). z.finished) is ∙ h.goes_on) no-finish)
           (ap (λ (z : State). z.saves) is ∙ sym (append-nil s.saves))
@@ -279,10 +284,10 @@ module _ (d : Flat) (files : List File) (slots : ℕ) (t : Trap) (b : BankData) 
   pub does : (task : Task) → HaveBytes files → IsBefore d files task slots t b s committed → DoesCall d files task t b s committed
   does (Print pieces newline) bytes h = print-does pieces newline h
   does (Finish es) bytes h =
-      leaves (Finish es) call.Finish (works_of b s) h h.trap.call refl (holds-same d committed b s (called (scope_of d files) (Finish es) s) refl refl refl refl h.holds) refl refl refl
+      leaves (Finish es) call.Finish (works_of b s) h h.trap.call refl (holds-same d committed b s (called (scope_of d files) (Finish es) s) refl refl refl refl h.holds) refl (λ r l. refl) refl refl
       ((λ e. refl), (λ e. refl)) (sym (append-nil s.saves))
   does (Save name) bytes h =
-      leaves (Save name) (call.Save name) (works_of b s) h h.trap.call refl (holds-same d committed b s (called (scope_of d files) (Save name) s) refl refl refl refl h.holds) refl refl refl
+      leaves (Save name) (call.Save name) (works_of b s) h h.trap.call refl (holds-same d committed b s (called (scope_of d files) (Save name) s) refl refl refl refl h.holds) refl (λ r l. refl) refl refl
       (going (w.Save name) s.finished h.goes_on (λ e. cc)) refl
   does (Fopen name) bytes h =
       let a = file.opened files s.table name in
@@ -301,5 +306,5 @@ module _ (d : Flat) (files : List File) (slots : ℕ) (t : Trap) (b : BankData) 
       let scope = scope_of d files in
       let same = fd-is (Fclose fd) fd h refl in
       leaves (Fclose fd) call.Fclose (record { bank = b; table = file.closed s.table (descriptor_of scope (sample s) fd); printed = s.printed }) h h.trap.call (rw same refl)
-      (holds-same d committed b s (called scope (Fclose fd) s) refl refl refl refl h.holds) refl refl refl (going w.Went s.finished h.goes_on no-finish) (sym (append-nil s.saves))
+      (holds-same d committed b s (called scope (Fclose fd) s) refl refl refl refl h.holds) refl (λ r l. refl) refl refl (going w.Went s.finished h.goes_on no-finish) (sym (append-nil s.saves))
   does (ReadHex name m) bytes h = load-does name m h

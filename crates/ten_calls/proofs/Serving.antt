@@ -1,5 +1,5 @@
 -- What serving a trap does to a bank that holds a state.
-use Rattle.std.proofs.Common.{◌≡◌, ◌≢◌, refl, sym, ap, ◌∙◌, arith, ℕ, zero, suc, ◌^◌, ◌<◌, Bool, true, false, List, [], ◌∷◌, length}
+use Rattle.std.proofs.Common.{◌≡◌, ◌≢◌, refl, sym, ap, ◌∙◌, arith, ℕ, zero, suc, ◌^◌, ◌<◌, ◌≤◌, Bool, true, false, List, [], ◌∷◌, length}
 use Rattle.std.proofs.lemmas.Bool.{eqb-true, eq-eqb}
 use Rattle.std.specs.Prelude.{nat_eq, slice_set, slice_index, slice_index_or, replicate}
 use Rattle.std.proofs.lemmas.List.{get_or-set_same, get_or-set_other, length-set, length-map}
@@ -15,9 +15,11 @@ use Rattle.cell_form.specs.Data.{BankData}
 use Rattle.cell_paths.specs.Envs.{HasOneWord}
 use Rattle.cell_paths.proofs.Assigning.{one-long, signal-there}
 use Rattle.cell_paths.proofs.Staying.{memory-other}
-use Rattle.ten_form.specs.Banks.{HoldsState}
+use Rattle.ten_form.specs.Banks.{cell_nodes, stores_in, HoldsState}
 use Rattle.ten_form.specs.Nets.{cleared}
-use Rattle.ten_form.specs.Registers.{answer_register, ticks_register, value_register, work_register, update_register, mask_register}
+use Rattle.ten_form.specs.Registers.{answer_register, ticks_register, value_register, work_register, update_register, mask_register, register_count}
+use Rattle.ten_stores.specs.Stores.{words_down}
+use Rattle.ten_stores.proofs.Same.{holds-behind, stores-behind}
 
 -- ---- values of variables in a list with others cleared
 
@@ -48,39 +50,45 @@ module _ (d : Flat) (committed : List (List ℕ)) where
     pub values : (k : ℕ) → slice_index b'.regs (value_register k) ≡ slice_index b.regs (value_register k)
     pub updates : (k : ℕ) → slice_index b'.regs (update_register k) ≡ slice_index b.regs (update_register k)
     pub masks : (k : ℕ) → slice_index b'.regs (mask_register k) ≡ slice_index b.regs (mask_register k)
+    pub stores : (r : ℕ) → register_count (length d.rows) ≤ r → slice_index b'.regs r ≡ slice_index b.regs r
     pub ticks_kept : slice_index b'.regs ticks_register ≡ slice_index b.regs ticks_register
     pub later : s'.later ≡ s.later
     pub ticks : s'.ticks ≡ s.ticks
 
   pub holds-altered : (b b' : BankData) (s s' : State) → Alters b b' s s' → HoldsState d b s committed → HoldsState d b' s' committed
-  holds-altered b b' s s' a h = record {
-    works = a.works;
-    values = λ k i. a.values k ∙ h.values k i;
-    memories = a.memories;
-    pending = record {
-      updates = λ base k f i. rw (a.later, a.updates k, a.masks k) (h.pending.updates base k f i);
-      words = λ base m f i. rw a.later (h.pending.words base m f i);
-      update_fits = λ k i. rw (a.updates k) (h.pending.update_fits k i);
-      mask_fits = λ k i. rw (a.masks k) (h.pending.mask_fits k i);
-    };
-    ticks = a.ticks_kept ∙ (h.ticks ∙ sym a.ticks);
-    few = rw a.ticks h.few;
-    answer = a.answer;
-    small = a.small;
-  }
+  holds-altered b b' s s' a h =
+      let g = h.signals in
+      record {
+        signals = record {
+          works = a.works;
+          values = λ k i. a.values k ∙ g.values k i;
+          pending = record {
+            updates = λ base k f i. rw (a.later, a.updates k, a.masks k) (g.pending.updates base k f i);
+            update_fits = λ k i. rw (a.updates k) (g.pending.update_fits k i);
+            mask_fits = λ k i. rw (a.masks k) (g.pending.mask_fits k i);
+          };
+          ticks = a.ticks_kept ∙ (g.ticks ∙ sym a.ticks);
+          few = rw a.ticks g.few;
+          answer = a.answer;
+          small = a.small;
+        };
+        memories = a.memories;
+        words = rw a.later (holds-behind b b' (register_count (length d.rows)) a.stores d (stores_in d) s.later (stores-behind (register_count (length d.rows)) (words_down (cell_nodes d))) h.words);
+      }
 
   -- the same bank
   pub holds-same : (b : BankData) (s s' : State) → s'.values ≡ s.values → s'.later ≡ s.later → s'.ticks ≡ s.ticks → s'.answer ≡ s.answer → HoldsState d b s committed → HoldsState d b s' committed
   holds-same b s s' values later ticks answer h =
       holds-altered b b s s'
       (record {
-        works = λ k i. h.works k i ∙ ap (λ z. value_of (cleared d.rows z) k) (sym values);
+        works = λ k i. h.signals.works k i ∙ ap (λ z. value_of (cleared d.rows z) k) (sym values);
         memories = λ m i. h.memories m i ∙ ap (λ z. words_of z m) (sym values);
-        answer = h.answer ∙ sym answer;
-        small = rw answer h.small;
+        answer = h.signals.answer ∙ sym answer;
+        small = rw answer h.signals.small;
         values = λ k. refl;
         updates = λ k. refl;
         masks = λ k. refl;
+        stores = λ r l. refl;
         ticks_kept = refl;
         later = later;
         ticks = ticks;
@@ -94,13 +102,14 @@ module _ (d : Flat) (committed : List (List ℕ)) where
       let other : (j : ℕ) → j ≢ 1 → slice_index (slice_set b.regs r v) j ≡ slice_index b.regs j = λ j n. rw e (get_or-set_other b.regs 1 j v 0 n) in
       holds-altered b (record b { regs = slice_set b.regs r v }) s s'
       (record {
-        works = λ k i. other (work_register k) (λ z. omega (arith, z)) ∙ (h.works k i ∙ ap (λ z. value_of (cleared d.rows z) k) (sym values));
+        works = λ k i. other (work_register k) (λ z. omega (arith, z)) ∙ (h.signals.works k i ∙ ap (λ z. value_of (cleared d.rows z) k) (sym values));
         memories = λ m i. h.memories m i ∙ ap (λ z. words_of z m) (sym values);
         answer = rw e (get_or-set_same b.regs 1 v 0 l) ∙ sym answer;
         small = rw answer small;
         values = λ k. other (value_register k) (λ z. omega (arith, z));
         updates = λ k. other (update_register k) (λ z. omega (arith, z));
         masks = λ k. other (mask_register k) (λ z. omega (arith, z));
+        stores = λ j l. other j (λ z. omega (arith, z, l));
         ticks_kept = other 2 (λ z. omega (arith, z));
         later = later;
         ticks = ticks;
@@ -124,6 +133,7 @@ module _ (d : Flat) (committed : List (List ℕ)) where
         values = λ j. other (value_register j) (λ z. omega (arith, z)) (λ z. omega (arith, z));
         updates = λ j. other (update_register j) (λ z. omega (arith, z)) (λ z. omega (arith, z));
         masks = λ j. other (mask_register j) (λ z. omega (arith, z)) (λ z. omega (arith, z));
+        stores = λ j l. other j (λ z. omega (arith, z, l)) (λ z. (let there = signal-there d.rows k is in omega (arith, z, l, there)));
         ticks_kept = other 2 (λ z. omega (arith, z)) (λ z. omega (arith, z));
         later = later;
         ticks = ticks;
@@ -155,7 +165,7 @@ module _ (d : Flat) (committed : List (List ℕ)) where
           of false q =
               let apart : j ≢ k = λ z. (let y = eq-eqb j k z in cc (y, q)) in
               rw (e, f) (get_or-set_other (slice_set b.regs (work_register k) v) 1 (work_register j) n 0 (λ z. omega (arith, z)) ∙ get_or-set_other b.regs (work_register k) (work_register j) v 0 (λ z. apart (omega (arith, z))))
-              ∙ (h.works j i
+              ∙ (h.signals.works j i
               ∙ (ap (λ (z : List ℕ). slice_index z 0) (sym (cleared-other d.rows s.values j k (slice_set (words_of s.values k) 0 v) apart))
               ∙ ap (λ z. value_of (cleared d.rows z) j) (sym values)))
 
@@ -166,15 +176,16 @@ module _ (d : Flat) (committed : List (List ℕ)) where
   holds-loaded b s s' m ws l there is values later ticks answer h =
       holds-altered b (record b { mems = slice_set b.mems m ws }) s s'
       (record {
-        works = λ k i. h.works k i
+        works = λ k i. h.signals.works k i
             ∙ (ap (λ (z : List ℕ). slice_index z 0) (sym (cleared-other d.rows s.values k m ws (λ e. memory-other (names_of d) k m i is (sym e))))
             ∙ ap (λ z. value_of (cleared d.rows z) k) (sym values));
         memories = λ j i. at-memory j i (nat_eq j m) refl;
-        answer = h.answer ∙ sym answer;
-        small = rw answer h.small;
+        answer = h.signals.answer ∙ sym answer;
+        small = rw answer h.signals.small;
         values = λ k. refl;
         updates = λ k. refl;
         masks = λ k. refl;
+        stores = λ r l. refl;
         ticks_kept = refl;
         later = later;
         ticks = ticks;

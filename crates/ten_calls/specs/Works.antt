@@ -1,5 +1,5 @@
 -- What a trap that is served does to a run (IEEE 1364-2005, clause 17; own).
-use Rattle.std.specs.Prelude.{◌≡◌, ◌↔◌, ℕ, ◌<◌, ◌^◌, true, false, List, [], ◌∷◌, ◌++◌, map, slice_index, All, ⊤}
+use Rattle.std.specs.Prelude.{◌≡◌, ◌↔◌, ℕ, ◌<◌, ◌≤◌, ◌^◌, true, false, List, [], ◌∷◌, ◌++◌, map, length, slice_index, All, ⊤}
 use Rattle.vl_base.specs.declared.files.File.{File}
 use Rattle.vl_design.specs.Functions.{scope_of}
 use Rattle.vl_design.specs.Laws.{IsFine}
@@ -17,6 +17,7 @@ use Rattle.trap_runtime.specs.declared.served.Served.{Served}
 use Rattle.trap_runtime.specs.declared.served.Served.TheVariants as w
 use Rattle.trap_runtime.specs.Served.{Works, served, way_of}
 use Rattle.ten_form.specs.Banks.{IsFor, HoldsState}
+use Rattle.ten_form.specs.Registers.{register_count}
 use Rattle.ten_calls.specs.Asked.{asked}
 use Rattle.ten_calls.specs.Traps.{IsTrapOf}
 
@@ -55,6 +56,8 @@ saved way = []
 pub record DoesCall (d : Flat) (files : List File) (task : Task) (t : Trap) (b : BankData) (s : State) (committed : List (List ℕ)) : Type 0 where
   pub bank : HoldsState d (served files t (works_of b s)).bank (called (scope_of d files) task s) committed
   pub shape : shape_of (served files t (works_of b s)).bank ≡ shape_of b
+  -- registers behind those of signals are as they were
+  pub stores : (r : ℕ) → register_count (length d.rows) ≤ r → slice_index (served files t (works_of b s)).bank.regs r ≡ slice_index b.regs r
   pub table : (served files t (works_of b s)).table ≡ (called (scope_of d files) task s).table
   pub printed : (served files t (works_of b s)).printed ≡ (called (scope_of d files) task s).printed
   pub finishes : (way_of t.call ≡ w.Finish) ↔ ((called (scope_of d files) task s).finished ≡ true)

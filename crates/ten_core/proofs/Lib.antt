@@ -1,4 +1,5 @@
 mod Cycling
+mod Late
 mod Places
 mod Serving
 mod Silent

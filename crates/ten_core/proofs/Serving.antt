@@ -1,10 +1,11 @@
 -- A call that a tenant serves is done as the run of its design's table does it.
-use Rattle.std.proofs.Common.{◌≡◌, ◌≢◌, ℕ, suc, ◌+◌, ◌<◌, Bool, true, false, List, [], ◌∷◌, length, map, Option, Some, None, inl, inr}
+use Rattle.std.proofs.Common.{◌≡◌, ◌≢◌, ℕ, suc, ◌+◌, ◌*◌, ◌<◌, ◌≤◌, Bool, true, false, List, [], ◌∷◌, length, map, take, Option, Some, None}
 use Rattle.std.proofs.Common.{refl, sym, ap, ◌∙◌, subst, arith}
-use Rattle.std.specs.Prelude.{IsTrue, ◌↔◌, slice_get, slice_set, slice_index, ◌==◌, nat_le}
-use Rattle.std.specs.List.{list_any}
-use Rattle.std.proofs.lemmas.Bool.{eq-eqb}
+use Rattle.std.specs.Prelude.{IsTrue, ◌↔◌, drop, slice_get, slice_set, slice_index}
+use Rattle.std.specs.List.{AllByRecursion}
+use Rattle.std.proofs.lemmas.Bool.{true≢false}
 use Rattle.std.proofs.lemmas.List.{get_or-set_same, get_or-set_other, length-set}
+use Rattle.std.proofs.lemmas.List.Elements.{All-head}
 use Rattle.vl_design.specs.Alone.{Origin}
 use Rattle.vl_design.specs.Functions.{scope_of}
 use Rattle.vl_design.specs.Snapshots.{Snapshot}
@@ -19,12 +20,16 @@ use Rattle.sub_nodes.specs.Code.{table_of}
 use Rattle.sub_nodes.specs.Cycles.{Stage, served, served_by, is_trap}
 use Rattle.sub_nodes.specs.Nodes.{Node, Run, Trap, Apply}
 use Rattle.sub_nodes.specs.Stands.{at_trap, first_stage, Comes, cycles, serves}
-use Rattle.sub_nets.specs.Nets.{zero_low}
+use Rattle.sub_facts.specs.Early.{early_from}
+use Rattle.sub_facts.proofs.Calling.{IsNoCall, no_call_next}
 use Rattle.ten_files.specs.declared.row.Row.{Row}
 use Rattle.ten_files.specs.Tables.{open_files, IsTableOf}
-use Rattle.ten_form.specs.Banks.{IsFor, HoldsState}
+use Rattle.ten_form.specs.Banks.{cell_nodes, stores_before, IsFor, HoldsState}
 use Rattle.ten_form.specs.Nets.{nets_of}
-use Rattle.ten_form.specs.Registers.{value_register, work_register, update_register, mask_register}
+use Rattle.ten_form.specs.Registers.{value_register, work_register, update_register, mask_register, register_count}
+use Rattle.ten_stores.specs.Holding.{IsIdle}
+use Rattle.ten_stores.specs.Stores.{words_down}
+use Rattle.ten_stores.proofs.Same.{all-from, idle-behind, stores-behind}
 use Rattle.ten_calls.specs.Asked.{asked}
 use Rattle.ten_calls.specs.Works.{works_of, IsBefore, DoesCall}
 use Rattle.ten_calls.proofs.Doing.{can, does}
@@ -32,31 +37,21 @@ use Rattle.ten_calls.proofs.Serving.{holds-altered}
 use Rattle.trap_runtime.specs.Served as s
 use Rattle.trap_runtime.specs.Traps.{IsTrap}
 use Rattle.trap_runtime.specs.declared.served.Served.TheVariants as way
-use Rattle.ten_image.specs.Paired.{CallsStandApart}
-use Rattle.ten_image.specs.States.{Waits, IsStateOf, StandsAt}
+use Rattle.ten_image.specs.States.{idle_before, Waits, IsStateOf, StandsAt}
 use Rattle.ten_core.specs.Runs.{IsAt, IsTame}
 use Rattle.ten_core.specs.Tenants.{TenantData, states_of}
 use Rattle.ten_core.specs.Traps.{IsAtCall}
+use Rattle.ten_core.proofs.Late.{node-late, call-late}
 use Rattle.ten_core.proofs.Silent.{cycled-quiet}
-use Rattle.ten_core.proofs.Cycling.{number, present-here}
+use Rattle.ten_core.proofs.Cycling.{number, present-here, same-node}
 
 -- ---- where calls stand
 
 -- the node behind a call is no call's
-behind-call : (nodes : List Node) → CallsStandApart nodes → (n : ℕ) (task : Task) (to : ℕ) → slice_get nodes n ≡ Some (Trap task to) →
-    is_trap (slice_get nodes to) ≡ false
-behind-call nodes apart n task to is = of (slice_get nodes to) refl
-  where
-    leads : list_any (λ k. k == to) (to ∷ []) ≡ true
-    leads = rw (eq-eqb to to refl) refl
+behind-call : (d : Flat) (n : ℕ) (task : Task) (to : ℕ) → slice_get (table_of d).nodes n ≡ Some (Trap task to) → is_trap (slice_get (table_of d).nodes to) ≡ false
+behind-call d n task to is = All-head (IsNoCall d) to [] (no_call_next d n (Trap task to) is (λ g m e. (let z : ⊥ = cc in z)))
 
-    of : (x : Option Node) → slice_get nodes to ≡ x → is_trap x ≡ false
-    of None e = refl
-    of (Some (Run g on)) e = refl
-    of (Some (Trap other at)) e = absurd (apart n to (Trap task to) other at is leads e)
-    of (Some (Apply at)) e = refl
-
-module _ (o : Origin) (order : List ℕ) (tame : IsTame o order) (apart : CallsStandApart (table_of o.flat).nodes) where
+module _ (o : Origin) (order : List ℕ) (tame : IsTame o order) where
   begins-alive : (r : Option Snapshot) → (first_stage o (table_of o.flat) (nets_of o.flat o.files order) r).state.finished ≡ false
   begins-alive None = refl
   begins-alive (Some k) = refl
@@ -75,29 +70,46 @@ module _ (o : Origin) (order : List ℕ) (tame : IsTame o order) (apart : CallsS
           (served_by (scope_of o.flat o.files) x i).state.finished ≡ false
       at None e h w = let z : ⊥ = cc in absurd z
       at (Some (Run g on)) e h w = let z : ⊥ = cc in absurd z
-      at (Some (Trap task to)) e h w = let f = behind-call (table_of o.flat).nodes apart i.node task to e in let z : ⊥ = cc in absurd z
+      at (Some (Trap task to)) e h w = let f = behind-call o.flat i.node task to e in let z : ⊥ = cc in absurd z
       at (Some (Apply to)) e h w = let z : ⊥ = cc in absurd z
 
 -- ---- a bank with another state next
 
+set-other : (b : BankData) (r v j : ℕ) → r ≡ 0 → j ≢ 0 → slice_index (slice_set b.regs r v) j ≡ slice_index b.regs j
+set-other b r v j e n = rw e (get_or-set_other b.regs 0 j v 0 n)
+
 goes-to : (d : Flat) (committed : List (List ℕ)) (b : BankData) (r v : ℕ) (y : State) → r ≡ 0 → HoldsState d b y committed →
     HoldsState d (record b { regs = slice_set b.regs r v }) y committed
 goes-to d committed b r v y e h =
-    let other : (j : ℕ) → j ≢ 0 → slice_index (slice_set b.regs r v) j ≡ slice_index b.regs j = λ j n. rw e (get_or-set_other b.regs 0 j v 0 n) in
+    let g = h.signals in
+    let other : (j : ℕ) → j ≢ 0 → slice_index (slice_set b.regs r v) j ≡ slice_index b.regs j = λ j n. set-other b r v j e n in
     holds-altered d committed b (record b { regs = slice_set b.regs r v }) y y
     (record {
-      works = λ k i. other (work_register k) (λ z. omega (arith, z)) ∙ h.works k i;
+      works = λ k i. other (work_register k) (λ z. omega (arith, z)) ∙ g.works k i;
       memories = h.memories;
-      answer = other 1 (λ z. omega (arith, z)) ∙ h.answer;
-      small = h.small;
+      answer = other 1 (λ z. omega (arith, z)) ∙ g.answer;
+      small = g.small;
       values = λ k. other (value_register k) (λ z. omega (arith, z));
       updates = λ k. other (update_register k) (λ z. omega (arith, z));
       masks = λ k. other (mask_register k) (λ z. omega (arith, z));
+      stores = λ j l. other j (λ z. omega (arith, z, l));
       ticks_kept = other 2 (λ z. omega (arith, z));
       later = refl;
       ticks = refl;
     })
     h
+
+-- behind a call that leaves the registers of stores the stores are idle that have to be
+idle-then : (d : Flat) (b z : BankData) (to : ℕ) → ((r : ℕ) → register_count (length d.rows) ≤ r → slice_index z.regs r ≡ slice_index b.regs r) →
+    AllByRecursion (IsIdle b) (stores_before d (to + 1)) → (x : Node) → is_trap (Some x) ≡ false → AllByRecursion (IsIdle z) (stores_before d (idle_before to x))
+idle-then d b z to same h (Run g on) f =
+    let from = register_count (length d.rows) in
+    let first = from + 4 * length (words_down (drop (to + 1) (cell_nodes d))) in
+    let stores = stores_before d (to + 1) in
+    idle-behind b z from same stores
+    (all-from (λ x. first ≤ x.first) (λ x. from ≤ x.first) (λ x l. omega (arith, l)) stores (stores-behind first (words_down (take (to + 1) (cell_nodes d))))) h
+idle-then d b z to same h (Trap task at) f = absurd (true≢false f)
+idle-then d b z to same h (Apply at) f = tt
 
 next-is : (b : BankData) (r v : ℕ) → r ≡ 0 → r < length b.regs → slice_index (slice_set b.regs r v) 0 ≡ v
 next-is b r v e l = let there : 0 < length b.regs = omega (arith, e, l) in rw e (get_or-set_same b.regs 0 v 0 there)
@@ -112,7 +124,7 @@ alike false false P f g = refl
 
 module _ (o : Origin) (order : List ℕ) (t : TenantData) (c : ℕ) (here : Stage) (at : IsAt o order t c here) (tame : IsTame o order) (w : t.waits ≡ true) where
   abbrev nodes : List Node
-  nodes = (table_of o.flat).nodes
+  nodes = cell_nodes o.flat
 
   abbrev table : TableData
   table = cells.table_of t.image.table
@@ -124,24 +136,22 @@ module _ (o : Origin) (order : List ℕ) (t : TenantData) (c : ℕ) (here : Stag
     pub state : StateData
     pub node : slice_get nodes here.node ≡ Some (Trap task to)
     pub has : slice_get (states_of t.image) here.node ≡ Some state
-    pub waits : Waits o.flat order at.image.slots task to state
+    pub waits : Waits o.flat order t.image.slots task to state
 
-  call-of : (early : Bool) (x : Node) (y : StateData) → is_trap (Some x) ≡ true → slice_get nodes here.node ≡ Some x →
+  call-of : (x : Node) (y : StateData) → is_trap (Some x) ≡ true → slice_get nodes here.node ≡ Some x →
       slice_get (states_of t.image) here.node ≡ Some y →
-      IsStateOf o.flat order early at.image.slots nodes (states_of t.image) x y → Call
-  call-of early (Run g on) y w e f h = let z : ⊥ = cc in absurd z
-  call-of early (Trap task to) y w e f h = record { task = task; to = to; state = y; node = e; has = f; waits = h }
-  call-of early (Apply to) y w e f h = let z : ⊥ = cc in absurd z
+      IsStateOf o.flat order here.node t.image.slots nodes (states_of t.image) x y → Call
+  call-of (Run g on) y w e f h = let z : ⊥ = cc in absurd z
+  call-of (Trap task to) y w e f h = record { task = task; to = to; state = y; node = e; has = f; waits = h }
+  call-of (Apply to) y w e f h = let z : ⊥ = cc in absurd z
 
-  trapped : is_trap (slice_get nodes here.node) ≡ true
+  trapped : at_trap (table_of o.flat) here ≡ true
   trapped = sym at.waits ∙ w
 
   call-here : Call
   call-here =
-      elim (number o.flat order at.image.slots nodes (states_of t.image) here.node at.image.states) [
-        | inl h ↦ call-of (nat_le (zero_low o.flat) here.node) h.node h.state (sym (ap is_trap h.is) ∙ trapped) h.is h.has h.of
-        | inr h ↦ (let e = ap is_trap h.node in let z : ⊥ = cc in absurd z)
-      ]
+      let h = number o.flat order t.image.slots (states_of t.image) here.node at.late at.image.states in
+      call-of h.node h.state (sym (ap is_trap h.is) ∙ (ap is_trap (same-node o order t c here at) ∙ trapped)) h.is h.has h.of
 
   is-at-call : IsAtCall table t.bank call-here.waits.trap call-here.to
   is-at-call = record {
@@ -157,6 +167,9 @@ module _ (o : Origin) (order : List ℕ) (t : TenantData) (c : ℕ) (here : Stag
   abbrev trap : TrapData
   trap = call-here.waits.trap
 
+  in-table : slice_get (table_of o.flat).nodes here.node ≡ Some (Trap task call-here.to)
+  in-table = sym (same-node o order t c here at) ∙ call-here.node
+
   -- there is no other call
   one-call : (other : TrapData) (to : ℕ) → IsAtCall table t.bank other to → (other ≡ trap) × (to ≡ call-here.to)
   one-call other to h =
@@ -167,7 +180,7 @@ module _ (o : Origin) (order : List ℕ) (t : TenantData) (c : ℕ) (here : Stag
       (cc, cc)
 
   alive : here.state.finished ≡ false
-  alive = trap-alive o order tame at.image.apart at.comes trapped
+  alive = trap-alive o order tame at.comes trapped
 
   args-held : map (slice_index t.bank.slots) trap.args ≡ asked (scope_of o.flat o.files) (sample here.state) task
   args-held =
@@ -178,9 +191,9 @@ module _ (o : Origin) (order : List ℕ) (t : TenantData) (c : ℕ) (here : Stag
       let same : k.trap ≡ call.waits.trap = cc in
       subst (λ (z : TrapData). map (slice_index t.bank.slots) z.args ≡ asked (scope_of o.flat o.files) (sample here.state) call.task) same k.args
 
-  before : IsBefore o.flat o.files task at.image.slots trap t.bank here.state here.committed
+  before : IsBefore o.flat o.files task t.image.slots trap t.bank here.state here.committed
   before =
-      let calls = tame.calls here.node call-here.task call-here.to call-here.node in
+      let calls = tame.calls here.node call-here.task call-here.to in-table in
       record {
         trap = call-here.waits.call;
         sound = calls.0;
@@ -188,16 +201,16 @@ module _ (o : Origin) (order : List ℕ) (t : TenantData) (c : ℕ) (here : Stag
         one_word = tame.one_word;
         shape = at.stands.shape;
         holds = at.stands.stage.holds;
-        fine = (tame.tidy c here at.comes alive).fine;
+        fine = (tame.tidy c here at.comes at.late alive).fine;
         goes_on = alive;
         args = args-held;
       }
 
   can-serve : IsTrap t.bank trap
-  can-serve = can o.flat o.files at.image.slots trap t.bank here.state here.committed task before
+  can-serve = can o.flat o.files t.image.slots trap t.bank here.state here.committed task before
 
   done : DoesCall o.flat o.files task trap t.bank here.state here.committed
-  done = does o.flat o.files at.image.slots trap t.bank here.state here.committed task tame.bytes before
+  done = does o.flat o.files t.image.slots trap t.bank here.state here.committed task tame.bytes before
 
   pub some-call : (other : TrapData) × (to : ℕ) × IsAtCall table t.bank other to
   some-call = (trap, call-here.to, is-at-call)
@@ -245,25 +258,40 @@ module _ (o : Origin) (order : List ℕ) (t : TenantData) (c : ℕ) (here : Stag
     abbrev then : Stage
     then = record here { node = call-here.to; state = state }
 
-    then-is : served (scope_of o.flat o.files) nodes here ≡ then
-    then-is = ap (λ x. served_by (scope_of o.flat o.files) x here) call-here.node
+    then-is : served (scope_of o.flat o.files) (table_of o.flat).nodes here ≡ then
+    then-is = ap (λ x. served_by (scope_of o.flat o.files) x here) in-table
 
-    none-behind : is_trap (slice_get nodes call-here.to) ≡ false
-    none-behind = behind-call nodes at.image.apart here.node task call-here.to call-here.node
+    then-late : call-here.to < early_from o.flat
+    then-late = call-late o.flat here.node task call-here.to at.late in-table
+
+    none-behind : at_trap (table_of o.flat) then ≡ false
+    none-behind = behind-call o.flat here.node task call-here.to in-table
+
+    free-behind : (x : Node) → slice_get nodes call-here.to ≡ Some x → is_trap (Some x) ≡ false
+    free-behind x e = sym (ap is_trap e) ∙ (ap is_trap (node-late o.flat call-here.to then-late) ∙ none-behind)
+
+    stores-kept : (r : ℕ) → register_count (length o.flat.rows) ≤ r → slice_index after.regs r ≡ slice_index t.bank.regs r
+    stores-kept r l =
+        set-other b t.image.table.state call-here.to r at.image.register (λ z. omega (arith, z, l))
+        ∙ (ap (λ (z : BankData). slice_index z.regs r) bank-is ∙ done.stores r l)
 
     then-holds : HoldsState o.flat after state here.committed
     then-holds =
         goes-to o.flat here.committed b t.image.table.state call-here.to state at.image.register
         (subst (λ z. HoldsState o.flat z state here.committed) (sym bank-is) done.bank)
 
-    then-stands : StandsAt o.flat order o.files at.image.slots nodes (states_of t.image) after then
+    then-stands : StandsAt o.flat order o.files t.image.slots nodes (states_of t.image) after then
     then-stands =
         let same = shape-is in
-        let shape = subst (IsFor o.flat at.image.slots) (sym same) at.stands.shape in
+        let shape = subst (IsFor o.flat t.image.slots) (sym same) at.stands.shape in
         record {
           shape = record { regs = length-set b.regs t.image.table.state call-here.to ∙ shape.regs; mems = shape.mems; slots = shape.slots };
-          stage = record { node = next-is b t.image.table.state call-here.to at.image.register served-register; holds = then-holds };
-          asked = λ other to e. (let f = none-behind in let g = ap is_trap e in let z : ⊥ = cc in absurd z);
+          stage = record {
+            node = next-is b t.image.table.state call-here.to at.image.register served-register;
+            holds = then-holds;
+            idle = λ x e. idle-then o.flat t.bank after call-here.to stores-kept (at.stands.stage.idle (Trap task call-here.to) call-here.node) x (free-behind x e);
+          };
+          asked = λ other to e. absurd (true≢false (free-behind (Trap other to) e));
         }
 
     served-at : IsTableOf t.files rows → (finished : Bool) → (IsTrue finished ↔ (s.way_of trap.call ≡ way.Finish)) → (count : ℕ) → count ≡ t.cycles + 1 →
@@ -273,6 +301,7 @@ module _ (o : Origin) (order : List ℕ) (t : TenantData) (c : ℕ) (here : Stag
       files = at.files;
       from_nothing = at.from_nothing;
       comes = subst (λ i. Comes o (table_of o.flat) (nets_of o.flat o.files order) (suc c) i) then-is (serves at.comes trapped);
+      late = then-late;
       stands = then-stands;
       printed = ap (λ (z : s.Works). z.printed) served-is ∙ done.printed;
       fits = subst (λ fs. IsTableOf fs rows) (sym at.files) fits;
@@ -293,7 +322,7 @@ module _ (o : Origin) (order : List ℕ) (t : TenantData) (c : ℕ) (here : Stag
       pub served-behind : IsTableOf t.files rows → (finished : Bool) → (IsTrue finished ↔ (s.way_of other.call ≡ way.Finish)) → (z : BankData) →
           z ≡ record b { regs = slice_set b.regs t.image.table.state to } →
           IsAt o order (record t { bank = z; rows = rows; printed = text; finished = finished; waits = false; cycles = t.cycles + 1 }) (suc c)
-          (served (scope_of o.flat o.files) nodes here)
+          (served (scope_of o.flat o.files) (table_of o.flat).nodes here)
       served-behind fits finished ends z e =
           let same = one-call other to h in
           let mine = subst (λ (y : TrapData). IsTrue finished ↔ (s.way_of y.call ≡ way.Finish)) same.0 ends in

@@ -1,6 +1,6 @@
 -- Where the run of a tenant is (own).
-use Rattle.std.specs.Prelude.{◌≡◌, ℕ, false, List, slice_get, nat_le, All, Some, None}
-use Rattle.vl_design.specs.Alone.{Origin, start}
+use Rattle.std.specs.Prelude.{◌≡◌, ℕ, ◌<◌, false, List, slice_get, All, Some, None}
+use Rattle.vl_design.specs.Alone.{Origin}
 use Rattle.vl_design.specs.Functions.{scope_of}
 use Rattle.vl_design.specs.Laws.{can_act}
 use Rattle.vl_design.specs.Sound.{IsSoundTask}
@@ -8,20 +8,17 @@ use Rattle.vl_design.specs.Syntax.{Task}
 use Rattle.vl_design.specs.Width.{names_of}
 use Rattle.cell_paths.specs.Envs.{HasOneWord}
 use Rattle.sub_nodes.specs.Code.{table_of}
-use Rattle.sub_nodes.specs.Cycles.{Stage, committed_in, cycle, served}
+use Rattle.sub_nodes.specs.Cycles.{Stage, cycle, served}
 use Rattle.sub_nodes.specs.Nodes.{Segment, WayOn, Node, Run, Trap}
 use Rattle.sub_nodes.specs.Stands.{Comes, at_trap}
-use Rattle.sub_nets.specs.Nets.{zero_low}
+use Rattle.sub_facts.specs.Early.{early_from}
 use Rattle.ten_files.specs.Tables.{open_files, IsTableOf}
+use Rattle.ten_form.specs.Banks.{cell_nodes}
 use Rattle.ten_form.specs.Nets.{nets_of, IsTidy}
 use Rattle.ten_calls.specs.Works.{IsVariableRead, HaveBytes}
 use Rattle.ten_image.specs.Delays.{IsDue}
 use Rattle.ten_image.specs.States.{StandsAt}
 use Rattle.ten_core.specs.Tenants.{TenantData, states_of, IsImage}
-
--- where the run of a design's table begins
-abbrev pub first_stage : Origin → Stage
-first_stage o = committed_in (table_of o.flat).zero.first (start o.flat).state
 
 -- the stage behind a cycle, where nets settle in this order, and the one behind a served call
 abbrev pub after_cycle : Origin → List ℕ → Stage → Stage
@@ -36,7 +33,9 @@ pub record IsAt (o : Origin) (order : List ℕ) (t : TenantData) (c : ℕ) (i : 
   pub files : o.files ≡ t.files
   pub from_nothing : o.resume ≡ None
   pub comes : Comes o (table_of o.flat) (nets_of o.flat o.files order) c i
-  pub stands : StandsAt o.flat order o.files image.slots (table_of o.flat).nodes (states_of t.image) t.bank i
+  -- time zero's wave has ended
+  pub late : i.node < early_from o.flat
+  pub stands : StandsAt o.flat order o.files t.image.slots (cell_nodes o.flat) (states_of t.image) t.bank i
   pub printed : t.printed ≡ i.state.printed
   pub fits : IsTableOf o.files t.rows
   pub table : open_files o.files t.rows ≡ i.state.table
@@ -52,8 +51,8 @@ pub record IsTame (o : Origin) (order : List ℕ) : Type 0 where
   pub quiet : (n : ℕ) (g : Segment) (on : WayOn) → slice_get (table_of o.flat).nodes n ≡ Some (Run g on) → All (λ a. can_act a ≡ false) g.statements
   pub calls : (n : ℕ) (task : Task) (to : ℕ) → slice_get (table_of o.flat).nodes n ≡ Some (Trap task to) →
       IsSoundTask (names_of o.flat) task × IsVariableRead o.flat task
-  pub tidy : (c : ℕ) (i : Stage) → Comes o (table_of o.flat) (nets_of o.flat o.files order) c i → i.state.finished ≡ false →
-      IsTidy o.flat o.files order (nat_le (zero_low o.flat) i.node) i.state i.committed
+  pub tidy : (c : ℕ) (i : Stage) → Comes o (table_of o.flat) (nets_of o.flat o.files order) c i → i.node < early_from o.flat → i.state.finished ≡ false →
+      IsTidy o.flat o.files order i.state i.committed
   pub due : (c : ℕ) (i : Stage) (x : Node) → Comes o (table_of o.flat) (nets_of o.flat o.files order) c i → slice_get (table_of o.flat).nodes i.node ≡ Some x → IsDue o.flat x i
 
 -- the tenant is somewhere in a run of such a design

@@ -1,6 +1,5 @@
 //! Images of designs.
 
-use cell_form::bank::Bank;
 use cell_form::table::StateTable;
 use vl_design::design::Design;
 
@@ -9,10 +8,14 @@ use vl_design::design::Design;
 pub struct Image {
     /// The design.
     pub design: Design,
+    /// Its processes by their numbers, each behind the combinational ones that drive what it reads.
+    pub order: Vec<u32>,
     /// Its states.
     pub table: StateTable,
     /// The state that a tick begins with: the run is at a boundary where this one is next.
     pub rise: u32,
-    /// The bank with which a run begins.
-    pub zero: Bank,
+    /// How many slots the states have together.
+    pub slots: u32,
+    /// How many stores keep pending writes to words of memories.
+    pub stores: u32,
 }

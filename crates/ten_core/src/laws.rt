@@ -1,6 +1,6 @@
 //! What holds of the runs of tenants.
 
-ghost use Rattle.std.specs.Prelude.{◌≡◌, ℕ, List, false, nat_le};
+ghost use Rattle.std.specs.Prelude.{◌≡◌, ◌<◌, ℕ, List, false};
 ghost use Rattle.vl_design.specs.Alone.{Origin};
 ghost use Rattle.vl_design.specs.Laws.{StartsFine};
 ghost use Rattle.vl_settle.specs.Checked.{IsChecked, IsOrder};
@@ -8,7 +8,8 @@ ghost use Rattle.sub_nodes.specs.Code.{table_of};
 ghost use Rattle.sub_nodes.specs.Cycles.{Stage};
 ghost use Rattle.sub_nodes.specs.Stands.{Comes};
 ghost use Rattle.sub_nets.specs.Memories.{SetsNoMemories};
-ghost use Rattle.sub_nets.specs.Nets.{WritesNoNets, zero_low};
+ghost use Rattle.sub_nets.specs.Nets.{WritesNoNets};
+ghost use Rattle.sub_facts.specs.Early.{early_from};
 ghost use Rattle.ten_form.specs.Nets.{nets_of, IsTidy};
 
 use sub_nets::laws::{
@@ -20,8 +21,8 @@ use sub_nets::laws::{
 /// clocked blocks write memories by nonblocking assignments alone.
 pub fn each_stage_is_tidy()
     ensures { (o : Origin) (order : List ℕ) (c : ℕ) (i : Stage) → IsChecked o.flat → IsOrder o.flat order → StartsFine o.flat.rows o.resume →
-        WritesNoNets o.flat → SetsNoMemories o.flat → Comes o (table_of o.flat) (nets_of o.flat o.files order) c i → i.state.finished ≡ false →
-        IsTidy o.flat o.files order (nat_le (zero_low o.flat) i.node) i.state i.committed }
+        WritesNoNets o.flat → SetsNoMemories o.flat → Comes o (table_of o.flat) (nets_of o.flat o.files order) c i → i.node < early_from o.flat → i.state.finished ≡ false →
+        IsTidy o.flat o.files order i.state i.committed }
 {
     values_and_committed_values_stay_fine();
     nets_hold_over_the_committed_values();

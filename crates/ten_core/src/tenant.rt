@@ -1,14 +1,14 @@
 //! Tenants.
 
-ghost use Rattle.std.specs.Prelude.{IsTrue, ◌≡◌, ◌↔◌, ◌+◌, ◌<◌, ◌^◌, ℕ, suc, List, true, false, if◌then◌else◌, IfOk, OnOk, OnErr, None, slice_get, slice_index};
+ghost use Rattle.std.specs.Prelude.{IsTrue, ◌≡◌, ◌↔◌, ◌+◌, ◌<◌, ◌^◌, ℕ, suc, List, true, false, if◌then◌else◌, OnOk, OnErr, slice_get, slice_index};
 ghost use Rattle.vl_design.specs.Alone.{Origin};
 ghost use Rattle.sub_nodes.specs.Code.{table_of};
 ghost use Rattle.sub_nodes.specs.Cycles.{Stage, rises};
 ghost use Rattle.ten_form.specs.Registers.{ticks_register};
-ghost use Rattle.ten_core.specs.Tenants.{tenant_of, IsImage};
-ghost use Rattle.ten_core.specs.Runs.{first_stage, after_cycle, after_call, IsAt, IsTame, Runs};
+ghost use Rattle.ten_core.specs.Tenants.{tenant_of};
+ghost use Rattle.ten_core.specs.Runs.{after_cycle, after_call, IsAt, IsTame, Runs};
 
-use crate::banks::{copy_bank, go_to};
+use crate::banks::go_to;
 use crate::image::Image;
 use crate::states::{at_call, next_call, step};
 use cell_form::bank::Bank;
@@ -20,7 +20,7 @@ use trap_runtime::serve::serve;
 use trap_runtime::served::Served;
 use vl_base::files::FileSet;
 
-/// A run of a design on the states of its image.
+/// A run of a design on the states of its image, behind time zero's wave.
 #[derive(Drop)]
 pub struct Tenant {
     /// The image.
@@ -52,24 +52,6 @@ fn is_end(way: &Served) -> bool
 }
 
 impl Tenant {
-    /// A run of an image's design from its start, with these files.
-    pub fn new(alloc: Global, image: Image, files: FileSet) -> Result<Tenant, AllocError>
-        ensures { IfOk result (λ t. (o : Origin) (order : List ℕ) →
-            IsImage o.flat order image → o.files ≡ files → o.resume ≡ None → IsAt o order (tenant_of t) 0 (first_stage o)) }
-    {
-        let bank = copy_bank(alloc, &image.zero)?;
-        Ok(Tenant {
-            image,
-            files,
-            open: Table::new(),
-            bank,
-            printed: Vec::new(alloc),
-            cycles: 0,
-            waits: false,
-            finished: false,
-        })
-    }
-
     /// One cycle: the next act of the run, unless that is a call, which then waits to be served. It takes no memory.
     pub fn cycle(&mut self)
         requires runs { Runs (tenant_of self.old) }

@@ -1,5 +1,6 @@
 pub mod Plain
 pub mod Parts
+pub mod Late
 pub mod Nodes
 pub mod Delaying
 pub mod Runs

@@ -1,30 +1,24 @@
 -- Runs of a tenant's design are tame.
-use Rattle.std.proofs.Common.{◌≡◌, ℕ, false, List, Some, ◌∙◌, ap, subst}
-use Rattle.std.specs.Prelude.{nat_le, slice_get}
+use Rattle.std.proofs.Common.{◌≡◌, ℕ, ◌<◌, false, List, Some, ◌∙◌, ap, subst}
+use Rattle.std.specs.Prelude.{slice_get}
 use Rattle.std.proofs.lemmas.List.Elements.{All-weaker}
 use Rattle.std.proofs.lemmas.Option.{slice_get_within, get_or_from_slice_get}
 use Rattle.vl_design.specs.Alone.{Origin}
 use Rattle.vl_design.specs.Laws.{can_act}
-use Rattle.vl_design.specs.Queue.{proc_at}
 use Rattle.sub_nodes.specs.Nodes.{Node, Run, Trap, Apply}
 use Rattle.sub_nodes.specs.Code.{table_of}
 use Rattle.sub_nodes.specs.Cycles.{Stage}
 use Rattle.sub_nodes.specs.Stands.{Comes}
-use Rattle.sub_nets.specs.Memories.{SetsNoMemories, memory_at}
-use Rattle.sub_nets.specs.Nets.{zero_low}
+use Rattle.sub_facts.specs.Early.{early_from}
 use Rattle.ten_calls.specs.Works.{HaveBytes}
 use Rattle.ten_form.specs.Nets.{nets_of, IsTidy}
 use Rattle.ten_image.specs.Delays.{IsDue}
 use Rattle.ten_core.specs.Runs.{IsTame}
 use Rattle.ten_design.specs.Designs.{IsTenantDesign}
 use Rattle.ten_design.proofs.Delaying.{delayed-alone}
-use Rattle.ten_design.proofs.Plain.{sets_none}
 use Rattle.ten_design.proofs.Parts.{Meets, IsPart, nodes_meet}
 
 module _ (o : Origin) (order : List ℕ) (is : IsTenantDesign o.flat order) where
-  pub sets-none : SetsNoMemories o.flat
-  sets-none = record { rises = λ i k. sets_none (memory_at o.flat.rows) is.no_memory (proc_at o.flat i).body; falls = λ i k. sets_none (memory_at o.flat.rows) is.no_memory (proc_at o.flat i).body }
-
   -- what holds of a node by its number
   node-at : (n : ℕ) (x : Node) → slice_get (table_of o.flat).nodes n ≡ Some x → IsPart o.flat x
   node-at n x e =
@@ -32,8 +26,8 @@ module _ (o : Origin) (order : List ℕ) (is : IsTenantDesign o.flat order) wher
       subst (IsPart o.flat) (get_or_from_slice_get nodes n x x e) (nodes_meet o.flat order is n x (slice_get_within nodes n x e))
 
   abbrev pub Tidies : Type 0
-  Tidies = (c : ℕ) (i : Stage) → Comes o (table_of o.flat) (nets_of o.flat o.files order) c i → i.state.finished ≡ false →
-      IsTidy o.flat o.files order (nat_le (zero_low o.flat) i.node) i.state i.committed
+  Tidies = (c : ℕ) (i : Stage) → Comes o (table_of o.flat) (nets_of o.flat o.files order) c i → i.node < early_from o.flat → i.state.finished ≡ false →
+      IsTidy o.flat o.files order i.state i.committed
 
   abbrev pub Commits : Type 0
   Commits = (c : ℕ) (i : Stage) → Comes o (table_of o.flat) (nets_of o.flat o.files order) c i → (to : ℕ) → slice_get (table_of o.flat).nodes i.node ≡ Some (Apply to) → i.committed ≡ i.state.values

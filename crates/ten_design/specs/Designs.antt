@@ -1,5 +1,5 @@
 -- Designs whose runs are done by states of cells (IEEE 1364-2005, clauses 6.1, 9.2 and 10.4; own).
-use Rattle.std.specs.Prelude.{◌≡◌, ℕ, ◌≤◌, false, List, length, All}
+use Rattle.std.specs.Prelude.{ℕ, ◌≤◌, List, length, All}
 use Rattle.vl_design.specs.Laws.{IsUnrolled}
 use Rattle.vl_design.specs.Sound.{IsSound}
 use Rattle.vl_design.specs.Syntax.{Flat}
@@ -8,11 +8,11 @@ use Rattle.vl_settle.specs.Checked.{IsChecked, IsOrder}
 use Rattle.cell_paths.specs.Envs.{HasOneWord}
 use Rattle.cell_expr.specs.Bodies.{IsCellFun}
 use Rattle.cell_states.specs.Designs.{ComputesAlone}
-use Rattle.sub_nets.specs.Memories.{memory_at}
+use Rattle.sub_nets.specs.Memories.{SetsNoMemories}
 use Rattle.sub_nets.specs.Nets.{WritesNoNets}
 
 -- a sound design without loops that meets the rules of settling, with an order of its processes; combinational processes write
--- computed signals, and no others do. So far it has no memory
+-- computed signals, and no others do; clocked blocks write words of memories by nonblocking assignments alone
 pub record IsTenantDesign (d : Flat) (order : List ℕ) : Type 0 where
   pub sound : IsSound d
   pub unrolled : IsUnrolled d
@@ -23,4 +23,4 @@ pub record IsTenantDesign (d : Flat) (order : List ℕ) : Type 0 where
   pub nets : WritesNoNets d
   pub words : HasOneWord d.rows
   pub few : length d.rows ≤ 268435456
-  pub no_memory : (k : ℕ) → memory_at d.rows k ≡ false
+  pub memories : SetsNoMemories d

@@ -1,14 +1,17 @@
 //! What holds of designs whose runs are done by states of cells.
 
-ghost use Rattle.std.specs.Prelude.{◌≡◌, ℕ, List, None, All, map};
+ghost use Rattle.std.specs.Prelude.{◌≡◌, ℕ, List, None, All, map, take};
 ghost use Rattle.vl_design.specs.Alone.{Origin};
 ghost use Rattle.vl_design.specs.Syntax.{Flat};
 ghost use Rattle.vl_design.specs.Width.{names_of};
 ghost use Rattle.sub_nodes.specs.Code.{table_of};
+ghost use Rattle.sub_facts.specs.Early.{early_from};
+ghost use Rattle.sub_facts.specs.Pairs.{ArePaired};
 ghost use Rattle.sub_split.specs.Views.{node_view};
 ghost use Rattle.sub_split.specs.declared.table.Node.{Node};
 ghost use Rattle.cell_states.specs.Designs.{IsCellDesign};
 ghost use Rattle.cell_states.specs.Pieces.{IsCellNode};
+ghost use Rattle.ten_form.specs.Banks.{cell_nodes};
 ghost use Rattle.ten_calls.specs.Works.{HaveBytes};
 ghost use Rattle.ten_image.specs.Paired.{CallsStandApart};
 ghost use Rattle.ten_core.specs.Runs.{IsTame};
@@ -22,15 +25,17 @@ pub fn tenants_designs_are_compiled()
     ensures { (d : Flat) (order : List ℕ) → IsTenantDesign d order → IsCellDesign d order }
 {}
 
-/// Each node of its table is one that is compiled: its statements hold no call, and assign signals.
+/// Each node of its table behind time zero's wave is one that is compiled: its statements hold no call, and their blocking assignments
+/// are to signals.
 pub fn nodes_of_a_tenants_design_are_compiled()
     ensures { (d : Flat) (order : List ℕ) (nodes : List Node) → IsTenantDesign d order → map node_view nodes ≡ (table_of d).nodes →
-        All (IsCellNode (names_of d)) nodes }
+        All (IsCellNode (names_of d)) (take (early_from d) nodes) }
 {}
 
-/// To a call leads just a segment that goes there.
+/// Behind time zero's wave just a segment that goes to a call leads there, and the call's node stands right behind it.
 pub fn calls_of_a_table_stand_apart()
-    ensures { (d : Flat) → CallsStandApart (table_of d).nodes }
+    ensures apart { (d : Flat) → CallsStandApart (cell_nodes d) }
+    ensures paired { (d : Flat) → ArePaired 0 (cell_nodes d) }
 {}
 
 /// Runs of such a design from time zero are tame, over files of bytes.

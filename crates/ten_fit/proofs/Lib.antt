@@ -1,4 +1,5 @@
 pub mod Signals
 pub mod Rivals
+pub mod Words
 pub mod Writers
 pub mod Tenants

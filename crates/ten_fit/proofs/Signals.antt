@@ -1,7 +1,6 @@
 -- What the tests of a design's signals tell of their rows and kinds.
-use Rattle.std.proofs.Common.{◌≡◌, ℕ, zero, suc, true, false, List, [], ◌∷◌, map, Option, Some, None, refl, ◌∙◌}
-use Rattle.std.specs.List.{list_any, slice_get}
-use Rattle.std.proofs.lemmas.Bool.{or_parts}
+use Rattle.std.proofs.Common.{◌≡◌, ℕ, zero, suc, true, false, List, [], ◌∷◌, map, Option, Some, None, refl}
+use Rattle.std.specs.List.{slice_get}
 use Rattle.vl_design.specs.declared.design.Signal.{Signal}
 use Rattle.vl_design.specs.declared.design.SigKind.{SigKind}
 use Rattle.vl_design.specs.declared.design.SigKind.TheVariants.{Net, Var, Comb, Loop, Mem, Clock}
@@ -13,7 +12,6 @@ use Rattle.vl_check.specs.Writers.{is_store}
 use Rattle.vl_drivers.specs.Drivers.{is_net_kind, is_net_signal, is_net}
 use Rattle.vl_written.specs.Written.{is_kept, is_combined, is_uncomputed}
 use Rattle.sub_nets.specs.Memories.{is_mem, memory_at}
-use Rattle.ten_fit.specs.Kinds.{is_memory}
 
 derived : (kind : SigKind) → is_computed kind ≡ is_derived kind
 derived Net = refl
@@ -29,23 +27,9 @@ computed [] k = refl
 computed (s ∷ ss) zero = derived s.kind
 computed (s ∷ ss) (suc k) = computed ss k
 
-memory : (kind : SigKind) → is_mem kind ≡ is_memory kind
-memory Net = refl
-memory Var = refl
-memory Comb = refl
-memory Loop = refl
-memory Mem = refl
-memory Clock = refl
-
--- where no signal is a memory, none is one by its row
-pub no-memory : (signals : List Signal) → list_any (λ s. is_memory s.kind) signals ≡ false → (k : ℕ) → memory_at (map row_of signals) k ≡ false
-no-memory [] h k = refl
-no-memory (s ∷ ss) h zero = memory s.kind ∙ (or_parts (is_memory s.kind) (list_any (λ x. is_memory x.kind) ss) h).0
-no-memory (s ∷ ss) h (suc k) = no-memory ss (or_parts (is_memory s.kind) (list_any (λ x. is_memory x.kind) ss) h).1 k
-
 -- ---- the kinds of signals
 
-kind_left : (kind : SigKind) → is_kept kind ≡ false → is_clock kind ≡ false → is_loop kind ≡ false → is_memory kind ≡ false → is_derived kind ≡ true
+kind_left : (kind : SigKind) → is_kept kind ≡ false → is_clock kind ≡ false → is_loop kind ≡ false → is_mem kind ≡ false → is_derived kind ≡ true
 kind_left Net kept clock loop memory = refl
 kind_left Comb kept clock loop memory = refl
 kind_left Var kept clock loop memory = let z : ⊥ = cc in absurd z
@@ -55,12 +39,10 @@ kind_left Clock kept clock loop memory = let z : ⊥ = cc in absurd z
 
 -- what is left beside kept variables, clocks, loop variables and memories is computed
 pub derived_left : (signals : List Signal) (k : ℕ) → is_uncomputed signals k ≡ false → kind_is is_clock signals k ≡ false → kind_is is_loop signals k ≡ false →
-    list_any (λ s. is_memory s.kind) signals ≡ false → kind_is is_derived signals k ≡ true
-derived_left [] k kept clock loop memories = let z : ⊥ = cc in absurd z
-derived_left (s ∷ ss) zero kept clock loop memories =
-    kind_left s.kind kept clock loop (or_parts (is_memory s.kind) (list_any (λ x. is_memory x.kind) ss) memories).0
-derived_left (s ∷ ss) (suc k) kept clock loop memories =
-    derived_left ss k kept clock loop (or_parts (is_memory s.kind) (list_any (λ x. is_memory x.kind) ss) memories).1
+    memory_at (map row_of signals) k ≡ false → kind_is is_derived signals k ≡ true
+derived_left [] k kept clock loop memory = let z : ⊥ = cc in absurd z
+derived_left (s ∷ ss) zero kept clock loop memory = kind_left s.kind kept clock loop memory
+derived_left (s ∷ ss) (suc k) kept clock loop memory = derived_left ss k kept clock loop memory
 
 kind_neither : (kind : SigKind) → is_net_kind kind ≡ false → is_combined kind ≡ false → is_derived kind ≡ false
 kind_neither Net net combined = net

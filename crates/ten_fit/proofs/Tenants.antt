@@ -1,8 +1,7 @@
 -- An accepted design that runs on cells is a tenant's.
-use Rattle.std.proofs.Common.{◌≡◌, ℕ, ◌≤◌, true, false, length, sym, ap, ◌∙◌, subst}
-use Rattle.std.specs.Prelude.{not, nat_le, All}
-use Rattle.std.specs.List.{list_any}
-use Rattle.std.proofs.lemmas.Bool.{and_parts, not-true, leb-true}
+use Rattle.std.proofs.Common.{◌≡◌, ◌≤◌, true, length, sym, ap, ◌∙◌, subst}
+use Rattle.std.specs.Prelude.{All}
+use Rattle.std.proofs.lemmas.Bool.{leb-true}
 use Rattle.std.proofs.lemmas.List.{length-map}
 use Rattle.vl_design.specs.Laws.{IsUnrolled}
 use Rattle.vl_design.specs.Placed as p
@@ -27,23 +26,11 @@ use Rattle.cell_paths.specs.Envs.{HasOneWord}
 use Rattle.cell_paths.proofs.Assigning.{one-word}
 use Rattle.cell_expr.specs.Bodies.{IsCellFun}
 use Rattle.cell_states.specs.Designs.{ComputesAlone}
-use Rattle.sub_nets.specs.Memories.{memory_at}
+use Rattle.sub_nets.specs.Memories.{SetsNoMemories}
 use Rattle.sub_nets.specs.Nets.{WritesNoNets}
 use Rattle.ten_design.specs.Designs.{IsTenantDesign}
-use Rattle.ten_fit.specs.Kinds.{is_memory, runs_on_cells}
-use Rattle.ten_fit.proofs.Signals.{no-memory}
-use Rattle.ten_fit.proofs.Writers.{alone}
-
--- what the test tells
-pub record Passes (d : p.Design) : Type 0 where
-  pub few : length d.signals ≤ 268435456
-  pub memories : list_any (λ s. is_memory s.kind) d.signals ≡ false
-
-pub passes : (d : p.Design) → runs_on_cells d ≡ true → Passes d
-passes d h =
-    let memories = list_any (λ s. is_memory s.kind) d.signals in
-    let both = and_parts (nat_le (length d.signals) 268435456) (not memories) h in
-    record { few = leb-true (length d.signals) 268435456 both.0; memories = not-true memories both.1 }
+use Rattle.ten_fit.specs.Kinds.{runs_on_cells}
+use Rattle.ten_fit.proofs.Writers.{alone, leave_memories}
 
 module _ (d : p.Design) (fit : IsFit d) (w : HasWriters d) (a : Accepted) (s : Stands d a) where
   abbrev next : Flat
@@ -59,16 +46,16 @@ module _ (d : p.Design) (fit : IsFit d) (w : HasWriters d) (a : Accepted) (s : S
   placed_there : (P : p.Design → Type 0) → P (unrolled_placed d) → P (placed a.design)
   placed_there P h = subst P (sym s.design) h
 
-  pub tenants : All (IsCellFun (names_of (plain.flat (unrolled_placed d)))) (plain.flat (unrolled_placed d)).funs → Passes d → WritesNoNets next → IsTenantDesign (flat_of a.design) a.order.items
-  tenants functions passed nets = record {
+  pub tenants : All (IsCellFun (names_of (plain.flat (unrolled_placed d)))) (plain.flat (unrolled_placed d)).funs → runs_on_cells d ≡ true → WritesNoNets next → IsTenantDesign (flat_of a.design) a.order.items
+  tenants functions runs nets = record {
     sound = stays d a.design fit s.accepted.uses s.design;
     unrolled = there IsUnrolled (all_bare (plain.flat d));
     functions = placed_there (λ x. All (IsCellFun (names_of (plain.flat x))) (plain.flat x).funs) functions;
     checked = placed_there (λ x. IsChecked (plain.flat x)) (checked d fit s.accepted);
     ordered = ordered (flat_of a.design) a.order.items s.order.once s.order.levelled;
-    alone = there ComputesAlone (alone d fit w s.accepted passed.memories);
+    alone = there ComputesAlone (alone d fit w s.accepted);
     nets = there WritesNoNets nets;
     words = there (λ x. HasOneWord x.rows) (one-word d.signals);
-    few = there (λ x. length x.rows ≤ 268435456) (rw length-map passed.few);
-    no_memory = there (λ x. (k : ℕ) → memory_at x.rows k ≡ false) (no-memory d.signals passed.memories);
+    few = there (λ x. length x.rows ≤ 268435456) (rw length-map (leb-true (length d.signals) 268435456 runs));
+    memories = there SetsNoMemories (leave_memories d fit w s.accepted);
   }

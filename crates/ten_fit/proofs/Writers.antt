@@ -1,41 +1,50 @@
--- Combinational processes of an accepted design without memories assign what is computed, and no others do; so they write it with
--- their loops unrolled.
-use Rattle.std.proofs.Common.{◌≡◌, ℕ, Bool, true, false, List, [], ◌∷◌, refl, sym, ap, ◌∙◌, subst}
-use Rattle.std.specs.Prelude.{◌==◌, ◌⊎◌, not, slice_index_or}
+-- Combinational processes of an accepted design assign what is computed, and no others do; so they write it with their loops unrolled.
+-- Its clocked blocks set no memory.
+use Rattle.std.proofs.Common.{◌≡◌, ℕ, Bool, true, false, List, [], ◌∷◌, map, refl, sym, ap, ◌∙◌, subst}
+use Rattle.std.specs.Prelude.{◌==◌, ◌⊎◌, not, slice_get, slice_index_or}
 use Rattle.std.specs.List.{list_any}
 use Rattle.std.proofs.lemmas.Bool.{both_ways, and_cases, not-false, false_from_ne_true}
+use Rattle.std.proofs.lemmas.List.Elements.{All-nil}
 use mathlib.Core.List.{map-map}
 use mathlib.Core.Logic.{inl, inr}
+use Rattle.vl_design.specs.declared.design.ProcKind.TheVariants.{Rise}
 use Rattle.vl_design.specs.declared.stop.Stop.{Stop}
 use Rattle.vl_design.specs.Functions.{scope_of}
+use Rattle.vl_design.specs.Laws.{IsUnrolledStm}
 use Rattle.vl_design.specs.Placed as p
 use Rattle.vl_design.specs.Plainly as plain
 use Rattle.vl_design.specs.Queue.{is_comb, proc_at}
 use Rattle.vl_design.specs.Reads.{stm_writes}
-use Rattle.vl_design.specs.Syntax.{Proc, Flat}
-use Rattle.vl_design.specs.Width.{Scope}
+use Rattle.vl_design.specs.Rows.{row_of}
+use Rattle.vl_design.specs.Sound.{IsNamed, IsSoundProc, IsSoundStm}
+use Rattle.vl_design.specs.Syntax.{Event, Proc, Flat}
+use Rattle.vl_design.specs.Width.{Scope, names_of}
 use Rattle.vl_sites.specs.Sites.{Site, sites}
-use Rattle.vl_turns.specs.Unroll.{still, unrolled_proc, unrolled_flat}
+use Rattle.vl_turns.specs.Unroll.{still, unrolled, unrolled_proc, unrolled_flat}
+use Rattle.vl_turns.proofs.Bare.{all_bare}
+use Rattle.vl_turns.proofs.Sounding.{flat_sound}
 use Rattle.vl_stops.specs.First.{In}
-use Rattle.vl_check.specs.Bodies.{kind_is}
+use Rattle.vl_check.specs.Bodies.{role_of, kind_is}
 use Rattle.vl_check.specs.Rules.{is_clock, is_loop, is_derived, sets}
 use Rattle.vl_check.specs.Standing.{process_faults, standing_faults}
 use Rattle.vl_drivers.specs.Drivers.{is_net}
 use Rattle.vl_checked.specs.Built.{IsBuilt}
 use Rattle.vl_checked.specs.Fit.{IsFit}
 use Rattle.vl_written.specs.Written.{is_combined, is_uncomputed, is_computed, is_orphan, IsWritten, HasWriters}
-use Rattle.vl_pure.proofs.Faults.{faults_at, Hits, sets_hit, no_clock, no_loop}
+use Rattle.vl_pure.proofs.Faults.{faults_at, Hits, sets_hit, impure_free, no_clock, no_loop}
+use Rattle.vl_pure.proofs.Pure.{IsPure, pure, unrolled_pure}
 use Rattle.vl_pure.proofs.Silent.{silent}
 use Rattle.vl_settle.specs.Computed.{computed_at}
 use Rattle.vl_settle.specs.Nets.{comb_at}
 use Rattle.vl_settle.proofs.Calming.{idle}
 use Rattle.cell_accept.specs.Accepted.{IsAccepted}
-use Rattle.cell_settled.proofs.Finding.{At, found, all_at}
-use Rattle.cell_settled.proofs.Written.{no_assign}
+use Rattle.cell_settled.proofs.Finding.{At, found, all_at, all_index}
+use Rattle.cell_settled.proofs.Written.{written_there, no_assign}
 use Rattle.cell_states.specs.Designs.{ComputesAlone}
-use Rattle.ten_fit.specs.Kinds.{is_memory}
+use Rattle.sub_nets.specs.Memories.{memory_at, stm_sets, SetsNoMemories}
 use Rattle.ten_fit.proofs.Signals.{computed, derived_left, derived_neither, stored}
 use Rattle.ten_fit.proofs.Rivals.{written, no_other}
+use Rattle.ten_fit.proofs.Words.{signal-row, rise-clocked, fall-clocked, clocked-free, body-sets}
 
 none_in : (fs : List Stop) → ((f : Stop) → In f fs → ⊥) → fs ≡ []
 none_in [] h = refl
@@ -45,7 +54,7 @@ none_in (x ∷ xs) h = absurd (h x (inl refl))
 fails : (P : ℕ → Bool) (k : ℕ) (xs : List Site) → list_any (λ x. sets P x.what) xs ≡ false → Hits k xs → P k ≡ false
 fails P k xs none hits = false_from_ne_true (P k) (λ h. both_ways _ none (sets_hit P k h xs hits))
 
-module _ (d : p.Design) (fit : IsFit d) (w : HasWriters d) (accepted : IsAccepted d) (memories : list_any (λ s. is_memory s.kind) d.signals ≡ false) where
+module _ (d : p.Design) (fit : IsFit d) (w : HasWriters d) (accepted : IsAccepted d) where
   standing : standing_faults d ≡ []
   standing = none_in (standing_faults d) (λ f h. accepted.uses f (inl h))
 
@@ -56,14 +65,14 @@ module _ (d : p.Design) (fit : IsFit d) (w : HasWriters d) (accepted : IsAccepte
     its_writers : IsWritten d h.it
     its_writers = all_at (IsWritten d) d.processes i h w.processes
 
-    -- what a combinational process assigns is computed
-    of_combinational : is_comb h.it.kind ≡ true → kind_is is_derived d.signals k ≡ true
-    of_combinational c =
+    -- what a combinational process assigns is computed, or a memory
+    of_combinational : is_comb h.it.kind ≡ true → memory_at (map row_of d.signals) k ≡ false → kind_is is_derived d.signals k ≡ true
+    of_combinational c memory =
         derived_left d.signals k
         (fails (is_uncomputed d.signals) k (sites h.it.body) (its_writers.combinational c) hits)
         (false_from_ne_true (kind_is is_clock d.signals k) (λ e. no_clock d h.before h.it none k e hits))
         (false_from_ne_true (kind_is is_loop d.signals k) (λ e. no_loop d h.before h.it none k e hits))
-        memories
+        memory
 
     -- if it is said that combinational processes compute it, one does
     is_theirs : kind_is is_combined d.signals k ≡ true → is_computed d.processes k ≡ true
@@ -106,8 +115,59 @@ module _ (d : p.Design) (fit : IsFit d) (w : HasWriters d) (accepted : IsAccepte
     | inr e ↦ ap (λ (q : Proc). stm_writes (λ j. j == k) q.body) e
   ]
 
+  body_sound : (i : ℕ) → IsSoundStm (names_of next) (proc_at next i).body
+  body_sound i =
+      let nothing : IsSoundProc (names_of next) idle = record { events = All-nil (λ (e : Event). IsNamed (names_of next) e.signal); body = tt } in
+      (all_index (IsSoundProc (names_of next)) idle next.procs i nothing (flat_sound (plain.flat d) fit.sound).procs).body
+
+  body_bare : (i : ℕ) → IsUnrolledStm (proc_at next i).body
+  body_bare i = all_index (λ (q : Proc). IsUnrolledStm q.body) idle next.procs i tt (all_bare (plain.flat d)).procs
+
+  -- a combinational process only tests, and assigns at once to signals of one word
+  body_pure : (i : ℕ) → comb_at next i ≡ true → IsPure (proc_at next i).body
+  body_pure i c = elim (there i) [
+    | inl h ↦
+        let it = h.0.it in
+        let comb : is_comb it.kind ≡ true = ap (λ (q : Proc). is_comb q.kind) (sym h.1) ∙ c in
+        let faults = faults_at d standing h.0.before it h.0.after h.0.split in
+        let built = all_at (IsBuilt d.signals) d.processes i h.0 fit.processes in
+        let straight = pure it.path it.body (impure_free d h.0.before it faults comb) (built.timeless comb) in
+        subst (λ (q : Proc). IsPure q.body) (sym h.1) (unrolled_pure scope (plain.stm it.path it.body) straight (still scope))
+    | inr e ↦ subst (λ (q : Proc). IsPure q.body) (sym e) tt
+  ]
+
+  -- so it writes no memory
+  memory_unwritten : (i k : ℕ) → comb_at next i ≡ true → memory_at (map row_of d.signals) k ≡ true → stm_writes (λ j. j == k) (proc_at next i).body ≡ false
+  memory_unwritten i k c memory =
+      false_from_ne_true (stm_writes (λ j. j == k) (proc_at next i).body)
+      (λ written. both_ways _ (signal-row (slice_get next.rows k) (written_there (names_of next) k (proc_at next i).body (body_pure i c) (body_bare i) (body_sound i) written)) memory)
+
   pub alone : ComputesAlone next
-  alone i k c n = unwritten i k (λ h same hits. both_ways _ (sym (computed d.signals k) ∙ n) (of_combinational i k h hits (same ∙ c)))
+  alone i k c n = at (memory_at (map row_of d.signals) k) refl
+    where
+      at : (b : Bool) → memory_at (map row_of d.signals) k ≡ b → stm_writes (λ j. j == k) (proc_at next i).body ≡ false
+      at true memory = memory_unwritten i k c memory
+      at false memory = unwritten i k (λ h same hits. both_ways _ (sym (computed d.signals k) ∙ n) (of_combinational i k h hits (same ∙ c) memory))
 
   pub others : (i k : ℕ) → comb_at next i ≡ false → computed_at next.rows k ≡ true → stm_writes (λ j. j == k) (proc_at next i).body ≡ false
   others i k c n = unwritten i k (λ h same hits. both_ways _ (of_other i k h hits (same ∙ c)) (sym (computed d.signals k) ∙ n))
+
+  -- ---- clocked blocks
+
+  clocked : (i : ℕ) → role_of (proc_at next i).kind ≡ role_of Rise → stm_sets (memory_at next.rows) (proc_at next i).body ≡ false
+  clocked i role = elim (there i) [
+    | inl h ↦
+        let it = h.0.it in
+        let body : (proc_at next i).body ≡ unrolled scope (plain.stm it.path it.body) (still scope) = ap (λ (q : Proc). q.body) h.1 in
+        let same : role_of it.kind ≡ role_of Rise = ap (λ (q : Proc). role_of q.kind) (sym h.1) ∙ role in
+        let faults = faults_at d standing h.0.before it h.0.after h.0.split in
+        ap (stm_sets (memory_at next.rows)) body
+        ∙ body-sets scope (names_of next) it.path it.body (clocked-free d h.0.before it same faults) (still scope) (subst (IsSoundStm (names_of next)) body (body_sound i))
+    | inr e ↦ ap (λ (q : Proc). stm_sets (memory_at next.rows) q.body) e
+  ]
+
+  pub leave_memories : SetsNoMemories next
+  leave_memories = record {
+    rises = λ i rise. clocked i (rise-clocked (proc_at next i).kind rise);
+    falls = λ i fall. clocked i (fall-clocked (proc_at next i).kind fall);
+  }

@@ -1,5 +1,5 @@
 -- What nets are over the values committed last (IEEE 1364-2005, clauses 6.1 and 9.7.5; own).
-use Rattle.std.specs.Prelude.{◌≡◌, ℕ, Bool, true, false, List, [], ◌∷◌, map, if◌then◌else◌}
+use Rattle.std.specs.Prelude.{◌≡◌, ℕ, true, List, [], ◌∷◌, map, if◌then◌else◌}
 use Rattle.vl_base.specs.declared.files.File.{File}
 use Rattle.vl_design.specs.Syntax.{Row, Flat}
 use Rattle.vl_design.specs.Width.{names_of}
@@ -21,20 +21,15 @@ cleared (r ∷ rs) (words ∷ values) = (if is_computed r.kind then map (λ x. 0
 abbrev pub nets_of : Flat → List File → List ℕ → State → List (List ℕ)
 nets_of d files order s = pass (run d files s) order s.values
 
--- computed signals are 0: so it is up to the end of time zero's wave
-abbrev pub NetsAreZero : Flat → List (List ℕ) → Type 0
-NetsAreZero d values = (k : ℕ) → IsSignal (names_of d) k → computed_at d.rows k ≡ true → value_of values k ≡ 0
-
 -- computed signals have the values that one pass over the committed values gives
 abbrev pub NetsHold : Flat → List File → List ℕ → State → List (List ℕ) → Type 0
 NetsHold d files order s committed = (k : ℕ) → IsSignal (names_of d) k → computed_at d.rows k ≡ true →
     value_of s.values k ≡ value_of (pass (run d files s) order (cleared d.rows committed)) k
 
--- what holds of a state of a run and of the values committed last: in time zero's wave (early), or behind it
-pub record IsTidy (d : Flat) (files : List File) (order : List ℕ) (early : Bool) (s : State) (committed : List (List ℕ)) : Type 0 where
+-- what holds of a state of a run behind time zero's wave, and of the values committed last
+pub record IsTidy (d : Flat) (files : List File) (order : List ℕ) (s : State) (committed : List (List ℕ)) : Type 0 where
   pub fine : IsFine d.rows s.values
   pub committed_fine : IsFine d.rows committed
-  pub zero : early ≡ true → NetsAreZero d s.values
-  pub nets : early ≡ false → NetsHold d files order s committed
-  -- a wave behind that of time zero leaves memories as they were
-  pub memories : early ≡ false → (m : ℕ) → IsMemory (names_of d) m → words_of committed m ≡ words_of s.values m
+  pub nets : NetsHold d files order s committed
+  -- waves leave memories as they were
+  pub memories : (m : ℕ) → IsMemory (names_of d) m → words_of committed m ≡ words_of s.values m

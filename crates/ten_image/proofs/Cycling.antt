@@ -1,6 +1,6 @@
 -- One cycle of the states of an image.
 use Rattle.std.proofs.Common.{◌≡◌, ℕ, ◌<◌, ◌≤◌, ◌^◌, Bool, true, false, List, [], ◌∷◌, length, map, Option, Some, inl, inr, refl, sym, ap, ◌∙◌, arith, subst}
-use Rattle.std.specs.Prelude.{◌==◌, ◌||◌, if◌then◌else◌, slice_get, nat_le}
+use Rattle.std.specs.Prelude.{◌==◌, ◌||◌, if◌then◌else◌, slice_get}
 use Rattle.std.specs.List.{list_any}
 use Rattle.std.proofs.lemmas.Bool.{eq-eqb, true≢false}
 use Rattle.std.proofs.lemmas.List.{length-map}
@@ -20,7 +20,7 @@ use Rattle.cell_form.proofs.Cycling.{same-shape}
 use Rattle.cell_form.specs.States.{table_cycled, state_cycled}
 use Rattle.sub_nodes.specs.Nodes.{Way, Go, Branch, Switch, Commit, Node, Run, Trap, Apply}
 use Rattle.sub_nodes.specs.Cycles.{Stage, cycled, cycle, segment_done, ways_form, way_of, is_trap}
-use Rattle.ten_form.specs.Banks.{IsFor}
+use Rattle.ten_form.specs.Banks.{cell_nodes, IsFor}
 use Rattle.ten_form.specs.Nets.{nets_of, IsTidy}
 use Rattle.ten_form.specs.Registers.{state_register}
 use Rattle.ten_calls.specs.Asked.{asked}
@@ -70,21 +70,21 @@ module _ (d : Flat) (order : List ℕ) (files : List File) where
   next-led (Apply to) i h = one to
 
   -- a node that is no call's has no trap
-  does-of : (early : Bool) (slots : ℕ) (nodes : List Node) (states : List StateData) (x : Node) (s : StateData) → is_trap (Some x) ≡ false → IsStateOf d order early slots nodes states x s → Does d order early x s
-  does-of early slots nodes states (Run g (Go to)) s h is = is.0
-  does-of early slots nodes states (Run g (Branch t first second)) s h is = is
-  does-of early slots nodes states (Run g (Switch e ws other)) s h is = is
-  does-of early slots nodes states (Run g (Commit to)) s h is = is
-  does-of early slots nodes states (Trap task to) s h is = absurd (true≢false h)
-  does-of early slots nodes states (Apply to) s h is = is
+  does-of : (n : ℕ) (slots : ℕ) (nodes : List Node) (states : List StateData) (x : Node) (s : StateData) → is_trap (Some x) ≡ false → IsStateOf d order n slots nodes states x s → Does d order n x s
+  does-of n slots nodes states (Run g (Go to)) s h is = is.0
+  does-of n slots nodes states (Run g (Branch t first second)) s h is = is
+  does-of n slots nodes states (Run g (Switch e ws other)) s h is = is
+  does-of n slots nodes states (Run g (Commit to)) s h is = is
+  does-of n slots nodes states (Trap task to) s h is = absurd (true≢false h)
+  does-of n slots nodes states (Apply to) s h is = is
 
-  leads-of : (early : Bool) (slots : ℕ) (nodes : List Node) (states : List StateData) (x : Node) (s : StateData) (m : ℕ) → GoesTo x m → IsStateOf d order early slots nodes states x s → LeadsToCall d order early nodes states x s m
-  leads-of early slots nodes states (Run g (Go to)) s m h is = subst (LeadsToCall d order early nodes states (Run g (Go to)) s) h is.1
-  leads-of early slots nodes states (Run g (Branch t first second)) s m h is = absurd h
-  leads-of early slots nodes states (Run g (Switch e ws other)) s m h is = absurd h
-  leads-of early slots nodes states (Run g (Commit to)) s m h is = absurd h
-  leads-of early slots nodes states (Trap task to) s m h is = absurd h
-  leads-of early slots nodes states (Apply to) s m h is = absurd h
+  leads-of : (n : ℕ) (slots : ℕ) (nodes : List Node) (states : List StateData) (x : Node) (s : StateData) (m : ℕ) → GoesTo x m → IsStateOf d order n slots nodes states x s → LeadsToCall d order n nodes states x s m
+  leads-of n slots nodes states (Run g (Go to)) s m h is = subst (LeadsToCall d order n nodes states (Run g (Go to)) s) h is.1
+  leads-of n slots nodes states (Run g (Branch t first second)) s m h is = absurd h
+  leads-of n slots nodes states (Run g (Switch e ws other)) s m h is = absurd h
+  leads-of n slots nodes states (Run g (Commit to)) s m h is = absurd h
+  leads-of n slots nodes states (Trap task to) s m h is = absurd h
+  leads-of n slots nodes states (Apply to) s m h is = absurd h
 
   abbrev trap-task : Option Node → Task → Task
   trap-task (Some (Trap task to)) other = task
@@ -105,31 +105,31 @@ module _ (d : Flat) (order : List ℕ) (files : List File) where
   for-fewer : (n m : ℕ) (z : Shape) → n ≤ m → IsFor d m z → IsFor d n z
   for-fewer n m z le f = record { regs = f.regs; mems = f.mems; slots = (let h = f.slots in omega (arith, le, h)) }
 
-  pub cycled-stands : (from slots : ℕ) (nodes : List Node) (states : List StateData) (b : BankData) (i : Stage) (x : Node) → AreStates d order from slots nodes states → CallsStandApart nodes →
-      StandsAt d order files slots nodes states b i → slice_get nodes i.node ≡ Some x → is_trap (Some x) ≡ false → IsTidy d files order (nat_le from i.node) i.state i.committed → IsDue d x i → i.state.finished ≡ false →
-      (cycle d files (nets_of d files order) nodes i).state.ticks < 2 ^ 32 →
-      StandsAt d order files slots nodes states (table_cycled (record { state = state_register; states = states }) b) (cycle d files (nets_of d files order) nodes i)
-  cycled-stands from slots nodes states b i x all apart st is free tidy due alive few =
+  pub cycled-stands : (slots : ℕ) (states : List StateData) (b : BankData) (i : Stage) (x : Node) → AreStates d order slots (cell_nodes d) states → CallsStandApart (cell_nodes d) →
+      StandsAt d order files slots (cell_nodes d) states b i → slice_get (cell_nodes d) i.node ≡ Some x → is_trap (Some x) ≡ false → IsTidy d files order i.state i.committed → IsDue d x i → i.state.finished ≡ false →
+      (cycle d files (nets_of d files order) (cell_nodes d) i).state.ticks < 2 ^ 32 →
+      StandsAt d order files slots (cell_nodes d) states (table_cycled (record { state = state_register; states = states }) b) (cycle d files (nets_of d files order) (cell_nodes d) i)
+  cycled-stands slots states b i x all apart st is free tidy due alive few =
       elim ((slice_get_cases states i.node).1) [
-        | inl h ↦ subst (λ o. StandsAt d order files slots nodes states (state_cycled o b) (cycle d files (nets_of d files order) nodes i)) (sym (ap (slice_get states) st.stage.node ∙ h.2)) (stands h.0 h.2)
-        | inr h ↦ (let lt = slice_get_within nodes i.node x is in let many = all.many in let past = h.0 in absurd (omega (arith, lt, many, past)))
+        | inl h ↦ subst (λ o. StandsAt d order files slots (cell_nodes d) states (state_cycled o b) (cycle d files (nets_of d files order) (cell_nodes d) i)) (sym (ap (slice_get states) st.stage.node ∙ h.2)) (stands h.0 h.2)
+        | inr h ↦ (let lt = slice_get_within (cell_nodes d) i.node x is in let many = all.many in let past = h.0 in absurd (omega (arith, lt, many, past)))
       ]
     where
-      stands : (s : StateData) → slice_get states i.node ≡ Some s → StandsAt d order files slots nodes states (cells.cycled s.cells b) (cycle d files (nets_of d files order) nodes i)
+      stands : (s : StateData) → slice_get states i.node ≡ Some s → StandsAt d order files slots (cell_nodes d) states (cells.cycled s.cells b) (cycle d files (nets_of d files order) (cell_nodes d) i)
       stands s e =
           let j = behind d order files x i in
-          let same : cycle d files (nets_of d files order) nodes i ≡ j = ap (λ o. cycled d files (nets_of d files order) o i) is in
+          let same : cycle d files (nets_of d files order) (cell_nodes d) i ≡ j = ap (λ o. cycled d files (nets_of d files order) o i) is in
           let of = all.each i.node x s is e in
-          let does = does-of (nat_le from i.node) slots nodes states x s free of in
+          let does = does-of i.node slots (cell_nodes d) states x s free of in
           let fits = all.fits i.node s e in
           let shape = for-fewer (slots_in s.cells) slots (shape_of b) fits st.shape in
-          let may : MayCycle d order files (nat_le from i.node) x (slots_in s.cells) b i = record { shape = shape; tidy = tidy; due = due; alive = alive; few = subst (λ (k : Stage). k.state.ticks < 2 ^ 32) same few; holds = st.stage.holds } in
-          subst (StandsAt d order files slots nodes states (cells.cycled s.cells b)) (sym same) (record {
+          let may : MayCycle d order files i.node x (slots_in s.cells) b i = record { at = refl; there = is; shape = shape; tidy = tidy; due = due; alive = alive; few = subst (λ (k : Stage). k.state.ticks < 2 ^ 32) same few; stage = st.stage } in
+          subst (StandsAt d order files slots (cell_nodes d) states (cells.cycled s.cells b)) (sym same) (record {
             shape = for-bank slots b (cells.cycled s.cells b) (same-shape s.cells b (does.does.runs (shape_of b) shape)) st.shape;
             stage = does.does.does files b i may;
             asked = λ task to at.
-                let leads = leads-of (nat_le from i.node) slots nodes states x s j.node (apart i.node j.node x task to is (next-led x i free) at) of in
-                let t = same-task nodes j.node leads.task task leads.to to leads.node at in
+                let leads = leads-of i.node slots (cell_nodes d) states x s j.node (apart i.node j.node x task to is (next-led x i free) at) of in
+                let t = same-task (cell_nodes d) j.node leads.task task leads.to to leads.node at in
                 record {
                   trap = leads.trap;
                   there = leads.there;

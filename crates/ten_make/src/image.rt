@@ -1,72 +1,88 @@
 //! The image of a design.
 
-ghost use Rattle.std.specs.Prelude.{◌≡◌, IfOk};
+ghost use Rattle.std.specs.Prelude.{◌≡◌, ◌≤◌, ◌^◌, IfOk, length, map};
 ghost use Rattle.vl_design.specs.Trees.{flat_of};
+ghost use Rattle.sub_nodes.specs.Code.{table_of};
+ghost use Rattle.sub_facts.specs.Early.{early_from};
+ghost use Rattle.sub_split.specs.Views.{node_view};
 ghost use Rattle.ten_core.specs.Tenants.{IsImage};
 ghost use Rattle.ten_core.specs.declared.image.Image.{Image as ImageData};
 ghost use Rattle.ten_design.specs.Designs.{IsTenantDesign};
 
-use cell_form::bank::Bank;
 use cell_form::table::StateTable;
 use cell_states::table::states;
 use std::alloc::{AllocError, Global};
 use sub_split::split::split;
+use sub_split::table::Table;
 use ten_core::image::Image;
 use ten_design::laws::{
     calls_of_a_table_stand_apart, nodes_of_a_tenants_design_are_compiled,
     tenants_designs_are_compiled,
 };
-use ten_start::laws::a_run_begins_with_this_bank;
-use ten_start::start::start_bank;
 use vl_design::design::Design;
 
-/// What an image has beside its design.
+/// The most nodes of a table, so that acts can be counted: 2 ^ 31.
+const MOST_NODES: usize = 2_147_483_648;
+
+/// What an image has beside its design and its order.
 #[derive(Drop)]
 struct Parts {
     /// The states.
     table: StateTable,
     /// The state that a tick begins with.
     rise: u32,
-    /// The bank with which a run begins.
-    zero: Bank,
+    /// How many slots the states have together.
+    slots: u32,
+    /// How many stores keep pending writes to words of memories.
+    stores: u32,
 }
 
-/// The states of a design, and where its runs begin.
+/// The table of a design's nodes. An `Err` is want of memory, also where there would be more than 2 ^ 31 nodes.
+fn few_nodes(alloc: Global, design: &Design) -> Result<Table<'_>, AllocError>
+    ensures nodes { IfOk result (λ t. map node_view t.nodes.items ≡ (table_of (flat_of design.now)).nodes) }
+    ensures rise { IfOk result (λ t. t.rise.first ≡ (table_of (flat_of design.now)).rise.first) }
+    ensures early { IfOk result (λ t. t.early ≡ early_from (flat_of design.now)) }
+    ensures few { IfOk result (λ t. length t.nodes.items ≤ 2 ^ 31) }
+{
+    let table = split(alloc, design)?;
+    if table.nodes.as_slice().len() > MOST_NODES {
+        return Err(AllocError);
+    }
+    Ok(table)
+}
+
+/// The states of a design, and where its ticks begin.
 fn made(alloc: Global, design: &Design, order: &[u32]) -> Result<Parts, AllocError>
     requires { IsTenantDesign (flat_of design.now) order.now }
-    ensures { IfOk result (λ m. (image : ImageData) → flat_of design.now ≡ flat_of image.design → image.table ≡ m.table → image.rise ≡ m.rise → image.zero ≡ m.zero →
-        IsImage (flat_of design.now) order.now image) }
+    ensures { IfOk result (λ m. (image : ImageData) → flat_of design.now ≡ flat_of image.design → image.order.items ≡ order.now → image.table ≡ m.table → image.rise ≡ m.rise →
+        image.slots ≡ m.slots → image.stores ≡ m.stores → IsImage (flat_of design.now) order.now image) }
 {
     tenants_designs_are_compiled();
     nodes_of_a_tenants_design_are_compiled();
     calls_of_a_table_stand_apart();
-    a_run_begins_with_this_bank();
-    let nodes = split(alloc, design)?;
-    let (table, slots) = states(alloc, design, order, &nodes, nodes.early as usize)?;
-    let zero = start_bank(
-        alloc,
-        design.signals.as_slice(),
-        slots as usize,
-        nodes.zero.first,
-    )?;
+    let nodes = few_nodes(alloc, design)?;
+    let states = states(alloc, design, order, &nodes)?;
     Ok(Parts {
-        table,
+        table: states.table,
         rise: nodes.rise.first,
-        zero,
+        slots: states.slots,
+        stores: states.stores,
     })
 }
 
-/// The image of a design: its states do what the nodes of its table do, where nets settle in this order, and its first bank stands for
-/// the start of the run. An `Err` is want of memory, also where there would be 2 ^ 32 nodes or slots.
-pub fn image(alloc: Global, design: Design, order: &[u32]) -> Result<Image, AllocError>
-    requires { IsTenantDesign (flat_of design) order.now }
-    ensures { IfOk result (λ image. IsImage (flat_of design) order.now image) }
+/// The image of a design with its order: its states do what the nodes of its table behind time zero's wave do, where nets settle in
+/// this order. An `Err` is want of memory, also where there would be more than 2 ^ 31 nodes, or 2 ^ 32 slots.
+pub fn image(alloc: Global, design: Design, order: Vec<u32>) -> Result<Image, AllocError>
+    requires { IsTenantDesign (flat_of design) order.items }
+    ensures { IfOk result (λ image. IsImage (flat_of design) order.items image) }
 {
-    let made = made(alloc, &design, order)?;
+    let made = made(alloc, &design, &order)?;
     Ok(Image {
         design,
+        order,
         table: made.table,
         rise: made.rise,
-        zero: made.zero,
+        slots: made.slots,
+        stores: made.stores,
     })
 }

@@ -1,5 +1,5 @@
 -- A tenant on its way stays on it.
-use Rattle.std.proofs.Common.{◌≡◌, ◌<◌, ◌≤◌, ◌+◌, ◌^◌, ℕ, suc, Bool, true, false, List, length, refl, ◌∙◌, arith}
+use Rattle.std.proofs.Common.{◌≡◌, ◌<◌, ◌≤◌, ◌+◌, ◌^◌, ℕ, suc, Bool, true, false, List, refl, ◌∙◌, arith}
 use Rattle.std.specs.Prelude.{◌||◌, ◌&&◌, not, if◌then◌else◌, nat_lt, slice_get, slice_index}
 use Rattle.vl_base.specs.declared.files.File.{File}
 use Rattle.vl_design.specs.Syntax.{Flat}
@@ -14,7 +14,7 @@ use Rattle.ten_run.proofs.Stepping.{acts-fit, call-is, cycle-is, Serves, Cycles,
 use Rattle.ten_parcel.specs.declared.resident.Beat.{Beat}
 use Rattle.ten_parcel.specs.declared.resident.Beat.TheVariants.{Ran, Trap, TickEnd}
 use Rattle.ten_parcel.specs.declared.resident.Resident.{Resident}
-use Rattle.ten_parcel.specs.Parcels.{origin_of, IsOn, Rests, IsParcel}
+use Rattle.ten_parcel.specs.Parcels.{origin_of, IsOn}
 
 -- ---- what a cycle came to
 
@@ -37,11 +37,10 @@ on-alive : (f r l : Bool) → (not f && (not r || l)) ≡ true → f ≡ false
 on-alive true r l h = let z : ⊥ = cc in absurd z
 on-alive false r l h = refl
 
--- what runs, and comes to no more acts than can be counted, is on its way
+-- what runs within such a budget is on its way
 module _ (d : Flat) (files : List File) where
-  pub stands-on : (r : Resident) (s : IsRunning d files r.budget (tenant_of r.tenant)) → length (table_of d).nodes ≤ 2 ^ 31 → r.budget ≤ 1000000000 →
-      IsOn d files r s.acts s.stage
-  stands-on r s few short = record {
+  pub stands-on : (r : Resident) (s : IsRunning d files r.budget (tenant_of r.tenant)) → r.budget ≤ 1000000000 → IsOn d files r s.acts s.stage
+  stands-on r s short = record {
     order = s.order;
     tame = s.tame;
     unrolled = s.unrolled;
@@ -49,13 +48,8 @@ module _ (d : Flat) (files : List File) where
     ordered = s.ordered;
     at = s.at;
     within = s.within;
-    few = few;
     short = short;
   }
-
-  pub is-parcel : (r : Resident) → Rests d files r.budget (tenant_of r.tenant) → length (table_of d).nodes ≤ 2 ^ 31 → r.budget ≤ 1000000000 →
-      IsParcel d files (record { resident = r })
-  is-parcel r x few short = record { acts = x.running.acts; stage = x.running.stage; on = stands-on r x.running few short; rest = x.rest }
 
 module _ (d : Flat) (files : List File) (r : Resident) (c : ℕ) (i : Stage) (w : IsOn d files r c i) where
   abbrev pub is-running : IsRunning d files r.budget (tenant_of r.tenant)
@@ -75,11 +69,11 @@ module _ (d : Flat) (files : List File) (r : Resident) (c : ℕ) (i : Stage) (w 
   is-run = runs d files r.budget (tenant_of r.tenant) is-running
 
   pub acts-fit-on : r.tenant.cycles + 1 < 2 ^ 64
-  acts-fit-on = acts-fit d files r.budget (tenant_of r.tenant) is-running w.few w.short
+  acts-fit-on = acts-fit d files r.budget (tenant_of r.tenant) is-running w.short
 
   pub ticks-fit-on : slice_index (tenant_of r.tenant).bank.regs ticks_register + 1 < 2 ^ 32
   ticks-fit-on =
-      let e = w.at.stands.stage.holds.ticks in
+      let e = w.at.stands.stage.holds.signals.ticks in
       let l = w.within in
       let s = w.short in
       omega (arith, e, l, s)
@@ -94,7 +88,7 @@ module _ (d : Flat) (files : List File) (r : Resident) (c : ℕ) (i : Stage) (w 
   pub cycled-on : (t : Tenant) → r.tenant.waits ≡ false → Cycles (tenant_of r.tenant) (tenant_of t) → goes_on d r.budget i ≡ true →
       IsOn d files (with_tenant t) (if t.waits then c else suc c) (after_cycle (origin_of d files r) w.order i)
   cycled-on t idle cycled on =
-      let m : MayGoOn d files r.budget (tenant_of r.tenant) = record { running = is-running; on = on; few = w.few; short = w.short } in
+      let m : MayGoOn d files r.budget (tenant_of r.tenant) = record { running = is-running; on = on; short = w.short } in
       record {
         order = w.order;
         tame = w.tame;
@@ -103,7 +97,6 @@ module _ (d : Flat) (files : List File) (r : Resident) (c : ℕ) (i : Stage) (w 
         ordered = w.ordered;
         at = cycled (origin_of d files r) w.order c i w.tame w.at;
         within = (cycle-is d files r.budget (tenant_of r.tenant) m idle).within;
-        few = w.few;
         short = w.short;
       }
 
@@ -117,12 +110,11 @@ module _ (d : Flat) (files : List File) (r : Resident) (c : ℕ) (i : Stage) (w 
     ordered = w.ordered;
     at = served (origin_of d files r) w.order c i w.tame w.at;
     within = (call-is d files r.budget (tenant_of r.tenant) is-running waits).within;
-    few = w.few;
     short = w.short;
   }
 
   pub over-on : (t : Tenant) → IsOver d files r.budget (tenant_of t) → (b : ℕ) × (j : Stage) × IsOn d files (with_tenant t) b j × (goes_on d r.budget j ≡ false)
-  over-on t s = (s.running.acts, s.running.stage, stands-on d files (with_tenant t) s.running w.few w.short, s.over)
+  over-on t s = (s.running.acts, s.running.stage, stands-on d files (with_tenant t) s.running w.short, s.over)
 
 -- wherever it is on its way
 pub served-all : (r : Resident) (t : Tenant) → r.tenant.waits ≡ true → Serves (tenant_of r.tenant) (tenant_of t) →

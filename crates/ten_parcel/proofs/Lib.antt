@@ -1,3 +1,3 @@
-mod Resting
-mod Staying
+mod Loading
 pub mod Going
+pub mod Resting

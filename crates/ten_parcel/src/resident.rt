@@ -2,19 +2,23 @@
 
 ghost use Rattle.std.specs.Prelude.{◌≡◌, ℕ, suc, true, false, List, OnOk, OnErr, if◌then◌else◌, slice_get};
 ghost use Rattle.vl_base.specs.declared.files.File.{File};
+ghost use Rattle.vl_design.specs.Alone.{Boundary, reason_at};
+ghost use Rattle.vl_design.specs.Queue.{Queue};
 ghost use Rattle.vl_design.specs.Syntax.{Flat};
 ghost use Rattle.sub_nodes.specs.Code.{table_of};
 ghost use Rattle.sub_nodes.specs.Cycles.{Stage, rises};
 ghost use Rattle.sub_nodes.specs.Stands.{at_trap};
 ghost use Rattle.ten_core.specs.Runs.{after_cycle, after_call};
 ghost use Rattle.ten_core.specs.Tenants.{tenant_of};
-ghost use Rattle.ten_run.specs.Running.{goes_on};
-ghost use Rattle.ten_parcel.specs.Parcels.{origin_of, IsOn, is_at_rest, beat_of, IsParcel};
+ghost use Rattle.ten_run.specs.Running.{begun, goes_on};
+ghost use Rattle.ten_parcel.specs.Parcels.{origin_of, IsOn, is_at_rest, beat_of, IsAtRest, IsParcel, Rests};
 
 use crate::parcel::Parcel;
 use std::alloc::{AllocError, Global};
+use sub_nets::laws::the_table_of_a_checked_design_can_run;
 use ten_core::tenant::Tenant;
 use ten_run::run::run_on;
+use vl_design::design::End;
 
 /// What a cycle came to.
 #[derive(Clone, Copy, Debug, PartialEq)]
@@ -39,11 +43,15 @@ pub struct Resident {
 }
 
 impl Resident {
-    /// A parcel on its way again.
+    /// A tenant at rest on its way again. A parcel that is none has finished in time zero: `Parcel::ended` tells.
     pub fn from_parcel(parcel: Parcel) -> Resident
-        ensures { result ≡ parcel.resident }
+        requires { Rests parcel }
+        ensures { parcel ≡ Parcel.Rests result }
     {
-        parcel.resident
+        match parcel {
+            Parcel::Rests(resident) => resident,
+            Parcel::Over(_) => unreachable!(),
+        }
     }
 
     /// One cycle: the next act, unless that is a call, which then waits. It takes no memory.
@@ -114,8 +122,33 @@ impl Resident {
     pub fn into_parcel(self) -> Parcel
         requires { (d : Flat) × (files : List File) × (c : ℕ) × (i : Stage) × IsOn d files self c i × (is_at_rest d i ≡ true) }
         ensures parcel { (d : Flat) (files : List File) (c : ℕ) (i : Stage) → IsOn d files self c i → is_at_rest d i ≡ true → IsParcel d files result }
-        ensures same { result.resident ≡ self }
+        ensures same { result ≡ Parcel.Rests self }
     {
-        Parcel { resident: self }
+        Parcel::Rests(self)
+    }
+
+    /// The ticks that it has begun, where it is at rest.
+    pub(crate) fn ticks(&self) -> u64
+        requires { (d : Flat) × (files : List File) × IsAtRest d files self.now }
+        ensures { result ≡ begun (tenant_of self.now.tenant) }
+    {
+        self.tenant.ticks()
+    }
+
+    /// Why its run has ended, where it is at rest, if it has.
+    pub(crate) fn ended(&self) -> Option<End>
+        requires { (d : Flat) × (files : List File) × IsAtRest d files self.now }
+        ensures { (d : Flat) (files : List File) → IsAtRest d files self.now →
+            (q : Queue) × Boundary (origin_of d files self.now) (begun (tenant_of self.now.tenant)) q
+            × (result ≡ reason_at (origin_of d files self.now).plan (begun (tenant_of self.now.tenant)) q) }
+    {
+        the_table_of_a_checked_design_can_run();
+        if self.done() {
+            Some(End::Finished)
+        } else if self.ticks() >= self.budget {
+            Some(End::Budget)
+        } else {
+            None
+        }
     }
 }

@@ -16,11 +16,8 @@ use Rattle.sub_nodes.specs.Stands.{CanRun}
 use Rattle.sub_ends.proofs.Ending.{finished_ends, budget_ends, running_counts, finished_counts}
 use Rattle.vl_acts.proofs.Onward.{checked_quiet}
 use Rattle.ten_form.specs.Nets.{nets_of}
-use Rattle.ten_core.specs.declared.image.Image.{Image}
-use Rattle.ten_core.specs.Runs.{first_stage, IsAt}
-use Rattle.ten_core.specs.Tenants.{TenantData, IsImage}
-use Rattle.ten_run.specs.Runnable.{CanBeRun}
-use Rattle.ten_run.specs.Running.{IsRunning, IsOver}
+use Rattle.ten_core.specs.Tenants.{TenantData}
+use Rattle.ten_run.specs.Running.{IsOver}
 
 over-rises : (f r l : Bool) → (not f && (not r || l)) ≡ false → f ≡ false → r ≡ true
 over-rises true r l h e = let z : ⊥ = cc in absurd z
@@ -46,21 +43,6 @@ module _ (d : Flat) (files : List File) (budget : ℕ) where
   -- what is told of an end
   abbrev pub Told : ℕ → ℕ → End → List ℕ → Type 0
   Told ticks cycles end printed = (q : Queue) × Ends o ticks end q × (q.state.ticks ≡ ticks) × (q.state.count ≡ cycles) × (q.state.printed ≡ printed)
-
-  pub begins : (image : Image) (t : TenantData) → CanBeRun d files budget image →
-      ((x : Origin) (order : List ℕ) → IsImage x.flat order image → x.files ≡ files → x.resume ≡ None → IsAt x order t 0 (first_stage x)) →
-      IsRunning d files budget t
-  begins image t h starts = record {
-    order = h.order;
-    tame = h.tame;
-    unrolled = h.unrolled;
-    checked = h.checked;
-    ordered = h.ordered;
-    acts = 0;
-    stage = first_stage o;
-    at = starts o h.order h.image_is refl refl;
-    within = omega arith;
-  }
 
   module _ (t : TenantData) (s : IsOver d files budget t) (can : CanRun o (table_of d) (nets_of d files s.running.order)) where
     abbrev i : Stage

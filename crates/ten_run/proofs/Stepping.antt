@@ -2,14 +2,11 @@
 use Rattle.std.proofs.Common.{◌≡◌, ◌<◌, ◌≤◌, ◌+◌, ◌-◌, ◌*◌, ◌^◌, ℕ, suc, Bool, true, false, List, length, refl, sym, ap, ◌∙◌, arith}
 use Rattle.std.specs.Prelude.{◌&&◌, ◌||◌, not, if◌then◌else◌, nat_lt, slice_get, slice_index}
 use Rattle.std.proofs.lemmas.Bool.{ltb-true}
-use Rattle.std.proofs.lemmas.List.{length-map}
 use Rattle.std.proofs.lemmas.Nat.{mul-le}
 use Rattle.vl_base.specs.declared.files.File.{File}
 use Rattle.vl_design.specs.Alone.{Origin}
 use Rattle.vl_design.specs.Functions.{scope_of}
 use Rattle.vl_design.specs.Syntax.{Flat}
-use Rattle.cell_form.specs.Views.{state_of}
-use Rattle.cell_form.specs.declared.table.State.{State}
 use Rattle.plain_run.specs.Runs.{over}
 use Rattle.sub_nodes.specs.Code.{table_of}
 use Rattle.sub_nodes.specs.Cycles.{Stage, rises}
@@ -21,9 +18,8 @@ use Rattle.sub_ends.proofs.Cycling.{cycle_ticks, served_ticks}
 use Rattle.sub_ends.proofs.Tabling.{all_few}
 use Rattle.ten_form.specs.Nets.{nets_of}
 use Rattle.ten_form.specs.Registers.{state_register}
-use Rattle.ten_core.specs.declared.image.Image.{Image}
 use Rattle.ten_core.specs.Runs.{after_cycle, after_call, IsAt, IsTame, Runs}
-use Rattle.ten_core.specs.Tenants.{TenantData, IsImage}
+use Rattle.ten_core.specs.Tenants.{TenantData}
 use Rattle.ten_run.specs.Running.{goes_on, IsRunning, MayGoOn, IsOver, begun, to_come}
 
 -- ---- numbers
@@ -59,15 +55,6 @@ told-between f r l e h = rw e (rw h refl)
 pub told-boundary : (f r l : Bool) → f ≡ false → r ≡ true → l ≡ (not f && (not r || l))
 told-boundary f r l e h = rw e (rw h refl)
 
--- an image has as many states as its design's table has nodes
-pub few-nodes : (d : Flat) (order : List ℕ) (image : Image) → IsImage d order image → (states : List State) → states ≡ image.table.states →
-    length states ≤ 2 ^ 31 → length (table_of d).nodes ≤ 2 ^ 31
-few-nodes d order image made states is most =
-    let many = made.states.many in
-    let mapped = length-map image.table.states state_of in
-    let same = ap length is in
-    omega (arith, many, mapped, same, most)
-
 -- ---- steps
 
 module _ (d : Flat) (files : List File) (budget : ℕ) where
@@ -82,7 +69,7 @@ module _ (d : Flat) (files : List File) (budget : ℕ) where
 
   come-is : (order : List ℕ) (t : TenantData) (c : ℕ) (i : Stage) → IsAt o order t c i → to_come d budget t ≡ come i
   come-is order t c i at =
-      ap (λ k. (budget - k) * most_left T + left T (slice_index t.bank.regs state_register)) at.stands.stage.holds.ticks
+      ap (λ k. (budget - k) * most_left T + left T (slice_index t.bank.regs state_register)) at.stands.stage.holds.signals.ticks
       ∙ ap (λ n. (budget - i.state.ticks) * most_left T + left T n) at.stands.stage.node
 
   -- one stage behind another, within the budget, from where fewer acts are still to come
@@ -151,20 +138,18 @@ module _ (d : Flat) (files : List File) (budget : ℕ) where
       let f = s.fewer in
       omega (arith, there, here, f)
 
-  -- a tenant that runs on few states goes on where that is told
-  module _ (t u : TenantData) (first : IsRunning d files budget t) (r : IsRunning d files budget u) (b : Bool) where
+  -- a tenant goes on where that is told
+  module _ (u : TenantData) (r : IsRunning d files budget u) (b : Bool) where
     abbrev IsTold : Type 0
     IsTold = (x : Origin) (order : List ℕ) (c : ℕ) (i : Stage) → IsAt x order u c i → b ≡ goes_on x.flat budget i
 
     told : IsTold → b ≡ goes_on d budget r.stage
     told tells = tells o r.order r.acts r.stage r.at
 
-    pub may-go-on : (states : List State) → states ≡ t.image.table.states → length states ≤ 2 ^ 31 → budget ≤ 1000000000 → IsTold → b ≡ true →
-        MayGoOn d files budget u
-    may-go-on states is most short tells on = record {
+    pub may-go-on : budget ≤ 1000000000 → IsTold → b ≡ true → MayGoOn d files budget u
+    may-go-on short tells on = record {
       running = r;
       on = sym (told tells) ∙ on;
-      few = few-nodes d first.order t.image first.at.image states is most;
       short = short;
     }
 
@@ -172,12 +157,12 @@ module _ (d : Flat) (files : List File) (budget : ℕ) where
     is-over tells off = record { running = r; over = sym (told tells) ∙ off }
 
   module _ (t : TenantData) (r : IsRunning d files budget t) where
-    pub acts-fit : length T.nodes ≤ 2 ^ 31 → budget ≤ 1000000000 → t.cycles + 1 < 2 ^ 64
-    acts-fit few short =
+    pub acts-fit : budget ≤ 1000000000 → t.cycles + 1 < 2 ^ 64
+    acts-fit short =
         let i = r.stage in
         let e = r.at.cycles in
         let w = r.within in
-        let f = few-acts (length T.nodes) i.state.ticks r.acts few (omega (arith, w, short)) (acts_few o (nets_of d files r.order) r.at.comes) in
+        let f = few-acts (length T.nodes) i.state.ticks r.acts r.at.image.few (omega (arith, w, short)) (acts_few o (nets_of d files r.order) r.at.comes) in
         omega (arith, e, f)
 
     pub call-is : t.waits ≡ true → IsStep r.stage (after_call o r.stage)
@@ -185,7 +170,7 @@ module _ (d : Flat) (files : List File) (budget : ℕ) where
 
   module _ (t : TenantData) (m : MayGoOn d files budget t) where
     pub cycles-fit : t.cycles + 1 < 2 ^ 64
-    cycles-fit = acts-fit t m.running m.few m.short
+    cycles-fit = acts-fit t m.running m.short
 
     pub cycle-is : t.waits ≡ false → IsStep m.running.stage (after_cycle o m.running.order m.running.stage)
     cycle-is w =
@@ -220,8 +205,8 @@ module _ (t u : TenantData) where
     pub served-begun : rises (slice_get (table_of d).nodes m.running.stage.node) ≡ false → begun u ≡ begun t
     served-begun low =
         let r = m.running in
-        served-at.stands.stage.holds.ticks
-        ∙ (served_ticks (scope_of d files) (slice_get (table_of d).nodes r.stage.node) r.stage ∙ sym r.at.stands.stage.holds.ticks)
+        served-at.stands.stage.holds.signals.ticks
+        ∙ (served_ticks (scope_of d files) (slice_get (table_of d).nodes r.stage.node) r.stage ∙ sym r.at.stands.stage.holds.signals.ticks)
 
   module _ (w : t.waits ≡ false) (cycled : Cycles t u) (d : Flat) (files : List File) (budget : ℕ) (m : MayGoOn d files budget t) where
     abbrev acts : ℕ
@@ -245,4 +230,4 @@ module _ (t u : TenantData) where
         let r = m.running in
         let same : (after_cycle (over d files budget) r.order r.stage).state.ticks ≡ r.stage.state.ticks =
         cycle_ticks d files (nets_of d files r.order) (slice_get (table_of d).nodes r.stage.node) r.stage ∙ rw low refl in
-        cycled-at.stands.stage.holds.ticks ∙ (same ∙ sym r.at.stands.stage.holds.ticks)
+        cycled-at.stands.stage.holds.signals.ticks ∙ (same ∙ sym r.at.stands.stage.holds.signals.ticks)

@@ -1,5 +1,5 @@
 -- Tenants on the way to the ends of their runs (own).
-use Rattle.std.specs.Prelude.{◌≡◌, ◌≤◌, ℕ, ◌+◌, ◌-◌, ◌*◌, ◌^◌, Bool, true, false, ◌&&◌, ◌||◌, not, List, length, nat_lt, slice_get, slice_index}
+use Rattle.std.specs.Prelude.{◌≡◌, ◌≤◌, ℕ, ◌+◌, ◌-◌, ◌*◌, Bool, true, false, ◌&&◌, ◌||◌, not, List, nat_lt, slice_get, slice_index}
 use Rattle.vl_base.specs.declared.files.File.{File}
 use Rattle.vl_design.specs.Laws.{IsUnrolled}
 use Rattle.vl_design.specs.Syntax.{Flat}
@@ -28,11 +28,10 @@ pub record IsRunning (d : Flat) (files : List File) (budget : ℕ) (t : TenantDa
   pub at : IsAt (over d files budget) order t acts stage
   pub within : stage.state.ticks ≤ budget
 
--- and the run goes on, and comes to no more acts than can be counted
+-- and the run goes on
 pub record MayGoOn (d : Flat) (files : List File) (budget : ℕ) (t : TenantData) : Type 0 where
   pub running : IsRunning d files budget t
   pub on : goes_on d budget running.stage ≡ true
-  pub few : length (table_of d).nodes ≤ 2 ^ 31
   pub short : budget ≤ 1000000000
 
 -- or the run doesn't go on

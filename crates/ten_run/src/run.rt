@@ -18,9 +18,6 @@ use ten_core::tenant::Tenant;
 use vl_base::items::Bytes;
 use vl_design::design::End;
 
-/// A run of more states than 2 ^ 31 might come to more acts than can be counted.
-pub const MOST_STATES: usize = 2_147_483_648;
-
 /// The run goes on: it hasn't finished, and at a boundary the budget isn't spent.
 fn goes_on(tenant: &Tenant, budget: u64) -> bool
     requires { Runs (tenant_of tenant.now) }
@@ -54,9 +51,6 @@ pub fn run_on(alloc: Global, tenant: &mut Tenant, budget: u64) -> Result<(), All
     ensures { OnOk result ((d : Flat) (files : List File) → IsRunning d files budget (tenant_of tenant.old) →
         IsOver d files budget (tenant_of tenant.new)) }
 {
-    if tenant.image.table.states.as_slice().len() > MOST_STATES {
-        return Err(AllocError);
-    }
     'steps: while goes_on(tenant, budget) {
         advance(alloc, tenant)?;
     }

@@ -4,3 +4,4 @@ pub mod Cutting
 pub mod Keeping
 pub mod Falling
 pub mod Waves
+pub mod Same

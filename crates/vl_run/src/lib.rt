@@ -12,6 +12,7 @@ mod first;
 mod given;
 pub mod machine;
 pub mod outer;
+pub mod parts;
 pub mod process;
 mod read;
 mod scope;

@@ -1,16 +1,60 @@
+use Rattle.std.proofs.Common.{◌<◌, ◌^◌, List, map, sym, ap, ◌∙◌, subst}
+use Rattle.std.specs.Prelude.{All}
+use Rattle.std.specs.List.{AllByRecursion}
+use Rattle.std.proofs.lemmas.List.Elements.{recursion_from_All}
+use Rattle.vl_design.specs.Sound.{IsMemory}
 use Rattle.vl_design.specs.Trees.{flat_of}
+use Rattle.vl_design.specs.Width.{names_of}
 use Rattle.cell_form.specs.Views.{list_of}
 use Rattle.cell_paths.specs.Envs.{env_of}
 use Rattle.cell_later.specs.Pendings.{slots_of}
+use Rattle.sub_nodes.specs.Nodes as n
 use Rattle.sub_split.specs.Views.{segment_view, way_on_view}
-use Rattle.cell_states.proofs.Making.{is-made}
+use Rattle.ten_stores.specs.declared.store.Store.{Store}
+use Rattle.ten_stores.specs.Holding.{mask_register}
+use Rattle.cell_stores.specs.Keeping.{Keeps}
+use Rattle.cell_states.proofs.Making.{starts-same, is-made}
+use Rattle.cell_states.proofs.Storing.{few-above}
 use Rattle.cell_states.proofs.run.made.Goals as goal
 
-pub returns : goal.returns
-returns c =
+pub up_to_segment-requires-clause-few : goal.up_to_segment-requires-clause-few
+up_to_segment-requires-clause-few c =
+    let d = flat_of c.args.design.now in
+    let number = c.requires.stores.0 in
+    let kept = c.requires.stores.1 in
+    let F : List Store → Type 0 = λ xs. All (λ s. mask_register s < 2 ^ 32) xs in
+    subst F (sym kept.above) (few-above d number (n.Run (segment_view c.args.segment.now) (way_on_view c.args.on.now)) kept.there (subst F kept.all c.requires.few))
+
+pub next_in-requires-clause-fits : goal.next_in-requires-clause-fits
+next_in-requires-clause-fits c = (c.in_ok-cells.ensures c.requires.stores.0 c.requires.stores.1.above).does.fits
+
+pub next_in-requires-clause-first : goal.next_in-requires-clause-first
+next_in-requires-clause-first c =
+    let st = c.in_ok-cells.ensures c.requires.stores.0 c.requires.stores.1.above in
+    st.does.first ∙ st.begins.first
+
+pub writes-requires-clause-same : goal.writes-requires-clause-same
+writes-requires-clause-same c =
+    let d = flat_of c.args.design.now in
+    let number = c.requires.stores.0 in
+    let kept = c.requires.stores.1 in
     let x = c.in_ok-cells.field-0 in
-    let st = c.in_ok-cells.ensures in
+    ap (map (λ (s : Store). s.memory)) kept.all
+    ∙ starts-same d c.args.order.now number (segment_view c.args.segment.now) (way_on_view c.args.on.now) (list_of x.cells) (env_of x.before.at) (env_of x.after.at) (slots_of x.before.pending) (slots_of x.after.pending) x.ticks kept.there
+    (c.in_ok-cells.ensures number kept.above)
+
+pub returns : goal.returns
+returns c number kept =
+    let d = flat_of c.args.design.now in
+    let x = c.in_ok-cells.field-0 in
+    let st = c.in_ok-cells.ensures number kept.above in
     let h = c.in_ok-next.ensures.holds in
     let end = rw c.commits.ensures at c.in_ok-sets.ensures in
-    is-made (flat_of c.args.design.now) c.args.order.now c.args.early (segment_view c.args.segment.now) (way_on_view c.args.on.now) st.first (list_of x.cells) (list_of c.next_in.new.cells) (env_of x.before.at) (env_of x.after.at)
-    (slots_of x.before.pending) (slots_of x.after.pending) x.ticks c.in_ok-next.next h.0 c.in_ok-sets.sets.items st.begins st.does h.1 end c.requires.design.alone c.requires.design.no_memory
+    let g = segment_view c.args.segment.now in
+    let on = way_on_view c.args.on.now in
+    let sets = c.in_ok-sets.sets.items in
+    let Above : List Store → Type 0 = λ xs. AllByRecursion (λ (s : Store). IsMemory (names_of d) s.memory) xs in
+    is-made d c.args.order.now number g on st.first st.second (list_of x.cells) (list_of c.next_in.new.cells) (env_of x.before.at) (env_of x.after.at) (slots_of x.before.pending) (slots_of x.after.pending) st.sites x.ticks c.in_ok-next.next h.0
+    end.before sets st.begins st.reads st.does h.1 end.end (subst (λ xs. Keeps xs (slots_of x.after.pending).sites end.before sets) kept.all end.keeps)
+    (starts-same d c.args.order.now number g on (list_of x.cells) (env_of x.before.at) (env_of x.after.at) (slots_of x.before.pending) (slots_of x.after.pending) x.ticks kept.there st)
+    (subst Above kept.above (recursion_from_All (λ (s : Store). IsMemory (names_of d) s.memory) c.args.kept.above.now c.requires.memories)) c.requires.design.alone

@@ -1,6 +1,10 @@
-use Rattle.std.proofs.Common.{◌+◌, List}
+use Rattle.std.proofs.Common.{◌+◌, ◌<◌, ◌^◌, List, map, sym, ap, ◌∙◌, subst}
+use Rattle.std.specs.Prelude.{All}
+use Rattle.std.specs.List.{AllByRecursion}
+use Rattle.std.proofs.lemmas.List.Elements.{recursion_from_All}
 use Rattle.vl_base.specs.declared.files.File.{File}
 use Rattle.vl_design.specs.Functions.{scope_of}
+use Rattle.vl_design.specs.Sound.{IsMemory}
 use Rattle.vl_design.specs.Trees.{flat_of}
 use Rattle.vl_design.specs.Width.{names_of}
 use Rattle.cell_form.specs.Views.{list_of}
@@ -17,49 +21,94 @@ use Rattle.cell_next.specs.Next.{next_node}
 use Rattle.cell_next.proofs.Nexting.{holds-number}
 use Rattle.sub_nodes.specs.Nodes as n
 use Rattle.sub_split.specs.Views.{call_view, segment_view}
-use Rattle.cell_states.proofs.Making.{is-made, asks-behind}
+use Rattle.ten_stores.specs.declared.store.Store.{Store}
+use Rattle.ten_stores.specs.Holding.{mask_register}
+use Rattle.cell_stores.specs.Keeping.{Keeps}
+use Rattle.cell_states.proofs.Making.{starts-same, is-made, asks-behind}
 use Rattle.cell_states.proofs.Asking.{slots-there}
+use Rattle.cell_states.proofs.Storing.{few-above}
 use Rattle.cell_states.proofs.run.made_call.Goals as goal
+
+pub up_to_segment-requires-clause-few : goal.up_to_segment-requires-clause-few
+up_to_segment-requires-clause-few c =
+    let d = flat_of c.args.design.now in
+    let number = c.requires.stores.0 in
+    let kept = c.requires.stores.1 in
+    let F : List Store → Type 0 = λ xs. All (λ s. mask_register s < 2 ^ 32) xs in
+    subst F (sym kept.above) (few-above d number (n.Run (segment_view c.args.segment.now) (n.Go c.args.trap)) kept.there (subst F kept.all c.requires.few))
 
 pub call_of-requires-clause-fits : goal.call_of-requires-clause-fits
 call_of-requires-clause-fits c =
-    fits-stays (names_of (flat_of c.args.design.now)) (list_of c.in_ok-cells.field-0.cells) (list_of c.number.new.cells) (env_of c.in_ok-cells.field-0.after.at) c.in_ok-next.ensures.grows c.in_ok-cells.ensures.does.fits
+    let st = c.in_ok-cells.ensures c.requires.stores.0 c.requires.stores.1.above in
+    fits-stays (names_of (flat_of c.args.design.now)) (list_of c.in_ok-cells.field-0.cells) (list_of c.number.new.cells) (env_of c.in_ok-cells.field-0.after.at) c.in_ok-next.ensures.grows st.does.fits
+
+pub call_of-requires-clause-first : goal.call_of-requires-clause-first
+call_of-requires-clause-first c =
+    let st = c.in_ok-cells.ensures c.requires.stores.0 c.requires.stores.1.above in
+    st.does.first ∙ st.begins.first
+
+pub writes-requires-clause-same : goal.writes-requires-clause-same
+writes-requires-clause-same c =
+    let d = flat_of c.args.design.now in
+    let number = c.requires.stores.0 in
+    let kept = c.requires.stores.1 in
+    let x = c.in_ok-cells.field-0 in
+    ap (map (λ (s : Store). s.memory)) kept.all
+    ∙ starts-same d c.args.order.now number (segment_view c.args.segment.now) (n.Go c.args.trap) (list_of x.cells) (env_of x.before.at) (env_of x.after.at) (slots_of x.before.pending) (slots_of x.after.pending) x.ticks kept.there
+    (c.in_ok-cells.ensures number kept.above)
 
 pub returns-clause-made : goal.returns-clause-made
-returns-clause-made c =
+returns-clause-made c number kept =
     let d = flat_of c.args.design.now in
     let names = names_of d in
     let x = c.in_ok-cells.field-0 in
-    let st = c.in_ok-cells.ensures in
-    let l1 = list_of x.cells in
-    let l2 = list_of c.number.new.cells in
-    let l3 = list_of c.call_of.new.cells in
-    let at = env_of x.after.at in
-    let m = asked_count (body_cells d) (call_view c.args.path.now c.args.call.now) in
-    let goes : (files : List File) → Holds names (1 + m) at l1 l3 c.in_ok-next.next 32 (λ y. next_node (scope_of d files) y (n.Go c.args.trap)) =
-    λ files. holds-then names at 1 m l1 l2 l3 c.in_ok-next.next 32 (λ y. c.args.trap) c.in_ok-asked.ensures.traps.asks.longer
-    (holds-number names at 0 c.args.trap l1 l1 l2 c.in_ok-next.next st.does.fits (longer-same (HasMemories names at) l1) c.in_ok-next.ensures.gives) in
-    is-made d c.args.order.now c.args.early (segment_view c.args.segment.now) (n.Go c.args.trap) st.first l1 l3 (env_of x.before.at) at (slots_of x.before.pending) (slots_of x.after.pending) x.ticks c.in_ok-next.next (1 + m) c.in_ok-sets.sets.items
-    st.begins st.does goes c.in_ok-sets.ensures c.requires.design.alone c.requires.design.no_memory
-
-pub returns-clause-asks : goal.returns-clause-asks
-returns-clause-asks c =
-    let d = flat_of c.args.design.now in
-    let names = names_of d in
-    let x = c.in_ok-cells.field-0 in
-    let st = c.in_ok-cells.ensures in
-    let l1 = list_of x.cells in
-    let l2 = list_of c.number.new.cells in
-    let l3 = list_of c.call_of.new.cells in
+    let st = c.in_ok-cells.ensures number kept.above in
+    let l2 = list_of x.cells in
+    let l3 = list_of c.number.new.cells in
+    let l4 = list_of c.call_of.new.cells in
     let at = env_of x.after.at in
     let task = call_view c.args.path.now c.args.call.now in
     let m = asked_count (body_cells d) task in
     let asks = c.in_ok-asked.ensures.traps.asks in
     let num = c.in_ok-next.ensures.gives in
-    let g12 = longer-grows Nothing 1 l1 l2 num.longer in
-    let goes : (files : List File) → Holds names (1 + m) at l1 l3 c.in_ok-next.next 32 (λ y. next_node (scope_of d files) y (n.Go c.args.trap)) =
-    λ files. holds-then names at 1 m l1 l2 l3 c.in_ok-next.next 32 (λ y. c.args.trap) asks.longer
-    (holds-number names at 0 c.args.trap l1 l1 l2 c.in_ok-next.next st.does.fits (longer-same (HasMemories names at) l1) num) in
-    asks-behind d c.args.order.now c.args.early (segment_view c.args.segment.now) (n.Go c.args.trap) st.first l1 l3 (env_of x.before.at) at (slots_of x.before.pending) (slots_of x.after.pending) x.ticks c.in_ok-next.next (1 + m) c.in_ok-sets.sets.items
-    st.begins st.does goes c.in_ok-sets.ensures c.requires.design.alone c.requires.design.no_memory task c.in_ok-asked.asked.args (slots-there l3 _ _ asks.slots)
-    (λ files z b y sound stands. asks.values files z b y (num.longer.sound z tt sound) (stands-stays names b l1 l2 at y g12 st.does.fits stands))
+    let goes : (files : List File) → Holds names (1 + m) at l2 l4 c.in_ok-next.next 32 (λ y. next_node (scope_of d files) y (n.Go c.args.trap)) =
+    λ files. holds-then names at 1 m l2 l3 l4 c.in_ok-next.next 32 (λ y. c.args.trap) asks.longer
+    (holds-number names at 0 c.args.trap l2 l2 l3 c.in_ok-next.next st.does.fits (longer-same (HasMemories names at) l2) num) in
+    let end = c.in_ok-sets.ensures in
+    let g = segment_view c.args.segment.now in
+    let on = n.Go c.args.trap in
+    let sets = c.in_ok-sets.sets.items in
+    let Above : List Store → Type 0 = λ xs. AllByRecursion (λ (s : Store). IsMemory (names_of d) s.memory) xs in
+    is-made d c.args.order.now number g on st.first st.second l2 l4 (env_of x.before.at) at (slots_of x.before.pending) (slots_of x.after.pending) st.sites x.ticks c.in_ok-next.next (1 + m)
+    end.before sets st.begins st.reads st.does goes end.end (subst (λ xs. Keeps xs (slots_of x.after.pending).sites end.before sets) kept.all end.keeps)
+    (starts-same d c.args.order.now number g on l2 (env_of x.before.at) at (slots_of x.before.pending) (slots_of x.after.pending) x.ticks kept.there st)
+    (subst Above kept.above (recursion_from_All (λ (s : Store). IsMemory (names_of d) s.memory) c.args.kept.above.now c.requires.memories)) c.requires.design.alone
+
+pub returns-clause-asks : goal.returns-clause-asks
+returns-clause-asks c number kept =
+    let d = flat_of c.args.design.now in
+    let names = names_of d in
+    let x = c.in_ok-cells.field-0 in
+    let st = c.in_ok-cells.ensures number kept.above in
+    let l2 = list_of x.cells in
+    let l3 = list_of c.number.new.cells in
+    let l4 = list_of c.call_of.new.cells in
+    let at = env_of x.after.at in
+    let task = call_view c.args.path.now c.args.call.now in
+    let m = asked_count (body_cells d) task in
+    let asks = c.in_ok-asked.ensures.traps.asks in
+    let num = c.in_ok-next.ensures.gives in
+    let goes : (files : List File) → Holds names (1 + m) at l2 l4 c.in_ok-next.next 32 (λ y. next_node (scope_of d files) y (n.Go c.args.trap)) =
+    λ files. holds-then names at 1 m l2 l3 l4 c.in_ok-next.next 32 (λ y. c.args.trap) asks.longer
+    (holds-number names at 0 c.args.trap l2 l2 l3 c.in_ok-next.next st.does.fits (longer-same (HasMemories names at) l2) num) in
+    let end = c.in_ok-sets.ensures in
+    let g = segment_view c.args.segment.now in
+    let on = n.Go c.args.trap in
+    let sets = c.in_ok-sets.sets.items in
+    let Above : List Store → Type 0 = λ xs. AllByRecursion (λ (s : Store). IsMemory (names_of d) s.memory) xs in
+    let g23 = longer-grows Nothing 1 l2 l3 num.longer in
+    asks-behind d c.args.order.now number g on st.first st.second l2 l4 (env_of x.before.at) at (slots_of x.before.pending) (slots_of x.after.pending) st.sites x.ticks c.in_ok-next.next (1 + m)
+    end.before sets st.begins st.reads st.does goes end.end (subst (λ xs. Keeps xs (slots_of x.after.pending).sites end.before sets) kept.all end.keeps)
+    (starts-same d c.args.order.now number g on l2 (env_of x.before.at) at (slots_of x.before.pending) (slots_of x.after.pending) x.ticks kept.there st)
+    (subst Above kept.above (recursion_from_All (λ (s : Store). IsMemory (names_of d) s.memory) c.args.kept.above.now c.requires.memories)) c.requires.design.alone task c.in_ok-asked.asked.args (slots-there l4 _ _ asks.slots)
+    (λ files z b y sound stands. asks.values files z b y (num.longer.sound z tt sound) (stands-stays names b l2 l3 at y g23 st.does.fits stands))

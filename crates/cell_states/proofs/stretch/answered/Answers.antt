@@ -5,17 +5,13 @@ use Rattle.cell_paths.specs.Envs.{env_of}
 use Rattle.cell_later.specs.Pendings.{slots_of}
 use Rattle.cell_expr.specs.Bodies.{assignment}
 use Rattle.cell_expr.specs.Counts.{stm_count, body_cells}
-use Rattle.cell_expr.proofs.Nets.{plain-any}
-use Rattle.cell_states.proofs.Stretching.{all-one, on-both}
+use Rattle.cell_states.proofs.Stretching.{all-one, on-three}
 use Rattle.cell_states.proofs.stretch.answered.Goals as goal
-
-pub assign-requires-clause-plain : goal.assign-requires-clause-plain
-assign-requires-clause-plain c = plain-any c.args.later (target_of c.args.target.now) (exp_of c.args.source.now) c.requires.assignment.plain
 
 pub returns-clause-does : goal.returns-clause-does
 returns-clause-does c =
     let d = flat_of c.args.design.now in
     let a = assignment c.args.later (target_of c.args.target.now) (exp_of c.args.source.now) in
-    on-both c.assign.result c.assign.ensures.does c.assign.ensures.leaves (λ does leaves.
+    on-three c.assign.result c.assign.ensures.does c.assign.ensures.leaves c.assign.ensures.sites (λ does leaves sites.
     all-one d a (stm_count (body_cells d) a) c.args.begun.now.at.here (env_of c.args.begun.now.at) (env_of c.assign.new.at) (slots_of c.args.begun.now.pending) (slots_of c.assign.new.pending) (list_of c.args.cells.now) (list_of c.assign.new.cells) refl c.requires.fits
-    does leaves)
+    does leaves sites)

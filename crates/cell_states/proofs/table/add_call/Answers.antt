@@ -1,14 +1,14 @@
 use Rattle.vl_design.specs.Trees.{flat_of}
 use Rattle.sub_split.specs.Views.{call_view, segment_view}
-use Rattle.cell_states.proofs.Noding.{has-two}
-use Rattle.cell_states.proofs.Stretching.{on-both}
+use Rattle.cell_states.proofs.Noding.{on-both, has-two}
 use Rattle.cell_states.proofs.table.add_call.Goals as goal
 
-pub returns : goal.returns
-returns c =
+pub returns-clause-more : goal.returns-clause-more
+returns-clause-more c =
     let d = flat_of c.args.design.now in
     let g = segment_view c.args.segment.now in
     let task = call_view c.args.path.now c.args.call.now in
-    on-both c.add-2.result c.add-2.ensures.states c.add-2.ensures.slots (λ states slots.
-    has-two d c.args.order.now c.args.early g c.args.trap task c.args.to c.args.built.now.states c.add.new.self.states c.add-2.new.self.states c.in_ok-run.run' c.in_ok-run.wait c.args.built.now.slots c.add-2.new.self.slots
-    c.in_ok-add.ensures.states states slots c.in_ok-run.ensures.behind c.in_ok-run.ensures.first (c.in_ok-run.ensures.calls d c.args.order.now c.args.early g task c.in_ok-made.ensures.made c.in_ok-made.ensures.call c.in_ok-made.ensures.asks))
+    on-both c.add-2.result c.add-2.ensures.states c.add-2.ensures.slots (λ states slots number kept.
+    has-two d c.args.order.now number g c.args.trap task c.args.to c.args.built.now.states c.add.new.self.states c.add-2.new.self.states c.in_ok-run.run' c.in_ok-run.wait c.args.built.now.slots c.add-2.new.self.slots
+    c.in_ok-add.ensures.states states slots c.in_ok-run.ensures.behind c.in_ok-run.ensures.first
+    (c.in_ok-run.ensures.calls d c.args.order.now number g task (c.in_ok-made.ensures.made number kept) c.in_ok-made.ensures.call (c.in_ok-made.ensures.asks number kept)))

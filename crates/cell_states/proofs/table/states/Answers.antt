@@ -1,21 +1,20 @@
-use Rattle.std.proofs.Common.{◌≡◌, ◌≤◌, length, map, arith, ap}
-use Rattle.std.proofs.lemmas.List.{length-map}
+use Rattle.std.proofs.Common.{◌≡◌, ◌∙◌, ℕ, List, map, take, sym, ap}
+use Rattle.std.proofs.lemmas.List.{take-map}
+use Rattle.vl_design.specs.Syntax.{Flat}
 use Rattle.vl_design.specs.Trees.{flat_of}
-use Rattle.cell_form.specs.Views.{state_of}
+use Rattle.sub_facts.specs.Early.{early_from}
+use Rattle.sub_nodes.specs.Code.{table_of}
 use Rattle.sub_split.specs.Views.{node_view}
-use Rattle.cell_states.proofs.Tabling.{all-made}
+use Rattle.sub_split.specs.declared.table.Node.{Node}
+use Rattle.ten_form.specs.Banks.{cell_nodes}
 use Rattle.cell_states.proofs.table.states.Goals as goal
 
-pub returns-clause-states : goal.returns-clause-states
-returns-clause-states c =
-    let d = flat_of c.args.design.now in
-    let nodes = c.args.table.now.nodes.items in
-    let states = c.loop-nodes.built.states in
-    let many : length (map node_view nodes) ≤ length (map state_of states) =
-    let a = length-map nodes node_view in
-    let b = length-map states state_of in
-    let t = c.loop-nodes-test.false in
-    let given : length c.as_slice-nodes.result.now ≡ length nodes = ap length c.as_slice-nodes.ensures.value in
-    let made : length c.as_slice.result.now ≡ length states = ap length c.as_slice.ensures in
-    omega (arith, a, b, t, given, made) in
-    all-made d c.args.order.now c.args.from (map node_view nodes) (map state_of states) c.loop-nodes.built.slots c.loop-nodes.invariant.first many
+first-nodes : (d : Flat) (early : ℕ) (nodes all : List Node) → nodes ≡ all → map node_view all ≡ (table_of d).nodes → early ≡ early_from d → map node_view (take early nodes) ≡ cell_nodes d
+first-nodes d early nodes all same table is =
+    ap (λ xs. map node_view (take early xs)) same ∙ sym (take-map node_view early all) ∙ ap (take early) table ∙ ap (λ n. take n (table_of d).nodes) is
+
+pub stores_of-requires-clause-table : goal.stores_of-requires-clause-table
+stores_of-requires-clause-table c = first-nodes (flat_of c.args.design.now) c.args.table.now.early c.as_slice-nodes.result.now c.args.table.now.nodes.items c.as_slice-nodes.ensures.value c.requires.table c.requires.early
+
+pub all_built-requires-clause-table : goal.all_built-requires-clause-table
+all_built-requires-clause-table c = first-nodes (flat_of c.args.design.now) c.args.table.now.early c.as_slice-nodes.result.now c.args.table.now.nodes.items c.as_slice-nodes.ensures.value c.requires.table c.requires.early

@@ -2,4 +2,4 @@ use Rattle.ten_image.proofs.Cycling.{cycled-stands}
 use Rattle.ten_image.proofs.laws.a_cycle_of_states_is_one_of_nodes.Goals as goal
 
 pub returns : goal.returns
-returns c d order files from slots nodes states b i x = cycled-stands d order files from slots nodes states b i x
+returns c d order files slots states b i x = cycled-stands d order files slots states b i x

@@ -1,29 +1,22 @@
-use Rattle.std.proofs.Common.{ap, map, subst}
-use Rattle.vl_design.specs.Trees.{flat_of, row_of}
-use Rattle.cell_form.specs.Views.{bank_of}
-use Rattle.ten_start.specs.Zero.{IsZero}
-use Rattle.ten_make.proofs.Imaging.{nodes-are, updates-before, pairs, image-is}
+use Rattle.vl_design.specs.Trees.{flat_of}
+use Rattle.ten_make.proofs.Imaging.{first-cells, image-is}
 use Rattle.ten_make.proofs.image.made.Goals as goal
 
 pub states-requires-clause-nodes : goal.states-requires-clause-nodes
 states-requires-clause-nodes c =
     let d = flat_of c.args.design.now in
     let t = c.in_ok-nodes.nodes in
-    c.nodes_of_a_tenants_design_are_compiled.ensures d c.args.order.now t.nodes.items c.requires (nodes-are d t c.in_ok-nodes.ensures.table c.in_ok-nodes.ensures.early)
-
-pub states-requires-clause-updates : goal.states-requires-clause-updates
-states-requires-clause-updates c = updates-before (flat_of c.args.design.now) c.in_ok-nodes.nodes c.in_ok-nodes.ensures.table c.in_ok-nodes.ensures.early
+    first-cells d t.nodes.items t.early c.in_ok-nodes.ensures.early (c.nodes_of_a_tenants_design_are_compiled.ensures d c.args.order.now t.nodes.items c.requires c.in_ok-nodes.ensures.nodes)
 
 pub states-requires-clause-paired : goal.states-requires-clause-paired
-states-requires-clause-paired c = pairs (flat_of c.args.design.now) c.in_ok-nodes.nodes c.in_ok-nodes.ensures.table c.in_ok-nodes.ensures.early
+states-requires-clause-paired c = c.calls_of_a_table_stand_apart.ensures.paired (flat_of c.args.design.now)
 
 pub returns : goal.returns
-returns c image design-is table-is begins-at zero-is =
+returns c image design-is order-is table-is begins-at slots-are stores-are =
     let d = flat_of c.args.design.now in
     let t = c.in_ok-nodes.nodes in
-    let b = bank_of c.in_ok-zero.zero in
-    let room : IsZero d.rows c.in_ok-table.slots t.zero.first b =
-    subst (λ (xs : _). IsZero (map row_of xs) c.in_ok-table.slots t.zero.first b) c.as_slice.ensures c.in_ok-zero.ensures in
-    image-is d t c.in_ok-nodes.ensures.table c.in_ok-nodes.ensures.early c.args.order.now (c.calls_of_a_table_stand_apart.ensures d) c.in_ok-table.table c.in_ok-table.slots b
-    c.in_ok-table.ensures.state c.in_ok-table.ensures.states (c.a_run_begins_with_this_bank.ensures d c.in_ok-table.slots t.zero.first b room)
-    image design-is table-is begins-at (ap bank_of zero-is)
+    let made = c.in_ok-states.ensures in
+    image-is d c.args.order.now t.nodes.items c.in_ok-states.states t.rise.first image c.in_ok-nodes.ensures.nodes c.in_ok-nodes.ensures.few c.in_ok-nodes.ensures.rise
+    (c.calls_of_a_table_stand_apart.ensures.apart d)
+    (record { register = made.state; states = made.states; stores = made.stores })
+    (record { design = design-is; ordered = order-is; table = table-is; slots = slots-are; stores = stores-are; begins = begins-at })

@@ -1,6 +1,4 @@
 use Rattle.cell_form.specs.Views.{bank_of}
-use Rattle.sub_nets.specs.Nets.{zero_low}
-use Rattle.sub_nodes.specs.Code.{table_of}
 use Rattle.ten_core.proofs.Cycling.{counted-more, counted-same, cycled-at, register-there, register-next, list-there}
 use Rattle.ten_core.specs.Tenants.{tenant_of, states_of}
 use Rattle.ten_core.proofs.tenant.Tenant.cycle.Goals as goal
@@ -18,16 +16,14 @@ at_call-self-requires c =
     let o = r.origin in
     let t = tenant_of c.args.self.now in
     register-next o r.order t r.acts r.stage at r.tame c.requires.no_call c.requires.goes_on
-    (λ x. c.a_cycle_of_states_is_one_of_nodes.ensures o.flat r.order o.files (zero_low o.flat) at.image.slots
-    (table_of o.flat).nodes (states_of t.image) t.bank r.stage x at.image.states at.image.apart at.stands)
+    (λ x. c.a_cycle_of_states_is_one_of_nodes.ensures o.flat r.order o.files t.image.slots (states_of t.image) t.bank r.stage x at.image.states at.image.apart at.stands)
     c.requires.ticks (bank_of c.step.new.bank) c.step.ensures
 
 pub returns-then-not-self : goal.returns-then-not-self
 returns-then-not-self c o order n i tame at =
     let t = tenant_of c.args.self.now in
     cycled-at o order t n i at tame c.requires.no_call c.requires.goes_on
-    (λ x. c.a_cycle_of_states_is_one_of_nodes.ensures o.flat order o.files (zero_low o.flat) at.image.slots
-    (table_of o.flat).nodes (states_of t.image) t.bank i x at.image.states at.image.apart at.stands)
+    (λ x. c.a_cycle_of_states_is_one_of_nodes.ensures o.flat order o.files t.image.slots (states_of t.image) t.bank i x at.image.states at.image.apart at.stands)
     c.requires.ticks (bank_of c.step.new.bank) c.at_call-self.result _ c.step.ensures c.at_call-self.ensures
     (counted-more c.at_call-self.result t.cycles c.if-not-self.true)
 
@@ -35,7 +31,6 @@ pub returns-else-not-self : goal.returns-else-not-self
 returns-else-not-self c o order n i tame at =
     let t = tenant_of c.args.self.now in
     cycled-at o order t n i at tame c.requires.no_call c.requires.goes_on
-    (λ x. c.a_cycle_of_states_is_one_of_nodes.ensures o.flat order o.files (zero_low o.flat) at.image.slots
-    (table_of o.flat).nodes (states_of t.image) t.bank i x at.image.states at.image.apart at.stands)
+    (λ x. c.a_cycle_of_states_is_one_of_nodes.ensures o.flat order o.files t.image.slots (states_of t.image) t.bank i x at.image.states at.image.apart at.stands)
     c.requires.ticks (bank_of c.step.new.bank) c.at_call-self.result _ c.step.ensures c.at_call-self.ensures
     (counted-same c.at_call-self.result t.cycles c.if-not-self.false)

@@ -1,25 +1,13 @@
-use Rattle.std.proofs.Common.{◌<◌, ◌≤◌, sym, ◌∙◌, subst}
-use Rattle.ten_parcel.specs.Parcels.{origin_of}
-use Rattle.ten_parcel.proofs.Resting.{finished-there, spent-there, none-there}
+use Rattle.std.proofs.Common.{Some, sym, subst}
+use Rattle.vl_design.specs.declared.design.End.TheVariants.{Finished}
+use Rattle.plain_run.specs.Runs.{over}
+use Rattle.ten_parcel.specs.declared.parcel.Parcel.{Parcel}
+use Rattle.ten_parcel.proofs.Resting.{TellsReason, finished-over}
 use Rattle.ten_parcel.proofs.parcel.Parcel.ended.Goals as goal
 
-pub returns-then-done : goal.returns-then-done
-returns-then-done c d files s =
-    let p = c.args.self.now in
-    let w = s.on in
-    finished-there d files p s (c.the_table_of_a_checked_design_can_run.ensures (origin_of d files p.resident) w.order w.checked w.unrolled w.ordered tt)
-    (sym (c.done.ensures d files s.acts s.stage w) ∙ c.if-done.true)
-
-pub returns-then-ticks-self : goal.returns-then-ticks-self
-returns-then-ticks-self c d files s =
-    let p = c.args.self.now in
-    let w = s.on in
-    spent-there d files p s (c.the_table_of_a_checked_design_can_run.ensures (origin_of d files p.resident) w.order w.checked w.unrolled w.ordered tt)
-    (sym (c.done.ensures d files s.acts s.stage w) ∙ c.if-done.false) (subst (λ k. p.resident.budget ≤ k) c.ticks.ensures c.if-ticks-self.true)
-
-pub returns-else-ticks-self : goal.returns-else-ticks-self
-returns-else-ticks-self c d files s =
-    let p = c.args.self.now in
-    let w = s.on in
-    none-there d files p s (c.the_table_of_a_checked_design_can_run.ensures (origin_of d files p.resident) w.order w.checked w.unrolled w.ordered tt)
-    (sym (c.done.ensures d files s.acts s.stage w) ∙ c.if-done.false) (subst (λ k. k < p.resident.budget) c.ticks.ensures c.if-ticks-self.false)
+pub returns-in-Over-clause-reason : goal.returns-in-Over-clause-reason
+returns-in-Over-clause-reason c =
+    subst (λ (p : Parcel). TellsReason (Some Finished) p) (sym c.in-Over.is)
+    (λ d files s.
+    let x = c.in-Over.field-0 in
+    finished-over d files x s (c.the_table_of_a_checked_design_can_run.ensures (over d files x.budget) s.order s.checked s.unrolled s.ordered tt))

@@ -1,0 +1,16 @@
+use Rattle.std.proofs.Common.{◌-◌, length, map}
+use Rattle.vl_design.specs.Trees.{flat_of}
+use Rattle.cell_form.specs.Views.{state_of}
+use Rattle.ten_form.specs.Banks.{cell_nodes}
+use Rattle.cell_states.specs.Marks.{AreDelayed}
+use Rattle.cell_states.specs.Tables.{AreFirst}
+use Rattle.cell_states.proofs.table.all_built.Given as goal
+
+abbrev pub invariant-loop-alloc : goal.invariant-loop-alloc
+invariant-loop-alloc l = record {
+  first : AreFirst (flat_of l.design) l.order (cell_nodes (flat_of l.design)) (map state_of l.built.states) l.built.slots l.built.left;
+  marks : AreDelayed (flat_of l.design) l.delayed.items;
+}
+
+abbrev pub decreases-loop-alloc : goal.decreases-loop-alloc
+decreases-loop-alloc l = length l.nodes - length l.built.states

@@ -1,0 +1,3 @@
+pub mod Banking
+pub mod Opening
+pub mod Loading

@@ -1,0 +1,22 @@
+-- What the bank of a machine at a boundary holds (own).
+use Rattle.std.specs.Prelude.{◌≡◌, ℕ, []}
+use Rattle.vl_design.specs.State.{State}
+use Rattle.vl_design.specs.Syntax.{Flat}
+use Rattle.vl_run.specs.declared.machine.Machine.{Machine}
+use Rattle.cell_form.specs.Data.{BankData}
+use Rattle.cell_form.specs.Sound.{shape_of}
+use Rattle.sub_nodes.specs.Cycles.{committed_in}
+use Rattle.ten_form.specs.Banks.{IsFor}
+use Rattle.ten_image.specs.States.{HoldsStage}
+
+-- a state that has the machine's values, ticks and answer, and in which no update is pending
+pub record IsStateAt (m : Machine) (s : State) : Type 0 where
+  pub values : s.values ≡ m.values.items
+  pub ticks : s.ticks ≡ m.ticks
+  pub answer : s.answer ≡ m.answer
+  pub later : s.later ≡ []
+
+-- the bank is for the design, with so many slots, and holds each such state as one that is committed, where this node is next
+pub record HoldsAt (d : Flat) (m : Machine) (slots node : ℕ) (b : BankData) : Type 0 where
+  pub fits : IsFor d slots (shape_of b)
+  pub holds : (s : State) → IsStateAt m s → HoldsStage d b (committed_in node s)

@@ -1,0 +1,11 @@
+use Rattle.std.proofs.Common.{refl, sym, subst}
+use Rattle.vl_design.specs.Trees.{flat_of}
+use Rattle.ten_core.specs.declared.image.Image.{Image}
+use Rattle.ten_core.specs.Tenants.{IsImage}
+use Rattle.ten_make.proofs.image.image.Goals as goal
+
+pub returns : goal.returns
+returns c =
+    let made = c.in_ok-made.made in
+    let image : Image = record { design = c.args.design; order = c.args.order; table = made.table; rise = made.rise; slots = made.slots; stores = made.stores } in
+    subst (λ xs. IsImage (flat_of c.args.design) xs image) c.deref.ensures.value (c.in_ok-made.ensures image refl (sym c.deref.ensures.value) refl refl refl refl)

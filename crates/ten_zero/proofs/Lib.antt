@@ -1,0 +1,4 @@
+pub mod Acting
+pub mod Queues
+pub mod Behind
+pub mod Walking

@@ -25,9 +25,6 @@ def ran(ticks, end, printed):
 
 def refused(kind, source):
     """The status and the line of a refusal at the mark, and the source without it."""
-    if kind == "notbuilt":
-        assert MARK not in source, source
-        return ["status 3", "refused main 0 0 notbuilt"], source
     line, column, rest = marked(source)
     return ["status 3", f"refused main {line} {column} {kind}"], rest
 

@@ -11,7 +11,8 @@ use Rattle.vl_design.specs.Syntax.{Flat}
 use Rattle.vl_design.proofs.Settling.{at_first}
 use Rattle.vl_base.specs.declared.files.File.{File}
 use Rattle.script_text.specs.declared.script.FabricLine.{FabricLine}
-use Rattle.host_form.specs.Origins.{Tenant, errand_of, Starts, anew, resumed}
+use Rattle.ten_plan.specs.Plans.{errand_of}
+use Rattle.host_form.specs.Origins.{Tenant, Starts, anew, resumed}
 use Rattle.host_form.specs.Histories.{Histories}
 use Rattle.host_form.specs.Orders.{Answered, stop_of}
 use Rattle.host_form.specs.Runs.{IsEnd, alone, stopped, Run, IsRun}

@@ -4,14 +4,15 @@ use Rattle.std.specs.List.{AllByRecursion}
 use Rattle.std.proofs.lemmas.Bool.{ltb-false}
 use Rattle.vl_design.specs.Cost.{Cost}
 use Rattle.vl_design.specs.Alone.{stops, stop_at, save_name, save_names}
-use Rattle.script_text.specs.declared.script.Due.{Due}
-use Rattle.script_text.specs.declared.script.Due.TheVariants as due
-use Rattle.script_text.specs.declared.script.Errand.{Errand}
+use Rattle.ten_plan.specs.declared.plan.Due.{Due}
+use Rattle.ten_plan.specs.declared.plan.Due.TheVariants as due
+use Rattle.ten_plan.specs.declared.plan.Errand.{Errand}
 use Rattle.script_text.specs.declared.script.FabricLine.{FabricLine}
 use Rattle.script_text.specs.declared.script.TenantLine.{TenantLine}
 use Rattle.script_text.specs.Scripts.{comes_before, is_save}
 use Rattle.script_text.specs.Laws.{AreOrdered}
-use Rattle.host_form.specs.Origins.{is_planned, due_of, errand_of, plan_of}
+use Rattle.ten_plan.specs.Plans.{due_of, errand_of}
+use Rattle.host_form.specs.Origins.{is_planned, plan_of}
 use Rattle.host_form.specs.Laws.{AreAscending}
 
 -- ---- order

@@ -13,7 +13,8 @@ use Rattle.snap_form.specs.declared.snapshot.Snapshot.{Snapshot}
 use Rattle.snap_form.specs.declared.snapshot.SnapError.{SnapError}
 use Rattle.snap_form.specs.declared.snapshot.SnapError.TheVariants as snap
 use Rattle.snap_form.specs.Reading.{read, at_offset, snapshot_at}
-use Rattle.host_form.specs.Origins.{Source, Accepted, Faulty, Tenant, fits, fits_in, has_room, plan_of, rows_of, kept, Starts, anew, resumed, StartsNot, misspelt, late, IsOrigin, no_place, cost_kind, snapshot_kind, IsRefused, for_its_source, for_its_cost, for_its_snapshot}
+use Rattle.ten_plan.specs.Written.{kept}
+use Rattle.host_form.specs.Origins.{Source, Accepted, Faulty, Tenant, fits, fits_in, has_room, plan_of, rows_of, Starts, anew, resumed, StartsNot, misspelt, late, IsOrigin, no_place, cost_kind, snapshot_kind, IsRefused, for_its_source, for_its_cost, for_its_snapshot}
 use Rattle.host_form.proofs.Once.{some_is}
 
 abbrev Judged : List FabricLine → Tenant → Type 0

@@ -7,8 +7,8 @@ use Rattle.vl_design.specs.Alone as alone
 use Rattle.vl_design.specs.declared.design.SigKind.TheVariants.{Var}
 use Rattle.vl_design.specs.Syntax.{Flat}
 use Rattle.vl_design.specs.Examples.{clock, row, counter, greets}
-use Rattle.script_text.specs.declared.script.Due.TheVariants as due
-use Rattle.script_text.specs.declared.script.Errand.{Errand}
+use Rattle.ten_plan.specs.declared.plan.Due.TheVariants as due
+use Rattle.ten_plan.specs.declared.plan.Errand.{Errand}
 use Rattle.script_text.specs.declared.script.FabricLine.{FabricLine}
 use Rattle.script_text.specs.declared.script.Free.TheVariants as free
 use Rattle.script_text.specs.declared.script.TenantLine.{TenantLine}

@@ -11,9 +11,12 @@ use Rattle.vl_design.specs.Alone.{Plan, Origin}
 use Rattle.script_line.specs.declared.statement.Capacity.{Capacity}
 use Rattle.script_text.specs.declared.script.FabricLine.{FabricLine}
 use Rattle.script_text.specs.declared.script.FileLine.{FileLine}
-use Rattle.script_text.specs.declared.script.Due.{Due}
-use Rattle.script_text.specs.declared.script.Due.TheVariants as due
-use Rattle.script_text.specs.declared.script.Errand.{Errand}
+use Rattle.ten_plan.specs.declared.plan.Due.{Due}
+use Rattle.ten_plan.specs.declared.plan.Due.TheVariants as due
+use Rattle.ten_plan.specs.declared.plan.Errand.{Errand}
+use Rattle.ten_plan.specs.Plans.{errand_of}
+use Rattle.ten_plan.specs.Written as written
+use Rattle.ten_plan.specs.Written.{kept}
 use Rattle.script_text.specs.declared.script.TenantLine.{TenantLine}
 use Rattle.report_text.specs.Report.{number}
 use Rattle.snap_form.specs.declared.snapshot.SnapRow.{SnapRow}
@@ -81,33 +84,15 @@ is_planned fabrics c (due.Save name) = true
 is_planned fabrics c (due.Move fabric) = has_room fabrics c fabric
 is_planned fabrics c due.Stop = true
 
-abbrev pub due_of : Due → alone.Due
-due_of (due.Save name) = alone.SaveAs name
-due_of (due.Move fabric) = alone.Move fabric
-due_of due.Stop = alone.Stop
-
-abbrev pub errand_of : Errand → alone.Errand
-errand_of e = record { tick = e.tick; due = due_of e.due }
-
 -- the plan of a tenant of this cost: its budget, and its planned errands in the script's order
 abbrev pub plan_of : List FabricLine → Cost → TenantLine → Plan
 plan_of fabrics c t = record { budget = t.budget; errands = map errand_of (filter (λ e. is_planned fabrics c e.due) t.errands) }
 
 -- ---- snapshots
 
-abbrev pub row_of : run.SnapRow → SnapRow
-row_of r = record { name = r.name; width = r.width; words = r.words }
-
 -- the rows of a snapshot of a design
 abbrev pub rows_of : Flat → List SnapRow
-rows_of d = map row_of (run.snap_rows d.rows)
-
-abbrev pub kept_row : SnapRow → run.SnapRow
-kept_row r = record { name = r.name; width = r.width; words = r.words }
-
--- a snapshot that was read, as runs begin with it
-abbrev pub kept : Snapshot → run.Snapshot
-kept s = record { tick = s.tick; rows = map kept_row s.rows; words = s.words; files = s.files }
+rows_of d = written.rows_of d.rows
 
 -- what a design is resumed from, where its files and its budget are these: nothing where there are no bytes; else the snapshot of
 -- its rows and files that they spell, whose tick isn't above the budget

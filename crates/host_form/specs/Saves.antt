@@ -1,21 +1,15 @@
 -- The snapshots that a script leaves in the store (own).
 use Rattle.std.specs.Prelude.{◌≡◌, ℕ, ◌+◌, List, [], ◌∷◌, ◌++◌, map, codes}
 use Rattle.fab_io.specs.Outside.{Files, with_file}
-use Rattle.vl_design.specs.Snapshots as run
 use Rattle.vl_design.specs.Snapshots.{Saved}
 use Rattle.vl_design.specs.Alone.{Keeps}
-use Rattle.snap_form.specs.declared.snapshot.Snapshot.{Snapshot}
-use Rattle.snap_form.specs.Spelling.{spelt}
+use Rattle.ten_plan.specs.Written.{bytes_of}
 use Rattle.script_text.specs.declared.script.Script.{Script}
-use Rattle.host_form.specs.Origins.{Source, Tenant, row_of}
+use Rattle.host_form.specs.Origins.{Source, Tenant}
 use Rattle.host_form.specs.Histories.{Histories}
 use Rattle.host_form.specs.Orders.{Answered, saves_of}
 use Rattle.host_form.specs.Runs.{Outcome, Refused, Ran}
 use Rattle.host_form.specs.Reports.{IsReport}
-
--- a snapshot of a run, as it is spelt
-abbrev pub snapshot_of : run.Snapshot → Snapshot
-snapshot_of s = record { tick = s.tick; rows = map row_of s.rows; words = s.words; files = s.files }
 
 -- the path of a snapshot: the tenant's name, a dot, and its own name
 abbrev pub path_of : List ℕ → List ℕ → List ℕ
@@ -24,7 +18,7 @@ path_of tenant name = tenant ++ codes "." ++ name
 -- the files with the snapshots of a tenant written in order
 abbrev pub with_saves : List ℕ → List Saved → Files → Files
 with_saves tenant [] files = files
-with_saves tenant (s ∷ saved) files = with_saves tenant saved (with_file (path_of tenant s.name) (spelt (snapshot_of s.snapshot)) files)
+with_saves tenant (s ∷ saved) files = with_saves tenant saved (with_file (path_of tenant s.name) (bytes_of s.snapshot) files)
 
 -- the snapshots that are kept of the tenant of a number: those of its run up to its end, and of free orders
 abbrev pub IsKept : List Answered → ℕ → Outcome → List Saved → Type 0

@@ -2,6 +2,9 @@ pub mod Answers
 pub mod Claims
 pub mod Due
 pub mod Examples
+pub mod Keeping
+pub mod Kept
 pub mod Report
+pub mod Statuses
 pub mod Taking
 pub mod Words

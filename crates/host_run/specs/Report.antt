@@ -27,7 +27,6 @@ kind_words k.Parse = codes "parse"
 kind_words (k.Construct number) = codes "construct " ++ decimal number
 kind_words (k.Limit number) = codes "limit " ++ decimal number
 kind_words k.Loop = codes "loop"
-kind_words k.NotBuilt = codes "notbuilt"
 
 -- `refused main LINE COLUMN KIND`
 abbrev pub refusal : Place → Kind → List ℕ

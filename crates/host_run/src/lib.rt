@@ -3,6 +3,7 @@
 
 mod answer;
 pub mod host;
+mod kept;
 pub mod laws;
 mod put;
 mod report;

@@ -70,7 +70,6 @@ fn push_kind(alloc: Global, kind: Kind, text: &mut Vec<u8>) -> Result<(), AllocE
         Kind::Construct(number) => push_counted(alloc, b"construct ".as_slice(), number, text),
         Kind::Limit(number) => push_counted(alloc, b"limit ".as_slice(), number, text),
         Kind::Loop => text.extend_from_slice(b"loop"),
-        Kind::NotBuilt => text.extend_from_slice(b"notbuilt"),
     }
 }
 

@@ -1,7 +1,8 @@
 //! A script in lines.
 
-use script_text::script::{Due, Errand, Free, Script, ScriptError, TenantLine};
+use script_text::script::{Free, Script, ScriptError, TenantLine};
 use std::alloc::{AllocError, Global};
+use ten_plan::plan::{Due, Errand};
 use vl_base::items::Text;
 
 /// A text as it is printed.

@@ -14,9 +14,9 @@ use Rattle.script_line.specs.Statements.{Statement, says}
 use Rattle.script_line.specs.Statements as said
 use Rattle.script_text.specs.declared.script.FabricLine.{FabricLine}
 use Rattle.script_text.specs.declared.script.FileLine.{FileLine}
-use Rattle.script_text.specs.declared.script.Due.{Due}
-use Rattle.script_text.specs.declared.script.Due.TheVariants as due
-use Rattle.script_text.specs.declared.script.Errand.{Errand}
+use Rattle.ten_plan.specs.declared.plan.Due.{Due}
+use Rattle.ten_plan.specs.declared.plan.Due.TheVariants as due
+use Rattle.ten_plan.specs.declared.plan.Errand.{Errand}
 use Rattle.script_text.specs.declared.script.TenantLine.{TenantLine}
 use Rattle.script_text.specs.declared.script.Free.{Free}
 use Rattle.script_text.specs.declared.script.Free.TheVariants as free

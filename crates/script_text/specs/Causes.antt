@@ -4,8 +4,8 @@ use Rattle.std.specs.List.{list_any}
 use Rattle.std.specs.Option.{option_map_or}
 use Rattle.std.specs.Str.{bytes_eq}
 use Rattle.script_line.specs.Statements as said
-use Rattle.script_text.specs.declared.script.Due.{Due}
-use Rattle.script_text.specs.declared.script.Due.TheVariants as due
+use Rattle.ten_plan.specs.declared.plan.Due.{Due}
+use Rattle.ten_plan.specs.declared.plan.Due.TheVariants as due
 use Rattle.script_text.specs.declared.script.TenantLine.{TenantLine}
 use Rattle.script_text.specs.declared.script.Script.{Script}
 use Rattle.script_text.specs.Scripts.{fabric_number, tenant_number, tenant_of}

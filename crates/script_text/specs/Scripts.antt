@@ -3,9 +3,9 @@ use Rattle.std.specs.Prelude.{ℕ, zero, suc, ◌+◌, Bool, true, false, not, �
 use Rattle.std.specs.Str.{bytes_eq}
 use Rattle.script_line.specs.Statements as said
 use Rattle.script_text.specs.declared.script.FileLine.{FileLine}
-use Rattle.script_text.specs.declared.script.Due.{Due}
-use Rattle.script_text.specs.declared.script.Due.TheVariants as due
-use Rattle.script_text.specs.declared.script.Errand.{Errand}
+use Rattle.ten_plan.specs.declared.plan.Due.{Due}
+use Rattle.ten_plan.specs.declared.plan.Due.TheVariants as due
+use Rattle.ten_plan.specs.declared.plan.Errand.{Errand}
 use Rattle.script_text.specs.declared.script.TenantLine.{TenantLine}
 use Rattle.script_text.specs.declared.script.Free.{Free}
 use Rattle.script_text.specs.declared.script.Free.TheVariants as free

@@ -10,10 +10,11 @@ ghost use Rattle.script_text.specs.Scripts as spec;
 
 use crate::causes::number;
 use crate::draft::{Draft, Reading, put_file, put_resume, put_sent};
-use crate::script::{Due, Errand, FabricLine, FileLine, Free};
+use crate::script::{FabricLine, FileLine, Free};
 use indexmap::IndexMap;
 use script_line::statement::{Capacity, Order, Statement};
 use std::alloc::{AllocError, Global};
+use ten_plan::plan::{Due, Errand};
 use vl_base::items::Text;
 
 /// A text of bytes.

@@ -7,9 +7,9 @@ ghost use Rattle.script_text.specs.Drafts.{tenant_line, drafted, value_at, IsKep
 ghost use Rattle.script_text.specs.Scripts.{tenant_of};
 
 use crate::draft::{Draft, Reading};
-use crate::script::Due;
 use indexmap::IndexMap;
 use script_line::statement::{Order, Statement};
+use ten_plan::plan::Due;
 
 /// The number of a name.
 pub(crate) fn number(names: &IndexMap<&[u8], u32>, name: &[u8]) -> Option<u32>

@@ -5,9 +5,10 @@ ghost use Rattle.script_text.specs.Drafts.{tenant_line, drafted, IsKept};
 ghost use Rattle.script_text.specs.Scripts as spec;
 
 use crate::errands::put_errand;
-use crate::script::{Errand, FabricLine, FileLine, Free, TenantLine};
+use crate::script::{FabricLine, FileLine, Free, TenantLine};
 use indexmap::IndexMap;
 use std::alloc::{AllocError, Global};
+use ten_plan::plan::Errand;
 use vl_base::items::{Items, Text};
 
 /// A tenant that is being read.

@@ -1,7 +1,7 @@
 //! What follows from the definitions alone.
 
 ghost use Rattle.std.specs.Prelude.{◌≡◌, ℕ, List, [], ◌∷◌, ◌++◌, false, Ok, Err, filter, map, flat_map};
-ghost use Rattle.script_text.specs.declared.script.Errand.{Errand as Sent};
+ghost use Rattle.ten_plan.specs.declared.plan.Errand.{Errand as Sent};
 ghost use Rattle.script_text.specs.declared.script.Script.{Script as Read};
 ghost use Rattle.script_line.specs.Statements.{says};
 ghost use Rattle.script_text.specs.Laws.{IsScript, IsFault, AreOrdered, is_like, IsWithinLimits, fabric_said, tenant_said};

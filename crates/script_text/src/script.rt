@@ -1,6 +1,7 @@
 //! What a script declares.
 
 use script_line::statement::Capacity;
+use ten_plan::plan::Errand;
 use thiserror::Error;
 use vl_base::items::{Items, Text};
 
@@ -20,26 +21,6 @@ pub struct FileLine {
     pub name: Text,
     /// Its path.
     pub path: Text,
-}
-
-/// What an errand is.
-#[derive(Drop)]
-pub enum Due {
-    /// A snapshot of this name.
-    Save(Text),
-    /// A move to the fabric of this number.
-    Move(u32),
-    /// The end of the run.
-    Stop,
-}
-
-/// What a tenant is to do at a tick.
-#[derive(Drop)]
-pub struct Errand {
-    /// The tick, at most 1,000,000,000.
-    pub tick: u64,
-    /// What is to be done.
-    pub due: Due,
 }
 
 /// A tenant. Fabrics are numbered from 0 in the order of the script.

@@ -1,8 +1,5 @@
 //! Ends of runs in words.
 
-ghost use Rattle.std.specs.Prelude.{List};
-ghost use Rattle.vl_base.specs.declared.files.File.{File};
-ghost use Rattle.vl_design.specs.Syntax.{Flat};
 ghost use Rattle.ten_parcel.specs.Parcels.{IsParcel};
 
 use std::alloc::{AllocError, Global};
@@ -28,7 +25,7 @@ fn ended_word(ended: Option<End>) -> &'static str {
 
 /// The parcel of a run of at most so many ticks: why it ended, the ticks, the acts and the bytes, which come behind.
 pub fn ended_text(alloc: Global, ticks: u64, parcel: &Parcel) -> Result<String, AllocError>
-    requires { (d : Flat) × (files : List File) × IsParcel d files parcel.now }
+    requires { IsParcel parcel.now }
 {
     let printed = parcel.printed();
     let word = ended_word(parcel.ended());

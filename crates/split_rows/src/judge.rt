@@ -1,78 +1,92 @@
 //! What a source is split into.
 
-ghost use Rattle.std.specs.Prelude.{◌≡◌, ◌≤◌, ℕ, List};
+ghost use Rattle.std.specs.Prelude.{ℕ, List};
 ghost use Rattle.ten_build.specs.Builds.{IsImageOf};
+ghost use Rattle.split_rows.specs.Starts.{IsOutcome};
 
+use crate::again::parting;
 use crate::ended::ended_text;
-use crate::files::files_of;
+use crate::kept::kept_text;
+use crate::plan::plan_of;
 use crate::row::Row;
+use crate::runs::{Outcome, run_row};
 use crate::show::{count_text, table_text};
 use crate::states::states_text;
 use std::alloc::{AllocError, Global};
 use sub_split::split::split;
-use ten_alone::alone::parcel_alone;
-use ten_build::build::{Built, build};
+use ten_build::build::build;
 use ten_core::image::Image;
 use vl_design::design::Design;
 use vl_front::fault::BuildError;
 use vl_front::front::front;
 
-/// The number of ticks in what is wanted, behind `run `.
-fn ticks_of(wanted: &str) -> u64 {
-    let mut ticks = 0;
-    for byte in wanted.as_bytes().iter().skip(4) {
-        if *byte < b'0' || *byte > b'9' || ticks > 99_999_999 {
-            return ticks;
+/// The number that the digits of a word write, up to the first byte that is none.
+pub fn number_of(word: &str) -> u64 {
+    let mut number = 0;
+    for byte in word.as_bytes() {
+        if *byte < b'0' || *byte > b'9' || number > 99_999_999 {
+            return number;
         }
-        ticks = ticks * 10 + u64::from(*byte - b'0');
+        number = number * 10 + u64::from(*byte - b'0');
     }
-    ticks
+    number
 }
 
-/// The run of an image: how it ends, its ticks and acts, and what it prints.
-fn answer_in_acts(
-    alloc: Global,
-    ticks: u64,
-    files: &str,
-    image: Image,
-) -> Result<String, AllocError>
+/// The number of ticks in what is wanted, behind `run `.
+fn ticks_of(wanted: &str) -> u64 {
+    match wanted.strip_prefix("run ") {
+        Some(word) => number_of(word),
+        None => 0,
+    }
+}
+
+/// What came of a run, in words: how it ended, its ticks and acts, what it printed, and the snapshots that it keeps.
+fn outcome_text(alloc: Global, ticks: u64, outcome: Outcome) -> Result<String, AllocError>
+    requires { IsOutcome outcome }
+{
+    match outcome {
+        Outcome::Parcel(parcel) => {
+            let mut text = ended_text(alloc, ticks, &parcel)?;
+            let kept = kept_text(alloc, parcel.into_remains(alloc))?;
+            text.push_str(kept.as_str())?;
+            Ok(text)
+        }
+        Outcome::Bad(kind, offset) => format!(in alloc; "run {ticks}\nbad {kind} {offset}\n"),
+        Outcome::Unfit => format!(in alloc; "run {ticks}\nunfit\n"),
+    }
+}
+
+/// The run of a row's image.
+fn answer_in_acts(alloc: Global, row: &Row, image: Image) -> Result<String, AllocError>
     requires image { (text : List ℕ) × IsImageOf text image }
 {
-    if ticks > 1_000_000_000 {
-        return String::from_str(alloc, "run none\n");
-    }
-    let files = files_of(alloc, files)?;
-    let parcel = parcel_alone(alloc, 1, image, files, ticks)?;
-    ended_text(alloc, ticks, &parcel)
+    let ticks = ticks_of(row.wanted.as_str());
+    let plan = plan_of(alloc, ticks, row.errands.as_str())?;
+    let files = row.files.as_str();
+    let outcome = run_row(alloc, image, plan, files, row.start.as_str())?;
+    outcome_text(alloc, ticks, outcome)
 }
 
 /// What is wanted of an image: its states, or its run.
-fn answer_of_image(
-    alloc: Global,
-    wanted: &str,
-    files: &str,
-    image: Image,
-) -> Result<String, AllocError>
+fn answer_of_image(alloc: Global, row: &Row, image: Image) -> Result<String, AllocError>
     requires image { (text : List ℕ) × IsImageOf text image }
 {
-    if wanted.starts_with("states ") {
+    if row.wanted.as_str().starts_with("states ") {
         return states_text(alloc, &image);
     }
-    answer_in_acts(alloc, ticks_of(wanted), files, image)
+    answer_in_acts(alloc, row, image)
 }
 
-/// The answer to a source in states.
-fn answer_in_states(
-    alloc: Global,
-    wanted: &str,
-    files: &str,
-    text: &[u8],
-) -> Result<String, AllocError> {
-    match build(alloc, text) {
-        Ok(Built::Cells(image)) => answer_of_image(alloc, wanted, files, image),
-        Ok(Built::Plain(_)) => String::from_str(alloc, "states none\n"),
-        Err(BuildError::Memory) => Err(AllocError),
-        Err(_) => String::from_str(alloc, "refused\n"),
+/// The answer to a source in states; of a run, whether it comes to the same where it is saved and resumed on its way.
+fn answer_in_states(alloc: Global, row: &Row) -> Result<String, AllocError> {
+    let text = match build(alloc, row.source.as_bytes()) {
+        Ok(image) => answer_of_image(alloc, row, image)?,
+        Err(BuildError::Memory) => return Err(AllocError),
+        Err(_) => return String::from_str(alloc, "refused\n"),
+    };
+    match parting(alloc, row, ticks_of(row.wanted.as_str()))? {
+        None => Ok(text),
+        Some(tick) => format!(in alloc; "{text}resumed at {tick} it goes on otherwise\n"),
     }
 }
 
@@ -90,7 +104,7 @@ fn answer(alloc: Global, row: &Row) -> Result<String, AllocError> {
     let wanted = row.wanted.as_str();
     let text = row.source.as_bytes();
     if wanted.starts_with("states ") || wanted.starts_with("run ") {
-        return answer_in_states(alloc, wanted, row.files.as_str(), text);
+        return answer_in_states(alloc, row);
     }
     match front(alloc, text) {
         Ok(accepted) => answer_in_nodes(alloc, wanted, &accepted.design),

@@ -1,14 +1,21 @@
 //! Reads sources, each behind a line `= ` of its name and lines `> ` of the table that is wanted, and prints whether this is the
 //! table of nodes that their blocks are split into; of a long one `> nodes ` and their number is wanted. Where the first line is
 //! `> states ` the states are wanted that are made of the nodes; where it is `> run ` and a number, how the run alone of as many ticks
-//! ends on them: its ticks, its acts, how many bytes it prints, and these. A line `< ` gives it a file, by name and bytes.
+//! ends on them: its ticks, its acts, how many bytes it prints, these, and the snapshots that it keeps; lines `% ` are its errands, a line
+//! `^ ` the snapshot that it is resumed from, and without both it is also saved and resumed at some ticks, which has to come to the same.
+//! A line `< ` gives it a file, by name and bytes.
 #![tactic(auto)]
 
+mod again;
 mod ended;
 mod files;
 mod judge;
+mod kept;
+mod plan;
 mod row;
+mod runs;
 mod show;
+mod start;
 mod states;
 mod writes;
 

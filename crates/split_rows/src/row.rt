@@ -11,6 +11,10 @@ pub struct Row {
     pub wanted: String,
     /// The lines of the files that the source may open.
     pub files: String,
+    /// The lines of the errands of its run.
+    pub errands: String,
+    /// The line of the snapshot from which its run is resumed; empty where there is none.
+    pub start: String,
     /// The source.
     pub source: String,
 }
@@ -22,6 +26,8 @@ impl Row {
             name: String::from_str(alloc, name)?,
             wanted: String::new(alloc),
             files: String::new(alloc),
+            errands: String::new(alloc),
+            start: String::new(alloc),
             source: String::new(alloc),
         })
     }
@@ -35,6 +41,13 @@ impl Row {
         if let Some(file) = line.strip_prefix("< ") {
             self.files.push_str(file)?;
             return self.files.push('\n');
+        }
+        if let Some(errand) = line.strip_prefix("% ") {
+            self.errands.push_str(errand)?;
+            return self.errands.push('\n');
+        }
+        if let Some(start) = line.strip_prefix("^ ") {
+            return self.start.push_str(start);
         }
         self.source.push_str(line)?;
         self.source.push('\n')

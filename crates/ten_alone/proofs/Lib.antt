@@ -1,3 +1,2 @@
 mod Ending
-mod Resting
-mod Tenants
+mod Starting

@@ -1,4 +1,5 @@
-//! Designs run alone on states of cells.
+//! Tenants that run alone.
 #![tactic(auto)]
 
 pub mod alone;
+pub mod laws;

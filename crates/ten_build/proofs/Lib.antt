@@ -1,1 +1,3 @@
+mod Resuming
 mod Building
+mod Going

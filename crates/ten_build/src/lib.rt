@@ -1,4 +1,5 @@
-//! From the text of a source to what runs it, or why it is refused.
+//! From the text of a source to its image, or why it is refused.
 #![tactic(auto)]
 
 pub mod build;
+pub mod laws;

@@ -1,7 +1,8 @@
--- A tenant's cycle is one of its design's table.
-use Rattle.std.proofs.Common.{◌≡◌, ℕ, suc, ◌+◌, ◌<◌, ◌≤◌, ◌^◌, Bool, true, false, List, length, Some, inl, inr, refl, sym, ap, ◌∙◌, subst, arith}
+-- A cycle of a tenant's bank is one of its design's table.
+use Rattle.std.proofs.Common.{◌≡◌, ℕ, suc, ◌+◌, ◌<◌, ◌≤◌, ◌^◌, Bool, true, false, List, [], length, Some, inl, inr, refl, sym, ap, ◌∙◌, subst, arith}
 use Rattle.std.specs.Prelude.{if◌then◌else◌, is_some, slice_get, slice_index}
 use Rattle.std.proofs.lemmas.Option.{slice_get_cases, slice_get_within}
+use Rattle.vl_base.specs.declared.files.File.{File}
 use Rattle.vl_design.specs.Alone.{Origin}
 use Rattle.vl_design.specs.Syntax.{Flat}
 use Rattle.cell_form.specs.Data.{BankData, StateData, TableData}
@@ -9,18 +10,21 @@ use Rattle.cell_form.specs.Sound.{Shape, IsList, shape_of}
 use Rattle.cell_form.specs.States.{present, table_cycled}
 use Rattle.cell_form.specs.Views as cells
 use Rattle.sub_nodes.specs.Code.{table_of}
-use Rattle.sub_nodes.specs.Cycles.{Stage, cycled, cycle, is_trap}
+use Rattle.sub_nodes.specs.Cycles.{Stage, cycled, cycle, is_trap, rises}
 use Rattle.sub_nodes.specs.Nodes.{Go, Branch, Switch, Commit, Node, Run, Trap, Apply}
 use Rattle.sub_nodes.specs.Stands.{at_trap, Comes, cycles}
 use Rattle.sub_facts.specs.Early.{early_from}
+use Rattle.sub_facts.proofs.Leading.{sizes}
 use Rattle.ten_form.specs.Banks.{cell_nodes, IsFor}
 use Rattle.ten_form.specs.Nets.{nets_of, IsTidy}
-use Rattle.ten_form.specs.Registers.{state_register, ticks_register}
+use Rattle.ten_form.specs.Registers.{state_register}
 use Rattle.ten_image.specs.Delays.{IsDue}
+use Rattle.ten_image.specs.Paired.{CallsStandApart}
 use Rattle.ten_image.specs.States.{slots_in, IsStateOf, AreStates, StandsAt}
-use Rattle.ten_core.specs.Runs.{IsAt, IsTame}
+use Rattle.ten_core.specs.Runs.{IsAt, IsTame, Runs}
 use Rattle.ten_core.specs.Tenants.{TenantData, states_of}
 use Rattle.ten_core.specs.Traps.{has_trap}
+use Rattle.ten_core.specs.declared.image.Image.{Image}
 use Rattle.ten_core.proofs.Late.{node-late, node-there, cycled-late}
 use Rattle.ten_core.proofs.Silent.{Quiet, cycled-quiet}
 
@@ -78,9 +82,29 @@ module _ (d : Flat) (order : List ℕ) where
 
 -- ---- a tenant's cycle
 
+-- the law of one cycle of states
+abbrev pub CycleLaw : Type 0
+CycleLaw =
+    (d : Flat) (order : List ℕ) (files : List File) (slots : ℕ) (states : List StateData) (b : BankData) (i : Stage) (x : Node) →
+    AreStates d order slots (cell_nodes d) states → CallsStandApart (cell_nodes d) → StandsAt d order files slots (cell_nodes d) states b i →
+    slice_get (cell_nodes d) i.node ≡ Some x → is_trap (Some x) ≡ false → IsTidy d files order i.state i.committed → IsDue d x i →
+    i.state.finished ≡ false → (cycle d files (nets_of d files order) (cell_nodes d) i).state.ticks < 2 ^ 32 →
+    StandsAt d order files slots (cell_nodes d) states (table_cycled (record { state = state_register; states = states }) b)
+    (cycle d files (nets_of d files order) (cell_nodes d) i)
+
 -- one act more, unless a call waits then
 abbrev pub counted_by : Bool → ℕ → ℕ
 counted_by waits c = if waits then c else suc c
+
+-- the number of the next state is in the register of this number
+pub record Driven (r : ℕ) (b : BankData) : Type 0 where
+  pub is : r ≡ state_register
+  pub there : r < length b.regs
+  pub few : slice_index b.regs state_register < 2 ^ 32
+
+at-most-one : (b : Bool) (n : ℕ) → (if b then n + 1 else n) ≤ n + 1
+at-most-one true n = omega arith
+at-most-one false n = omega arith
 
 module _ (o : Origin) (order : List ℕ) (t : TenantData) (c : ℕ) (here : Stage) (at : IsAt o order t c here) where
   abbrev nodes : List Node
@@ -111,15 +135,11 @@ module _ (o : Origin) (order : List ℕ) (t : TenantData) (c : ℕ) (here : Stag
   pub register-there : t.image.table.state < length t.bank.regs
   register-there = let r = at.image.register in let many = at.stands.shape.regs in omega (arith, r, many)
 
-  pub ticks-there : ticks_register < length t.bank.regs
-  ticks-there = let many = at.stands.shape.regs in omega (arith, many)
-
   -- the state that is next is that of the node that is next
-  present-is : (b : BankData) (i : Stage) → slice_index b.regs state_register ≡ i.node → present table b ≡ slice_get (states_of t.image) i.node
-  present-is b i e = ap (λ r. slice_get (states_of t.image) (slice_index b.regs r)) at.image.register ∙ ap (slice_get (states_of t.image)) e
-
   pub present-here : present table t.bank ≡ slice_get (states_of t.image) here.node
-  present-here = present-is t.bank here at.stands.stage.node
+  present-here =
+      ap (λ r. slice_get (states_of t.image) (slice_index t.bank.regs r)) at.image.register
+      ∙ ap (slice_get (states_of t.image)) at.stands.stage.node
 
   no-trap : t.waits ≡ false → is_trap (slice_get nodes here.node) ≡ false
   no-trap w = ap is_trap same-node ∙ (sym at.waits ∙ w)
@@ -128,20 +148,12 @@ module _ (o : Origin) (order : List ℕ) (t : TenantData) (c : ℕ) (here : Stag
   list-there w s e =
       may-run o.flat order t.image.slots (states_of t.image) here.node at.late at.image.states t.bank s at.stands.shape (no-trap w) (sym present-here ∙ e)
 
-  pub waits-at : (b : BankData) (i : Stage) → i.node < early_from o.flat → Stands b i → has_trap (present table b) ≡ at_trap (table_of o.flat) i
-  waits-at b i l st =
-      ap has_trap (present-is b i st.stage.node)
-      ∙ (trap-same o.flat order t.image.slots (states_of t.image) i.node l at.image.states ∙ ap is_trap (node-late o.flat i.node l))
-
-  -- what the law of one cycle of states says here
-  abbrev pub OneCycle : Type 0
-  OneCycle =
-      (x : Node) → slice_get nodes here.node ≡ Some x → is_trap (Some x) ≡ false →
-      IsTidy o.flat o.files order here.state here.committed → IsDue o.flat x here → here.state.finished ≡ false →
-      of-cells.state.ticks < 2 ^ 32 → Stands (table_cycled (record { state = state_register; states = states_of t.image }) t.bank) of-cells
+  -- a call waits where the state of the next node has one
+  waits-at : (i : Stage) → i.node < early_from o.flat → has_trap (slice_get (states_of t.image) i.node) ≡ at_trap (table_of o.flat) i
+  waits-at i l = trap-same o.flat order t.image.slots (states_of t.image) i.node l at.image.states ∙ ap is_trap (node-late o.flat i.node l)
 
   module _ (tame : IsTame o order) (w : t.waits ≡ false) (f : t.finished ≡ false) where
-    quiet-next : Quiet here.state next.state
+    quiet-next : Quiet (rises (slice_get (table_of o.flat).nodes here.node)) here.state next.state
     quiet-next =
         cycled-quiet o.flat o.files (nets_of o.flat o.files order) (slice_get (table_of o.flat).nodes here.node) here
         (λ g on e. tame.quiet here.node g on e)
@@ -149,47 +161,68 @@ module _ (o : Origin) (order : List ℕ) (t : TenantData) (c : ℕ) (here : Stag
     alive : here.state.finished ≡ false
     alive = sym at.finished ∙ f
 
-    few-next : slice_index t.bank.regs ticks_register + 1 < 2 ^ 32 → of-cells.state.ticks < 2 ^ 32
-    few-next room = subst (λ (i : Stage). i.state.ticks < 2 ^ 32) (sym same-cycle) (let e = at.stands.stage.holds.signals.ticks in let l = quiet-next.ticks in omega (arith, e, l, room))
+    few-next : t.ticks + 1 < 2 ^ 32 → of-cells.state.ticks < 2 ^ 32
+    few-next room =
+        subst (λ (i : Stage). i.state.ticks < 2 ^ 32) (sym same-cycle)
+        (let e = at.ticks in let l = at-most-one (rises (slice_get (table_of o.flat).nodes here.node)) here.state.ticks in let h = quiet-next.ticks in omega (arith, e, l, h, room))
 
-    next-stands : OneCycle → slice_index t.bank.regs ticks_register + 1 < 2 ^ 32 → Stands (table_cycled table t.bank) next
+    next-stands : CycleLaw → t.ticks + 1 < 2 ^ 32 → Stands (table_cycled table t.bank) next
     next-stands law room =
         let h = number o.flat order t.image.slots (states_of t.image) here.node at.late at.image.states in
         subst (Stands (table_cycled table t.bank)) same-cycle
         (subst (λ r. Stands (table_cycled (record { state = r; states = states_of t.image }) t.bank) of-cells) (sym at.image.register)
-        (law h.node h.is (sym (ap is_trap h.is) ∙ no-trap w) (tame.tidy c here at.comes at.late alive)
+        (law o.flat order o.files t.image.slots (states_of t.image) t.bank here h.node at.image.states at.image.apart at.stands h.is (sym (ap is_trap h.is) ∙ no-trap w) (tame.tidy c here at.comes at.late alive)
         (tame.due c here h.node at.comes (sym same-node ∙ h.is)) alive (few-next room)))
 
-    pub cycled-at : OneCycle → slice_index t.bank.regs ticks_register + 1 < 2 ^ 32 → (b : BankData) (waits : Bool) (count : ℕ) →
-        b ≡ table_cycled table t.bank → waits ≡ has_trap (present table b) → count ≡ counted_by waits t.cycles →
-        IsAt o order (record t { bank = b; waits = waits; cycles = count }) (counted_by waits c) next
-    cycled-at law room b waits count is asks counts =
-        let st : Stands b next = subst (λ z. Stands z next) (sym is) (next-stands law room) in
-        let comes : Comes o (table_of o.flat) (nets_of o.flat o.files order) (counted_by (at_trap (table_of o.flat) next) c) next
-        = cycles at.comes alive (sym at.waits ∙ w) in
-        let trap : waits ≡ at_trap (table_of o.flat) next = asks ∙ waits-at b next next-late st in
-        record {
-          image = at.image;
-          files = at.files;
-          from_nothing = at.from_nothing;
-          comes = subst (λ z. Comes o (table_of o.flat) (nets_of o.flat o.files order) (counted_by z c) next) (sym trap) comes;
-          late = next-late;
-          stands = st;
-          printed = at.printed ∙ sym quiet-next.printed;
-          fits = at.fits;
-          table = at.table ∙ sym quiet-next.table;
-          finished = at.finished ∙ sym quiet-next.finished;
-          waits = trap;
-          cycles = counts ∙ ap (counted_by waits) at.cycles;
-        }
+    -- the state register names the node that is next
+    module _ (law : CycleLaw) (room : t.ticks + 1 < 2 ^ 32) where
+      number-next : slice_index (table_cycled table t.bank).regs state_register ≡ next.node
+      number-next = (next-stands law room).stage.node
 
-    pub register-next : OneCycle → slice_index t.bank.regs ticks_register + 1 < 2 ^ 32 → (b : BankData) → b ≡ table_cycled table t.bank →
-        t.image.table.state < length b.regs
-    register-next law room b is =
-        let st : Stands b next = subst (λ z. Stands z next) (sym is) (next-stands law room) in
-        let r = at.image.register in
-        let many = st.shape.regs in
-        omega (arith, r, many)
+      -- it is in the bank, and its number is small
+      driven : (x : Image) (b : BankData) → x ≡ t.image → b ≡ table_cycled (cells.table_of x.table) t.bank → Driven x.table.state b
+      driven x b same is =
+          let bank : b ≡ table_cycled table t.bank = is ∙ ap (λ (y : Image). table_cycled (cells.table_of y.table) t.bank) same in
+          let st : Stands b next = subst (λ z. Stands z next) (sym bank) (next-stands law room) in
+          let state : x.table.state ≡ state_register = ap (λ (y : Image). y.table.state) same ∙ at.image.register in
+          let many = st.shape.regs in
+          let e = st.stage.node in
+          let late = next-late in
+          let all = (sizes o.flat).all in
+          let few = at.image.few in
+          record { is = state; there = omega (arith, state, many); few = omega (arith, e, late, all, few) }
+
+      pub stepped-at : (to : ℕ) (rise waits : Bool) (count ticks : ℕ) (names : List (List ℕ)) →
+          to ≡ slice_index (table_cycled table t.bank).regs state_register → rise ≡ rises (slice_get (table_of o.flat).nodes here.node) →
+          waits ≡ has_trap (slice_get (states_of t.image) to) → count ≡ counted_by waits t.cycles →
+          ticks ≡ (if rise then t.ticks + 1 else t.ticks) → names ≡ (if rise then [] else t.asked) →
+          IsAt o order (record t { bank = table_cycled table t.bank; asked = names; ticks = ticks; cycles = count; next = to; waits = waits }) (counted_by waits c) next
+      stepped-at to rise waits count ticks names is up asks counts begun left =
+          let there : to ≡ next.node = is ∙ number-next in
+          let comes : Comes o (table_of o.flat) (nets_of o.flat o.files order) (counted_by (at_trap (table_of o.flat) next) c) next
+          = cycles at.comes alive (sym at.waits ∙ w) in
+          let trap : waits ≡ at_trap (table_of o.flat) next = asks ∙ (ap (λ n. has_trap (slice_get (states_of t.image) n)) there ∙ waits-at next next-late) in
+          record {
+            image = at.image;
+            files = at.files;
+            comes = subst (λ z. Comes o (table_of o.flat) (nets_of o.flat o.files order) (counted_by z c) next) (sym trap) comes;
+            late = next-late;
+            stands = next-stands law room;
+            printed = at.printed ∙ sym quiet-next.printed;
+            fits = at.fits;
+            table = at.table ∙ sym quiet-next.table;
+            finished = at.finished ∙ sym quiet-next.finished;
+            waits = trap;
+            cycles = counts ∙ ap (counted_by waits) at.cycles;
+            asked = left ∙ (ap (λ b. if b then [] else t.asked) up ∙ (ap (λ (xs : List (List ℕ)). if rises (slice_get (table_of o.flat).nodes here.node) then [] else xs) at.asked ∙ sym quiet-next.saves));
+            ticks = begun ∙ (ap (λ b. if b then t.ticks + 1 else t.ticks) up ∙ (ap (λ n. if rises (slice_get (table_of o.flat).nodes here.node) then n + 1 else n) at.ticks ∙ sym quiet-next.ticks));
+            next = there;
+          }
+
+-- so the number of the next state can be read where a cycle was done
+pub driven-to : CycleLaw → (t : TenantData) → Runs t → t.waits ≡ false → t.finished ≡ false → t.ticks + 1 < 2 ^ 32 →
+    (x : Image) (b : BankData) → x ≡ t.image → b ≡ table_cycled (cells.table_of x.table) t.bank → Driven x.table.state b
+driven-to law t r w f room x b same is = driven r.origin r.order t r.acts r.stage r.at r.tame w f law room x b same is
 
 pub counted-more : (waits : Bool) (c : ℕ) → waits ≡ false → c + 1 ≡ counted_by waits c
 counted-more true c e = let z : ⊥ = cc in absurd z

@@ -1,13 +1,12 @@
--- What a tenant's registers tell.
-use Rattle.std.proofs.Common.{◌≡◌, ℕ, ◌<◌, ◌^◌, Bool, true, false, List, refl, sym, ap, ◌∙◌, subst, arith}
-use Rattle.std.specs.Prelude.{◌==◌, slice_get, slice_index}
+-- Where a tenant's run is at a boundary.
+use Rattle.std.proofs.Common.{◌≡◌, ℕ, Bool, true, false, List, refl, sym, ap, ◌∙◌, subst}
+use Rattle.std.specs.Prelude.{◌==◌, slice_get}
 use Rattle.std.proofs.lemmas.Bool.{eqb-true, eq-eqb}
 use Rattle.vl_design.specs.Alone.{Origin}
 use Rattle.vl_design.specs.Syntax.{Flat}
 use Rattle.sub_nodes.specs.Code.{table_of}
 use Rattle.sub_nodes.specs.Cycles.{Stage, rises}
 use Rattle.sub_nodes.proofs.Rising.{rises_once, rise_rises}
-use Rattle.ten_form.specs.Registers.{ticks_register}
 use Rattle.ten_core.specs.Runs.{IsAt}
 use Rattle.ten_core.specs.Tenants.{TenantData}
 
@@ -24,13 +23,5 @@ rise-is d n r e =
     (λ h. eq-eqb n r (rises_once d n h ∙ sym e))
 
 module _ (o : Origin) (order : List ℕ) (t : TenantData) (c : ℕ) (i : Stage) (at : IsAt o order t c i) where
-  pub boundary-is : (slice_index t.bank.regs t.image.table.state == t.image.rise) ≡ rises (slice_get (table_of o.flat).nodes i.node)
-  boundary-is =
-      ap (λ r. slice_index t.bank.regs r == t.image.rise) at.image.register
-      ∙ (ap (λ n. n == t.image.rise) at.stands.stage.node ∙ rise-is o.flat i.node t.image.rise at.image.rise)
-
-  pub ticks-are : slice_index t.bank.regs ticks_register ≡ i.state.ticks
-  ticks-are = at.stands.stage.holds.signals.ticks
-
-  pub ticks-few : slice_index t.bank.regs ticks_register < 2 ^ 32
-  ticks-few = let e = ticks-are in let few = at.stands.stage.holds.signals.few in omega (arith, e, few)
+  pub boundary-is : (t.next == t.image.rise) ≡ rises (slice_get (table_of o.flat).nodes i.node)
+  boundary-is = ap (λ n. n == t.image.rise) at.next ∙ rise-is o.flat i.node t.image.rise at.image.rise

@@ -1,7 +1,7 @@
 -- A call that a tenant serves is done as the run of its design's table does it.
 use Rattle.std.proofs.Common.{◌≡◌, ◌≢◌, ℕ, suc, ◌+◌, ◌*◌, ◌<◌, ◌≤◌, Bool, true, false, List, [], ◌∷◌, length, map, take, Option, Some, None}
 use Rattle.std.proofs.Common.{refl, sym, ap, ◌∙◌, subst, arith}
-use Rattle.std.specs.Prelude.{IsTrue, ◌↔◌, drop, slice_get, slice_set, slice_index}
+use Rattle.std.specs.Prelude.{IsTrue, ◌↔◌, ◌++◌, drop, slice_get, slice_set, slice_index}
 use Rattle.std.specs.List.{AllByRecursion}
 use Rattle.std.proofs.lemmas.Bool.{true≢false}
 use Rattle.std.proofs.lemmas.List.{get_or-set_same, get_or-set_other, length-set}
@@ -31,7 +31,7 @@ use Rattle.ten_stores.specs.Holding.{IsIdle}
 use Rattle.ten_stores.specs.Stores.{words_down}
 use Rattle.ten_stores.proofs.Same.{all-from, idle-behind, stores-behind}
 use Rattle.ten_calls.specs.Asked.{asked}
-use Rattle.ten_calls.specs.Works.{works_of, IsBefore, DoesCall}
+use Rattle.ten_calls.specs.Works.{saved, works_of, IsBefore, DoesCall}
 use Rattle.ten_calls.proofs.Doing.{can, does}
 use Rattle.ten_calls.proofs.Serving.{holds-altered}
 use Rattle.trap_runtime.specs.Served as s
@@ -42,7 +42,7 @@ use Rattle.ten_core.specs.Runs.{IsAt, IsTame}
 use Rattle.ten_core.specs.Tenants.{TenantData, states_of}
 use Rattle.ten_core.specs.Traps.{IsAtCall}
 use Rattle.ten_core.proofs.Late.{node-late, call-late}
-use Rattle.ten_core.proofs.Silent.{cycled-quiet}
+use Rattle.ten_core.proofs.Silent.{call-ticks, cycled-quiet}
 use Rattle.ten_core.proofs.Cycling.{number, present-here, same-node}
 
 -- ---- where calls stand
@@ -294,12 +294,12 @@ module _ (o : Origin) (order : List ℕ) (t : TenantData) (c : ℕ) (here : Stag
           asked = λ other to e. absurd (true≢false (free-behind (Trap other to) e));
         }
 
-    served-at : IsTableOf t.files rows → (finished : Bool) → (IsTrue finished ↔ (s.way_of trap.call ≡ way.Finish)) → (count : ℕ) → count ≡ t.cycles + 1 →
-        IsAt o order (record t { bank = after; rows = rows; printed = printed; finished = finished; waits = false; cycles = count }) (suc c) then
-    served-at fits finished ends count counts = record {
+    served-at : IsTableOf t.files rows → (finished : Bool) → (IsTrue finished ↔ (s.way_of trap.call ≡ way.Finish)) →
+        (names : List (List ℕ)) → names ≡ t.asked ++ saved (s.way_of trap.call) → (count to : ℕ) → count ≡ t.cycles + 1 → to ≡ call-here.to →
+        IsAt o order (record t { bank = after; rows = rows; printed = printed; asked = names; cycles = count; next = to; waits = false; finished = finished }) (suc c) then
+    served-at fits finished ends names asks count to counts leads = record {
       image = at.image;
       files = at.files;
-      from_nothing = at.from_nothing;
       comes = subst (λ i. Comes o (table_of o.flat) (nets_of o.flat o.files order) (suc c) i) then-is (serves at.comes trapped);
       late = then-late;
       stands = then-stands;
@@ -309,6 +309,9 @@ module _ (o : Origin) (order : List ℕ) (t : TenantData) (c : ℕ) (here : Stag
       finished = alike finished state.finished (s.way_of trap.call ≡ way.Finish) ends done.finishes;
       waits = sym none-behind;
       cycles = (let e = at.cycles in omega (arith, counts, e));
+      asked = asks ∙ (ap (λ xs. xs ++ saved (s.way_of trap.call)) at.asked ∙ sym done.saves);
+      ticks = at.ticks ∙ call-ticks (scope_of o.flat o.files) task here.state alive;
+      next = leads;
     }
 
   module _ (other : TrapData) (to : ℕ) (h : IsAtCall table t.bank other to) where
@@ -316,18 +319,17 @@ module _ (o : Origin) (order : List ℕ) (t : TenantData) (c : ℕ) (here : Stag
       is-mine : IsServed trap b rows text
       is-mine = is ∙ ap (λ z. s.served t.files z (works t.rows)) (one-call other to h).0
 
-      pub register-behind : t.image.table.state < length b.regs
-      register-behind = served-register b rows text is-mine
-
-      pub served-behind : IsTableOf t.files rows → (finished : Bool) → (IsTrue finished ↔ (s.way_of other.call ≡ way.Finish)) → (z : BankData) →
+      pub served-behind : IsTableOf t.files rows → (finished : Bool) → (IsTrue finished ↔ (s.way_of other.call ≡ way.Finish)) →
+          (names : List (List ℕ)) → names ≡ t.asked ++ saved (s.way_of other.call) → (z : BankData) →
           z ≡ record b { regs = slice_set b.regs t.image.table.state to } →
-          IsAt o order (record t { bank = z; rows = rows; printed = text; finished = finished; waits = false; cycles = t.cycles + 1 }) (suc c)
+          IsAt o order (record t { bank = z; rows = rows; printed = text; asked = names; cycles = t.cycles + 1; next = to; waits = false; finished = finished }) (suc c)
           (served (scope_of o.flat o.files) (table_of o.flat).nodes here)
-      served-behind fits finished ends z e =
+      served-behind fits finished ends names asks z e =
           let same = one-call other to h in
           let mine = subst (λ (y : TrapData). IsTrue finished ↔ (s.way_of y.call ≡ way.Finish)) same.0 ends in
+          let wants = subst (λ (y : TrapData). names ≡ t.asked ++ saved (s.way_of y.call)) same.0 asks in
           let bank : z ≡ after b rows text is-mine = e ∙ ap (λ n. record b { regs = slice_set b.regs t.image.table.state n }) same.1 in
-          let at-then = served-at b rows text is-mine fits finished mine (t.cycles + 1) refl in
-          let u : TenantData = record t { bank = z; rows = rows; printed = text; finished = finished; waits = false; cycles = t.cycles + 1 } in
+          let at-then = served-at b rows text is-mine fits finished mine names wants (t.cycles + 1) to refl same.1 in
+          let u : TenantData = record t { bank = z; rows = rows; printed = text; asked = names; cycles = t.cycles + 1; next = to; waits = false; finished = finished } in
           subst (λ y. IsAt o order u (suc c) y) (sym (then-is b rows text is-mine))
           (subst (λ y. IsAt o order (record u { bank = y }) (suc c) (then b rows text is-mine)) (sym bank) at-then)

@@ -1,5 +1,5 @@
 -- Where the run of a tenant is (own).
-use Rattle.std.specs.Prelude.{◌≡◌, ℕ, ◌<◌, false, List, slice_get, All, Some, None}
+use Rattle.std.specs.Prelude.{◌≡◌, ℕ, ◌<◌, false, List, slice_get, All, Some}
 use Rattle.vl_design.specs.Alone.{Origin}
 use Rattle.vl_design.specs.Functions.{scope_of}
 use Rattle.vl_design.specs.Laws.{can_act}
@@ -31,7 +31,6 @@ after_call o i = served (scope_of o.flat o.files) (table_of o.flat).nodes i
 pub record IsAt (o : Origin) (order : List ℕ) (t : TenantData) (c : ℕ) (i : Stage) : Type 0 where
   pub image : IsImage o.flat order t.image
   pub files : o.files ≡ t.files
-  pub from_nothing : o.resume ≡ None
   pub comes : Comes o (table_of o.flat) (nets_of o.flat o.files order) c i
   -- time zero's wave has ended
   pub late : i.node < early_from o.flat
@@ -42,6 +41,9 @@ pub record IsAt (o : Origin) (order : List ℕ) (t : TenantData) (c : ℕ) (i : 
   pub finished : t.finished ≡ i.state.finished
   pub waits : t.waits ≡ at_trap (table_of o.flat) i
   pub cycles : t.cycles ≡ c
+  pub asked : t.asked ≡ i.state.saves
+  pub ticks : t.ticks ≡ i.state.ticks
+  pub next : t.next ≡ i.node
 
 -- what cycles and calls need of a design and its runs
 pub record IsTame (o : Origin) (order : List ℕ) : Type 0 where

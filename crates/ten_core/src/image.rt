@@ -1,5 +1,6 @@
 //! Images of designs.
 
+use cell_form::bank::PortMap;
 use cell_form::table::StateTable;
 use vl_design::design::Design;
 
@@ -18,4 +19,6 @@ pub struct Image {
     pub slots: u32,
     /// How many stores keep pending writes to words of memories.
     pub stores: u32,
+    /// Where its banks have the variables and memories that snapshots keep.
+    pub ports: PortMap,
 }

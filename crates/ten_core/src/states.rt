@@ -1,6 +1,6 @@
 //! States of a table: the one that is next, its cycle, and its call.
 
-ghost use Rattle.std.specs.Prelude.{◌≡◌, ◌<◌, ℕ, Some, length, option_copied, option_map};
+ghost use Rattle.std.specs.Prelude.{◌≡◌, ◌<◌, ℕ, Some, length, option_copied, option_map, slice_get};
 ghost use Rattle.cell_form.specs.Data.{StateData};
 ghost use Rattle.cell_form.specs.Sound.{IsList, shape_of};
 ghost use Rattle.cell_form.specs.States.{present, table_cycled};
@@ -37,12 +37,11 @@ pub(crate) fn step(table: &StateTable, bank: &mut Bank)
     }
 }
 
-/// The state that is next has a call to be served.
-pub(crate) fn at_call(table: &StateTable, bank: &Bank) -> bool
-    requires { table.now.state < length bank.now.regs.items }
-    ensures { result ≡ has_trap (present (table_of table.now) (bank_of bank.now)) }
+/// The state of a number has a call to be served.
+pub(crate) fn has_call(table: &StateTable, number: u32) -> bool
+    ensures { result ≡ has_trap (slice_get (table_of table.now).states number) }
 {
-    match next_state(table, bank) {
+    match table.states.as_slice().get(number as usize) {
         None => false,
         Some(state) => state.trap.is_some(),
     }

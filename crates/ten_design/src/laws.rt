@@ -1,7 +1,8 @@
 //! What holds of designs whose runs are done by states of cells.
 
-ghost use Rattle.std.specs.Prelude.{◌≡◌, ℕ, List, None, All, map, take};
+ghost use Rattle.std.specs.Prelude.{◌≡◌, ℕ, List, All, map, take};
 ghost use Rattle.vl_design.specs.Alone.{Origin};
+ghost use Rattle.vl_design.specs.Laws.{StartsFine};
 ghost use Rattle.vl_design.specs.Syntax.{Flat};
 ghost use Rattle.vl_design.specs.Width.{names_of};
 ghost use Rattle.sub_nodes.specs.Code.{table_of};
@@ -38,9 +39,9 @@ pub fn calls_of_a_table_stand_apart()
     ensures paired { (d : Flat) → ArePaired 0 (cell_nodes d) }
 {}
 
-/// Runs of such a design from time zero are tame, over files of bytes.
+/// Runs of such a design are tame over files of bytes, from time zero and from a snapshot whose words fit.
 pub fn runs_of_a_tenants_design_are_tame()
-    ensures { (o : Origin) (order : List ℕ) → IsTenantDesign o.flat order → HaveBytes o.files → o.resume ≡ None → IsTame o order }
+    ensures { (o : Origin) (order : List ℕ) → IsTenantDesign o.flat order → HaveBytes o.files → StartsFine o.flat.rows o.resume → IsTame o order }
 {
     each_stage_is_tidy();
     an_update_begins_on_committed_values();

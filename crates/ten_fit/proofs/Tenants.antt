@@ -1,7 +1,6 @@
--- An accepted design that runs on cells is a tenant's.
-use Rattle.std.proofs.Common.{◌≡◌, ◌≤◌, true, length, sym, ap, ◌∙◌, subst}
+-- An accepted design of few signals is a tenant's.
+use Rattle.std.proofs.Common.{◌≡◌, ◌≤◌, length, sym, ap, ◌∙◌, subst}
 use Rattle.std.specs.Prelude.{All}
-use Rattle.std.proofs.lemmas.Bool.{leb-true}
 use Rattle.std.proofs.lemmas.List.{length-map}
 use Rattle.vl_design.specs.Laws.{IsUnrolled}
 use Rattle.vl_design.specs.Placed as p
@@ -29,7 +28,6 @@ use Rattle.cell_states.specs.Designs.{ComputesAlone}
 use Rattle.sub_nets.specs.Memories.{SetsNoMemories}
 use Rattle.sub_nets.specs.Nets.{WritesNoNets}
 use Rattle.ten_design.specs.Designs.{IsTenantDesign}
-use Rattle.ten_fit.specs.Kinds.{runs_on_cells}
 use Rattle.ten_fit.proofs.Writers.{alone, leave_memories}
 
 module _ (d : p.Design) (fit : IsFit d) (w : HasWriters d) (a : Accepted) (s : Stands d a) where
@@ -46,8 +44,8 @@ module _ (d : p.Design) (fit : IsFit d) (w : HasWriters d) (a : Accepted) (s : S
   placed_there : (P : p.Design → Type 0) → P (unrolled_placed d) → P (placed a.design)
   placed_there P h = subst P (sym s.design) h
 
-  pub tenants : All (IsCellFun (names_of (plain.flat (unrolled_placed d)))) (plain.flat (unrolled_placed d)).funs → runs_on_cells d ≡ true → WritesNoNets next → IsTenantDesign (flat_of a.design) a.order.items
-  tenants functions runs nets = record {
+  pub tenants : All (IsCellFun (names_of (plain.flat (unrolled_placed d)))) (plain.flat (unrolled_placed d)).funs → WritesNoNets next → length a.design.signals ≤ 268435456 → IsTenantDesign (flat_of a.design) a.order.items
+  tenants functions nets few = record {
     sound = stays d a.design fit s.accepted.uses s.design;
     unrolled = there IsUnrolled (all_bare (plain.flat d));
     functions = placed_there (λ x. All (IsCellFun (names_of (plain.flat x))) (plain.flat x).funs) functions;
@@ -56,6 +54,6 @@ module _ (d : p.Design) (fit : IsFit d) (w : HasWriters d) (a : Accepted) (s : S
     alone = there ComputesAlone (alone d fit w s.accepted);
     nets = there WritesNoNets nets;
     words = there (λ x. HasOneWord x.rows) (one-word d.signals);
-    few = there (λ x. length x.rows ≤ 268435456) (rw length-map (leb-true (length d.signals) 268435456 runs));
+    few = rw length-map few;
     memories = there SetsNoMemories (leave_memories d fit w s.accepted);
   }

@@ -1,6 +1,6 @@
-//! What holds of designs that run on states of cells.
+//! What holds of accepted designs. Each function does nothing; its contract is the law.
 
-ghost use Rattle.std.specs.Prelude.{◌≡◌, true};
+ghost use Rattle.std.specs.Prelude.{◌≤◌, length};
 ghost use Rattle.vl_design.specs.Placed.{Design};
 ghost use Rattle.vl_design.specs.Trees.{flat_of};
 ghost use Rattle.vl_own.specs.Own.{HasOwnFunctions};
@@ -9,15 +9,14 @@ ghost use Rattle.vl_checked.specs.Fit.{IsFit};
 ghost use Rattle.cell_accept.specs.declared.accept.Accepted.{Accepted};
 ghost use Rattle.cell_accept.specs.Accepted.{Stands};
 ghost use Rattle.ten_design.specs.Designs.{IsTenantDesign};
-ghost use Rattle.ten_fit.specs.Kinds.{runs_on_cells};
 
 use cell_functions::laws::functions_of_accepted_designs_can_be_compiled_to_cells;
 use sub_nets::laws::computed_signals_are_written_one_by_one;
 
-/// An accepted design that runs on cells is, with its loops unrolled, one that tenants run.
-pub fn a_design_that_runs_on_cells_is_a_tenants()
+/// An accepted design of at most 2 ^ 28 signals is, with its loops unrolled, one that tenants run.
+pub fn an_accepted_design_is_a_tenants()
     ensures { (d : Design) (a : Accepted) → IsFit d → HasOwnFunctions d → HasWriters d → Stands d a →
-        runs_on_cells d ≡ true → IsTenantDesign (flat_of a.design) a.order.items }
+        length a.design.signals ≤ 268435456 → IsTenantDesign (flat_of a.design) a.order.items }
 {
     functions_of_accepted_designs_can_be_compiled_to_cells();
     computed_signals_are_written_one_by_one();

@@ -1,5 +1,4 @@
-//! Accepted designs that run on states of cells.
+//! Accepted designs as tenants run them.
 #![tactic(auto)]
 
-pub mod fit;
 pub mod laws;

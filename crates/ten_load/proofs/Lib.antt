@@ -1,3 +1,4 @@
 pub mod Banking
 pub mod Opening
+pub mod Resuming
 pub mod Loading

@@ -1,6 +1,7 @@
-//! Tenants that begin behind time zero, which was run in software.
+//! Runs of tenants that begin: behind time zero, which is run in software, or at what another run held.
 #![tactic(auto)]
 
-pub mod bank;
+mod bank;
 pub mod load;
 mod reopen;
+mod resume;

@@ -5,6 +5,7 @@ use Rattle.std.proofs.lemmas.List.{length-map}
 use Rattle.vl_design.specs.Syntax.{Flat}
 use Rattle.vl_design.specs.Trees.{flat_of}
 use Rattle.vl_design.specs.Width.{names_of}
+use Rattle.cell_form.specs.declared.bank.PortMap.{PortMap}
 use Rattle.cell_form.specs.declared.table.StateTable.{StateTable}
 use Rattle.cell_form.specs.Views as cells
 use Rattle.cell_form.specs.Views.{state_of}
@@ -16,6 +17,10 @@ use Rattle.sub_split.specs.declared.table.Table.{Table}
 use Rattle.sub_split.specs.Views.{node_view, table_view}
 use Rattle.ten_form.specs.Banks.{cell_nodes, stores_in}
 use Rattle.ten_form.specs.Registers.{state_register}
+use Rattle.std.specs.List.{AllByRecursion}
+use Rattle.ten_design.specs.Designs.{IsTenantDesign}
+use Rattle.ten_hold.specs.Holding.{CanBeHeld, IsSized}
+use Rattle.ten_hold.specs.Ports.{ports_of}
 use Rattle.ten_image.specs.Paired.{CallsStandApart}
 use Rattle.ten_image.specs.States.{AreStates}
 use Rattle.cell_states.specs.Pieces.{IsCellNode}
@@ -43,17 +48,18 @@ module _ (d : Flat) (order : List ℕ) where
     pub states : AreStates d order made.slots (cell_nodes d) (map state_of made.table.states)
     pub stores : made.stores ≡ length (stores_in d)
 
-  pub record IsOf (made : States) (rise : ℕ) (image : Image) : Type 0 where
+  pub record IsOf (made : States) (rise : ℕ) (places : PortMap) (image : Image) : Type 0 where
     pub design : d ≡ flat_of image.design
     pub ordered : image.order.items ≡ order
     pub table : image.table ≡ made.table
     pub slots : image.slots ≡ made.slots
     pub stores : image.stores ≡ made.stores
     pub begins : image.rise ≡ rise
+    pub ports : image.ports ≡ places
 
-  pub image-is : (xs : List Node) (made : States) (rise : ℕ) (image : Image) → map node_view xs ≡ (table_of d).nodes → length xs ≤ 2 ^ 31 → rise ≡ (table_of d).rise.first → CallsStandApart (cell_nodes d)
-      → AreMade made → IsOf made rise image → IsImage d order image
-  image-is xs made rise image same few first apart are is = record {
+  pub image-is : (xs : List Node) (made : States) (rise : ℕ) (places : PortMap) (image : Image) → map node_view xs ≡ (table_of d).nodes → length xs ≤ 2 ^ 31 → rise ≡ (table_of d).rise.first → CallsStandApart (cell_nodes d)
+      → places.ports ≡ ports_of d.rows → CanBeHeld d → AreMade made → IsOf made rise places image → IsImage d order image
+  image-is xs made rise places image same few first apart kept held are is = record {
     design = is.design;
     ordered = is.ordered;
     states =
@@ -64,4 +70,11 @@ module _ (d : Flat) (order : List ℕ) where
     apart = apart;
     rise = is.begins ∙ first;
     few = subst (λ k. k ≤ 2 ^ 31) (sym (length-map xs node_view) ∙ ap (λ (ys : List n.Node). length ys) same) few;
+    ports = ap (λ (x : PortMap). x.ports) is.ports ∙ kept;
+    held = held;
   }
+
+-- ---- designs that can be held
+
+pub can-be-held : (d : Flat) (order : List ℕ) → IsTenantDesign d order → AllByRecursion IsSized d.rows → CanBeHeld d
+can-be-held d order is sized = record { sound = is.sound; words = is.words; few = is.few; signals = sized; alone = is.alone }

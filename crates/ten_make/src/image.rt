@@ -1,6 +1,6 @@
 //! The image of a design.
 
-ghost use Rattle.std.specs.Prelude.{◌≡◌, ◌≤◌, ◌^◌, IfOk, length, map};
+ghost use Rattle.std.specs.Prelude.{◌≡◌, ◌≤◌, ◌^◌, ℕ, List, IfOk, OnOk, length, map};
 ghost use Rattle.vl_design.specs.Trees.{flat_of};
 ghost use Rattle.sub_nodes.specs.Code.{table_of};
 ghost use Rattle.sub_facts.specs.Early.{early_from};
@@ -8,7 +8,10 @@ ghost use Rattle.sub_split.specs.Views.{node_view};
 ghost use Rattle.ten_core.specs.Tenants.{IsImage};
 ghost use Rattle.ten_core.specs.declared.image.Image.{Image as ImageData};
 ghost use Rattle.ten_design.specs.Designs.{IsTenantDesign};
+ghost use Rattle.ten_hold.specs.Holding.{CanBeHeld};
+ghost use Rattle.ten_hold.specs.Ports.{ports_of};
 
+use cell_form::bank::PortMap;
 use cell_form::table::StateTable;
 use cell_states::table::states;
 use std::alloc::{AllocError, Global};
@@ -19,6 +22,8 @@ use ten_design::laws::{
     calls_of_a_table_stand_apart, nodes_of_a_tenants_design_are_compiled,
     tenants_designs_are_compiled,
 };
+use ten_hold::ports::ports;
+use ten_hold::sizes::are_sized;
 use vl_design::design::Design;
 
 /// The most nodes of a table, so that acts can be counted: 2 ^ 31.
@@ -35,6 +40,8 @@ struct Parts {
     slots: u32,
     /// How many stores keep pending writes to words of memories.
     stores: u32,
+    /// Where its banks have what snapshots keep.
+    ports: PortMap,
 }
 
 /// The table of a design's nodes. An `Err` is want of memory, also where there would be more than 2 ^ 31 nodes.
@@ -51,22 +58,36 @@ fn few_nodes(alloc: Global, design: &Design) -> Result<Table<'_>, AllocError>
     Ok(table)
 }
 
+/// The ports of a design that can be held. An `Err` is want of memory, also where a signal has more than 128 bits, or 2 ^ 32 words.
+fn sized_ports(alloc: Global, design: &Design) -> Result<PortMap, AllocError>
+    requires { (order : List ℕ) × IsTenantDesign (flat_of design.now) order }
+    ensures ports { IfOk result (λ map. map.ports ≡ ports_of (flat_of design.now).rows) }
+    ensures held { OnOk result (CanBeHeld (flat_of design.now)) }
+{
+    if !are_sized(design) {
+        return Err(AllocError);
+    }
+    ports(alloc, design)
+}
+
 /// The states of a design, and where its ticks begin.
 fn made(alloc: Global, design: &Design, order: &[u32]) -> Result<Parts, AllocError>
     requires { IsTenantDesign (flat_of design.now) order.now }
     ensures { IfOk result (λ m. (image : ImageData) → flat_of design.now ≡ flat_of image.design → image.order.items ≡ order.now → image.table ≡ m.table → image.rise ≡ m.rise →
-        image.slots ≡ m.slots → image.stores ≡ m.stores → IsImage (flat_of design.now) order.now image) }
+        image.slots ≡ m.slots → image.stores ≡ m.stores → image.ports ≡ m.ports → IsImage (flat_of design.now) order.now image) }
 {
     tenants_designs_are_compiled();
     nodes_of_a_tenants_design_are_compiled();
     calls_of_a_table_stand_apart();
     let nodes = few_nodes(alloc, design)?;
     let states = states(alloc, design, order, &nodes)?;
+    let ports = sized_ports(alloc, design)?;
     Ok(Parts {
         table: states.table,
         rise: nodes.rise.first,
         slots: states.slots,
         stores: states.stores,
+        ports,
     })
 }
 
@@ -84,5 +105,6 @@ pub fn image(alloc: Global, design: Design, order: Vec<u32>) -> Result<Image, Al
         rise: made.rise,
         slots: made.slots,
         stores: made.stores,
+        ports: made.ports,
     })
 }

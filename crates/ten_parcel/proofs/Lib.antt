@@ -1,3 +1,7 @@
 mod Loading
-pub mod Going
-pub mod Resting
+mod Over
+mod Remains
+mod Resting
+pub mod Running
+mod Same
+mod Saving

@@ -1,59 +1,65 @@
--- What is loaded is a parcel.
-use Rattle.std.proofs.Common.{◌≡◌, ◌≤◌, ℕ, Bool, true, false, List, refl, sym, ◌∙◌, subst, arith}
-use Rattle.std.specs.Prelude.{◌||◌, slice_get}
-use Rattle.vl_base.specs.declared.files.File.{File}
-use Rattle.vl_design.specs.Syntax.{Flat}
-use Rattle.plain_run.specs.Runs.{over}
-use Rattle.vl_settle.specs.Checked.{IsOrder}
+-- What is loaded is a parcel at the first boundary of its run.
+use Rattle.std.proofs.Common.{◌≡◌, ℕ, Bool, true, false, [], refl, sym, ap, ◌∙◌, subst}
+use Rattle.std.specs.Prelude.{◌&&◌, ◌||◌, not, map, slice_get}
+use Rattle.std.specs.Arc.{arc_value}
+use Rattle.vl_design.specs.Alone as alone
+use Rattle.vl_design.specs.Alone.{first_tick}
+use Rattle.cell_form.specs.declared.bank.Bank.{Bank}
+use Rattle.cell_form.specs.Views.{bank_of}
 use Rattle.sub_nodes.specs.Code.{table_of}
-use Rattle.sub_nodes.specs.Cycles.{rises}
-use Rattle.ten_core.specs.declared.image.Image.{Image}
-use Rattle.ten_core.specs.declared.tenant.Tenant.{Tenant}
-use Rattle.ten_core.specs.Runs.{IsTame}
-use Rattle.ten_core.specs.Tenants.{tenant_of}
-use Rattle.ten_run.specs.Runnable.{CanBeRun}
-use Rattle.ten_run.specs.Running.{begun}
-use Rattle.ten_load.specs.declared.load.Loaded.{Loaded}
-use Rattle.ten_load.specs.declared.load.Loaded.TheVariants as l
-use Rattle.ten_load.specs.Loads.{Begins, IsLoaded}
-use Rattle.ten_parcel.specs.Parcels.{IsAtRest}
+use Rattle.sub_nodes.specs.Cycles.{Stage, rises}
+use Rattle.ten_core.specs.declared.engine.Engine.{Engine}
+use Rattle.ten_core.specs.declared.origin.Origin.{Origin}
+use Rattle.ten_load.specs.Loads.{Begins, IsBegun}
+use Rattle.ten_load.specs.declared.load.Begun.{Begun}
+use Rattle.ten_load.specs.declared.load.Begun.TheVariants as b
+use Rattle.ten_plan.specs.Held.{free_of}
+use Rattle.ten_shell.specs.declared.shell.Shell.{Shell}
+use Rattle.ten_shell.specs.Shells.{flat_in, is_at_boundary, left_in, run_of, CanRunOn, IsBegunShell, IsSameTenant, StandsFor}
+use Rattle.ten_parcel.specs.declared.parcel.Parcel.TheVariants as parcel
+use Rattle.ten_parcel.specs.Parcels.{IsLoaded}
+use Rattle.ten_parcel.proofs.Same.{same-run}
 
-rising-rests : (f r : Bool) → r ≡ true → (f || r) ≡ true
-rising-rests true r h = refl
-rising-rests false r h = h
+boundary-rests : (f r : Bool) → (not f && r) ≡ true → (f || r) ≡ true
+boundary-rests true r h = refl
+boundary-rests false r h = h
 
--- a tenant that is loaded
-pub loaded-begins : (d : Flat) (files : List File) (image : Image) (x : Loaded) (t : Tenant) → x ≡ l.Runs t → IsLoaded d files image x → (budget : ℕ) →
-    Begins d files image.order.items budget (tenant_of t)
-loaded-begins d files image x t same loaded = subst (λ (y : Loaded). IsLoaded d files image y) same loaded
+-- what has begun runs on
+pub runs-on : (x : Origin) (y : Begun) (e : Engine) (k : Bank) → y ≡ b.Runs e k → IsBegun x y → Begins x e (bank_of k)
+runs-on x y e k same h = subst (λ (z : Begun). IsBegun x z) same h
 
-pub loaded-none : (d : Flat) (files : List File) (order : List ℕ) (budget : ℕ) (t : Tenant) → Begins d files order budget (tenant_of t) → begun (tenant_of t) ≡ 0
-loaded-none d files order budget t b = b.at.stands.stage.holds.signals.ticks ∙ b.ticks
+module _ (n : ℕ) (x : Origin) (e : Engine) (k : Bank) (can : CanRunOn x) (begins : Begins x e (bank_of k)) where
+  pub begins-there : Begins (arc_value e.origin) e (bank_of k)
+  begins-there = subst (λ (y : Origin). Begins y e (bank_of k)) (sym begins.origin) begins
 
-module _ (d : Flat) (files : List File) (budget : ℕ) (image : Image) (h : CanBeRun d files budget image) where
-  -- the order of the image is the one with which it can be run
-  same-ordered : IsOrder d image.order.items
-  same-ordered = subst (λ (xs : List ℕ). IsOrder d xs) (sym h.image_is.ordered) h.ordered
+  pub can-there : CanRunOn (arc_value e.origin)
+  can-there = subst (λ (y : Origin). CanRunOn y) (sym begins.origin) can
 
-  same-tame : IsTame (over d files budget) image.order.items
-  same-tame = subst (λ (xs : List ℕ). IsTame (over d files budget) xs) (sym h.image_is.ordered) h.tame
+  abbrev pub IsFirst : Shell → Type 0
+  IsFirst r =
+      (c : ℕ) × (i : Stage) × StandsFor r (bank_of k) c i × (is_at_boundary (flat_in r) i ≡ true) × (i.state.ticks ≡ first_tick (run_of r).resume)
 
-  pub loaded-rests : (number : ℕ) (t : Tenant) → budget ≤ 1000000000 → Begins d files image.order.items budget (tenant_of t) →
-      IsAtRest d files (record { number = number; budget = budget; tenant = t })
-  loaded-rests number t short b =
-      let none = b.ticks in
+  pub loaded : (r : Shell) → IsBegunShell n e r → IsFirst r → (s : Shell) → ((c : ℕ) (i : Stage) → StandsFor r (bank_of k) c i → StandsFor s (bank_of k) c i) →
+      ((c : ℕ) (i : Stage) → StandsFor s (bank_of k) c i → is_at_boundary (flat_in s) i ≡ true → left_in s ≡ []) → IsSameTenant r s → s.engine ≡ r.engine →
+      IsLoaded n x (parcel.Rests (record { shell = s; bank = k }))
+  loaded r begun first s stands none same engine =
+      let i : Stage = first.1 in
+      let w = stands first.0 i first.2 in
+      let run : run_of s ≡ run_of r = same-run r s same in
+      let up : is_at_boundary (flat_in s) i ≡ true = subst (λ (o : alone.Origin). is_at_boundary o.flat i ≡ true) (sym run) first.3 in
       record {
-        acts = b.acts;
-        stage = b.stage;
-        on = record {
-          order = image.order.items;
-          tame = same-tame;
-          unrolled = h.unrolled;
-          checked = h.checked;
-          ordered = same-ordered;
-          at = b.at;
-          within = omega (arith, none);
-          short = short;
+        parcel = record {
+          acts = first.0;
+          stage = i;
+          on = w;
+          rests = record {
+            rests = boundary-rests i.state.finished (rises (slice_get (table_of (flat_in s)).nodes i.node)) up;
+            saved = λ f. none first.0 i w up;
+          };
         };
-        rest = rising-rests b.stage.state.finished (rises (slice_get (table_of d).nodes b.stage.node)) b.rises;
+        number = same.number ∙ begun.number;
+        origin = ap (λ z. arc_value z.origin) (engine ∙ begun.engine) ∙ begins.origin;
+        ticks = w.at.ticks ∙ (first.4 ∙ ap (λ (o : alone.Origin). first_tick o.resume) (sym run));
+        free = ap (map free_of) (same.free ∙ begun.free);
+        stopped = same.stopped ∙ begun.stopped;
       }

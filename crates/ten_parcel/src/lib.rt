@@ -1,5 +1,6 @@
 //! Tenants at rest, and tenants on their way from one boundary to the next.
 #![tactic(auto)]
 
+pub mod laws;
 pub mod parcel;
-pub mod resident;
+pub mod tenant;

@@ -1,22 +1,28 @@
 //! Tenants at rest.
 
-ghost use Rattle.std.specs.Prelude.{◌≡◌, ◌≤◌, ℕ, List, IfOk};
-ghost use Rattle.vl_base.specs.declared.files.File.{File};
-ghost use Rattle.vl_design.specs.Alone.{Boundary, reason_at};
+ghost use Rattle.std.specs.Prelude.{◌≡◌, ◌++◌, ◌∷◌, [], true, false, if◌then◌else◌, IfOk, IfSome, OnOk, OnErr, IsNone, Some, map};
+ghost use Rattle.std.specs.Arc.{arc_value};
+ghost use Rattle.vl_design.specs.declared.design.End.TheVariants.{Stopped};
+ghost use Rattle.vl_design.specs.Alone.{Boundary, Ends, Keeps, reason_at};
 ghost use Rattle.vl_design.specs.Queue.{Queue};
-ghost use Rattle.vl_design.specs.Sound.{IsSound};
-ghost use Rattle.vl_design.specs.Syntax.{Flat};
-ghost use Rattle.vl_design.specs.Trees.{flat_of};
-ghost use Rattle.ten_run.specs.Runnable.{CanBeRun};
-ghost use Rattle.ten_parcel.specs.Parcels.{IsParcel, Rests, number_of, budget_of, image_of, ticks_of, run_of};
+ghost use Rattle.ten_plan.specs.Held.{saved_of};
+ghost use Rattle.ten_plan.specs.Written.{HasRows};
+ghost use Rattle.ten_shell.specs.Shells.{CanRunOn};
+ghost use Rattle.ten_parcel.specs.Parcels.{free_of, is_stopped, number_of, origin_in, run_of, ticks_of, AreWritable, IsLoaded, IsParcel, IsTenant};
 
-use crate::resident::Resident;
+use crate::laws::a_run_over_in_time_zero_has_ended;
+use crate::tenant::Tenant;
 use std::alloc::{AllocError, Global};
-use sub_nets::laws::the_table_of_a_checked_design_can_run;
-use ten_core::image::Image;
-use ten_load::load::{Loaded, load};
+use std::sync::Arc;
+use ten_core::engine::Engine;
+use ten_core::origin::Origin;
+use ten_hold::laws::kept_snapshots_are_written;
+use ten_load::load::{Begun, begin};
+use ten_plan::held::Saved;
+use ten_shell::laws::a_shell_at_rest_is_at_a_boundary;
+use ten_shell::shell::Shell;
 use ten_zero::early::Early;
-use vl_base::files::FileSet;
+use vl_base::items::Text;
 use vl_design::design::{Design, End};
 
 /// A run that has finished in time zero.
@@ -24,10 +30,8 @@ use vl_design::design::{Design, End};
 pub struct Over {
     /// Its number, by which a script's orders name it.
     pub number: u32,
-    /// The most ticks that it might have had.
-    pub budget: u64,
-    /// The image of its design.
-    pub image: Image,
+    /// What it started from.
+    pub origin: Arc<Origin, Global>,
     /// What the run has come to.
     pub early: Early,
 }
@@ -36,38 +40,39 @@ pub struct Over {
 #[derive(Drop)]
 pub enum Parcel {
     /// At a boundary of its run, or finished behind time zero: it goes on from here.
-    Rests(Resident),
+    Rests(Tenant),
     /// Finished in time zero.
     Over(Over),
 }
 
+/// What a tenant leaves behind.
+#[derive(Drop)]
+pub struct Remains {
+    /// What it started from.
+    pub origin: Arc<Origin, Global>,
+    /// The bytes printed.
+    pub printed: Vec<u8>,
+    /// The snapshots that it keeps.
+    pub saved: Vec<Saved>,
+}
+
 impl Parcel {
-    /// A tenant of an image at the boundary behind time zero, or one that has finished in time zero, for at most a budget of ticks. Time
-    /// zero runs here, over these files. An `Err` is want of memory alone.
-    pub fn load(
-        alloc: Global,
-        number: u32,
-        image: Image,
-        files: FileSet,
-        budget: u64,
-    ) -> Result<Parcel, AllocError>
-        requires image { CanBeRun (flat_of image.design) files budget image }
-        requires sound { IsSound (flat_of image.design) }
-        requires budget { budget ≤ 1000000000 }
-        ensures parcel { IfOk result (λ p. IsParcel (flat_of image.design) files p) }
-        ensures start { IfOk result (λ p. ticks_of p ≡ 0) }
-        ensures given { IfOk result (λ p. (number_of p ≡ number) × (budget_of p ≡ budget)) }
+    /// A tenant at the first boundary of its run, with the snapshots made that are due there, or one that has finished in time zero. The run
+    /// is that of the origin's image over its files: from time zero, which runs here, or resumed from what it starts with. An `Err` is want
+    /// of memory alone.
+    pub fn load(alloc: Global, number: u32, origin: Origin) -> Result<Parcel, AllocError>
+        requires { CanRunOn origin }
+        ensures { IfOk result (IsLoaded number origin) }
     {
-        match load(alloc, image, files)? {
-            Loaded::Runs(tenant) => Ok(Parcel::Rests(Resident {
+        match begin(alloc, origin)? {
+            Begun::Runs(engine, bank) => {
+                let mut shell = Shell::begun(alloc, number, engine);
+                shell.make_saves(alloc, &bank)?;
+                Ok(Parcel::Rests(Tenant { shell, bank }))
+            }
+            Begun::Over(origin, early) => Ok(Parcel::Over(Over {
                 number,
-                budget,
-                tenant,
-            })),
-            Loaded::Over(image, early) => Ok(Parcel::Over(Over {
-                number,
-                budget,
-                image,
+                origin,
                 early,
             })),
         }
@@ -78,68 +83,148 @@ impl Parcel {
         ensures { result ≡ number_of self.now }
     {
         match self {
-            Parcel::Rests(resident) => resident.number,
+            Parcel::Rests(tenant) => tenant.shell.number,
             Parcel::Over(over) => over.number,
         }
     }
 
     /// Its design.
     pub fn design(&self) -> &Design
-        ensures { result.now ≡ (image_of self.now).design }
+        ensures { result.now ≡ (origin_in self.now).image.design }
     {
         match self {
-            Parcel::Rests(resident) => &resident.tenant.image.design,
-            Parcel::Over(over) => &over.image.design,
+            Parcel::Rests(tenant) => &tenant.shell.engine.origin.image.design,
+            Parcel::Over(over) => &over.origin.image.design,
         }
     }
 
     /// The ticks begun: the number of the boundary at which it rests. A run that has finished in time zero has begun none.
     pub fn ticks(&self) -> u64
-        requires { (d : Flat) × (files : List File) × IsParcel d files self.now }
         ensures { result ≡ ticks_of self.now }
     {
         match self {
-            Parcel::Rests(resident) => resident.ticks(),
+            Parcel::Rests(tenant) => tenant.shell.engine.ticks,
             Parcel::Over(_) => 0,
         }
     }
 
     /// The bytes printed: those that the run alone has printed at that boundary.
     pub fn printed(&self) -> &[u8]
-        ensures { (d : Flat) (files : List File) → IsParcel d files self.now →
-            (q : Queue) × Boundary (run_of d files self.now) (ticks_of self.now) q × (q.state.printed ≡ result.now) }
+        ensures { IsParcel self.now → (q : Queue) × Boundary (run_of self.now) (ticks_of self.now) q × (q.state.printed ≡ result.now) }
     {
-        the_table_of_a_checked_design_can_run();
+        a_shell_at_rest_is_at_a_boundary();
+        a_run_over_in_time_zero_has_ended();
         match self {
-            Parcel::Rests(resident) => resident.tenant.printed(),
+            Parcel::Rests(tenant) => tenant.shell.engine.printed(),
             Parcel::Over(over) => over.early.machine.printed.as_slice(),
         }
     }
 
     /// The acts done: those that the run alone has counted at that boundary.
     pub fn cycles(&self) -> u64
-        ensures { (d : Flat) (files : List File) → IsParcel d files self.now →
-            (q : Queue) × Boundary (run_of d files self.now) (ticks_of self.now) q × (q.state.count ≡ result) }
+        ensures { IsParcel self.now → (q : Queue) × Boundary (run_of self.now) (ticks_of self.now) q × (q.state.count ≡ result) }
     {
-        the_table_of_a_checked_design_can_run();
+        a_shell_at_rest_is_at_a_boundary();
+        a_run_over_in_time_zero_has_ended();
         match self {
-            Parcel::Rests(resident) => resident.tenant.cycles(),
+            Parcel::Rests(tenant) => tenant.shell.engine.cycles(),
             Parcel::Over(over) => over.early.acts,
+        }
+    }
+
+    /// The snapshots kept: those that the run alone keeps up to that boundary, with those that were made besides.
+    pub fn saves(&self) -> &[Saved]
+        ensures { IsParcel self.now → Keeps (run_of self.now) (free_of self.now) (ticks_of self.now) (map (saved_of (run_of self.now).flat.rows) result.now) }
+    {
+        a_shell_at_rest_is_at_a_boundary();
+        a_run_over_in_time_zero_has_ended();
+        match self {
+            Parcel::Rests(tenant) => tenant.shell.saved.as_slice(),
+            Parcel::Over(_) => &[],
         }
     }
 
     /// Why its run has ended, if it has. One that has not ended is a tenant, which can go on its way.
     pub fn ended(&self) -> Option<End>
-        requires { (d : Flat) × (files : List File) × IsParcel d files self.now }
-        ensures reason { (d : Flat) (files : List File) → IsParcel d files self.now →
-            (q : Queue) × Boundary (run_of d files self.now) (ticks_of self.now) q
-            × (result ≡ reason_at (run_of d files self.now).plan (ticks_of self.now) q) }
-        ensures rests { result ≡ None → Rests self.now }
+        requires { IsParcel self.now }
+        ensures reason { (q : Queue) → Boundary (run_of self.now) (ticks_of self.now) q → result ≡ (if is_stopped self.now then Some Stopped else reason_at (run_of self.now).plan (ticks_of self.now) q) }
+        ensures ends { IfSome result (λ end. is_stopped self.now ≡ false → (q : Queue) × Ends (run_of self.now) (ticks_of self.now) end q) }
+        ensures tenant { IsNone result → IsTenant self.now }
     {
-        the_table_of_a_checked_design_can_run();
+        a_shell_at_rest_is_at_a_boundary();
+        a_run_over_in_time_zero_has_ended();
         match self {
-            Parcel::Rests(resident) => resident.ended(),
+            Parcel::Rests(tenant) => tenant.shell.end(),
             Parcel::Over(_) => Some(End::Finished),
+        }
+    }
+
+    /// Ends its run here, where it hasn't ended.
+    pub fn stop(&mut self)
+        requires parcel { IsParcel self.old }
+        requires tenant { IsTenant self.old }
+        ensures parcel { IsParcel self.new }
+        ensures stopped { is_stopped self.new ≡ true }
+        ensures run { run_of self.new ≡ run_of self.old }
+        ensures ticks { ticks_of self.new ≡ ticks_of self.old }
+        ensures free { free_of self.new ≡ free_of self.old }
+        ensures number { number_of self.new ≡ number_of self.old }
+    {
+        match self {
+            Parcel::Rests(tenant) => tenant.shell.stop(),
+            Parcel::Over(_) => (),
+        }
+    }
+
+    /// Makes a snapshot of its run besides, which hasn't finished by `$finish`. Want of memory leaves all as it was.
+    pub fn save(&mut self, alloc: Global, name: Text) -> Result<(), AllocError>
+        requires parcel { IsParcel self.old }
+        requires goes_on { (q : Queue) × Boundary (run_of self.old) (ticks_of self.old) q × (q.state.finished ≡ false) }
+        ensures parcel { IsParcel self.new }
+        ensures free { OnOk result (free_of self.new ≡ free_of self.old ++ record { name = name; tick = ticks_of self.old } ∷ []) }
+        ensures same { OnErr result (free_of self.new ≡ free_of self.old) }
+        ensures run { run_of self.new ≡ run_of self.old }
+        ensures ticks { ticks_of self.new ≡ ticks_of self.old }
+        ensures stopped { is_stopped self.new ≡ is_stopped self.old }
+        ensures number { number_of self.new ≡ number_of self.old }
+    {
+        a_shell_at_rest_is_at_a_boundary();
+        a_run_over_in_time_zero_has_ended();
+        match self {
+            Parcel::Rests(tenant) => tenant.shell.save(alloc, &tenant.bank, name),
+            Parcel::Over(_) => Ok(()),
+        }
+    }
+
+    /// What it leaves behind.
+    pub fn into_remains(self, alloc: Global) -> Remains
+        ensures origin { arc_value result.origin ≡ origin_in self }
+        ensures printed { IsParcel self → (q : Queue) × Boundary (run_of self) (ticks_of self) q × (q.state.printed ≡ result.printed.items) }
+        ensures saves { IsParcel self → Keeps (run_of self) (free_of self) (ticks_of self) (map (saved_of (run_of self).flat.rows) result.saved.items) }
+        ensures written { IsParcel self → HasRows (run_of self).flat.rows → AreWritable result }
+    {
+        a_shell_at_rest_is_at_a_boundary();
+        a_run_over_in_time_zero_has_ended();
+        kept_snapshots_are_written();
+        match self {
+            Parcel::Rests(tenant) => {
+                let Shell { engine, saved, .. } = tenant.shell;
+                let Engine {
+                    origin,
+                    printed,
+                    ..
+                } = engine;
+                Remains {
+                    origin,
+                    printed,
+                    saved,
+                }
+            }
+            Parcel::Over(over) => Remains {
+                origin: over.origin,
+                printed: over.early.machine.printed,
+                saved: Vec::new(alloc),
+            },
         }
     }
 }

@@ -1,2 +1,2 @@
-pub mod Stepping
-pub mod Ending
+mod Stepping
+mod Resting

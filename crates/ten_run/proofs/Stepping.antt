@@ -1,26 +1,25 @@
--- A step of a run leaves fewer to come, within the budget.
-use Rattle.std.proofs.Common.{◌≡◌, ◌<◌, ◌≤◌, ◌+◌, ◌-◌, ◌*◌, ◌^◌, ℕ, suc, Bool, true, false, List, length, refl, sym, ap, ◌∙◌, arith}
-use Rattle.std.specs.Prelude.{◌&&◌, ◌||◌, not, if◌then◌else◌, nat_lt, slice_get, slice_index}
-use Rattle.std.proofs.lemmas.Bool.{ltb-true}
+-- Behind a cycle or a served call a run goes on running, and fewer acts are to come.
+use Rattle.std.proofs.Common.{◌≡◌, ◌<◌, ◌≤◌, ◌+◌, ◌-◌, ◌*◌, ◌^◌, ℕ, suc, Bool, true, false, List, length, Option, Some, None, refl, ap, ◌∙◌, subst, ◌⊎◌, inl, inr, arith}
+use Rattle.std.specs.Prelude.{◌&&◌, ◌||◌, not, nat_le, if◌then◌else◌, slice_get}
+use Rattle.std.proofs.lemmas.Bool.{leb-false, cases_lt}
 use Rattle.std.proofs.lemmas.Nat.{mul-le}
-use Rattle.vl_base.specs.declared.files.File.{File}
-use Rattle.vl_design.specs.Alone.{Origin}
+use Rattle.vl_design.specs.Alone.{Origin, first_tick, stop_at}
 use Rattle.vl_design.specs.Functions.{scope_of}
-use Rattle.vl_design.specs.Syntax.{Flat}
-use Rattle.plain_run.specs.Runs.{over}
+use Rattle.vl_design.specs.State.{State}
+use Rattle.vl_design.proofs.Unread.{or_false}
 use Rattle.sub_nodes.specs.Code.{table_of}
-use Rattle.sub_nodes.specs.Cycles.{Stage, rises}
-use Rattle.sub_nodes.specs.Nodes.{Table}
-use Rattle.sub_nodes.specs.Stands.{at_trap}
+use Rattle.sub_nodes.specs.Cycles.{Stage, is_trap, rises, cycled, served_by}
+use Rattle.sub_nodes.specs.Nodes.{Node, Table}
+use Rattle.sub_nodes.specs.Stands.{at_trap, Comes, cycles, serves}
+use Rattle.sub_facts.specs.Early.{early_from}
+use Rattle.sub_facts.proofs.Leading.{late_leads}
 use Rattle.sub_ends.specs.Left.{left, most_left}
 use Rattle.sub_ends.proofs.Bounding.{cycle_lowers, serve_lowers, comes_few, acts_few}
-use Rattle.sub_ends.proofs.Cycling.{cycle_ticks, served_ticks}
+use Rattle.sub_ends.proofs.Cycling.{next_in, served_in, cycle_ticks, served_ticks}
 use Rattle.sub_ends.proofs.Tabling.{all_few}
 use Rattle.ten_form.specs.Nets.{nets_of}
-use Rattle.ten_form.specs.Registers.{state_register}
-use Rattle.ten_core.specs.Runs.{after_cycle, after_call, IsAt, IsTame, Runs}
-use Rattle.ten_core.specs.Tenants.{TenantData}
-use Rattle.ten_run.specs.Running.{goes_on, IsRunning, MayGoOn, IsOver, begun, to_come}
+use Rattle.ten_core.specs.Runs.{after_cycle, after_call}
+use Rattle.ten_run.specs.Running.{ends_at, goes_on, to_come, IsRunning}
 
 -- ---- numbers
 
@@ -40,194 +39,144 @@ few-acts n t c h k e =
 
 -- ---- where a run goes on
 
-on-room : (f r l : Bool) → (not f && (not r || l)) ≡ true → r ≡ true → l ≡ true
-on-room true r l h e = let z : ⊥ = cc in absurd z
-on-room false true l h e = h
-on-room false false l h e = let z : ⊥ = cc in absurd z
+on-alive : (f r e : Bool) → (not f && (not r || not e)) ≡ true → f ≡ false
+on-alive true r e h = let z : ⊥ = cc in absurd z
+on-alive false r e h = refl
 
--- what is told of it step by step
-pub told-finished : (f r l : Bool) → f ≡ true → false ≡ (not f && (not r || l))
-told-finished f r l e = rw e refl
-
-pub told-between : (f r l : Bool) → f ≡ false → r ≡ false → true ≡ (not f && (not r || l))
-told-between f r l e h = rw e (rw h refl)
-
-pub told-boundary : (f r l : Bool) → f ≡ false → r ≡ true → l ≡ (not f && (not r || l))
-told-boundary f r l e h = rw e (rw h refl)
+on-going : (f r e : Bool) → (not f && (not r || not e)) ≡ true → r ≡ true → e ≡ false
+on-going true r e h k = let z : ⊥ = cc in absurd z
+on-going false false e h k = let z : ⊥ = cc in absurd z
+on-going false true true h k = let z : ⊥ = cc in absurd z
+on-going false true false h k = refl
 
 -- ---- steps
 
-module _ (d : Flat) (files : List File) (budget : ℕ) where
-  abbrev o : Origin
-  o = over d files budget
-
+module _ (o : Origin) (order : List ℕ) (c : ℕ) (i : Stage) (r : IsRunning o order c i) where
   abbrev T : Table
-  T = table_of d
+  T = table_of o.flat
 
-  abbrev come : Stage → ℕ
-  come i = (budget - i.state.ticks) * most_left T + left T i.node
+  abbrev nets : State → List (List ℕ)
+  nets = nets_of o.flat o.files order
 
-  come-is : (order : List ℕ) (t : TenantData) (c : ℕ) (i : Stage) → IsAt o order t c i → to_come d budget t ≡ come i
-  come-is order t c i at =
-      ap (λ k. (budget - k) * most_left T + left T (slice_index t.bank.regs state_register)) at.stands.stage.holds.signals.ticks
-      ∙ ap (λ n. (budget - i.state.ticks) * most_left T + left T n) at.stands.stage.node
+  abbrev budget : ℕ
+  budget = o.plan.budget
 
-  -- one stage behind another, within the budget, from where fewer acts are still to come
-  pub record IsStep (i j : Stage) : Type 0 where
+  -- a stage behind this one, from where fewer acts are to come
+  record IsStep (j : Stage) : Type 0 where
+    pub late : j.node < early_from o.flat
+    pub since : first_tick o.resume ≤ j.state.ticks
     pub within : j.state.ticks ≤ budget
-    pub fewer : come j < come i
+    pub went_on : (k : ℕ) → first_tick o.resume ≤ k → k < j.state.ticks → ends_at o.plan k ≡ false
+    pub fewer : to_come o.flat budget j < to_come o.flat budget i
 
-  call-steps : (i : Stage) → at_trap T i ≡ true → i.state.ticks ≤ budget → IsStep i (after_call o i)
-  call-steps i h w =
-      let same = served_ticks (scope_of d files) (slice_get T.nodes i.node) i in
-      record {
-        within = omega (arith, same, w);
-        fewer = lower-in-tick budget _ _ (most_left T) _ _ same (serve_lowers d (scope_of d files) i h);
-      }
-
-  cycle-by : (order : List ℕ) (i : Stage) → i.node < length T.nodes → at_trap T i ≡ false → i.state.ticks ≤ budget → (b : Bool) →
-      rises (slice_get T.nodes i.node) ≡ b → (b ≡ true → i.state.ticks < budget) → IsStep i (after_cycle o order i)
-  cycle-by order i n h w true e room =
-      let nets = nets_of d files order in
-      let next = after_cycle o order i in
-      let more : next.state.ticks ≡ i.state.ticks + 1 = cycle_ticks d files nets (slice_get T.nodes i.node) i ∙ rw e refl in
-      let under = room refl in
-      record {
-        within = omega (arith, more, under);
-        fewer = lower-by-tick budget _ _ (most_left T) _ _ more under (all_few d next.node);
-      }
-  cycle-by order i n h w false e room =
-      let nets = nets_of d files order in
-      let next = after_cycle o order i in
-      let same : next.state.ticks ≡ i.state.ticks = cycle_ticks d files nets (slice_get T.nodes i.node) i ∙ rw e refl in
-      record {
-        within = omega (arith, same, w);
-        fewer = lower-in-tick budget _ _ (most_left T) _ _ same (cycle_lowers d files nets i n h e);
-      }
-
-  cycle-steps : (order : List ℕ) (i : Stage) → i.node < length T.nodes → at_trap T i ≡ false → i.state.ticks ≤ budget →
-      goes_on d budget i ≡ true → IsStep i (after_cycle o order i)
-  cycle-steps order i n h w on =
-      cycle-by order i n h w (rises (slice_get T.nodes i.node)) refl
-      (λ e. ltb-true i.state.ticks budget (on-room i.state.finished (rises (slice_get T.nodes i.node)) (nat_lt i.state.ticks budget) on e))
-
-  -- ---- tenants
-
-  pub runs : (t : TenantData) → IsRunning d files budget t → Runs t
-  runs t r = record { origin = o; order = r.order; acts = r.acts; stage = r.stage; at = r.at; tame = r.tame }
-
-  -- a tenant that is a step further still runs
-  still-runs : (t u : TenantData) (r : IsRunning d files budget t) (c : ℕ) (j : Stage) → IsAt o r.order u c j → IsStep r.stage j → IsRunning d files budget u
-  still-runs t u r c j at s = record {
-    order = r.order;
+  step-runs : (n : ℕ) (j : Stage) → Comes o T nets n j → IsStep j → IsRunning o order n j
+  step-runs n j comes s = record {
     tame = r.tame;
     unrolled = r.unrolled;
     checked = r.checked;
     ordered = r.ordered;
-    acts = c;
-    stage = j;
-    at = at;
+    start = r.start;
+    few = r.few;
+    budget = r.budget;
+    comes = comes;
+    late = s.late;
+    since = s.since;
     within = s.within;
+    went_on = s.went_on;
   }
 
-  fewer-come : (t u : TenantData) (r : IsRunning d files budget t) (c : ℕ) (j : Stage) → IsAt o r.order u c j → IsStep r.stage j →
-      to_come d budget u < to_come d budget t
-  fewer-come t u r c j at s =
-      let there = come-is r.order u c j at in
-      let here = come-is r.order t r.acts r.stage r.at in
-      let f = s.fewer in
-      omega (arith, there, here, f)
+  in-tick : (j : Stage) → j.node < early_from o.flat → j.state.ticks ≡ i.state.ticks → left T j.node < left T i.node → IsStep j
+  in-tick j late same fewer =
+      let from = r.since in
+      let to = r.within in
+      record {
+        late = late;
+        since = omega (arith, same, from);
+        within = omega (arith, same, to);
+        went_on = λ k f l. r.went_on k f (omega (arith, l, same));
+        fewer = lower-in-tick budget _ _ (most_left T) _ _ same fewer;
+      }
 
-  -- a tenant goes on where that is told
-  module _ (u : TenantData) (r : IsRunning d files budget u) (b : Bool) where
-    abbrev IsTold : Type 0
-    IsTold = (x : Origin) (order : List ℕ) (c : ℕ) (i : Stage) → IsAt x order u c i → b ≡ goes_on x.flat budget i
+  by-tick : (j : Stage) → j.node < early_from o.flat → j.state.ticks ≡ i.state.ticks + 1 → ends_at o.plan i.state.ticks ≡ false → IsStep j
+  by-tick j late more going =
+      let from = r.since in
+      let under = leb-false budget i.state.ticks (or_false (nat_le budget i.state.ticks) (stop_at i.state.ticks o.plan.errands) going).0 in
+      record {
+        late = late;
+        since = omega (arith, more, from);
+        within = omega (arith, more, under);
+        went_on = λ k f l. before k f l (cases_lt k i.state.ticks);
+        fewer = lower-by-tick budget _ _ (most_left T) _ _ more under (all_few o.flat j.node);
+      }
+    where
+      before : (k : ℕ) → first_tick o.resume ≤ k → k < j.state.ticks → (k < i.state.ticks) ⊎ (i.state.ticks ≤ k) → ends_at o.plan k ≡ false
+      before k f l (inl h) = r.went_on k f h
+      before k f l (inr h) =
+          let same : i.state.ticks ≡ k = omega (arith, l, h, more) in
+          subst (λ n. ends_at o.plan n ≡ false) same going
 
-    told : IsTold → b ≡ goes_on d budget r.stage
-    told tells = tells o r.order r.acts r.stage r.at
+  -- ---- cycles
 
-    pub may-go-on : budget ≤ 1000000000 → IsTold → b ≡ true → MayGoOn d files budget u
-    may-go-on short tells on = record {
-      running = r;
-      on = sym (told tells) ∙ on;
-      short = short;
-    }
+  pub cycle-more : rises (slice_get T.nodes i.node) ≡ true → (after_cycle o order i).state.ticks ≡ i.state.ticks + 1
+  cycle-more e = cycle_ticks o.flat o.files nets (slice_get T.nodes i.node) i ∙ rw e refl
 
-    pub is-over : IsTold → b ≡ false → IsOver d files budget u
-    is-over tells off = record { running = r; over = sym (told tells) ∙ off }
+  pub cycle-same : rises (slice_get T.nodes i.node) ≡ false → (after_cycle o order i).state.ticks ≡ i.state.ticks
+  cycle-same e = cycle_ticks o.flat o.files nets (slice_get T.nodes i.node) i ∙ rw e refl
 
-  module _ (t : TenantData) (r : IsRunning d files budget t) where
-    pub acts-fit : budget ≤ 1000000000 → t.cycles + 1 < 2 ^ 64
-    acts-fit short =
-        let i = r.stage in
-        let e = r.at.cycles in
-        let w = r.within in
-        let f = few-acts (length T.nodes) i.state.ticks r.acts r.at.image.few (omega (arith, w, short)) (acts_few o (nets_of d files r.order) r.at.comes) in
-        omega (arith, e, f)
+  module _ (on : goes_on o.plan o.flat i ≡ true) (idle : at_trap T i ≡ false) where
+    cycled-late : (x : Option Node) → slice_get T.nodes i.node ≡ x → is_trap x ≡ false → (cycled o.flat o.files nets x i).node < early_from o.flat
+    cycled-late None e h = r.late
+    cycled-late (Some x) e h = next_in (λ m. m < early_from o.flat) o.flat o.files nets x i h (late_leads o.flat i.node x r.late e)
 
-    pub call-is : t.waits ≡ true → IsStep r.stage (after_call o r.stage)
-    call-is w = call-steps r.stage (sym r.at.waits ∙ w) r.within
+    cycle-late : (after_cycle o order i).node < early_from o.flat
+    cycle-late = cycled-late (slice_get T.nodes i.node) refl idle
 
-  module _ (t : TenantData) (m : MayGoOn d files budget t) where
-    pub cycles-fit : t.cycles + 1 < 2 ^ 64
-    cycles-fit = acts-fit t m.running m.short
+    cycle-by : (b : Bool) → rises (slice_get T.nodes i.node) ≡ b → IsStep (after_cycle o order i)
+    cycle-by true e =
+        by-tick (after_cycle o order i) cycle-late (cycle-more e)
+        (on-going i.state.finished (rises (slice_get T.nodes i.node)) (ends_at o.plan i.state.ticks) on e)
+    cycle-by false e =
+        in-tick (after_cycle o order i) cycle-late (cycle-same e) (cycle_lowers o.flat o.files nets i (comes_few o nets r.comes).within idle e)
 
-    pub cycle-is : t.waits ≡ false → IsStep m.running.stage (after_cycle o m.running.order m.running.stage)
-    cycle-is w =
-        let r = m.running in
-        cycle-steps r.order r.stage (comes_few o (nets_of d files r.order) r.at.comes).within (sym r.at.waits ∙ w) r.within m.on
+    cycle-step : IsStep (after_cycle o order i)
+    cycle-step = cycle-by (rises (slice_get T.nodes i.node)) refl
 
--- ---- what calls and cycles come to
+    pub cycle-runs : IsRunning o order (if at_trap T (after_cycle o order i) then c else suc c) (after_cycle o order i)
+    cycle-runs =
+        let alive = on-alive i.state.finished (rises (slice_get T.nodes i.node)) (ends_at o.plan i.state.ticks) on in
+        step-runs _ (after_cycle o order i) (cycles r.comes alive idle) cycle-step
 
-abbrev pub Serves : TenantData → TenantData → Type 0
-Serves t u = (x : Origin) (order : List ℕ) (c : ℕ) (i : Stage) → IsTame x order → IsAt x order t c i → IsAt x order u (suc c) (after_call x i)
+    pub cycle-fewer : to_come o.flat budget (after_cycle o order i) < to_come o.flat budget i
+    cycle-fewer = cycle-step.fewer
 
-abbrev pub Cycles : TenantData → TenantData → Type 0
-Cycles t u =
-    (x : Origin) (order : List ℕ) (c : ℕ) (i : Stage) → IsTame x order → IsAt x order t c i →
-    IsAt x order u (if u.waits then c else suc c) (after_cycle x order i)
+  -- ---- served calls
 
-module _ (t u : TenantData) where
-  module _ (w : t.waits ≡ true) (served : Serves t u) (d : Flat) (files : List File) (budget : ℕ) (m : MayGoOn d files budget t) where
-    served-at : IsAt (over d files budget) m.running.order u (suc m.running.acts) (after_call (over d files budget) m.running.stage)
-    served-at = let r = m.running in served (over d files budget) r.order r.acts r.stage r.tame r.at
+  pub call-same : (after_call o i).state.ticks ≡ i.state.ticks
+  call-same = served_ticks (scope_of o.flat o.files) (slice_get T.nodes i.node) i
 
-    pub served-runs : IsRunning d files budget u
-    served-runs =
-        let r = m.running in
-        still-runs d files budget t u r (suc r.acts) (after_call (over d files budget) r.stage) served-at (call-is d files budget t r w)
+  module _ (waits : at_trap T i ≡ true) where
+    served-late : (x : Option Node) → slice_get T.nodes i.node ≡ x → is_trap x ≡ true → (served_by (scope_of o.flat o.files) x i).node < early_from o.flat
+    served-late None e h = let z : ⊥ = cc in absurd z
+    served-late (Some x) e h = served_in (λ m. m < early_from o.flat) (scope_of o.flat o.files) x i h (late_leads o.flat i.node x r.late e)
 
-    pub served-fewer : to_come d budget u < to_come d budget t
-    served-fewer =
-        let r = m.running in
-        fewer-come d files budget t u r (suc r.acts) (after_call (over d files budget) r.stage) served-at (call-is d files budget t r w)
+    call-step : IsStep (after_call o i)
+    call-step =
+        in-tick (after_call o i) (served-late (slice_get T.nodes i.node) refl waits) call-same
+        (serve_lowers o.flat (scope_of o.flat o.files) i waits)
 
-    pub served-begun : rises (slice_get (table_of d).nodes m.running.stage.node) ≡ false → begun u ≡ begun t
-    served-begun low =
-        let r = m.running in
-        served-at.stands.stage.holds.signals.ticks
-        ∙ (served_ticks (scope_of d files) (slice_get (table_of d).nodes r.stage.node) r.stage ∙ sym r.at.stands.stage.holds.signals.ticks)
+    pub call-runs : IsRunning o order (suc c) (after_call o i)
+    call-runs = step-runs (suc c) (after_call o i) (serves r.comes waits) call-step
 
-  module _ (w : t.waits ≡ false) (cycled : Cycles t u) (d : Flat) (files : List File) (budget : ℕ) (m : MayGoOn d files budget t) where
-    abbrev acts : ℕ
-    acts = if u.waits then m.running.acts else suc m.running.acts
+    pub call-fewer : to_come o.flat budget (after_call o i) < to_come o.flat budget i
+    call-fewer = call-step.fewer
 
-    cycled-at : IsAt (over d files budget) m.running.order u acts (after_cycle (over d files budget) m.running.order m.running.stage)
-    cycled-at = let r = m.running in cycled (over d files budget) r.order r.acts r.stage r.tame r.at
+  -- ---- counts
 
-    pub cycled-runs : IsRunning d files budget u
-    cycled-runs =
-        let r = m.running in
-        still-runs d files budget t u r acts (after_cycle (over d files budget) r.order r.stage) cycled-at (cycle-is d files budget t m w)
+  pub ticks-fit : i.state.ticks + 1 < 2 ^ 32
+  ticks-fit = let w = r.within in let b = r.budget in omega (arith, w, b)
 
-    pub cycled-fewer : to_come d budget u < to_come d budget t
-    cycled-fewer =
-        let r = m.running in
-        fewer-come d files budget t u r acts (after_cycle (over d files budget) r.order r.stage) cycled-at (cycle-is d files budget t m w)
-
-    pub cycled-begun : rises (slice_get (table_of d).nodes m.running.stage.node) ≡ false → begun u ≡ begun t
-    cycled-begun low =
-        let r = m.running in
-        let same : (after_cycle (over d files budget) r.order r.stage).state.ticks ≡ r.stage.state.ticks =
-        cycle_ticks d files (nets_of d files r.order) (slice_get (table_of d).nodes r.stage.node) r.stage ∙ rw low refl in
-        cycled-at.stands.stage.holds.signals.ticks ∙ (same ∙ sym r.at.stands.stage.holds.signals.ticks)
+  pub acts-fit : c + 1 < 2 ^ 64
+  acts-fit =
+      let w = r.within in
+      let b = r.budget in
+      few-acts (length T.nodes) i.state.ticks c r.few (omega (arith, w, b)) (acts_few o nets r.comes)

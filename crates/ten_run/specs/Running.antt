@@ -1,50 +1,45 @@
--- Tenants on the way to the ends of their runs (own).
-use Rattle.std.specs.Prelude.{◌≡◌, ◌≤◌, ℕ, ◌+◌, ◌-◌, ◌*◌, Bool, true, false, ◌&&◌, ◌||◌, not, List, nat_lt, slice_get, slice_index}
-use Rattle.vl_base.specs.declared.files.File.{File}
-use Rattle.vl_design.specs.Laws.{IsUnrolled}
+-- Runs of designs' tables on the way to their ends (own).
+use Rattle.std.specs.Prelude.{◌≡◌, ℕ, ◌≤◌, ◌<◌, ◌+◌, ◌-◌, ◌*◌, ◌^◌, Bool, false, ◌&&◌, ◌||◌, not, nat_le, List, length, slice_get}
+use Rattle.vl_design.specs.Alone.{Plan, Origin, first_tick, stop_at}
+use Rattle.vl_design.specs.Laws.{IsUnrolled, StartsFine}
 use Rattle.vl_design.specs.Syntax.{Flat}
 use Rattle.vl_settle.specs.Checked.{IsChecked, IsOrder}
-use Rattle.plain_run.specs.Runs.{over}
 use Rattle.sub_nodes.specs.Code.{table_of}
 use Rattle.sub_nodes.specs.Cycles.{Stage, rises}
+use Rattle.sub_nodes.specs.Stands.{Comes}
+use Rattle.sub_facts.specs.Early.{early_from}
 use Rattle.sub_ends.specs.Left.{left, most_left}
-use Rattle.ten_form.specs.Registers.{state_register, ticks_register}
-use Rattle.ten_core.specs.Runs.{IsAt, IsTame}
-use Rattle.ten_core.specs.Tenants.{TenantData}
+use Rattle.ten_form.specs.Nets.{nets_of}
+use Rattle.ten_core.specs.Runs.{IsTame}
 
--- from a stage the run goes on: it hasn't finished, and where the clock rises next the budget isn't spent
-abbrev pub goes_on : Flat → ℕ → Stage → Bool
-goes_on d budget i = not i.state.finished && (not (rises (slice_get (table_of d).nodes i.node)) || nat_lt i.state.ticks budget)
+-- a run that hasn't finished ends at boundary k: its ticks are spent, or a stop stands there
+abbrev pub ends_at : Plan → ℕ → Bool
+ends_at plan k = nat_le plan.budget k || stop_at k plan.errands
 
--- the tenant is at a stage of the run of such a design over these files, and has begun no more ticks than the budget allows
-pub record IsRunning (d : Flat) (files : List File) (budget : ℕ) (t : TenantData) : Type 0 where
-  pub order : List ℕ
-  pub tame : IsTame (over d files budget) order
-  pub unrolled : IsUnrolled d
-  pub checked : IsChecked d
-  pub ordered : IsOrder d order
-  pub acts : ℕ
-  pub stage : Stage
-  pub at : IsAt (over d files budget) order t acts stage
-  pub within : stage.state.ticks ≤ budget
+-- a stage at which a run rests: at a boundary, where the clock rises next, or after `$finish`
+abbrev pub is_at_rest : Flat → Stage → Bool
+is_at_rest d i = i.state.finished || rises (slice_get (table_of d).nodes i.node)
 
--- and the run goes on
-pub record MayGoOn (d : Flat) (files : List File) (budget : ℕ) (t : TenantData) : Type 0 where
-  pub running : IsRunning d files budget t
-  pub on : goes_on d budget running.stage ≡ true
-  pub short : budget ≤ 1000000000
-
--- or the run doesn't go on
-pub record IsOver (d : Flat) (files : List File) (budget : ℕ) (t : TenantData) : Type 0 where
-  pub running : IsRunning d files budget t
-  pub over : goes_on d budget running.stage ≡ false
-
--- the ticks begun, as the tenant's bank holds them
-abbrev pub begun : TenantData → ℕ
-begun t = slice_index t.bank.regs ticks_register
+-- from a stage the run goes on: it hasn't finished, and at a boundary it doesn't end
+abbrev pub goes_on : Plan → Flat → Stage → Bool
+goes_on plan d i = not i.state.finished && (not (rises (slice_get (table_of d).nodes i.node)) || not (ends_at plan i.state.ticks))
 
 -- so many acts are still to come at most: in each tick that is left, and before the clock rises next
-abbrev pub to_come : Flat → ℕ → TenantData → ℕ
-to_come d budget t =
-    (budget - begun t) * most_left (table_of d)
-    + left (table_of d) (slice_index t.bank.regs state_register)
+abbrev pub to_come : Flat → ℕ → Stage → ℕ
+to_come d budget i = (budget - i.state.ticks) * most_left (table_of d) + left (table_of d) i.node
+
+-- the run of the table has come to a stage behind time zero's wave after c acts, within its budget, and has gone on from each boundary
+-- before; its design is one of which each tick ends, and its acts can be counted
+pub record IsRunning (o : Origin) (order : List ℕ) (c : ℕ) (i : Stage) : Type 0 where
+  pub tame : IsTame o order
+  pub unrolled : IsUnrolled o.flat
+  pub checked : IsChecked o.flat
+  pub ordered : IsOrder o.flat order
+  pub start : StartsFine o.flat.rows o.resume
+  pub few : length (table_of o.flat).nodes ≤ 2 ^ 31
+  pub budget : o.plan.budget ≤ 1000000000
+  pub comes : Comes o (table_of o.flat) (nets_of o.flat o.files order) c i
+  pub late : i.node < early_from o.flat
+  pub since : first_tick o.resume ≤ i.state.ticks
+  pub within : i.state.ticks ≤ o.plan.budget
+  pub went_on : (k : ℕ) → first_tick o.resume ≤ k → k < i.state.ticks → ends_at o.plan k ≡ false

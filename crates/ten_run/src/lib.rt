@@ -1,4 +1,4 @@
-//! Runs of tenants to their end.
+//! Runs of designs' tables on the way to their ends: act by act, and at boundaries.
 #![tactic(auto)]
 
-pub mod run;
+pub mod laws;

@@ -3,7 +3,7 @@ use Rattle.std.proofs.Common.{◌≡◌, ℕ, Bool, true, false, List, [], ◌�
 use Rattle.std.specs.Prelude.{if◌then◌else◌}
 use Rattle.vl_base.specs.declared.files.File.{File}
 use Rattle.vl_design.specs.Acts.{at_boundary, committed_at, is_last}
-use Rattle.vl_design.specs.Alone.{Origin, blocks}
+use Rattle.vl_design.specs.Alone.{Origin, Plan, blocks}
 use Rattle.vl_design.specs.Functions.{fresh, zeros}
 use Rattle.vl_design.specs.Laws.{IsReached, IsTable, IsUnrolled}
 use Rattle.vl_design.specs.Queue.{Phase, Updated, is_init}
@@ -25,7 +25,7 @@ use Rattle.sub_nodes.proofs.Beginning.{stands_rise}
 use Rattle.sub_nodes.proofs.Runs.{ComesTo, each_comes}
 use Rattle.sub_nets.specs.Nets.{nets_of}
 use Rattle.ten_zero.specs.declared.early.Early.{Early}
-use Rattle.ten_zero.specs.Early.{blocks_done, state_in, wave_done, zero_done, IsAtFirst, ComesBehind, IsBehindZero}
+use Rattle.ten_zero.specs.Early.{blocks_done, from_zero, state_in, wave_done, zero_done, IsAtFirst, ComesBehind, IsBehindZero}
 use Rattle.ten_zero.proofs.Queues.{IsFirst, first}
 
 last-is : (phase : Phase) (ahead : List (List Proc)) → phase ≡ Updated → ahead ≡ [] → is_last phase ahead ≡ true
@@ -62,19 +62,19 @@ module _ (d : Flat) (files : List File) (order : List ℕ) where
   zero-later false e h = ap (λ (t : State). t.later) (zero-is false e)
 
   module _ (u : IsUnrolled d) (checked : IsChecked d) (ord : IsOrder d order) (e : Early) (same : zero_done d files order ≡ state_in e)
-      (cans : (budget : ℕ) → CanRun (over d files budget) (table_of d) (nets_of d files order)) where
+      (cans : (plan : Plan) → CanRun (from_zero d files plan) (table_of d) (nets_of d files order)) where
     x : IsFirst d files order checked ord (zero_done d files order)
     x = first d files order checked ord
 
-    module _ (budget : ℕ) where
+    module _ (plan : Plan) where
       abbrev o : Origin
-      o = over d files budget
+      o = from_zero d files plan
 
       can : CanRun o (table_of d) (nets_of d files order)
-      can = cans budget
+      can = cans plan
 
       reached : IsReached o x.queue
-      reached = agrees o u (checked_quiet d checked) (x.boundary budget)
+      reached = agrees o u (checked_quiet d checked) (x.boundary plan)
 
       there : ComesTo o (table_of d) (nets_of d files order) can x.queue.state.count reached.point
       there = each_comes o (table_of d) (nets_of d files order) can reached.after
@@ -97,7 +97,7 @@ module _ (d : Flat) (files : List File) (order : List ℕ) where
             later = ap (λ (t : State). t.later) (stage-is ∙ x.state) ∙ zero-later s.finished refl zero;
           }
 
-      comes-behind : ComesBehind d files order budget e
+      comes-behind : ComesBehind d files order plan e
       comes-behind = record {
         stage = there.stage;
         comes = subst (λ c. Comes o (table_of d) (nets_of d files order) c there.stage) (ap (λ (t : State). t.count) queue-is) there.comes;
@@ -109,6 +109,6 @@ module _ (d : Flat) (files : List File) (order : List ℕ) where
     is-behind m = record {
       machine = m;
       ticks = sym (ap (λ (t : State). t.ticks) same) ∙ zero-ticks s.finished refl;
-      table = subst (IsTable files) (ap (λ (t : State). t.table) (x.state ∙ same)) (boundary_open {o = over d files 0} tt (x.boundary 0));
+      table = subst (IsTable files) (ap (λ (t : State). t.table) (x.state ∙ same)) (boundary_open {o = over d files 0} tt (x.boundary (over d files 0).plan));
       comes = comes-behind;
     }

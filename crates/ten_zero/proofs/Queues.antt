@@ -2,7 +2,7 @@
 use Rattle.std.proofs.Common.{◌≡◌, ℕ, Bool, true, false, List, [], ◌∷◌, Some, refl, sym, ap, ◌∙◌, subst}
 use Rattle.std.specs.Prelude.{if◌then◌else◌}
 use Rattle.vl_base.specs.declared.files.File.{File}
-use Rattle.vl_design.specs.Alone.{Settles, Boundary, start, blocks}
+use Rattle.vl_design.specs.Alone.{Plan, Settles, Boundary, start, blocks}
 use Rattle.vl_design.specs.Exec.{exec}
 use Rattle.vl_design.specs.Functions.{fresh, scope_of, zeros}
 use Rattle.vl_design.specs.Queue.{Queue, Phase, Wave, Ended, Updated, next, executed, is_init, wave_ended, updates_done, with_updates}
@@ -23,7 +23,7 @@ use Rattle.plain_run.proofs.Events.{next-over, next-block, next-end, next-update
 use Rattle.sub_nodes.specs.Cycles.{execs, settled}
 use Rattle.sub_nodes.specs.Implements.{bodies}
 use Rattle.sub_nets.specs.Nets.{nets_of}
-use Rattle.ten_zero.specs.Early.{blocks_done, wave_done, zero_done}
+use Rattle.ten_zero.specs.Early.{blocks_done, from_zero, wave_done, zero_done}
 
 -- once a run has finished, statements change nothing
 execs-over : (scope : Scope) (ps : List Proc) (s : State) → s.finished ≡ true → execs scope (bodies ps) s ≡ s
@@ -135,14 +135,14 @@ module _ (d : Flat) (files : List File) where
 
     pub record IsFirst (s : State) : Type 0 where
       pub queue : Queue
-      pub boundary : (budget : ℕ) → Boundary (over d files budget) 0 queue
+      pub boundary : (plan : Plan) → Boundary (from_zero d files plan) 0 queue
       pub state : queue.state ≡ s
       pub quiet : s.finished ≡ false → IsQuietAt d Updated [] queue
 
     first-over : (left : List Proc) (s : State) → s.finished ≡ true → Stands (IsAt (Wave left) []) s → IsFirst s
     first-over left s f x = record {
       queue = x.queue;
-      boundary = λ budget.
+      boundary = λ plan.
           Boundary.begun refl (x.leads x.queue (Settles.rests (next-over d files x.queue (ap {A = State} {B = Bool} (λ t. t.finished) x.state ∙ f))));
       state = x.state;
       quiet = λ g. let z : ⊥ = cc in absurd z;
@@ -151,7 +151,7 @@ module _ (d : Flat) (files : List File) where
     first-quiet : (s : State) → s.finished ≡ false → Stands (IsQuietAt d Updated []) s → IsFirst s
     first-quiet s f x = record {
       queue = x.queue;
-      boundary = λ budget.
+      boundary = λ plan.
           Boundary.begun refl (x.leads x.queue (Settles.rests (next-none d files x.queue (alive-at (IsQuietAt d Updated []) s x f) x.there)));
       state = x.state;
       quiet = λ g. x.there;

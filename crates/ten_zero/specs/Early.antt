@@ -1,7 +1,7 @@
 -- Time zero of a run (IEEE 1364-2005, clauses 9.9.1 and 11.3).
-use Rattle.std.specs.Prelude.{◌≡◌, ℕ, false, true, List, [], if◌then◌else◌, slice_get}
+use Rattle.std.specs.Prelude.{◌≡◌, ℕ, false, true, List, [], if◌then◌else◌, slice_get, None}
 use Rattle.vl_base.specs.declared.files.File.{File}
-use Rattle.vl_design.specs.Alone.{blocks}
+use Rattle.vl_design.specs.Alone.{Origin, Plan, blocks}
 use Rattle.vl_design.specs.Functions.{fresh, scope_of, zeros}
 use Rattle.vl_design.specs.Laws.{IsTable}
 use Rattle.vl_design.specs.Queue.{is_init, with_updates}
@@ -10,7 +10,6 @@ use Rattle.vl_design.specs.Syntax.{Flat}
 use Rattle.vl_design.specs.Trees.{flat_of}
 use Rattle.vl_design.specs.Width.{Scope, names_of}
 use Rattle.vl_run.specs.Machines.{state_of, IsMachine}
-use Rattle.plain_run.specs.Runs.{over}
 use Rattle.sub_nodes.specs.Code.{table_of}
 use Rattle.sub_nodes.specs.Cycles.{Stage, execs, rises, settled}
 use Rattle.sub_nodes.specs.Implements.{bodies}
@@ -48,6 +47,10 @@ zero_done d files order =
 
 -- ---- in the run of the design's table
 
+-- a design alone from time zero over these files, by this plan
+abbrev pub from_zero : Flat → List File → Plan → Origin
+from_zero d files plan = record { flat = d; files = files; plan = plan; resume = None }
+
 -- the stage is at the first boundary: the clock rises next, and all is committed
 pub record IsAtFirst (d : Flat) (i : Stage) : Type 0 where
   pub rises : rises (slice_get (table_of d).nodes i.node) ≡ true
@@ -55,15 +58,15 @@ pub record IsAtFirst (d : Flat) (i : Stage) : Type 0 where
   pub later : i.state.later ≡ []
 
 -- the run of the design's table over these files has come to this stage behind time zero, and has finished or is at the first boundary
-pub record ComesBehind (d : Flat) (files : List File) (order : List ℕ) (budget : ℕ) (e : Early) : Type 0 where
+pub record ComesBehind (d : Flat) (files : List File) (order : List ℕ) (plan : Plan) (e : Early) : Type 0 where
   pub stage : Stage
-  pub comes : Comes (over d files budget) (table_of d) (nets_of d files order) e.acts stage
+  pub comes : Comes (from_zero d files plan) (table_of d) (nets_of d files order) e.acts stage
   pub state : stage.state ≡ state_in e
   pub first : e.machine.finished ≡ false → IsAtFirst d stage
 
--- so it is within each budget; no tick has begun, and files are open in order
+-- so it is by each plan; no tick has begun, and files are open in order
 pub record IsBehindZero (d : Flat) (files : List File) (order : List ℕ) (e : Early) : Type 0 where
   pub machine : IsMachine (names_of d) e.machine
   pub ticks : e.machine.ticks ≡ 0
   pub table : IsTable files e.machine.table.items
-  pub comes : (budget : ℕ) → ComesBehind d files order budget e
+  pub comes : (plan : Plan) → ComesBehind d files order plan e

@@ -1,6 +1,6 @@
 -- File sets: looking a name up, and adding a file.
 use Rattle.std.proofs.Common.{◌≡◌, ℕ, ◌≤◌, ◌≢◌, false, List, [], ◌∷◌, ◌++◌, length, get_or, Some, None, Option, cond, refl, ap, ◌∙◌, arith}
-use Rattle.std.specs.Prelude.{slice_get, option_map, nat_lt, is_some}
+use Rattle.std.specs.Prelude.{slice_get, option_map, nat_lt, is_some, All, ◌<◌}
 use Rattle.std.specs.List.{position_or_len}
 use Rattle.std.specs.Str.{bytes_eq}
 use Rattle.std.proofs.lemmas.Slice.Eq.{bytes_eq-Decides}
@@ -37,12 +37,13 @@ none_is : (n : Option ℕ) → is_some n ≡ false → None ≡ n
 none_is None e = refl
 none_is (Some n) e = absurd (cc)
 
-pub added : (files : List File) (f : File) → IsFileSet files → (length files ≡ 16 → ⊥) → is_some (number_of files f.name) ≡ false → length f.name ≤ 255 → IsFileSet (files ++ f ∷ [])
-added files f set room absent short =
+pub added : (files : List File) (f : File) → IsFileSet files → (length files ≡ 16 → ⊥) → is_some (number_of files f.name) ≡ false → length f.name ≤ 255 → All (λ b. b < 256) f.bytes → IsFileSet (files ++ f ∷ [])
+added files f set room absent short bytes =
     let past : length files ≤ position_or_len (λ g. bytes_eq g.name f.name) files = none_of _ _ (none_is _ absent) in
     record {
       few = rw length-append (omega (arith, set.few));
       different = all_pairs_push (λ g h. g.name ≢ h.name) files f set.different
           (λ k d within. differs (get_or files k d).name f.name (fails_before_first (λ g. bytes_eq g.name f.name) files k d (omega arith)));
       short = All-push (λ g. length g.name ≤ 255) files f set.short short;
+      bytes = All-push (λ g. All (λ b. b < 256) g.bytes) files f set.bytes bytes;
     }

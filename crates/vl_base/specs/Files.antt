@@ -1,5 +1,5 @@
 -- File sets and tables of open files (IEEE 1364-2005, clauses 17.2.1, 17.2.4 and 17.2.8).
-use Rattle.std.specs.Prelude.{ℕ, ◌+◌, ◌-◌, ◌*◌, ◌/◌, ◌%◌, ◌^◌, ◌≤◌, ◌≢◌, Bool, true, false, not, ◌||◌, if◌then◌else◌, ◌==◌, nat_lt, List, [], ◌∷◌, length, map, filter, take, drop, All, AllPairs, Option, Some, None, is_some, unwrap_or, option_map}
+use Rattle.std.specs.Prelude.{ℕ, ◌+◌, ◌-◌, ◌*◌, ◌/◌, ◌%◌, ◌^◌, ◌<◌, ◌≤◌, ◌≢◌, Bool, true, false, not, ◌||◌, if◌then◌else◌, ◌==◌, nat_lt, List, [], ◌∷◌, length, map, filter, take, drop, All, AllPairs, Option, Some, None, is_some, unwrap_or, option_map}
 use Rattle.std.specs.List.{list_any, find, position}
 use Rattle.std.specs.Str.{bytes_eq}
 use Rattle.std.specs.Int.Digits.{number_from_digits}
@@ -20,6 +20,7 @@ pub record IsFileSet (files : List File) : Type 0 where
   pub few : length files ≤ 16
   pub different : AllPairs (λ f g. f.name ≢ g.name) files
   pub short : All (λ f. length f.name ≤ 255) files
+  pub bytes : All (λ f. All (λ b. b < 256) f.bytes) files
 
 -- the descriptor of a slot: 32'h8000_0003 for the first (the three below are never open; own)
 abbrev pub descriptor : ℕ → ℕ

@@ -1,6 +1,6 @@
 //! The files that a source may open, by name.
 
-ghost use Rattle.std.specs.Prelude.{◌≡◌, ◌<◌, ◌≤◌, ◌∷◌, [], ◌++◌, ◌↔◌, length, slice_get, option_map, option_copied, Some, IsNone, IsSome, OnOk, OnErr, IfErr, IsErrAnd};
+ghost use Rattle.std.specs.Prelude.{◌≡◌, ◌<◌, ◌≤◌, ◌∷◌, [], ◌++◌, ◌↔◌, length, All, slice_get, option_map, option_copied, Some, IsNone, IsSome, OnOk, OnErr, IfErr, IsErrAnd};
 
 use crate::items::{Bytes, Text};
 use std::alloc::Global;
@@ -39,7 +39,7 @@ pub enum FileError {
     Memory,
 }
 
-/// The files that a source may open: at most 16, of different names of at most 255 bytes. Contracts
+/// The files that a source may open: at most 16, of different names of at most 255 bytes, each with bytes below 256. Contracts
 /// see the list of the files, in the order in which they were added.
 #[derive(Drop)]
 pub struct FileSet {
@@ -56,6 +56,20 @@ impl Model for FileSet {
     ghost view = { λ s. s.files.items };
 
     ghost invariant = { λ s. IsFileSet s.files.items };
+}
+
+/// A number of 8 bits is below 256.
+fn is_byte(byte: u8)
+    ensures { byte < 256 }
+{}
+
+/// So is each of these.
+fn are_bytes(bytes: &[u8])
+    ensures { All (λ b. b < 256) bytes.now }
+{
+    for byte in bytes {
+        is_byte(*byte);
+    }
 }
 
 impl FileSet {
@@ -86,6 +100,7 @@ impl FileSet {
         if self.files.len() == 16 {
             return Err((FileError::Full, name, bytes));
         }
+        are_bytes(bytes.as_slice());
         match self.files.push(File { name, bytes }) {
             Ok(()) => Ok(()),
             Err(failed) => {

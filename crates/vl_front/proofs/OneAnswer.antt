@@ -1,5 +1,5 @@
 -- A text stands for one design at most, or is refused at one place for one reason.
-use Rattle.std.proofs.Common.{◌≡◌, ℕ, ◌+◌, inl, inr, Bool, true, false, List, [], length, Result, Ok, Err, refl, sym, ap, ◌∙◌, subst, arith}
+use Rattle.std.proofs.Common.{◌≡◌, ℕ, ◌+◌, inl, inr, List, [], length, Result, Ok, Err, refl, sym, ap, ◌∙◌, subst, arith}
 use Rattle.vl_base.specs.declared.place.Place.{Place}
 use Rattle.vl_tree.specs.declared.token.Token.{Token}
 use Rattle.vl_tree.specs.Faults.{IsRead, IsFirstFault, IsFirstLimit}
@@ -26,8 +26,7 @@ use Rattle.cell_accept.specs.Accepted.{IsAccepted, IsRefused}
 use Rattle.cell_accept.proofs.Once.{accepted-or-refused, refused-once}
 use Rattle.vl_front.specs.declared.fault.Kind.{Kind}
 use Rattle.vl_front.specs.declared.fault.Kind.TheVariants as w
-use Rattle.vl_front.specs.Saving.{has_saves}
-use Rattle.vl_front.specs.Sources.{end_of, IsTreeOf, IsDesignOf, StandsFor, IsRefusal, fault, passed, unparsed, too_deep, too_long, misbuilt, outgrown, unfit, too_large, looped, unbuilt}
+use Rattle.vl_front.specs.Sources.{end_of, IsTreeOf, IsDesignOf, StandsFor, IsRefusal, fault, passed, unparsed, too_deep, too_long, misbuilt, outgrown, unfit, too_large, looped}
 
 -- where a text is refused, and for a reason of which kind
 abbrev Why : Type 0
@@ -35,10 +34,6 @@ Why = Place × Kind
 
 abbrev why : Place → Kind → Why
 why p a = (p, a)
-
--- of a source that asks for a snapshot
-abbrev unmade : Why
-unmade = why (record { line = 0; column = 0 }) w.NotBuilt
 
 -- ---- the tokens of a text
 
@@ -104,31 +99,22 @@ parsed_once ts end r q (long p h e) (long p' k f) = e ∙ ap Err (same_place ts 
 
 -- ---- the elaboration of a tree
 
--- why a design is refused
+-- why a design is refused; for want of memory none is
 abbrev why_of : Fault → Why
 why_of (accept.Construct p n) = why p (w.Construct n)
 why_of (accept.Limit p n) = why p (w.Limit n)
 why_of (accept.Loop p) = why p w.Loop
-why_of accept.Memory = unmade
+why_of accept.Memory = why (record { line = 0; column = 0 }) w.Loop
 
--- the design that runs, or the first fault for which it isn't accepted, or that it asks for a snapshot
+-- the design that runs, or the first fault for which it isn't accepted
 data Judged (d : p.Design) (r : Result Flat Why) : Type 0 where
-  runs : IsAccepted d → has_saves d ≡ false → r ≡ Ok (plain.flat d) → Judged d r
-  rests : IsAccepted d → has_saves d ≡ true → r ≡ Err unmade → Judged d r
+  runs : IsAccepted d → r ≡ Ok (plain.flat d) → Judged d r
   refused : (f : Fault) → IsRefused d f → r ≡ Err (why_of f) → Judged d r
 
-true-no-false : {X : Type 0} (b : Bool) → b ≡ true → b ≡ false → X
-true-no-false b h k = absurd cc
-
 judged_once : (d : p.Design) (r q : Result Flat Why) → Judged d r → Judged d q → r ≡ q
-judged_once d r q (runs a t e) (runs b u f) = e ∙ sym f
-judged_once d r q (runs a t e) (rests b u f) = true-no-false (has_saves d) u t
-judged_once d r q (runs a t e) (refused g k f) = absurd (accepted-or-refused d g a k)
-judged_once d r q (rests a t e) (runs b u f) = true-no-false (has_saves d) t u
-judged_once d r q (rests a t e) (rests b u f) = e ∙ sym f
-judged_once d r q (rests a t e) (refused g k f) = absurd (accepted-or-refused d g a k)
-judged_once d r q (refused g h e) (runs b u f) = absurd (accepted-or-refused d g b h)
-judged_once d r q (refused g h e) (rests b u f) = absurd (accepted-or-refused d g b h)
+judged_once d r q (runs a e) (runs b f) = e ∙ sym f
+judged_once d r q (runs a e) (refused g k f) = absurd (accepted-or-refused d g a k)
+judged_once d r q (refused g h e) (runs b f) = absurd (accepted-or-refused d g b h)
 judged_once d r q (refused g h e) (refused i k f) = e ∙ (ap (λ z. Err (why_of z)) (refused-once d g i h k) ∙ sym f)
 
 -- what is judged of the flat design, or the first fault or limit of the elaboration
@@ -204,7 +190,7 @@ designed : (text : List ℕ) (d : p.Design) (r : Result Flat Why) → IsDesignOf
 designed text d r h j = treed text h.tree r h.of (flat d h.elaborated j)
 
 stands : (text : List ℕ) (d : Flat) → StandsFor text d → Answered text (Ok d)
-stands text d h = designed text h.flat (Ok d) h.of (runs h.accepted h.unsaved (ap Ok h.is))
+stands text d h = designed text h.flat (Ok d) h.of (runs h.accepted (ap Ok h.is))
 
 module _ (text : List ℕ) (place : Place) (kind : Kind) where
   -- for a reason that is this one
@@ -222,10 +208,6 @@ module _ (text : List ℕ) (place : Place) (kind : Kind) where
   refuses (unfit {flat = d} {number} h g e) = designed text d _ h (refused (accept.Construct place number) g (is (w.Construct number) e))
   refuses (too_large {flat = d} {number} h g e) = designed text d _ h (refused (accept.Limit place number) g (is (w.Limit number) e))
   refuses (looped {flat = d} h g e) = designed text d _ h (refused (accept.Loop place) g (is w.Loop e))
-  refuses (unbuilt {flat = d} h a m q e) = designed text d _ h (rests a m (ap Err (same q e)))
-    where
-      same : {q : Place} {a : Kind} → place ≡ q → kind ≡ a → why place kind ≡ why q a
-      same f g = rw (f, g) refl
 
 pub one_design : (text : List ℕ) (d e : Flat) → StandsFor text d → StandsFor text e → d ≡ e
 one_design text d e h k = ok_same d e (answered_once text (Ok d) (Ok e) (stands text d h) (stands text e k))

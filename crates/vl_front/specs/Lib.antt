@@ -1,2 +1,1 @@
-pub mod Saving
 pub mod Sources

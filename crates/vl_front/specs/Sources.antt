@@ -1,6 +1,6 @@
 -- What a source text stands for, and why one is refused (IEEE 1364-2005, clauses 3 to 12 and annex A; the limits, and the order of
 -- faults, are own).
-use Rattle.std.specs.Prelude.{◌≡◌, ℕ, true, false, List, [], Ok, Err, Result, ⊤}
+use Rattle.std.specs.Prelude.{◌≡◌, ℕ, List, [], Ok, Err, Result, ⊤}
 use Rattle.vl_base.specs.declared.place.Place.{Place}
 use Rattle.vl_tree.specs.declared.token.Token.{Token}
 use Rattle.vl_tree.specs.Faults.{IsRead, IsFirstFault, IsFirstLimit}
@@ -21,7 +21,6 @@ use Rattle.vl_front.specs.declared.fault.BuildError.{BuildError}
 use Rattle.vl_front.specs.declared.fault.BuildError.TheVariants.{Refused, Memory}
 use Rattle.vl_front.specs.declared.fault.Kind.{Kind}
 use Rattle.vl_front.specs.declared.fault.Kind.TheVariants as k
-use Rattle.vl_front.specs.Saving.{has_saves}
 
 -- the place after the last byte of a text: line and column from 1
 abbrev pub end_of : List ℕ → Place
@@ -39,17 +38,16 @@ pub record IsDesignOf (text : List ℕ) (flat : p.Design) : Type 0 where
   pub of : IsTreeOf text tree
   pub elaborated : IsElaboration tree (Ok flat)
 
--- a text stands for this design: its flat design is accepted and asks for no snapshot, and the design is that one without places
+-- a text stands for this design: its flat design is accepted, and the design is that one without places
 pub record StandsFor (text : List ℕ) (design : Flat) : Type 0 where
   pub flat : p.Design
   pub of : IsDesignOf text flat
   pub accepted : IsAccepted flat
-  pub unsaved : has_saves flat ≡ false
   pub is : design ≡ plain.flat flat
 
 -- the place and the kind for which a text is refused: its first lexical fault or limit; else the first syntax fault of its tokens, or
 -- limit 3 or 4; else it has a tree, and the first fault of its elaboration; else it has a flat design, and the first fault for which
--- that isn't accepted; else the flat design asks for a snapshot
+-- that isn't accepted
 pub data IsRefusal (text : List ℕ) (place : Place) (kind : Kind) : Type 0 where
   fault : {cause : ℕ} → IsFirstFault text place cause → kind ≡ k.Lex cause → IsRefusal text place kind
   passed : {number : ℕ} → IsFirstLimit text place number → kind ≡ k.Limit number → IsRefusal text place kind
@@ -61,14 +59,12 @@ pub data IsRefusal (text : List ℕ) (place : Place) (kind : Kind) : Type 0 wher
   unfit : {flat : p.Design} {number : ℕ} → IsDesignOf text flat → IsRefused flat (accept.Construct place number) → kind ≡ k.Construct number → IsRefusal text place kind
   too_large : {flat : p.Design} {number : ℕ} → IsDesignOf text flat → IsRefused flat (accept.Limit place number) → kind ≡ k.Limit number → IsRefusal text place kind
   looped : {flat : p.Design} → IsDesignOf text flat → IsRefused flat (accept.Loop place) → kind ≡ k.Loop → IsRefusal text place kind
-  unbuilt : {flat : p.Design} → IsDesignOf text flat → IsAccepted flat → has_saves flat ≡ true → place ≡ record { line = 0; column = 0 } → kind ≡ k.NotBuilt → IsRefusal text place kind
 
 -- with its loops unrolled, and an order of its processes, this is the design that a text stands for
 pub record IsAcceptedOf (text : List ℕ) (a : Accepted) : Type 0 where
   pub flat : p.Design
   pub of : IsDesignOf text flat
   pub stands : Stands flat a
-  pub unsaved : has_saves flat ≡ false
 
 -- what comes of a text
 abbrev pub IsFront : List ℕ → Result Accepted BuildError → Type 0

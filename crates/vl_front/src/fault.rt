@@ -15,8 +15,6 @@ pub enum Kind {
     Limit(u8),
     /// A combinational loop.
     Loop,
-    /// It asks for a snapshot, which isn't made yet.
-    NotBuilt,
 }
 
 /// Why nothing is built.

@@ -6,13 +6,11 @@ ghost use Rattle.vl_source.specs.declared.tree.Source.{Source as Tree};
 ghost use Rattle.vl_design.specs.Seen.{placed};
 ghost use Rattle.vl_flatten.specs.Meeting.{IsElaboration};
 ghost use Rattle.vl_checked.specs.Fit.{IsFit};
-ghost use Rattle.cell_accept.specs.Accepted.{Stands};
 ghost use Rattle.vl_front.specs.declared.fault.BuildError.TheVariants.{Refused};
 ghost use Rattle.vl_front.specs.Sources.{end_of as end_of_lem, IsTreeOf, IsDesignOf, IsFront};
 
 use crate::end::end_of;
 use crate::fault::{BuildError, Kind};
-use crate::saving::has_saves;
 use cell_accept::accept::{Accepted, accept};
 use cell_accept::fault::Fault;
 use std::alloc::Global;
@@ -33,30 +31,13 @@ fn refused(place: Place, kind: Kind) -> Result<Accepted, BuildError>
     Err(BuildError::Refused(place, kind))
 }
 
-/// What comes of an accepted design: it is refused where it asks for snapshots.
-fn of_accepted(alloc: Global, design: &Design, accepted: Accepted) -> Result<Accepted, BuildError>
-    requires stands { Stands (placed design.now) accepted }
-    ensures { (text : List ℕ) → IsDesignOf text (placed design.now) → IsFront text result }
-{
-    match has_saves(alloc, design) {
-        Ok(saves) => {
-            if saves {
-                refused(Place { line: 0, column: 0 }, Kind::NotBuilt)
-            } else {
-                Ok(accepted)
-            }
-        }
-        Err(_) => Err(BuildError::Memory),
-    }
-}
-
 /// What comes of the flat design of a source.
 fn of_design(alloc: Global, design: &Design) -> Result<Accepted, BuildError>
     requires fit { IsFit (placed design.now) }
     ensures { (text : List ℕ) → IsDesignOf text (placed design.now) → IsFront text result }
 {
     match accept(alloc, design) {
-        Ok(accepted) => of_accepted(alloc, design, accepted),
+        Ok(accepted) => Ok(accepted),
         Err(Fault::Construct(place, number)) => refused(place, Kind::Construct(number)),
         Err(Fault::Limit(place, number)) => refused(place, Kind::Limit(number)),
         Err(Fault::Loop(place)) => refused(place, Kind::Loop),

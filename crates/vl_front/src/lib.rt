@@ -5,4 +5,3 @@ mod end;
 pub mod fault;
 pub mod front;
 pub mod laws;
-mod saving;

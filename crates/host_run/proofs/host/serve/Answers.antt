@@ -1,10 +1,14 @@
 use Rattle.std.proofs.Common.{refl, sym}
-use Rattle.host_run.specs.Due.{misused, wrote}
+use Rattle.host_run.specs.Due.{wrote, misused}
+use Rattle.host_run.proofs.Serving.{due-later, wrote-from, put-came}
 use Rattle.host_run.proofs.host.serve.Goals as goal
 
-pub returns-in_default-clause-outcome : goal.returns-in_default-clause-outcome
-returns-in_default-clause-outcome g c = wrote (misused refl (sym c.in_default.ensures.command) c.usage.ensures) c.write.ensures
+pub returns-in_default : goal.returns-in_default
+returns-in_default g c =
+    wrote (misused refl (sym c.in_default.ensures.command) c.usage.ensures refl) (put-came c.put.result c.put.ensures.whole c.put.ensures.front c.put.ensures.failed refl c.status_of.ensures)
 
-pub returns-in-Ok-clause-outcome : goal.returns-in-Ok-clause-outcome
-returns-in-Ok-clause-outcome g c =
-    wrote (c.in-Ok.ensures.due _ (sym c.in-Some.ensures.command)) (rw c.deref.ensures.value at c.write-in-Ok.ensures)
+pub returns-in-Ok : goal.returns-in-Ok
+returns-in-Ok g c =
+    let d = c.in-Ok.ensures in
+    wrote (due-later _ _ _ _ c.write_due.ensures.faults c.write_due.ensures.absences (d.due _ (sym c.in-Some.ensures.command)))
+    (wrote-from _ _ _ _ _ _ _ _ _ d.told d.faults c.write_due.ensures.wrote)

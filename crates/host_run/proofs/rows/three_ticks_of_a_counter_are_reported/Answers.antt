@@ -17,9 +17,6 @@ returns-clause-design c = refl
 pub returns-clause-accepted : goal.returns-clause-accepted
 returns-clause-accepted c = counter-accepted
 
-pub returns-clause-unsaved : goal.returns-clause-unsaved
-returns-clause-unsaved c = refl
-
 pub returns-clause-report : goal.returns-clause-report
 unfolding digits
 returns-clause-report c = (_, ends_by (alone (flat counter_design) 3) 9 3 Budget _ refl refl refl refl, refl)

@@ -1,6 +1,6 @@
 use Rattle.std.proofs.Common.{Some, map, refl, sym, ap, ◌∙◌}
 use Rattle.script_line.specs.Seen.{order_seen}
-use Rattle.script_text.specs.declared.script.Due.{Due}
+use Rattle.ten_plan.specs.declared.plan.Due.{Due}
 use Rattle.script_text.specs.Scripts.{changed_at, due_of, sent}
 use Rattle.script_text.specs.Drafts.{tenant_line, drafted}
 use Rattle.script_text.proofs.Kept.{not_some, unchanged, with-changed, kept-changed}

@@ -1,5 +1,5 @@
 use Rattle.std.proofs.Common.{ℕ, Option, unwrap_or, ap, ◌∙◌}
-use Rattle.script_text.specs.declared.script.Due.{Due}
+use Rattle.ten_plan.specs.declared.plan.Due.{Due}
 use Rattle.script_text.specs.Scripts.{tenant_number, free_of, with_free}
 use Rattle.script_text.specs.Drafts.{drafted}
 use Rattle.script_text.proofs.adding.add_free.Goals as goal

@@ -1,7 +1,7 @@
 use Rattle.std.proofs.Common.{Option, ℕ, unwrap_or, ap, sym, ◌∙◌}
 use Rattle.script_line.specs.declared.statement.Order.{Order}
 use Rattle.script_line.specs.Seen.{order_seen}
-use Rattle.script_text.specs.declared.script.Due.TheVariants as due
+use Rattle.ten_plan.specs.declared.plan.Due.TheVariants as due
 use Rattle.script_text.specs.Scripts.{due_of}
 use Rattle.script_text.specs.Drafts.{drafted}
 use Rattle.script_text.proofs.adding.due_of.Goals as goal

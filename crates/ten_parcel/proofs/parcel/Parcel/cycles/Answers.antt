@@ -1,22 +1,20 @@
 use Rattle.std.proofs.Common.{sym, subst}
-use Rattle.plain_run.specs.Runs.{over}
+use Rattle.cell_form.specs.Views.{bank_of}
+use Rattle.ten_shell.specs.Shells.{run_of}
 use Rattle.ten_parcel.specs.declared.parcel.Parcel.{Parcel}
-use Rattle.ten_parcel.specs.Parcels.{origin_of}
-use Rattle.ten_parcel.proofs.Resting.{TellsCount, counted-there, counted-over}
+use Rattle.ten_parcel.specs.Parcels.{IsParcel}
+use Rattle.ten_parcel.proofs.Resting.{HasCounted, counted-there, counted-over}
 use Rattle.ten_parcel.proofs.parcel.Parcel.cycles.Goals as goal
 
 pub returns-in-Rests : goal.returns-in-Rests
 returns-in-Rests c =
-    subst (λ (p : Parcel). TellsCount c.cycles.result p) (sym c.in-Rests.is)
-    (λ d files s.
-    let r = c.in-Rests.resident in
-    let w = s.on in
-    counted-there d files r s (c.the_table_of_a_checked_design_can_run.ensures (origin_of d files r) w.order w.checked w.unrolled w.ordered tt)
-    c.cycles.result (c.cycles.ensures (origin_of d files r) w.order s.acts s.stage w.at))
+    subst (λ (p : Parcel). IsParcel p → HasCounted p c.cycles.result) (sym c.in-Rests.is)
+    (λ s.
+    let t = c.in-Rests.tenant in
+    counted-there t s (c.a_shell_at_rest_is_at_a_boundary.ensures.boundary t.shell (bank_of t.bank) s.acts s.stage s.on s.rests) c.cycles.result
+    (c.cycles.ensures (bank_of t.bank) (run_of t.shell) s.on.order s.acts s.stage s.on.at))
 
 pub returns-in-Over : goal.returns-in-Over
 returns-in-Over c =
-    subst (λ (p : Parcel). TellsCount c.in-Over.over.early.acts p) (sym c.in-Over.is)
-    (λ d files s.
     let x = c.in-Over.over in
-    counted-over d files x s (c.the_table_of_a_checked_design_can_run.ensures (over d files x.budget) s.order s.checked s.unrolled s.ordered tt))
+    subst (λ (p : Parcel). IsParcel p → HasCounted p x.early.acts) (sym c.in-Over.is) (λ s. counted-over x s (c.a_run_over_in_time_zero_has_ended.ensures x s))

@@ -1,23 +1,22 @@
-use Rattle.std.proofs.Common.{List, ℕ, sym, subst}
-use Rattle.plain_run.specs.Runs.{over}
+use Rattle.std.proofs.Common.{sym, subst}
+use Rattle.cell_form.specs.Views.{bank_of}
+use Rattle.ten_shell.specs.Shells.{run_of}
 use Rattle.ten_parcel.specs.declared.parcel.Parcel.{Parcel}
-use Rattle.ten_parcel.specs.Parcels.{origin_of}
-use Rattle.ten_parcel.proofs.Resting.{TellsPrinted, HasPrinted, printed-there, printed-over}
+use Rattle.ten_parcel.specs.declared.parcel.Parcel.TheVariants as parcel
+use Rattle.ten_parcel.specs.Parcels.{IsParcel}
+use Rattle.ten_parcel.proofs.Resting.{HasPrinted, printed-there, printed-over}
 use Rattle.ten_parcel.proofs.parcel.Parcel.printed.Goals as goal
 
 pub returns-in-Rests : goal.returns-in-Rests
 returns-in-Rests c =
-    subst (λ (p : Parcel). TellsPrinted c.printed.result.now p) (sym c.in-Rests.is)
-    (λ d files s.
-    let r = c.in-Rests.resident in
-    let w = s.on in
-    printed-there d files r s (c.the_table_of_a_checked_design_can_run.ensures (origin_of d files r) w.order w.checked w.unrolled w.ordered tt)
-    c.printed.result.now (c.printed.ensures (origin_of d files r) w.order s.acts s.stage w.at))
+    subst (λ (p : Parcel). IsParcel p → HasPrinted p c.printed.result.now) (sym c.in-Rests.is)
+    (λ s.
+    let t = c.in-Rests.tenant in
+    printed-there t s (c.a_shell_at_rest_is_at_a_boundary.ensures.boundary t.shell (bank_of t.bank) s.acts s.stage s.on s.rests) c.printed.result.now
+    (c.printed.ensures (bank_of t.bank) (run_of t.shell) s.on.order s.acts s.stage s.on.at))
 
 pub returns-in-Over : goal.returns-in-Over
 returns-in-Over c =
-    subst (λ (p : Parcel). TellsPrinted c.as_slice.result.now p) (sym c.in-Over.is)
-    (λ d files s.
     let x = c.in-Over.over in
-    subst (λ (bytes : List ℕ). HasPrinted (over d files x.budget) 0 bytes) (sym c.as_slice.ensures.value)
-    (printed-over d files x s (c.the_table_of_a_checked_design_can_run.ensures (over d files x.budget) s.order s.checked s.unrolled s.ordered tt)))
+    subst (λ (p : Parcel). IsParcel p → HasPrinted p c.as_slice.result.now) (sym c.in-Over.is)
+    (λ s. subst (λ bytes. HasPrinted (parcel.Over x) bytes) (sym c.as_slice.ensures.value) (printed-over x s (c.a_run_over_in_time_zero_has_ended.ensures x s)))

@@ -1,0 +1,7 @@
+mod Listing
+mod Taking
+mod Restoring
+mod Fitting
+mod Settling
+mod Adding
+mod Keeping

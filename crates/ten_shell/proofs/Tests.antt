@@ -1,0 +1,147 @@
+-- What tests of a shell's point come to.
+use Rattle.std.proofs.Common.{◌≡◌, ℕ, Bool, true, false, cond, not, ◌&&◌, ◌||◌, List, [], ◌∷◌, ◌++◌, map, ◌≤◌, ◌<◌, arith, refl, sym, ap, Option, Some, None, Result, Ok, Err}
+use Rattle.std.specs.Prelude.{nat_le, is_some, IfNone, IfSome, IfOk}
+use Rattle.std.proofs.lemmas.Bool.Decides.{nat_tests}
+use Rattle.vl_design.specs.declared.design.End.{End}
+use Rattle.vl_design.specs.declared.design.End.TheVariants as end
+use Rattle.sub_nodes.specs.Cycles.{is_trap, rises}
+use Rattle.sub_nodes.specs.Nodes.{Node, Run, Trap, Apply}
+use Rattle.ten_shell.specs.declared.shell.Beat.TheVariants as beat
+use Rattle.ten_shell.specs.Shells.{is_left}
+
+pub trap-beat : (t r : Bool) → t ≡ true → beat.Trap ≡ cond t beat.Trap (cond r beat.TickEnd beat.Ran)
+trap-beat true r e = refl
+trap-beat false r e = let z : ⊥ = cc in absurd z
+
+pub end-beat : (t r : Bool) → t ≡ false → r ≡ true → beat.TickEnd ≡ cond t beat.Trap (cond r beat.TickEnd beat.Ran)
+end-beat true r e h = let z : ⊥ = cc in absurd z
+end-beat false true e h = refl
+end-beat false false e h = let z : ⊥ = cc in absurd z
+
+pub ran-beat : (t r : Bool) → t ≡ false → r ≡ false → beat.Ran ≡ cond t beat.Trap (cond r beat.TickEnd beat.Ran)
+ran-beat true r e h = let z : ⊥ = cc in absurd z
+ran-beat false true e h = let z : ⊥ = cc in absurd z
+ran-beat false false e h = refl
+
+-- ---- boundaries
+
+pub alive-there : (f r : Bool) → (not f && r) ≡ true → f ≡ false
+alive-there true r e = let z : ⊥ = cc in absurd z
+alive-there false r e = refl
+
+pub is-there : (f r : Bool) → f ≡ false → r ≡ true → (not f && r) ≡ true
+is-there true r e h = let z : ⊥ = cc in absurd z
+is-there false r e h = h
+
+pub is-elsewhere : (f r : Bool) → r ≡ false → (not f && r) ≡ false
+is-elsewhere true r h = refl
+is-elsewhere false r h = h
+
+pub is-over : (f r : Bool) → f ≡ true → (not f && r) ≡ false
+is-over true r h = refl
+is-over false r h = let z : ⊥ = cc in absurd z
+
+pub rises-there : (f r : Bool) → (not f && r) ≡ true → r ≡ true
+rises-there true r e = let z : ⊥ = cc in absurd z
+rises-there false r e = e
+
+pub or-left : (f r : Bool) → f ≡ true → (f || r) ≡ true
+or-left true r e = refl
+or-left false r e = let z : ⊥ = cc in absurd z
+
+pub or-right : (f r : Bool) → r ≡ true → (f || r) ≡ true
+or-right true r e = refl
+or-right false r e = e
+
+pub other : (f r : Bool) → (f || r) ≡ true → f ≡ false → r ≡ true
+other true r e h = let z : ⊥ = cc in absurd z
+other false r e h = e
+
+pub bound-then : (f r x d : Bool) → d ≡ f → x ≡ r → d ≡ false → x ≡ (not f && r)
+bound-then true r x d e g h = let z : ⊥ = cc in absurd z
+bound-then false r x d e g h = g
+
+pub bound-else : (f r d : Bool) → d ≡ f → d ≡ true → not d ≡ (not f && r)
+bound-else true r d e h = ap not h
+bound-else false r d e h = let z : ⊥ = cc in absurd z
+
+-- the clock doesn't rise where a call is next
+pub trap-low : (x : Option Node) → is_trap x ≡ true → rises x ≡ false
+trap-low None e = refl
+trap-low (Some (Run g on)) e = let z : ⊥ = cc in absurd z
+trap-low (Some (Trap task to)) e = refl
+trap-low (Some (Apply to)) e = refl
+
+-- ---- what is left
+
+pub left-by : {X : Type 0} (name : X → List ℕ) (left : List (List ℕ)) (o : Option X) → IfNone o (left ≡ []) → IfSome o (λ x. (others : List (List ℕ)) × (left ≡ name x ∷ others)) → is_some o ≡ is_left left
+left-by name left None e h = sym (ap is_left e)
+left-by name left (Some x) e h = sym (ap is_left h.1)
+
+pub none-left : (left : List (List ℕ)) → is_left left ≡ false → left ≡ []
+none-left [] e = refl
+none-left (name ∷ names) e = let z : ⊥ = cc in absurd z
+
+pub behind-nil : {X : Type 0} (xs ys : List X) → xs ++ ys ≡ [] → ys ≡ []
+behind-nil [] ys e = e
+behind-nil (x ∷ xs) ys e = let z : ⊥ = cc in absurd z
+
+-- ---- results
+
+pub ok-3 : {T E : Type 0} (P Q R S : T → Type 0) → ((t : T) → P t → Q t → R t → S t) → (r : Result T E) → IfOk r P → IfOk r Q → IfOk r R → IfOk r S
+ok-3 P Q R S f (Ok t) p q u = f t p q u
+ok-3 P Q R S f (Err e) p q u = tt
+
+-- ---- tests joined
+
+pub and-left : (x y : Bool) → (x && y) ≡ true → x ≡ true
+and-left true y e = refl
+and-left false y e = e
+
+pub and-right : (x y : Bool) → (x && y) ≡ true → y ≡ true
+and-right true y e = e
+and-right false y e = let z : ⊥ = cc in absurd z
+
+pub right-false : (x y : Bool) → (x && y) ≡ false → x ≡ true → y ≡ false
+right-false true y e h = e
+right-false false y e h = let z : ⊥ = cc in absurd z
+
+pub or-then : (x w y : Bool) → x ≡ w → x ≡ true → x ≡ (w || y)
+or-then x true y e h = h
+or-then x false y e h = let z : ⊥ = cc in absurd z
+
+pub or-else : (x w y : Bool) → w ≡ false → x ≡ y → x ≡ (w || y)
+or-else x true y e h = let z : ⊥ = cc in absurd z
+or-else x false y e h = h
+
+pub clash : (x : Bool) → x ≡ true → x ≡ false → ⊥
+clash x e h = cc
+
+pub le-true : (a b : ℕ) → a ≤ b → nat_le a b ≡ true
+le-true a b h = grind (arith, nat_tests)
+
+pub le-false : (a b : ℕ) → b < a → nat_le a b ≡ false
+le-false a b h = grind (arith, nat_tests)
+
+pub map-and : {X Y : Type 0} (f : X → Y) (xs : List X) (x : X) → map f (xs ++ x ∷ []) ≡ map f xs ++ f x ∷ []
+map-and f [] x = refl
+map-and f (y ∷ ys) x = ap (λ zs. f y ∷ zs) (map-and f ys x)
+
+-- ---- reasons
+
+abbrev reason : Bool → Bool → Bool → Option End
+reason f b s = cond f (Some end.Finished) (cond b (Some end.Budget) (cond s (Some end.Stopped) None))
+
+pub has-finished : (f b s : Bool) → f ≡ true → Some end.Finished ≡ reason f b s
+has-finished true b s e = refl
+has-finished false b s e = let z : ⊥ = cc in absurd z
+
+pub has-spent : (f b s : Bool) → f ≡ false → b ≡ true → Some end.Budget ≡ reason f b s
+has-spent true b s e h = let z : ⊥ = cc in absurd z
+has-spent false true s e h = refl
+has-spent false false s e h = let z : ⊥ = cc in absurd z
+
+pub has-rest : (f b s : Bool) → f ≡ false → b ≡ false → cond s (Some end.Stopped) None ≡ reason f b s
+has-rest true b s e h = let z : ⊥ = cc in absurd z
+has-rest false true s e h = let z : ⊥ = cc in absurd z
+has-rest false false s e h = refl

@@ -1,0 +1,24 @@
+//! What holds of shells at rest. Each function does nothing; its contract is the law.
+
+ghost use Rattle.std.specs.Prelude.{◌≡◌, ℕ, Some};
+ghost use Rattle.vl_design.specs.declared.design.End.{End as Reason};
+ghost use Rattle.vl_design.specs.Alone.{Boundary, Ends, Keeps, reason_at};
+ghost use Rattle.vl_design.specs.Queue.{Queue};
+ghost use Rattle.cell_form.specs.Data.{BankData};
+ghost use Rattle.sub_nodes.specs.Cycles.{Stage};
+ghost use Rattle.ten_shell.specs.declared.shell.Shell.{Shell as OneShell};
+ghost use Rattle.ten_shell.specs.Shells.{free_in, run_of, saved_in, Rests, StandsFor};
+
+use ten_run::laws::a_run_at_rest_is_at_a_boundary;
+
+/// Where a shell rests, the run alone is at the boundary of as many ticks in the same state, and has counted as many acts; the shell keeps
+/// the snapshots that are to be kept there; and where the run has a reason to end there, it ends there.
+pub fn a_shell_at_rest_is_at_a_boundary()
+    ensures boundary { (s : OneShell) (b : BankData) (c : ℕ) (i : Stage) → StandsFor s b c i → Rests s i →
+        (q : Queue) × Boundary (run_of s) i.state.ticks q × (q.state ≡ i.state) × (q.state.count ≡ c) }
+    ensures kept { (s : OneShell) (b : BankData) (c : ℕ) (i : Stage) → StandsFor s b c i → Rests s i → Keeps (run_of s) (free_in s) i.state.ticks (saved_in s) }
+    ensures ends { (s : OneShell) (b : BankData) (c : ℕ) (i : Stage) (q : Queue) (end : Reason) → StandsFor s b c i → Rests s i → Boundary (run_of s) i.state.ticks q →
+        reason_at (run_of s).plan i.state.ticks q ≡ Some end → Ends (run_of s) i.state.ticks end q }
+{
+    a_run_at_rest_is_at_a_boundary();
+}

@@ -1,0 +1,6 @@
+mod Going
+mod Kept
+mod Others
+mod Starting
+mod Behind
+mod Transport

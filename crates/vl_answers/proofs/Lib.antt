@@ -1,0 +1,3 @@
+mod Reading
+mod Calling
+pub mod Doing

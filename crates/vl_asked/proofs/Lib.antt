@@ -1,0 +1,14 @@
+mod Unrolled
+mod Texts
+mod Plain
+mod Shapes
+mod Calls
+mod Sides
+mod Statements
+mod Items
+mod Bodies
+mod Processes
+mod Whole
+mod Elaborated
+mod Others
+mod Accepted

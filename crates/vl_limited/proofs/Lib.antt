@@ -1,0 +1,4 @@
+mod Counted
+mod Limits
+mod Elaborated
+mod Rows

@@ -1,0 +1,11 @@
+mod Nodes
+mod Unrolled
+mod Accepted
+mod Kept
+mod Tasks
+mod Statements
+mod Items
+mod Bodies
+mod Processes
+mod Whole
+mod Elaborated

@@ -89,9 +89,16 @@ fn faults(rt: HostRuntime) -> Result<(), Fail> {
         fault(rt.alloc(), &bytes[..35], 8)?,
         Some(SnapError::Bad(5, 29))
     );
-    assert_eq!(rt;
-        fault(rt.alloc(), &BYTES[..35], 8)?,
-        Some(SnapError::Bad(3, 35))
-    );
+    Ok(())
+}
+
+#[test]
+fn every_cut(rt: HostRuntime) -> Result<(), Fail> {
+    for end in 0..36 {
+        assert_eq!(rt;
+            fault(rt.alloc(), &BYTES[..end], 8)?,
+            Some(SnapError::Bad(3, end as u64))
+        );
+    }
     Ok(())
 }

@@ -81,43 +81,98 @@ fn is_both(whole: &Told, first: &Told, rest: &Told) -> bool {
         && whole.acts == first.acts.saturating_add(rest.acts)
 }
 
-/// The run of a row tells the same where it is saved at a tick and resumed there. So it does where no snapshot can be made there.
+/// What comes of a run that is saved at a tick and resumed there.
+enum Again {
+    /// No snapshot can be made there.
+    Ended,
+    /// Both parts together tell what the whole run tells.
+    Same,
+    /// They don't.
+    Otherwise,
+}
+
+/// What comes of a row's run that is saved at a tick and resumed there.
+fn again_at(
+    alloc: Global,
+    row: &Row,
+    whole: &Told,
+    ticks: u64,
+    tick: u64,
+) -> Result<Again, AllocError> {
+    let errand = format!(in alloc; "{tick} save x\n")?;
+    let Some(first) = told_by(alloc, row, tick, errand.as_str(), "")? else {
+        return Ok(Again::Otherwise);
+    };
+    let Some(kept) = &first.kept else {
+        return Ok(Again::Ended);
+    };
+    match told_by(alloc, row, ticks, "", kept.as_str())? {
+        Some(rest) if is_both(whole, &first, &rest) => Ok(Again::Same),
+        _ => Ok(Again::Otherwise),
+    }
+}
+
+/// The ticks that are tried: the first ten, the middle one, and the last one.
+fn tick_at(place: u64, ticks: u64) -> u64 {
+    if place == 10 {
+        ticks / 2
+    } else if place == 11 {
+        ticks.saturating_sub(1)
+    } else {
+        place
+    }
+}
+
+/// Whether the tick at a place is tried, and wasn't before.
+fn is_tried(place: u64, ticks: u64) -> bool {
+    let tick = tick_at(place, ticks);
+    tick < ticks && (place < 10 || tick >= 10)
+}
+
+/// Whether a row's run that is saved at a tick and resumed there comes to the same, where it can be saved; it is counted then.
 fn goes_on(
     alloc: Global,
     row: &Row,
     whole: &Told,
     ticks: u64,
     tick: u64,
+    times: &mut u64,
 ) -> Result<bool, AllocError> {
-    let errand = format!(in alloc; "{tick} save x\n")?;
-    let Some(first) = told_by(alloc, row, tick, errand.as_str(), "")? else {
-        return Ok(true);
-    };
-    let Some(kept) = &first.kept else {
-        return Ok(true);
-    };
-    match told_by(alloc, row, ticks, "", kept.as_str())? {
-        None => Ok(false),
-        Some(rest) => Ok(is_both(whole, &first, &rest)),
+    match again_at(alloc, row, whole, ticks, tick)? {
+        Again::Ended => Ok(true),
+        Again::Same => {
+            *times = times.saturating_add(1);
+            Ok(true)
+        }
+        Again::Otherwise => Ok(false),
     }
 }
 
-/// The first of some ticks at which a row's run, saved there and resumed, doesn't tell what the whole run tells. Rows with errands or with a
-/// snapshot, and rows without a run, have none.
-pub fn parting(alloc: Global, row: &Row, ticks: u64) -> Result<Option<u64>, AllocError> {
-    if !row.errands.is_empty()
-        || !row.start.is_empty()
-        || !row.wanted.as_str().starts_with("run ")
-    {
-        return Ok(None);
-    }
-    let Some(whole) = told_by(alloc, row, ticks, "", "")? else {
-        return Ok(None);
-    };
-    for tick in [0, 1, 2, 3, 5, 7, ticks / 2, ticks.saturating_sub(1)] {
-        if tick < ticks && !goes_on(alloc, row, &whole, ticks, tick)? {
-            return Ok(Some(tick));
+/// How often a run comes to the same, or the first tick at which it doesn't.
+fn again_of(alloc: Global, row: &Row, whole: &Told, ticks: u64) -> Result<String, AllocError> {
+    let mut times = 0_u64;
+    for place in 0..12 {
+        let tick = tick_at(place, ticks);
+        if is_tried(place, ticks) && !goes_on(alloc, row, whole, ticks, tick, &mut times)? {
+            return format!(in alloc; "resumed at {tick} it goes on otherwise\n");
         }
     }
-    Ok(None)
+    format!(in alloc; "resumed {times}\n")
+}
+
+/// A row whose run is saved and resumed on its way: it has no errands and no snapshot.
+fn is_free(row: &Row) -> bool {
+    row.errands.is_empty() && row.start.is_empty() && row.wanted.as_str().starts_with("run ")
+}
+
+/// How often the run of a row was saved and resumed, at the first ten ticks, the middle one and the last one, or the first tick at which
+/// that came to something else. Empty for rows with errands or with a snapshot, and for rows without a run.
+pub fn again_text(alloc: Global, row: &Row, ticks: u64) -> Result<String, AllocError> {
+    if !is_free(row) {
+        return Ok(String::new(alloc));
+    }
+    match told_by(alloc, row, ticks, "", "")? {
+        None => Ok(String::new(alloc)),
+        Some(whole) => again_of(alloc, row, &whole, ticks),
+    }
 }

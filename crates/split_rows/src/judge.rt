@@ -4,7 +4,7 @@ ghost use Rattle.std.specs.Prelude.{ℕ, List};
 ghost use Rattle.ten_build.specs.Builds.{IsImageOf};
 ghost use Rattle.split_rows.specs.Starts.{IsOutcome};
 
-use crate::again::parting;
+use crate::again::again_text;
 use crate::ended::ended_text;
 use crate::kept::kept_text;
 use crate::plan::plan_of;
@@ -77,16 +77,22 @@ fn answer_of_image(alloc: Global, row: &Row, image: Image) -> Result<String, All
     answer_in_acts(alloc, row, image)
 }
 
-/// The answer to a source in states; of a run, whether it comes to the same where it is saved and resumed on its way.
+/// What is wanted of an image, and of a run also how often it came to the same where it was saved and resumed on its way.
+fn answer_and_again(alloc: Global, row: &Row, image: Image) -> Result<String, AllocError>
+    requires image { (text : List ℕ) × IsImageOf text image }
+{
+    let mut text = answer_of_image(alloc, row, image)?;
+    let again = again_text(alloc, row, ticks_of(row.wanted.as_str()))?;
+    text.push_str(again.as_str())?;
+    Ok(text)
+}
+
+/// The answer to a source in states, or in what its run came to.
 fn answer_in_states(alloc: Global, row: &Row) -> Result<String, AllocError> {
-    let text = match build(alloc, row.source.as_bytes()) {
-        Ok(image) => answer_of_image(alloc, row, image)?,
-        Err(BuildError::Memory) => return Err(AllocError),
-        Err(_) => return String::from_str(alloc, "refused\n"),
-    };
-    match parting(alloc, row, ticks_of(row.wanted.as_str()))? {
-        None => Ok(text),
-        Some(tick) => format!(in alloc; "{text}resumed at {tick} it goes on otherwise\n"),
+    match build(alloc, row.source.as_bytes()) {
+        Ok(image) => answer_and_again(alloc, row, image),
+        Err(BuildError::Memory) => Err(AllocError),
+        Err(_) => String::from_str(alloc, "refused\n"),
     }
 }
 

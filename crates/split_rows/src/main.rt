@@ -2,8 +2,8 @@
 //! table of nodes that their blocks are split into; of a long one `> nodes ` and their number is wanted. Where the first line is
 //! `> states ` the states are wanted that are made of the nodes; where it is `> run ` and a number, how the run alone of as many ticks
 //! ends on them: its ticks, its acts, how many bytes it prints, these, and the snapshots that it keeps; lines `% ` are its errands, a line
-//! `^ ` the snapshot that it is resumed from, and without both it is also saved and resumed at some ticks, which has to come to the same.
-//! A line `< ` gives it a file, by name and bytes.
+//! `^ ` the snapshot that it is resumed from; and without both it is also saved and resumed at some ticks, which has to come to the same,
+//! and how often that was is wanted behind `resumed `. A line `< ` gives it a file, by name and bytes.
 #![tactic(auto)]
 
 mod again;

@@ -61,7 +61,7 @@ module _ (d : Flat) (order : List ℕ) (nodes : List Node) where
   state-stays number n m states more (Run g (Branch t first second)) s le h = h
   state-stays number n m states more (Run g (Switch e ws other)) s le h = h
   state-stays number n m states more (Run g (Commit to)) s le h = h
-  state-stays number n m states more (Trap task to) s le h = record { trap = h.trap; is = h.is; next = h.next; call = slots-more task n m h.trap le h.call }
+  state-stays number n m states more (Trap task to) s le h = record { no_cells = h.no_cells; no_writes = h.no_writes; trap = h.trap; is = h.is; next = h.next; call = slots-more task n m h.trap le h.call }
   state-stays number n m states more (Apply to) s le h = h
 
   -- a state that does a node is the node's, where this comes to no call
@@ -161,7 +161,7 @@ module _ (d : Flat) (order : List ℕ) (nodes : List Node) where
             asks = calls.asks;
           },
         ) in
-        let second : (number : ℕ) → IsStateOf d order number m nodes all (Trap c.task c.to) u = λ number. record { trap = calls.trap; is = calls.is; next = calls.next; call = calls.call m fits } in
+        let second : (number : ℕ) → IsStateOf d order number m nodes all (Trap c.task c.to) u = λ number. record { no_cells = calls.no_cells; no_writes = calls.no_writes; trap = calls.trap; is = calls.is; next = calls.next; call = calls.call m fits } in
         let both : length states + 1 + 1 ≡ length states + 2 = omega arith in
         let two : length states + 2 ≡ length all = sym both ∙ ap (λ q. q + 1) (sym long) ∙ sym long2 in
         record {

@@ -203,12 +203,14 @@ below-all l n (r ∷ rs) le h (suc i) d lt = below-all l n rs le h.1 i d (omega 
 
 -- the states of a segment that comes to a call, and of the call
 pub calls-trimmed : (d : Flat) (order : List ℕ) (n : ℕ) (g : Segment) (m to : ℕ) (task : Task) (l : ListData) (sets : List Write) (t : TrapOf) (first : ℕ) (new behind : ListData) (slots nexts waits : List ℕ) → IsTrimmed l sets t.args first new slots →
-    IsMade d order n (Run g (Go m)) l sets → IsTrapOf d task (slots_in l) t → AsksBehind d order n g (Run g (Go m)) l task t.args → waits ≡ to ∷ [] →
+    IsMade d order n (Run g (Go m)) l sets → IsTrapOf d task (slots_in l) t → AsksBehind d order n g (Run g (Go m)) l task t.args → waits ≡ to ∷ [] → behind.cells ≡ [] → behind.sets ≡ [] →
     Calls d order n g m task to (record { cells = new; trap = None; nexts = nexts }) (record { cells = behind; trap = Some (record t { args = slots }); nexts = waits })
-calls-trimmed d order n g m to task l sets t first new behind slots nexts waits trim made call asks next = record {
+calls-trimmed d order n g m to task l sets t first new behind slots nexts waits trim made call asks next no-cells no-writes = record {
   does = record { none = refl; does = does-trimmed d order n (Run g (Go m)) l sets t.args first new slots trim made };
   trap = record t { args = slots };
   asks = asks-trimmed d order n g m l sets t.args first new slots task trim made asks;
+  no_cells = no-cells;
+  no_writes = no-writes;
   is = refl;
   next = next;
   call = λ n le. record { call = with-args d task t slots call.call; answer = call.answer; args = below-all new n slots le (trim.there asks.there) };

@@ -26,6 +26,8 @@ pub record Calls (d : Flat) (order : List ℕ) (n : ℕ) (g : Segment) (m : ℕ)
   pub does : Does d order n (Run g (Go m)) run
   pub trap : Trap
   pub asks : AsksFor d order n (Run g (Go m)) run.cells task trap.args
+  pub no_cells : wait.cells.cells ≡ []
+  pub no_writes : wait.cells.sets ≡ []
   pub is : wait.trap ≡ Some trap
   pub next : wait.nexts ≡ to ∷ []
   pub call : (slots : ℕ) → slots_in run.cells ≤ slots → IsTrapOf d task slots trap

@@ -18,12 +18,12 @@ use std::alloc::{AllocError, Global};
 use vl_base::items::Items;
 use vl_design::design::Design;
 
-/// A list without cells, from slot 0 on.
-pub fn no_cells(alloc: Global) -> CellList
-    ensures { list_of result ≡ record { first = 0; cells = []; sets = [] } }
+/// A list without cells, from this slot on.
+pub fn no_cells(alloc: Global, first: u32) -> CellList
+    ensures { list_of result ≡ record { first = first; cells = []; sets = [] } }
 {
     CellList {
-        first: 0,
+        first,
         cells: Items::new(alloc),
         sets: Items::new(alloc),
     }

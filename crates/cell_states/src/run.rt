@@ -112,7 +112,7 @@ fn up_to_segment(
     requires pieces { All (IsCellPiece (names_of (flat_of design.now))) segment.now.statements.items }
     ensures { IfOk result (λ x. (n : ℕ) → above.now ≡ stores_after (flat_of design.now) (n + 1) → Starts (flat_of design.now) order.now (n + 1) (segment_view segment.now) (list_of x.cells) (env_of x.before.at) (env_of x.after.at) (slots_of x.before.pending) (slots_of x.after.pending) x.ticks) }
 {
-    let mut cells = no_cells(alloc);
+    let mut cells = no_cells(alloc, 0);
     let before = begin_in(alloc, &mut cells, design, order)?;
     let mut after = copied(alloc, &before)?;
     read(

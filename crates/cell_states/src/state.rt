@@ -9,12 +9,13 @@ ghost use Rattle.ten_image.specs.States.{slots_in, Does};
 ghost use Rattle.cell_states.specs.Mades.{IsMade, AsksBehind};
 ghost use Rattle.cell_states.specs.Trims.{IsTrimmed, Calls};
 
+use crate::base::no_cells;
 use crate::made::Made;
 use cell_form::cell::CellList;
 use cell_form::table::{State, Trap};
 use cell_trim::trim::{Trimmed, trim};
 use std::alloc::{AllocError, Global};
-use vl_base::items::{Items, Nums};
+use vl_base::items::Nums;
 
 /// The cells of a state that its writes and the wanted slots need, with slots from `first` on. A number of a slot that would be too long
 /// is want of memory.
@@ -94,11 +95,7 @@ pub fn call_states(
         nexts,
     };
     let wait = State {
-        cells: CellList {
-            first: behind,
-            cells: Items::new(alloc),
-            sets: Items::new(alloc),
-        },
+        cells: no_cells(alloc, behind),
         trap: Some(trap),
         nexts: one(alloc, to)?,
     };

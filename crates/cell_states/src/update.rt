@@ -41,7 +41,7 @@ pub fn made_update(
     requires delayed { AreDelayed (flat_of design.now) delayed.now }
     ensures { IfOk result (λ m. (number : ℕ) → IsMade (flat_of design.now) order.now number (n.Apply to) (list_of m.cells) m.sets.items) }
 {
-    let mut cells = no_cells(alloc);
+    let mut cells = no_cells(alloc, 0);
     let begun = begin_in(alloc, &mut cells, design, order)?;
     let mut sites = Vec::new(alloc);
     read(

@@ -5,8 +5,8 @@ ghost use Rattle.ten_build.specs.Builds.{IsImageOf};
 ghost use Rattle.host_run.specs.Answers.{Ended, IsFromZero, IsRunOf};
 
 use crate::kept::Kept;
+use fab_alone::alone::run_in_core;
 use std::alloc::{AllocError, Global};
-use ten_alone::alone::run_alone;
 use ten_core::image::Image;
 use ten_core::origin::Origin;
 use ten_parcel::parcel::Parcel;
@@ -70,12 +70,12 @@ fn outcome_from(alloc: Global, parcel: Parcel) -> Outcome
     }
 }
 
-/// Runs an image alone, from time zero and without files, for at most so many ticks.
+/// Runs an image in the core of a fabric that has room for it, from time zero and without files, for at most so many ticks.
 pub fn outcome_of(alloc: Global, image: Image, ticks: u64) -> Result<Outcome, AllocError>
     requires image { (text : List ℕ) × IsImageOf text image }
     requires ticks { ticks ≤ 1000000000 }
     ensures { IfOk result (λ o. (text : List ℕ) → IsImageOf text image → Ended text ticks o) }
 {
-    let parcel = run_alone(alloc, 0, from_zero(alloc, image, ticks))?;
+    let parcel = run_in_core(alloc, 0, from_zero(alloc, image, ticks))?;
     Ok(outcome_from(alloc, parcel))
 }

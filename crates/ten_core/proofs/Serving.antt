@@ -319,6 +319,13 @@ module _ (o : Origin) (order : List ℕ) (t : TenantData) (c : ℕ) (here : Stag
       is-mine : IsServed trap b rows text
       is-mine = is ∙ ap (λ z. s.served t.files z (works t.rows)) (one-call other to h).0
 
+      -- as many registers, memories and slots are left
+      pub shape-behind : (z : BankData) → z ≡ record b { regs = slice_set b.regs t.image.table.state to } → shape_of z ≡ shape_of t.bank
+      shape-behind z e =
+          ap shape_of e
+          ∙ ap (λ n. record { regs = n; mems = length b.mems; slots = length b.slots }) (length-set b.regs t.image.table.state to)
+          ∙ shape-is b rows text is-mine
+
       pub served-behind : IsTableOf t.files rows → (finished : Bool) → (IsTrue finished ↔ (s.way_of other.call ≡ way.Finish)) →
           (names : List (List ℕ)) → names ≡ t.asked ++ saved (s.way_of other.call) → (z : BankData) →
           z ≡ record b { regs = slice_set b.regs t.image.table.state to } →

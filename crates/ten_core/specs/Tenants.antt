@@ -2,7 +2,9 @@
 use Rattle.std.specs.Prelude.{◌≡◌, ℕ, ◌≤◌, ◌^◌, Bool, List, length, Option, option_map}
 use Rattle.std.specs.Arc.{arc_value}
 use Rattle.vl_base.specs.declared.files.File.{File}
+use Rattle.vl_cost.specs.Costs.{saturated_cost}
 use Rattle.vl_design.specs.Alone as alone
+use Rattle.vl_design.specs.Cost.{cost}
 use Rattle.vl_design.specs.Syntax.{Flat}
 use Rattle.vl_design.specs.Trees.{flat_of}
 use Rattle.cell_form.specs.Data.{BankData, StateData, TableData}
@@ -84,3 +86,4 @@ pub record IsImage (d : Flat) (order : List ℕ) (image : Image) : Type 0 where
   -- where its banks have what a snapshot keeps
   pub ports : image.ports.ports ≡ ports_of d.rows
   pub held : CanBeHeld d
+  pub costs : image.cost ≡ saturated_cost (cost d)

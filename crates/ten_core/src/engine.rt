@@ -4,6 +4,7 @@ ghost use Rattle.std.specs.Prelude.{IsTrue, ◌≡◌, ◌↔◌, ◌+◌, ◌<�
 ghost use Rattle.std.specs.Arc.{arc_value};
 ghost use Rattle.vl_design.specs.Alone.{Origin as Alone};
 ghost use Rattle.cell_form.specs.Data.{BankData};
+ghost use Rattle.cell_form.specs.Sound.{shape_of};
 ghost use Rattle.cell_form.specs.States.{table_cycled};
 ghost use Rattle.cell_form.specs.Views.{bank_of};
 ghost use Rattle.sub_nodes.specs.Code.{table_of};
@@ -119,6 +120,7 @@ impl Engine {
             IsAt o order (tenant_of self.new (bank_of bank.new)) (suc c) (after_call o i)) }
         ensures err { OnErr result (tenant_of self.new (bank_of bank.new) ≡ tenant_of self.old (bank_of bank.old)) }
         ensures origin { self.new.origin ≡ self.old.origin }
+        ensures shape { shape_of (bank_of bank.new) ≡ shape_of (bank_of bank.old) }
     {
         self.asked.reserve(1)?;
         let (trap, next) = next_call(&self.origin.image.table, bank);

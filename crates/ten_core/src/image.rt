@@ -2,6 +2,7 @@
 
 use cell_form::bank::PortMap;
 use cell_form::table::StateTable;
+use vl_cost::capacity::Cost;
 use vl_design::design::Design;
 
 /// A design as states of cells.
@@ -21,4 +22,6 @@ pub struct Image {
     pub stores: u32,
     /// Where its banks have the variables and memories that snapshots keep.
     pub ports: PortMap,
+    /// What it takes of a fabric, by its design.
+    pub cost: Cost,
 }

@@ -1,9 +1,11 @@
 //! What holds of the runs of tenants.
 
-ghost use Rattle.std.specs.Prelude.{◌≡◌, ◌<◌, ℕ, List, false};
+ghost use Rattle.std.specs.Prelude.{◌≡◌, ◌+◌, ◌<◌, ◌^◌, ℕ, List, false, slice_index};
 ghost use Rattle.vl_design.specs.Alone.{Origin};
 ghost use Rattle.vl_design.specs.Laws.{StartsFine};
 ghost use Rattle.vl_settle.specs.Checked.{IsChecked, IsOrder};
+ghost use Rattle.cell_form.specs.Data.{BankData};
+ghost use Rattle.cell_form.specs.States.{table_cycled};
 ghost use Rattle.sub_nodes.specs.Code.{table_of};
 ghost use Rattle.sub_nodes.specs.Cycles.{Stage};
 ghost use Rattle.sub_nodes.specs.Stands.{Comes};
@@ -11,11 +13,16 @@ ghost use Rattle.sub_nets.specs.Memories.{SetsNoMemories};
 ghost use Rattle.sub_nets.specs.Nets.{WritesNoNets};
 ghost use Rattle.sub_facts.specs.Early.{early_from};
 ghost use Rattle.ten_form.specs.Nets.{nets_of, IsTidy};
+ghost use Rattle.ten_form.specs.Registers.{state_register};
+ghost use Rattle.ten_core.specs.declared.engine.Engine.{Engine as OneEngine};
+ghost use Rattle.ten_core.specs.Runs.{Runs};
+ghost use Rattle.ten_core.specs.Tenants.{table_in, tenant_of};
 
 use sub_nets::laws::{
     memories_hold_the_committed_words, nets_hold_over_the_committed_values,
     values_and_committed_values_stay_fine,
 };
+use ten_image::laws::a_cycle_of_states_is_one_of_nodes;
 
 /// Each stage of a run of the table of a checked design is tidy, until the run has finished: its blocks write no nets, and its
 /// clocked blocks write memories by nonblocking assignments alone.
@@ -27,4 +34,12 @@ pub fn each_stage_is_tidy()
     values_and_committed_values_stay_fine();
     nets_hold_over_the_committed_values();
     memories_hold_the_committed_words();
+}
+
+/// The number of the state that is next behind a cycle has 32 bits.
+pub fn a_cycle_leads_to_a_state()
+    ensures { (e : OneEngine) (b : BankData) → Runs (tenant_of e b) → e.waits ≡ false → e.finished ≡ false → e.ticks + 1 < 2 ^ 32 →
+        slice_index (table_cycled (table_in e) b).regs state_register < 2 ^ 32 }
+{
+    a_cycle_of_states_is_one_of_nodes();
 }

@@ -83,8 +83,10 @@ module _ (d : Flat) (order : List ℕ) where
     pub there : HasTrap states m trap
     pub asks : AsksFor n x s.cells task trap.args
 
-  -- a state with a trap: just one state is next
+  -- a state with a trap has no cells: just one state is next
   pub record Waits (slots : ℕ) (task : Task) (to : ℕ) (s : StateData) : Type 0 where
+    pub no_cells : s.cells.cells ≡ []
+    pub no_writes : s.cells.sets ≡ []
     pub trap : TrapOf
     pub is : s.trap ≡ Some trap
     pub next : s.nexts ≡ to ∷ []

@@ -1,5 +1,7 @@
 -- What is made of a design is its image.
 use Rattle.std.proofs.Common.{◌≡◌, ℕ, ◌≤◌, ◌^◌, List, length, map, take, sym, ap, ◌∙◌, subst}
+use Rattle.vl_cost.specs.Costs.{saturated_cost}
+use Rattle.vl_design.specs.Cost.{cost}
 use Rattle.std.specs.Prelude.{All}
 use Rattle.std.proofs.lemmas.List.{length-map}
 use Rattle.vl_design.specs.Syntax.{Flat}
@@ -56,6 +58,7 @@ module _ (d : Flat) (order : List ℕ) where
     pub stores : image.stores ≡ made.stores
     pub begins : image.rise ≡ rise
     pub ports : image.ports ≡ places
+    pub costs : image.cost ≡ saturated_cost (cost d)
 
   pub image-is : (xs : List Node) (made : States) (rise : ℕ) (places : PortMap) (image : Image) → map node_view xs ≡ (table_of d).nodes → length xs ≤ 2 ^ 31 → rise ≡ (table_of d).rise.first → CallsStandApart (cell_nodes d)
       → places.ports ≡ ports_of d.rows → CanBeHeld d → AreMade made → IsOf made rise places image → IsImage d order image
@@ -72,6 +75,7 @@ module _ (d : Flat) (order : List ℕ) where
     few = subst (λ k. k ≤ 2 ^ 31) (sym (length-map xs node_view) ∙ ap (λ (ys : List n.Node). length ys) same) few;
     ports = ap (λ (x : PortMap). x.ports) is.ports ∙ kept;
     held = held;
+    costs = is.costs;
   }
 
 -- ---- designs that can be held

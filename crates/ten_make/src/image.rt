@@ -24,6 +24,8 @@ use ten_design::laws::{
 };
 use ten_hold::ports::ports;
 use ten_hold::sizes::are_sized;
+use vl_cost::capacity::Cost;
+use vl_cost::cost::cost;
 use vl_design::design::Design;
 
 /// The most nodes of a table, so that acts can be counted: 2 ^ 31.
@@ -42,6 +44,8 @@ struct Parts {
     stores: u32,
     /// Where its banks have what snapshots keep.
     ports: PortMap,
+    /// What it takes of a fabric.
+    cost: Cost,
 }
 
 /// The table of a design's nodes. An `Err` is want of memory, also where there would be more than 2 ^ 31 nodes.
@@ -74,7 +78,7 @@ fn sized_ports(alloc: Global, design: &Design) -> Result<PortMap, AllocError>
 fn made(alloc: Global, design: &Design, order: &[u32]) -> Result<Parts, AllocError>
     requires { IsTenantDesign (flat_of design.now) order.now }
     ensures { IfOk result (λ m. (image : ImageData) → flat_of design.now ≡ flat_of image.design → image.order.items ≡ order.now → image.table ≡ m.table → image.rise ≡ m.rise →
-        image.slots ≡ m.slots → image.stores ≡ m.stores → image.ports ≡ m.ports → IsImage (flat_of design.now) order.now image) }
+        image.slots ≡ m.slots → image.stores ≡ m.stores → image.ports ≡ m.ports → image.cost ≡ m.cost → IsImage (flat_of design.now) order.now image) }
 {
     tenants_designs_are_compiled();
     nodes_of_a_tenants_design_are_compiled();
@@ -82,12 +86,14 @@ fn made(alloc: Global, design: &Design, order: &[u32]) -> Result<Parts, AllocErr
     let nodes = few_nodes(alloc, design)?;
     let states = states(alloc, design, order, &nodes)?;
     let ports = sized_ports(alloc, design)?;
+    let cost = cost(alloc, design)?;
     Ok(Parts {
         table: states.table,
         rise: nodes.rise.first,
         slots: states.slots,
         stores: states.stores,
         ports,
+        cost,
     })
 }
 
@@ -106,5 +112,6 @@ pub fn image(alloc: Global, design: Design, order: Vec<u32>) -> Result<Image, Al
         slots: made.slots,
         stores: made.stores,
         ports: made.ports,
+        cost: made.cost,
     })
 }

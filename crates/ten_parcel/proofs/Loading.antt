@@ -40,9 +40,9 @@ module _ (n : ℕ) (x : Origin) (e : Engine) (k : Bank) (can : CanRunOn x) (begi
       (c : ℕ) × (i : Stage) × StandsFor r (bank_of k) c i × (is_at_boundary (flat_in r) i ≡ true) × (i.state.ticks ≡ first_tick (run_of r).resume)
 
   pub loaded : (r : Shell) → IsBegunShell n e r → IsFirst r → (s : Shell) → ((c : ℕ) (i : Stage) → StandsFor r (bank_of k) c i → StandsFor s (bank_of k) c i) →
-      ((c : ℕ) (i : Stage) → StandsFor s (bank_of k) c i → is_at_boundary (flat_in s) i ≡ true → left_in s ≡ []) → IsSameTenant r s → s.engine ≡ r.engine →
+      ((c : ℕ) (i : Stage) → StandsFor s (bank_of k) c i → is_at_boundary (flat_in s) i ≡ true → left_in s ≡ []) → IsSameTenant r s → s.engine ≡ r.engine → s.moved ≡ r.moved →
       IsLoaded n x (parcel.Rests (record { shell = s; bank = k }))
-  loaded r begun first s stands none same engine =
+  loaded r begun first s stands none same engine moved =
       let i : Stage = first.1 in
       let w = stands first.0 i first.2 in
       let run : run_of s ≡ run_of r = same-run r s same in
@@ -61,5 +61,6 @@ module _ (n : ℕ) (x : Origin) (e : Engine) (k : Bank) (can : CanRunOn x) (begi
         origin = ap (λ z. arc_value z.origin) (engine ∙ begun.engine) ∙ begins.origin;
         ticks = w.at.ticks ∙ (first.4 ∙ ap (λ (o : alone.Origin). first_tick o.resume) (sym run));
         free = ap (map free_of) (same.free ∙ begun.free);
+        moved = moved ∙ begun.moved;
         stopped = same.stopped ∙ begun.stopped;
       }

@@ -121,7 +121,7 @@ module _ (t : Tenant) (c : ℕ) (i : Stage) (r : IsReady t c i) where
   }
 
   pub ready-cycles : t.shell.engine.waits ≡ false → goes_on (run_of t.shell).plan (flat_in t.shell) i ≡ true → MayCycle t.shell i
-  ready-cycles idle on = record { no_call = idle; saved = r.saved; goes_on = on; lives = r.lives }
+  ready-cycles idle on = record { no_call = idle; saved = r.saved; goes_on = on }
 
 -- the tenant that set out here is ready
 pub record GoesAlong (from t : Tenant) : Type 0 where

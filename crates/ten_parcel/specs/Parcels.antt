@@ -2,7 +2,10 @@
 use Rattle.std.specs.Prelude.{◌≡◌, ℕ, false, List, [], Bool, ⊤}
 use Rattle.std.specs.Arc.{arc_value}
 use Rattle.std.specs.List.{AllByRecursion}
+use Rattle.vl_cost.specs.declared.capacity.Cost.{Cost}
+use Rattle.vl_cost.specs.Costs.{saturated_cost}
 use Rattle.vl_design.specs.Alone as alone
+use Rattle.vl_design.specs.Cost.{cost}
 use Rattle.vl_design.specs.Trees.{flat_of}
 use Rattle.cell_form.specs.Views.{bank_of}
 use Rattle.sub_nodes.specs.Cycles.{Stage}
@@ -71,6 +74,15 @@ abbrev pub free_of : Parcel → List alone.FreeSave
 free_of (parcel.Rests t) = shell.free_in t.shell
 free_of (parcel.Over x) = []
 
+-- whether the move that stands where it rests is done
+abbrev pub is_moved : Parcel → Bool
+is_moved (parcel.Rests t) = t.shell.moved
+is_moved (parcel.Over x) = false
+
+-- what it takes of a fabric, in numbers of 64 bits
+abbrev pub cost_of : Parcel → Cost
+cost_of p = saturated_cost (cost (run_of p).flat)
+
 abbrev pub is_stopped : Parcel → Bool
 is_stopped (parcel.Rests t) = t.shell.stopped
 is_stopped (parcel.Over x) = false
@@ -82,6 +94,7 @@ pub record IsLoaded (n : ℕ) (x : Origin) (p : Parcel) : Type 0 where
   pub origin : origin_in p ≡ x
   pub ticks : ticks_of p ≡ alone.first_tick (run_of p).resume
   pub free : free_of p ≡ []
+  pub moved : is_moved p ≡ false
   pub stopped : is_stopped p ≡ false
 
 -- ---- what a tenant leaves behind

@@ -8,11 +8,12 @@ ghost use Rattle.vl_design.specs.Queue.{Queue};
 ghost use Rattle.ten_plan.specs.Held.{saved_of};
 ghost use Rattle.ten_plan.specs.Written.{HasRows};
 ghost use Rattle.ten_shell.specs.Shells.{CanRunOn};
-ghost use Rattle.ten_parcel.specs.Parcels.{free_of, is_stopped, number_of, origin_in, run_of, ticks_of, AreWritable, IsLoaded, IsParcel, IsTenant};
+ghost use Rattle.ten_parcel.specs.Parcels.{cost_of, free_of, is_moved, is_stopped, number_of, origin_in, run_of, ticks_of, AreWritable, IsLoaded, IsParcel, IsTenant};
 
 use crate::laws::a_run_over_in_time_zero_has_ended;
 use crate::tenant::Tenant;
 use std::alloc::{AllocError, Global};
+use std::snapshot::Snapshot;
 use std::sync::Arc;
 use ten_core::engine::Engine;
 use ten_core::origin::Origin;
@@ -23,6 +24,7 @@ use ten_shell::laws::a_shell_at_rest_is_at_a_boundary;
 use ten_shell::shell::Shell;
 use ten_zero::early::Early;
 use vl_base::items::Text;
+use vl_cost::capacity::Cost;
 use vl_design::design::{Design, End};
 
 /// A run that has finished in time zero.
@@ -43,6 +45,14 @@ pub enum Parcel {
     Rests(Tenant),
     /// Finished in time zero.
     Over(Over),
+}
+
+/// What contracts know of a tenant at rest: what it started from, the snapshots made besides, and whether the move that stands there is
+/// done. It has no bytes.
+#[derive(Drop)]
+pub struct Deed {
+    /// The tenant, as contracts see it.
+    pub known: Snapshot<Parcel>,
 }
 
 /// What a tenant leaves behind.
@@ -95,6 +105,25 @@ impl Parcel {
         match self {
             Parcel::Rests(tenant) => &tenant.shell.engine.origin.image.design,
             Parcel::Over(over) => &over.origin.image.design,
+        }
+    }
+
+    /// What its image takes of a fabric: bits of registers, cells, and bits of memories.
+    pub fn cost(&self) -> Cost
+        ensures { IsParcel self.now → result ≡ cost_of self.now }
+    {
+        match self {
+            Parcel::Rests(tenant) => tenant.shell.engine.origin.image.cost,
+            Parcel::Over(over) => over.origin.image.cost,
+        }
+    }
+
+    /// What contracts know of it.
+    pub fn deed(&self) -> Deed
+        ensures { result.known.value ≡ self.now }
+    {
+        Deed {
+            known: Snapshot::of(self),
         }
     }
 
@@ -169,6 +198,7 @@ impl Parcel {
         ensures ticks { ticks_of self.new ≡ ticks_of self.old }
         ensures free { free_of self.new ≡ free_of self.old }
         ensures number { number_of self.new ≡ number_of self.old }
+        ensures moved { is_moved self.new ≡ is_moved self.old }
     {
         match self {
             Parcel::Rests(tenant) => tenant.shell.stop(),
@@ -187,6 +217,7 @@ impl Parcel {
         ensures ticks { ticks_of self.new ≡ ticks_of self.old }
         ensures stopped { is_stopped self.new ≡ is_stopped self.old }
         ensures number { number_of self.new ≡ number_of self.old }
+        ensures moved { is_moved self.new ≡ is_moved self.old }
     {
         a_shell_at_rest_is_at_a_boundary();
         a_run_over_in_time_zero_has_ended();

@@ -1,11 +1,12 @@
 //! Tenants on their way.
 
 ghost use Rattle.std.specs.Prelude.{◌≡◌, ℕ, suc, true, false, not, List, ◌∷◌, IfOk, OnOk, OnErr, if◌then◌else◌};
+ghost use Rattle.cell_form.specs.Sound.{shape_of};
 ghost use Rattle.cell_form.specs.Views.{bank_of};
 ghost use Rattle.sub_nodes.specs.Cycles.{Stage};
 ghost use Rattle.ten_core.specs.Runs.{after_cycle, after_call};
 ghost use Rattle.ten_run.specs.Running.{goes_on};
-ghost use Rattle.ten_shell.specs.Shells.{beat_of, flat_in, left_in, run_of, waits_in, IsSameTenant, IsUnchanged, MayCycle, Rests};
+ghost use Rattle.ten_shell.specs.Shells.{beat_of, flat_in, is_at_boundary, left_at, left_in, run_of, waits_in, IsSameTenant, IsUnchanged, MayCycle, Rests};
 ghost use Rattle.ten_parcel.specs.Parcels.{IsAtRest, IsOn, IsParcel, IsTenant};
 ghost use Rattle.ten_parcel.specs.Ways.{IsNearer, IsReady};
 
@@ -58,7 +59,12 @@ impl Tenant {
         ensures save { OnOk result (self.old.shell.engine.waits ≡ false → (c : ℕ) (i : Stage) → IsOn self.old c i → IsOn self.new c i) }
         ensures made { OnOk result (self.old.shell.engine.waits ≡ false → (name : List ℕ) × (left_in self.old.shell ≡ name ∷ left_in self.new.shell)) }
         ensures which { IfOk result (λ saved. saved ≡ not self.old.shell.engine.waits) }
+        ensures left { OnOk result (self.old.shell.engine.waits ≡ true → (c : ℕ) (i : Stage) → IsOn self.old c i →
+            is_at_boundary (flat_in self.old.shell) (after_call (run_of self.old.shell) i) ≡ true → left_in self.new.shell ≡ left_at (run_of self.old.shell) (after_call (run_of self.old.shell) i)) }
+        ensures bank { OnOk result (self.old.shell.engine.waits ≡ false → bank_of self.new.bank ≡ bank_of self.old.bank) }
         ensures same { IsSameTenant self.old.shell self.new.shell }
+        ensures moved { self.new.shell.moved ≡ self.old.shell.moved }
+        ensures shape { shape_of (bank_of self.new.bank) ≡ shape_of (bank_of self.old.bank) }
         ensures err { OnErr result (IsUnchanged self.old.shell self.new.shell (bank_of self.old.bank) (bank_of self.new.bank)) }
     {
         self.shell.serve(alloc, &mut self.bank)

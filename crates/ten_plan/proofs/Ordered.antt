@@ -1,5 +1,5 @@
 -- Errands in their order: what is done, and what is left.
-use Rattle.std.proofs.Common.{◌≡◌, ℕ, zero, suc, ◌+◌, ◌≤◌, ◌<◌, ◌≢◌, Bool, true, false, true≢false, cond, ◌&&◌, ◌||◌, ◌==◌, nat_lt, List, [], ◌∷◌, ◌++◌, length, map, take, drop, get_or, refl, sym, ap, ◌∙◌, subst, arith, add-one}
+use Rattle.std.proofs.Common.{◌≡◌, ℕ, zero, suc, ◌+◌, ◌≤◌, ◌<◌, ◌≢◌, Bool, true, false, true≢false, cond, ◌&&◌, ◌||◌, ◌==◌, nat_lt, List, [], ◌∷◌, ◌++◌, length, map, take, drop, get_or, refl, sym, ap, ◌∙◌, subst, arith, add-one, Option, Some, None}
 use Rattle.std.specs.List.{AllByRecursion}
 use Rattle.std.proofs.lemmas.List.{drop_more, drop-map, drop-drop, drop_all, length-drop, length-map}
 use Rattle.std.proofs.lemmas.Bool.{ltb-true, ltb-false}
@@ -8,7 +8,7 @@ use Rattle.vl_design.specs.Alone.{Due, SaveAs, Stop, Move, Errand, stops, stop_a
 use Rattle.ten_plan.specs.declared.plan.Due as declared-due
 use Rattle.ten_plan.specs.declared.plan.Due.TheVariants as due
 use Rattle.ten_plan.specs.declared.plan.Errand as declared
-use Rattle.ten_plan.specs.Plans.{due_of, errand_of, is_save, may_precede, may_be_done, AreOrdered, AreDone, AreBefore}
+use Rattle.ten_plan.specs.Plans.{due_of, errand_of, is_save, may_precede, may_be_done, move_at, move_to, or_else, AreOrdered, AreDone, AreBefore}
 
 -- ---- lists
 
@@ -66,7 +66,13 @@ apart t k h = grind (arith, nat_tests)
 same-tick : (t k : ℕ) → t ≡ k → (t == k) ≡ true
 same-tick t k h = grind (arith, nat_tests)
 
--- what is no save, and no stop
+tick-same : (t k : ℕ) → (t == k) ≡ true → t ≡ k
+tick-same t k h = grind (arith, nat_tests)
+
+tick-apart : (t k : ℕ) → (t == k) ≡ false → t ≢ k
+tick-apart t k h = λ e. let z : ⊥ = grind (arith, nat_tests) in z
+
+-- what is no save, no stop, and no move
 pub no-save-of : (d : declared-due.Due) → ((name : List ℕ) → d ≡ due.Save name → ⊥) → is_save (due_of d) ≡ false
 no-save-of (due.Save name) h = absurd (h name refl)
 no-save-of (due.Move fabric) h = refl
@@ -77,7 +83,12 @@ no-stop-of (due.Save name) h = refl
 no-stop-of (due.Move fabric) h = refl
 no-stop-of due.Stop h = absurd (h refl)
 
--- an errand that is done is no later, and no stop of this tick
+pub no-move-of : (d : declared-due.Due) → ((fabric : ℕ) → d ≡ due.Move fabric → ⊥) → None ≡ move_to (due_of d)
+no-move-of (due.Save name) h = refl
+no-move-of (due.Move fabric) h = absurd (h fabric refl)
+no-move-of due.Stop h = refl
+
+-- an errand that is done is no later, and no stop and no move of this tick
 no-later : (k t : ℕ) (s : Bool) → (nat_lt t k || ((t == k) && s)) ≡ true → t < k + 1
 no-later k t s h = grind (arith, nat_tests)
 
@@ -92,6 +103,15 @@ no-stop : (k t : ℕ) (d : Due) → (nat_lt t k || ((t == k) && is_save d)) ≡ 
 no-stop k t (SaveAs name) h = never (t == k)
 no-stop k t Stop h = ap (λ b. b && true) (earlier k t h)
 no-stop k t (Move fabric) h = never (t == k)
+
+no-move : (k t : ℕ) (d : Due) → (nat_lt t k || ((t == k) && is_save d)) ≡ true → cond (t == k) (move_to d) None ≡ None
+no-move k t (SaveAs name) h = same-none (t == k)
+  where
+    same-none : (b : Bool) → cond b (move_to (SaveAs name)) None ≡ None
+    same-none true = refl
+    same-none false = refl
+no-move k t Stop h = ap (λ b. cond b (move_to Stop) None) (earlier k t h)
+no-move k t (Move fabric) h = ap (λ b. cond b (move_to (Move fabric)) None) (earlier k t h)
 
 before-done : (k t : ℕ) (s : Bool) → t < k → (nat_lt t k || ((t == k) && s)) ≡ true
 before-done k t s h = grind (arith, nat_tests)
@@ -122,6 +142,10 @@ no-stops : (k : ℕ) (es : List Errand) → AllByRecursion (λ e. k < e.tick) es
 no-stops k [] h = refl
 no-stops k (e ∷ es) h = ap (λ b. (b && stops e.due) || stop_at k es) (apart e.tick k (λ same. omega arith)) ∙ no-stops k es h.1
 
+no-moves : (k : ℕ) (es : List Errand) → AllByRecursion (λ e. k < e.tick) es → move_at k es ≡ None
+no-moves k [] h = refl
+no-moves k (e ∷ es) h = ap (λ b. or_else (cond b (move_to e.due) None) (move_at k es)) (apart e.tick k (λ same. omega arith)) ∙ no-moves k es h.1
+
 -- no stop of this tick is among what is done
 stop-left : (k n : ℕ) (es : List Errand) → AllByRecursion (λ e. may_be_done k e ≡ true) (take n es) → stop_at k es ≡ stop_at k (drop n es)
 stop-left k zero es h = refl
@@ -130,6 +154,15 @@ stop-left k (suc n) (e ∷ es) h = ap (λ b. b || stop_at k es) (no-stop k e.tic
 
 pub stop-none : (es : List Errand) (k n : ℕ) → AreDone es k n → drop n es ≡ [] → stop_at k es ≡ false
 stop-none es k n done none = stop-left k n es done.done ∙ ap (stop_at k) none
+
+-- no move of this tick is among what is done
+move-left : (k n : ℕ) (es : List Errand) → AllByRecursion (λ e. may_be_done k e ≡ true) (take n es) → move_at k es ≡ move_at k (drop n es)
+move-left k zero es h = refl
+move-left k (suc n) [] h = refl
+move-left k (suc n) (e ∷ es) h = ap (λ m. or_else m (move_at k es)) (no-move k e.tick e.due h.0) ∙ move-left k n es h.1
+
+pub move-none : (es : List Errand) (k n : ℕ) → AreDone es k n → drop n es ≡ [] → move_at k es ≡ None
+move-none es k n done none = move-left k n es done.done ∙ ap (move_at k) none
 
 -- no save of this tick is of an earlier one
 saves-left : (k n : ℕ) (es : List Errand) → AllByRecursion (λ e. e.tick < k) (take n es) → save_names k (drop n es) ≡ save_names k es
@@ -229,6 +262,27 @@ module _ (es : List Errand) (k n : ℕ) (e : Errand) (rest : List Errand) (here 
 
   pub stop-other : e.tick ≢ k → stop_at k es ≡ false
   stop-other h = stop-left k n es done.done ∙ (ap (stop_at k) here ∙ no-stops k (e ∷ rest) (others-later h))
+
+  pub move-first : save_names k (drop n es) ≡ [] → e.tick ≡ k → move_at k es ≡ move_to e.due
+  move-first none same =
+      move-left k n es done.done ∙ ap (move_at k) here
+      ∙ (ap (λ m. or_else (cond (e.tick == k) (move_to e.due) None) m) (no-moves k rest (rest-later same (plain none same)))
+      ∙ (ap (λ b. or_else (cond b (move_to e.due) None) None) (same-tick e.tick k same) ∙ or-none (move_to e.due)))
+    where
+      or-none : (m : Option ℕ) → or_else m None ≡ m
+      or-none None = refl
+      or-none (Some fabric) = refl
+
+  pub move-other : e.tick ≢ k → move_at k es ≡ None
+  move-other h = move-left k n es done.done ∙ (ap (move_at k) here ∙ no-moves k (e ∷ rest) (others-later h))
+
+  -- what is no move, of whatever tick, leaves none
+  pub move-never : save_names k (drop n es) ≡ [] → None ≡ move_to e.due → None ≡ move_at k es
+  move-never none never-moves = by (e.tick == k) refl
+    where
+      by : (b : Bool) → (e.tick == k) ≡ b → None ≡ move_at k es
+      by true same = never-moves ∙ sym (move-first none (tick-same e.tick k same))
+      by false same = sym (move-other (tick-apart e.tick k same))
 
   -- ---- past the tick
 

@@ -1,5 +1,5 @@
 -- Plans as the run alone knows them (own).
-use Rattle.std.specs.Prelude.{◌≡◌, ℕ, ◌≤◌, ◌<◌, Bool, true, false, ◌&&◌, ◌||◌, ◌==◌, nat_lt, List, [], ◌∷◌, map, take, drop, length, ⊤}
+use Rattle.std.specs.Prelude.{◌≡◌, ℕ, ◌≤◌, ◌<◌, Bool, true, false, ◌&&◌, ◌||◌, ◌==◌, nat_lt, List, [], ◌∷◌, map, take, drop, length, if◌then◌else◌, Option, Some, None, ⊤}
 use Rattle.std.specs.List.{AllByRecursion}
 use Rattle.vl_design.specs.Alone as alone
 use Rattle.ten_plan.specs.declared.plan.Due.{Due}
@@ -36,6 +36,22 @@ AreOrdered (e ∷ es) = AllByRecursion (λ f. may_precede e f ≡ true) es × Ar
 pub record IsPlan (p : alone.Plan) : Type 0 where
   pub budget : p.budget ≤ 1000000000
   pub ordered : AreOrdered p.errands
+
+-- ---- moves
+
+-- the fabric to which a move goes
+abbrev pub move_to : alone.Due → Option ℕ
+move_to (alone.Move fabric) = Some fabric
+move_to due = None
+
+abbrev pub or_else : Option ℕ → Option ℕ → Option ℕ
+or_else None others = others
+or_else (Some fabric) others = Some fabric
+
+-- the fabric to which the move goes that stands at tick k
+abbrev pub move_at : ℕ → List alone.Errand → Option ℕ
+move_at k [] = None
+move_at k (e ∷ es) = or_else (if e.tick == k then move_to e.due else None) (move_at k es)
 
 -- ---- how far errands are done
 

@@ -3,7 +3,7 @@
 ghost use Rattle.std.specs.Prelude.{◌≡◌, ◌↔◌, ◌+◌, [], ◌∷◌, map, drop, IsTrue, IfNone, IfSome};
 ghost use Rattle.vl_design.specs.Alone.{save_names, stop_at};
 ghost use Rattle.ten_plan.specs.Plans as s;
-ghost use Rattle.ten_plan.specs.Plans.{errand_of, plan_of, AreBefore, AreDone, AreOrdered, IsPlan};
+ghost use Rattle.ten_plan.specs.Plans.{errand_of, move_at, plan_of, AreBefore, AreDone, AreOrdered, IsPlan};
 
 use crate::plan::{Due, Errand, Plan};
 use vl_base::items::Text;
@@ -78,6 +78,26 @@ impl Plan {
         match self.errands.as_slice().get(done) {
             None => false,
             Some(errand) => errand.tick == tick && matches!(errand.due, Due::Stop),
+        }
+    }
+
+    /// The fabric to which a move goes that stands at a tick, at which all snapshots that were due are made, and so many errands are done.
+    pub fn moves(&self, done: usize, tick: u64) -> Option<u32>
+        requires ordered { AreOrdered (plan_of self.now).errands }
+        requires done { AreDone (plan_of self.now).errands tick done }
+        requires saved { save_names tick (drop done (plan_of self.now).errands) ≡ [] }
+        ensures { result ≡ move_at tick (plan_of self.now).errands }
+    {
+        let errand = self.errands.as_slice().get(done)?;
+        match &errand.due {
+            Due::Move(fabric) => {
+                if errand.tick == tick {
+                    Some(*fabric)
+                } else {
+                    None
+                }
+            }
+            _ => None,
         }
     }
 

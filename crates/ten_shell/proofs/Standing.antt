@@ -1,12 +1,14 @@
 -- What a shell stands for, from what its engine is at and what it keeps.
-use Rattle.std.proofs.Common.{◌≡◌, ℕ, suc, ◌+◌, ◌≤◌, Bool, true, false, cond, List, [], ◌∷◌, ◌++◌, map, drop, refl, sym, ap, ◌∙◌, subst, arith}
+use Rattle.std.proofs.Common.{◌≡◌, ℕ, suc, ◌+◌, ◌≤◌, Bool, true, false, cond, List, [], ◌∷◌, ◌++◌, map, drop, refl, sym, ap, ◌∙◌, subst, arith, Option, Some}
 use Rattle.std.specs.Prelude.{slice_get}
 use Rattle.std.specs.Arc.{arc_value}
 use Rattle.std.specs.List.{AllByRecursion}
 use Rattle.std.specs.declared.alloc.Global.{Global}
 use Rattle.std.specs.declared.vec.Vec.{Vec}
 use Rattle.vl_base.specs.Files.{IsFileSet}
-use Rattle.vl_design.specs.Alone.{Origin, Boundary, Errand, FreeSave, Keeps, due_at, free_names, save_names}
+use Rattle.vl_design.specs.declared.design.End.{End}
+use Rattle.vl_design.specs.declared.design.End.TheVariants.{Stopped}
+use Rattle.vl_design.specs.Alone.{Origin, Boundary, Errand, FreeSave, Keeps, due_at, free_names, reason_at, save_names}
 use Rattle.vl_design.specs.Laws.{IsFine, StartsOpen}
 use Rattle.vl_design.specs.Queue.{Queue}
 use Rattle.vl_design.specs.Snapshots.{Saved, saved_over, snapshot_of}
@@ -16,7 +18,7 @@ use Rattle.sub_nodes.specs.Code.{table_of}
 use Rattle.sub_nodes.specs.Cycles.{Stage, rises}
 use Rattle.sub_nodes.specs.Stands.{at_trap}
 use Rattle.ten_core.specs.declared.engine.Engine.{Engine}
-use Rattle.ten_core.specs.Runs.{after_cycle, after_call, IsAt}
+use Rattle.ten_core.specs.Runs.{after_cycle, after_call, IsAt, Runs}
 use Rattle.ten_core.specs.Tenants.{origin_of, tenant_of}
 use Rattle.ten_hold.specs.Holding.{CanBeHeld}
 use Rattle.ten_load.specs.Loads.{Begins}
@@ -28,9 +30,10 @@ use Rattle.ten_run.specs.Running.{is_at_rest, IsRunning}
 use Rattle.ten_shell.specs.declared.shell.Shell.{Shell}
 use Rattle.ten_shell.specs.Keeping as keeping
 use Rattle.ten_shell.specs.Keeping.{KeepsAt, KeepsOn}
-use Rattle.ten_shell.specs.Shells.{errands_left, flat_in, free_in, is_at_boundary, left_in, run_of, saved_in, CanRunOn, KeepsElsewhere, KeepsIn, KeepsThere, MayCycle, Rests, StandsFor}
+use Rattle.ten_shell.specs.Leaving.{end_in, resting}
+use Rattle.ten_shell.specs.Shells.{errands_left, flat_in, free_in, is_at_boundary, is_left, left_at, left_in, rests_in, run_of, saved_in, CanRunOn, KeepsElsewhere, KeepsIn, KeepsThere, MayCycle, Rests, StandsFor}
 use Rattle.ten_shell.proofs.Kept as kept
-use Rattle.ten_shell.proofs.Tests.{alive-there, is-there, is-elsewhere, is-over, or-left, or-right, other, trap-low, behind-nil}
+use Rattle.ten_shell.proofs.Tests.{alive-there, is-there, is-elsewhere, is-over, or-left, or-right, other, trap-low, behind-nil, none-left, rests-both, rests-none}
 
 -- ---- what the laws below say
 
@@ -74,7 +77,8 @@ module _ (done-law : DoneLaw) (saves-law : SavesLaw) (s : Shell) (b : BankData) 
   abbrev es : List Errand
   es = (run_of s).plan.errands
 
-  left-due : i.state.finished ≡ false → left_in s ≡ due_at (run_of s).plan i.state.ticks i.state
+  -- what is left to be made where it comes to a boundary
+  pub left-due : i.state.finished ≡ false → left_in s ≡ due_at (run_of s).plan i.state.ticks i.state
   left-due f =
       ap (λ g. drop g s.engine.asked.items ++ errands_left s) r.given
       ∙ ap (λ xs. xs ++ errands_left s) r.at.asked
@@ -133,6 +137,17 @@ module _ (s : Shell) (b : BankData) (n : ℕ) (i : Stage) (w : StandsFor s b n i
   pub rest-there : Rests s i → i.state.finished ≡ false → is_at_boundary (flat_in s) i ≡ true
   rest-there r e = is-there i.state.finished up e (other i.state.finished up r.rests e)
 
+  -- it rests
+  pub rests-here : rests_in s i ≡ true → Rests s i
+  rests-here e = record {
+    rests = rests-both i.state.finished up (is_left (left_in s)) e;
+    saved = λ f. none-left (left_in s) (rests-none i.state.finished up (is_left (left_in s)) e f);
+  }
+
+  -- its engine is somewhere in a run
+  pub is-run : Runs (tenant_of s.engine b)
+  is-run = record { origin = o; order = w.order; acts = n; stage = i; at = w.at; tame = w.running.tame }
+
   -- what is kept where it rests
   pub rest-keeps : BoundaryLaw → Rests s i → (f : Bool) → i.state.finished ≡ f → Keeps o (free_in s) i.state.ticks (saved_in s)
   rest-keeps law r true e =
@@ -148,6 +163,13 @@ module _ (s : Shell) (b : BankData) (n : ℕ) (i : Stage) (w : StandsFor s b n i
       let p = law o w.order n i w.running r.rests in
       ap (λ x. x.state) (one o i.state.ticks q p.0 at p.1) ∙ p.2
 
+  -- why it has ended there, as what tells it of a boundary says
+  pub end-is : BoundaryLaw → (end : Option End) → (r : Rests s i)
+      → ((q : Queue) → Boundary o i.state.ticks q → end ≡ cond s.stopped (Some Stopped) (reason_at o.plan i.state.ticks q)) → end ≡ end_in o.plan s.stopped i.state
+  end-is law end r tells =
+      let q = law o w.order n i w.running r.rests in
+      tells q.0 q.1 ∙ ap (λ st. cond s.stopped (Some Stopped) (reason_at o.plan i.state.ticks (resting st))) q.2
+
   -- its values are as its signals have them
   pub fine-in : BoundaryLaw → (f : Bool) → i.state.finished ≡ f → IsFine o.flat.rows i.state.values
   fine-in law false e = (w.running.tame.tidy n i w.at.comes w.at.late e).fine
@@ -157,14 +179,14 @@ module _ (s : Shell) (b : BankData) (n : ℕ) (i : Stage) (w : StandsFor s b n i
 
   -- ---- steps
 
-  module _ (done-law : DoneLaw) (saves-law : SavesLaw) (e : Engine) (g d : ℕ) (a : BankData) (m : ℕ) (j : Stage) where
+  module _ (done-law : DoneLaw) (saves-law : SavesLaw) (e : Engine) (g d : ℕ) (x : Bool) (a : BankData) (m : ℕ) (j : Stage) where
     abbrev with : Shell
-    with = record s { engine = e; given = g; done = d }
+    with = record s { engine = e; given = g; done = d; moved = x }
 
-    moved : e.origin ≡ s.engine.origin → IsRunning o w.order m j → IsAt o w.order (tenant_of e a) m j → i.state.ticks ≤ j.state.ticks
-        → KeepsOn o (free_in s) j.state.ticks (saved_in s) → g ≡ 0 → AreBefore o.plan.errands j.state.ticks d → StandsFor with a m j
-    moved same running at later keeps none done =
-        stands done-law saves-law with a m j (subst (λ x. Comes x with a m j) (ap (λ x. origin_of (arc_value x)) (sym same)) (record {
+    comes-on : e.origin ≡ s.engine.origin → IsRunning o w.order m j → IsAt o w.order (tenant_of e a) m j → i.state.ticks ≤ j.state.ticks
+        → KeepsOn o (free_in s) j.state.ticks (saved_in s) → g ≡ 0 → AreBefore o.plan.errands j.state.ticks d → Comes (run_of with) with a m j
+    comes-on same running at later keeps none done =
+        subst (λ y. Comes y with a m j) (ap (λ y. origin_of (arc_value y)) (sym same)) (record {
           order = w.order;
           running = running;
           at = at;
@@ -176,7 +198,17 @@ module _ (s : Shell) (b : BankData) (n : ℕ) (i : Stage) (w : StandsFor s b n i
           keeps = keeps;
           given = none;
           done = done;
-        }))
+        })
+
+    -- it stands there
+    goes-on : Comes (run_of with) with a m j → StandsFor with a m j
+    goes-on r = stands done-law saves-law with a m j r
+
+    -- with all that is due there left to be made
+    left-on : e.origin ≡ s.engine.origin → Comes (run_of with) with a m j → is_at_boundary (flat_in s) j ≡ true → left_in with ≡ left_at o j
+    left-on same r up =
+        left-due done-law saves-law with a m j r (alive-there j.state.finished _ up)
+        ∙ ap (λ y. left_at (origin_of (arc_value y)) j) same
 
   module _ (law : BoundaryLaw) (rises-law : RisesLaw) (ticks-law : TicksLaw) (m : MayCycle s i) where
     abbrev j : Stage
@@ -196,16 +228,30 @@ module _ (s : Shell) (b : BankData) (n : ℕ) (i : Stage) (w : StandsFor s b n i
         subst (λ k. KeepsOn o (free_in s) k (saved_in s)) (sym (ticks-law o w.order n i w.running e))
         (elsewhere (is-elsewhere i.state.finished up e)).keeps
 
-    pub cycled : DoneLaw → SavesLaw → (e : Engine) (d : ℕ) (a : BankData) (c : ℕ) → e.origin ≡ s.engine.origin → IsRunning o w.order c j → IsAt o w.order (tenant_of e a) c j
-        → AreBefore o.plan.errands j.state.ticks d → StandsFor (record s { engine = e; given = 0; done = d }) a c j
-    cycled done-law saves-law e d a c same running at done = moved done-law saves-law e 0 d a c j same running at (later up refl) (keeps-next up refl) refl done
+    module _ (done-law : DoneLaw) (saves-law : SavesLaw) (e : Engine) (d : ℕ) (a : BankData) (c : ℕ) (same : e.origin ≡ s.engine.origin)
+        (running : IsRunning o w.order c j) (at : IsAt o w.order (tenant_of e a) c j) (done : AreBefore o.plan.errands j.state.ticks d) where
+      cycles : Comes (run_of (record s { engine = e; given = 0; done = d; moved = false })) (record s { engine = e; given = 0; done = d; moved = false }) a c j
+      cycles = comes-on done-law saves-law e 0 d false a c j same running at (later up refl) (keeps-next up refl) refl done
 
-  pub called : DoneLaw → SavesLaw → (after_call o i).state.ticks ≡ i.state.ticks → at_trap (table_of (flat_in s)) i ≡ true → (e : Engine) (a : BankData)
-      → e.origin ≡ s.engine.origin → IsRunning o w.order (suc n) (after_call o i) → IsAt o w.order (tenant_of e a) (suc n) (after_call o i) → StandsFor (record s { engine = e }) a (suc n) (after_call o i)
-  called done-law saves-law same trap e a from running at =
-      let k = elsewhere (is-elsewhere i.state.finished up (trap-low _ trap)) in
-      moved done-law saves-law e s.given s.done a (suc n) (after_call o i) from running at (omega (arith, same))
-      (subst (λ t. KeepsOn o (free_in s) t (saved_in s)) (sym same) k.keeps) k.given (subst (λ t. AreBefore o.plan.errands t s.done) (sym same) k.done)
+      pub cycled : StandsFor (record s { engine = e; given = 0; done = d; moved = false }) a c j
+      cycled = goes-on done-law saves-law e 0 d false a c j cycles
+
+      pub cycled-left : is_at_boundary (flat_in s) j ≡ true → left_in (record s { engine = e; given = 0; done = d; moved = false }) ≡ left_at o j
+      cycled-left there = left-on done-law saves-law e 0 d false a c j same cycles there
+
+  module _ (done-law : DoneLaw) (saves-law : SavesLaw) (ticks : (after_call o i).state.ticks ≡ i.state.ticks) (trap : at_trap (table_of (flat_in s)) i ≡ true) (e : Engine) (a : BankData)
+      (same : e.origin ≡ s.engine.origin) (running : IsRunning o w.order (suc n) (after_call o i)) (at : IsAt o w.order (tenant_of e a) (suc n) (after_call o i)) where
+    calls : Comes (run_of (record s { engine = e })) (record s { engine = e }) a (suc n) (after_call o i)
+    calls =
+        let k = elsewhere (is-elsewhere i.state.finished up (trap-low _ trap)) in
+        comes-on done-law saves-law e s.given s.done s.moved a (suc n) (after_call o i) same running at (omega (arith, ticks))
+        (subst (λ t. KeepsOn o (free_in s) t (saved_in s)) (sym ticks) k.keeps) k.given (subst (λ t. AreBefore o.plan.errands t s.done) (sym ticks) k.done)
+
+    pub called : StandsFor (record s { engine = e }) a (suc n) (after_call o i)
+    called = goes-on done-law saves-law e s.given s.done s.moved a (suc n) (after_call o i) calls
+
+    pub called-left : is_at_boundary (flat_in s) (after_call o i) ≡ true → left_in (record s { engine = e }) ≡ left_at o (after_call o i)
+    called-left there = left-on done-law saves-law e s.given s.done s.moved a (suc n) (after_call o i) same calls there
 
   -- ---- snapshots
 
@@ -245,7 +291,7 @@ module _ (done-law : DoneLaw) (saves-law : SavesLaw) (number : ℕ) (e : Engine)
   start = origin_of (arc_value e.origin)
 
   abbrev fresh : Shell
-  fresh = record { number = number; engine = e; saved = v; given = 0; done = d; free = f; stopped = false }
+  fresh = record { number = number; engine = e; saved = v; given = 0; done = d; free = f; moved = false; stopped = false }
 
   runs : IsRunning start (arc_value e.origin).image.order.items g.acts g.stage
   runs = record {

@@ -1,12 +1,14 @@
 -- What tests of a shell's point come to.
 use Rattle.std.proofs.Common.{◌≡◌, ℕ, Bool, true, false, cond, not, ◌&&◌, ◌||◌, List, [], ◌∷◌, ◌++◌, map, ◌≤◌, ◌<◌, arith, refl, sym, ap, Option, Some, None, Result, Ok, Err}
-use Rattle.std.specs.Prelude.{nat_le, is_some, IfNone, IfSome, IfOk}
+use Rattle.std.specs.Prelude.{nat_le, is_some, option_map, IfNone, IfSome, IfOk}
 use Rattle.std.proofs.lemmas.Bool.Decides.{nat_tests}
 use Rattle.vl_design.specs.declared.design.End.{End}
 use Rattle.vl_design.specs.declared.design.End.TheVariants as end
 use Rattle.sub_nodes.specs.Cycles.{is_trap, rises}
 use Rattle.sub_nodes.specs.Nodes.{Node, Run, Trap, Apply}
 use Rattle.ten_shell.specs.declared.shell.Beat.TheVariants as beat
+use Rattle.ten_shell.specs.declared.shell.Why.TheVariants as why
+use Rattle.ten_shell.specs.Leaving.{why_of}
 use Rattle.ten_shell.specs.Shells.{is_left}
 
 pub trap-beat : (t r : Bool) → t ≡ true → beat.Trap ≡ cond t beat.Trap (cond r beat.TickEnd beat.Ran)
@@ -86,6 +88,42 @@ pub behind-nil : {X : Type 0} (xs ys : List X) → xs ++ ys ≡ [] → ys ≡ []
 behind-nil [] ys e = e
 behind-nil (x ∷ xs) ys e = let z : ⊥ = cc in absurd z
 
+-- ---- resting
+
+pub rests-over : (f r x d : Bool) → d ≡ f → d ≡ true → d ≡ (f || (r && not x))
+rests-over true r x d e h = e
+rests-over false r x d e h = let z : ⊥ = cc in absurd z
+
+pub rests-up : (f r x y : Bool) → f ≡ false → r ≡ true → y ≡ ((not f && r) && x) → not y ≡ (f || (r && not x))
+rests-up true r x y e h is = let z : ⊥ = cc in absurd z
+rests-up false true x y e h is = ap not is
+rests-up false false x y e h is = let z : ⊥ = cc in absurd z
+
+pub rests-low : (f r x : Bool) → f ≡ false → r ≡ false → false ≡ (f || (r && not x))
+rests-low true r x e h = let z : ⊥ = cc in absurd z
+rests-low false true x e h = let z : ⊥ = cc in absurd z
+rests-low false false x e h = refl
+
+pub rests-both : (f r x : Bool) → (f || (r && not x)) ≡ true → (f || r) ≡ true
+rests-both true r x e = refl
+rests-both false true x e = refl
+rests-both false false x e = e
+
+pub rests-none : (f r x : Bool) → (f || (r && not x)) ≡ true → f ≡ false → x ≡ false
+rests-none true r x e h = let z : ⊥ = cc in absurd z
+rests-none false true true e h = let z : ⊥ = cc in absurd z
+rests-none false true false e h = refl
+rests-none false false x e h = let z : ⊥ = cc in absurd z
+
+-- where a run is over, or at a boundary
+pub last-there : (f r : Bool) → (f || r) ≡ true → (f || (not f && r)) ≡ true
+last-there true r e = refl
+last-there false r e = e
+
+pub last-before : (f r : Bool) → f ≡ false → r ≡ false → (f || (not f && r)) ≡ false
+last-before true r e h = let z : ⊥ = cc in absurd z
+last-before false r e h = h
+
 -- ---- results
 
 pub ok-3 : {T E : Type 0} (P Q R S : T → Type 0) → ((t : T) → P t → Q t → R t → S t) → (r : Result T E) → IfOk r P → IfOk r Q → IfOk r R → IfOk r S
@@ -129,7 +167,7 @@ map-and f (y ∷ ys) x = ap (λ zs. f y ∷ zs) (map-and f ys x)
 
 -- ---- reasons
 
-abbrev reason : Bool → Bool → Bool → Option End
+abbrev pub reason : Bool → Bool → Bool → Option End
 reason f b s = cond f (Some end.Finished) (cond b (Some end.Budget) (cond s (Some end.Stopped) None))
 
 pub has-finished : (f b s : Bool) → f ≡ true → Some end.Finished ≡ reason f b s
@@ -145,3 +183,28 @@ pub has-rest : (f b s : Bool) → f ≡ false → b ≡ false → cond s (Some e
 has-rest true b s e h = let z : ⊥ = cc in absurd z
 has-rest false true s e h = let z : ⊥ = cc in absurd z
 has-rest false false s e h = refl
+
+-- what has no reason to end hasn't finished
+pub unfinished : (stopped f b s : Bool) → cond stopped (Some end.Stopped) (reason f b s) ≡ None → f ≡ false
+unfinished true f b s e = let z : ⊥ = cc in absurd z
+unfinished false true b s e = let z : ⊥ = cc in absurd z
+unfinished false false b s e = refl
+
+-- ---- moves that stand
+
+pub is-moved : (to : Option ℕ) (moved : Bool) → moved ≡ true → None ≡ why_of None to moved
+is-moved to true e = all-moved to
+  where
+    all-moved : (to : Option ℕ) → None ≡ why_of None to true
+    all-moved None = refl
+    all-moved (Some fabric) = refl
+is-moved to false e = let z : ⊥ = cc in absurd z
+
+pub moves-to : (to : Option ℕ) (fabric : ℕ) (moved : Bool) → moved ≡ false → to ≡ Some fabric → Some (why.Move fabric) ≡ why_of None to moved
+moves-to None fabric moved e h = let z : ⊥ = cc in absurd z
+moves-to (Some g) fabric true e h = let z : ⊥ = cc in absurd z
+moves-to (Some g) fabric false e h = ap (option_map why.Move) (sym h)
+
+pub moves-nowhere : (to : Option ℕ) (moved : Bool) → to ≡ None → None ≡ why_of None to moved
+moves-nowhere None moved e = refl
+moves-nowhere (Some g) moved e = let z : ⊥ = cc in absurd z

@@ -4,7 +4,7 @@ use Rattle.std.specs.Arc.{arc_value}
 use Rattle.std.specs.List.{AllByRecursion}
 use Rattle.vl_base.specs.Files.{IsFileSet}
 use Rattle.vl_design.specs.Alone as alone
-use Rattle.vl_design.specs.Alone.{Plan, first_tick, save_names}
+use Rattle.vl_design.specs.Alone.{Plan, due_at, first_tick, save_names}
 use Rattle.vl_design.specs.Laws.{StartsFine, StartsOpen}
 use Rattle.vl_design.specs.Snapshots as run
 use Rattle.vl_design.specs.Syntax.{Flat}
@@ -89,7 +89,6 @@ pub record MayCycle (s : Shell) (i : Stage) : Type 0 where
   pub no_call : s.engine.waits ≡ false
   pub saved : is_at_boundary (flat_in s) i ≡ true → left_in s ≡ []
   pub goes_on : goes_on (run_of s).plan (flat_in s) i ≡ true
-  pub lives : s.stopped ≡ false
 
 -- what a cycle came to: a call that waits, the end of a tick, or neither
 abbrev pub beat_of : Flat → Stage → Beat
@@ -100,10 +99,18 @@ pub record Rests (s : Shell) (i : Stage) : Type 0 where
   pub rests : is_at_rest (flat_in s) i ≡ true
   pub saved : i.state.finished ≡ false → left_in s ≡ []
 
+-- what is left to be made where the run comes to a boundary: all that is due there
+abbrev pub left_at : alone.Origin → Stage → List (List ℕ)
+left_at o i = due_at o.plan i.state.ticks i.state
+
 -- something is left to be made
 abbrev pub is_left : List (List ℕ) → Bool
 is_left [] = false
 is_left (name ∷ names) = true
+
+-- it rests there
+abbrev pub rests_in : Shell → Stage → Bool
+rests_in s i = i.state.finished || (rises (slice_get (table_of (flat_in s)).nodes i.node) && not (is_left (left_in s)))
 
 -- it waits: a call is to be served, or a snapshot to be made
 abbrev pub waits_in : Shell → Stage → Bool
@@ -118,6 +125,7 @@ pub record IsSameTenant (r s : Shell) : Type 0 where
 
 -- nothing has changed, with these banks
 pub record IsUnchanged (r s : Shell) (a b : BankData) : Type 0 where
+  pub moved : s.moved ≡ r.moved
   pub tenant : tenant_of s.engine b ≡ tenant_of r.engine a
   pub saved : s.saved.items ≡ r.saved.items
   pub given : s.given ≡ r.given
@@ -142,4 +150,5 @@ pub record IsBegunShell (n : ℕ) (e : Engine) (s : Shell) : Type 0 where
   pub engine : s.engine ≡ e
   pub saved : s.saved.items ≡ []
   pub free : s.free.items ≡ []
+  pub moved : s.moved ≡ false
   pub stopped : s.stopped ≡ false

@@ -78,6 +78,7 @@ impl Shell {
         ensures made { OnOk result ((name : List ℕ) × (left_in self.old ≡ name ∷ left_in self.new)) }
         ensures same { IsSameTenant self.old self.new }
         ensures engine { self.new.engine ≡ self.old.engine }
+        ensures moved { self.new.moved ≡ self.old.moved }
         ensures err { OnErr result (IsUnchanged self.old self.new (bank_of bank.now) (bank_of bank.now)) }
     {
         let name = match self.next_save() {
@@ -101,6 +102,7 @@ impl Shell {
         ensures none { OnOk result ((c : ℕ) (i : Stage) → StandsFor self.new (bank_of bank.now) c i → is_at_boundary (flat_in self.new) i ≡ true → left_in self.new ≡ []) }
         ensures same { IsSameTenant self.old self.new }
         ensures engine { self.new.engine ≡ self.old.engine }
+        ensures moved { self.new.moved ≡ self.old.moved }
     {
         'saves: while self.save_due() {
             self.make_save(alloc, bank)?;

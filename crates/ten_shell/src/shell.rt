@@ -1,11 +1,12 @@
 //! Shells.
 
-ghost use Rattle.std.specs.Prelude.{◌≡◌, ℕ, suc, true, false, List, ◌++◌, ◌∷◌, [], OnOk, OnErr, IfOk, if◌then◌else◌, Some, not, ◌&&◌, slice_get, slice_index};
+ghost use Rattle.std.specs.Prelude.{◌≡◌, ℕ, suc, true, false, List, ◌++◌, ◌∷◌, [], OnOk, OnErr, IfOk, if◌then◌else◌, Some, None, not, ◌&&◌, ◌||◌, ◌-◌, slice_get, slice_index};
 ghost use Rattle.std.specs.Arc.{arc_value};
 ghost use Rattle.vl_design.specs.Alone.{Boundary, first_tick, reason_at};
 ghost use Rattle.vl_design.specs.declared.design.End.TheVariants.{Stopped};
 ghost use Rattle.vl_design.specs.Queue.{Queue};
 ghost use Rattle.cell_form.specs.Data.{BankData};
+ghost use Rattle.cell_form.specs.Sound.{shape_of};
 ghost use Rattle.cell_form.specs.States.{table_cycled};
 ghost use Rattle.cell_form.specs.Views.{bank_of};
 ghost use Rattle.sub_nodes.specs.Code.{table_of};
@@ -13,9 +14,10 @@ ghost use Rattle.sub_nodes.specs.Cycles.{Stage, rises};
 ghost use Rattle.ten_form.specs.Registers.{state_register};
 ghost use Rattle.ten_core.specs.Runs.{after_cycle, after_call};
 ghost use Rattle.ten_core.specs.Tenants.{table_in};
-ghost use Rattle.ten_plan.specs.Plans.{AreBefore};
+ghost use Rattle.ten_plan.specs.Plans.{move_at, AreBefore};
 ghost use Rattle.ten_load.specs.Loads.{Begins};
-ghost use Rattle.ten_shell.specs.Shells.{beat_of, flat_in, free_in, is_at_boundary, is_left, left_in, run_of, waits_in, CanRunOn, IsBegunShell, IsSameTenant, IsUnchanged, MayCycle, Rests, StandsFor};
+ghost use Rattle.ten_shell.specs.Shells.{beat_of, flat_in, free_in, is_at_boundary, is_left, left_at, left_in, rests_in, run_of, waits_in, CanRunOn, IsBegunShell, IsSameTenant, IsUnchanged, MayCycle, Rests, StandsFor};
+ghost use Rattle.ten_shell.specs.Leaving.{why_in, why_of};
 
 use cell_form::bank::Bank;
 use std::alloc::{AllocError, Global};
@@ -42,6 +44,15 @@ pub enum Beat {
     TickEnd,
 }
 
+/// Why a tenant is to leave.
+#[derive(Clone, Copy, Debug, PartialEq)]
+pub enum Why {
+    /// Its run has ended.
+    Ended(End),
+    /// It moves to the fabric of this number.
+    Move(u32),
+}
+
 /// A tenant without its bank.
 #[derive(Drop)]
 pub struct Shell {
@@ -57,6 +68,8 @@ pub struct Shell {
     pub done: usize,
     /// The snapshots that were made besides, in the order in which they were made.
     pub free: Vec<FreeSave>,
+    /// The move that stands at this boundary is done.
+    pub moved: bool,
     /// It was stopped besides: its run has ended.
     pub stopped: bool,
 }
@@ -78,6 +91,7 @@ impl Shell {
             given: 0,
             done,
             free: Vec::new(alloc),
+            moved: false,
             stopped: false,
         }
     }
@@ -89,7 +103,10 @@ impl Shell {
         ensures point { (b : BankData) (c : ℕ) (i : Stage) → (w : StandsFor self.old b c i) → MayCycle self.old i → next ≡ slice_index (table_cycled (table_in self.old.engine) b).regs state_register →
             StandsFor self.new (table_cycled (table_in self.old.engine) b) (if self.new.engine.waits then c else suc c) (after_cycle (run_of self.old) w.order i) }
         ensures beat { (b : BankData) (c : ℕ) (i : Stage) → StandsFor self.new b c i → result ≡ beat_of (flat_in self.new) i }
+        ensures left { (b : BankData) (c : ℕ) (i : Stage) → (w : StandsFor self.old b c i) → MayCycle self.old i → next ≡ slice_index (table_cycled (table_in self.old.engine) b).regs state_register →
+            is_at_boundary (flat_in self.old) (after_cycle (run_of self.old) w.order i) ≡ true → left_in self.new ≡ left_at (run_of self.old) (after_cycle (run_of self.old) w.order i) }
         ensures same { IsSameTenant self.old self.new }
+        ensures moved { self.new.moved ≡ false }
         ensures saved { self.new.saved.items ≡ self.old.saved.items }
     {
         each_act_comes_nearer();
@@ -98,6 +115,7 @@ impl Shell {
         a_run_at_rest_is_at_a_boundary();
         self.done = self.done_behind();
         self.given = 0;
+        self.moved = false;
         self.engine.stepped(next);
         self.beat()
     }
@@ -141,7 +159,11 @@ impl Shell {
         ensures made { OnOk result (self.old.engine.waits ≡ false → (name : List ℕ) × (left_in self.old ≡ name ∷ left_in self.new)) }
         ensures bank { OnOk result (self.old.engine.waits ≡ false → bank_of bank.new ≡ bank_of bank.old) }
         ensures which { IfOk result (λ saved. saved ≡ not self.old.engine.waits) }
+        ensures left { OnOk result (self.old.engine.waits ≡ true → (c : ℕ) (i : Stage) → StandsFor self.old (bank_of bank.old) c i →
+            is_at_boundary (flat_in self.old) (after_call (run_of self.old) i) ≡ true → left_in self.new ≡ left_at (run_of self.old) (after_call (run_of self.old) i)) }
         ensures same { IsSameTenant self.old self.new }
+        ensures moved { self.new.moved ≡ self.old.moved }
+        ensures shape { shape_of (bank_of bank.new) ≡ shape_of (bank_of bank.old) }
         ensures err { OnErr result (IsUnchanged self.old self.new (bank_of bank.old) (bank_of bank.new)) }
     {
         if self.engine.at_trap() {
@@ -157,7 +179,11 @@ impl Shell {
         requires { (c : ℕ) × (i : Stage) × StandsFor self.old (bank_of bank.old) c i × (self.old.engine.waits ≡ true) }
         ensures point { OnOk result ((c : ℕ) (i : Stage) → StandsFor self.old (bank_of bank.old) c i →
             StandsFor self.new (bank_of bank.new) (suc c) (after_call (run_of self.old) i)) }
+        ensures left { OnOk result ((c : ℕ) (i : Stage) → StandsFor self.old (bank_of bank.old) c i →
+            is_at_boundary (flat_in self.old) (after_call (run_of self.old) i) ≡ true → left_in self.new ≡ left_at (run_of self.old) (after_call (run_of self.old) i)) }
         ensures same { IsSameTenant self.old self.new }
+        ensures moved { self.new.moved ≡ self.old.moved }
+        ensures shape { shape_of (bank_of bank.new) ≡ shape_of (bank_of bank.old) }
         ensures err { OnErr result (IsUnchanged self.old self.new (bank_of bank.old) (bank_of bank.new)) }
     {
         each_act_comes_nearer();
@@ -210,6 +236,22 @@ impl Shell {
         self.engine.ticks()
     }
 
+    /// The tick of its last boundary; once finished, the ticks begun.
+    pub fn last_tick(&self) -> u64
+        ensures { (b : BankData) (c : ℕ) (i : Stage) → StandsFor self.now b c i →
+            result ≡ (if i.state.finished || is_at_boundary (flat_in self.now) i then i.state.ticks else i.state.ticks - 1) }
+    {
+        let ticks = self.ticks();
+        if self.done() {
+            return ticks;
+        }
+        if self.at_boundary() {
+            ticks
+        } else {
+            ticks.saturating_sub(1)
+        }
+    }
+
     /// Why its run has ended where it rests, if it has.
     pub fn end(&self) -> Option<End>
         requires { (b : BankData) × (c : ℕ) × (i : Stage) × StandsFor self.now b c i × Rests self.now i }
@@ -243,6 +285,55 @@ impl Shell {
         }
     }
 
+    /// It rests: at a boundary where no snapshot is left to be made, or after `$finish`.
+    pub fn rests(&self) -> bool
+        requires { (b : BankData) × (c : ℕ) × (i : Stage) × StandsFor self.now b c i }
+        ensures { (b : BankData) (c : ℕ) (i : Stage) → StandsFor self.now b c i → result ≡ rests_in self.now i }
+    {
+        self.done() || (self.at_boundary() && !self.save_due())
+    }
+
+    /// Why it is to leave where it rests: its run has ended there, or a move stands there that isn't done. None where it may go on, and
+    /// where it doesn't rest.
+    pub fn due(&self) -> Option<Why>
+        requires { (b : BankData) × (c : ℕ) × (i : Stage) × StandsFor self.now b c i }
+        ensures { (b : BankData) (c : ℕ) (i : Stage) → StandsFor self.now b c i →
+            result ≡ (if rests_in self.now i then why_in (run_of self.now).plan self.now.stopped self.now.moved i.state else None) }
+    {
+        a_run_at_rest_is_at_a_boundary();
+        if !self.rests() {
+            return None;
+        }
+        match self.end() {
+            Some(end) => Some(Why::Ended(end)),
+            None => self.move_due(),
+        }
+    }
+
+    /// The move that stands where it rests and isn't done, where its run goes on.
+    fn move_due(&self) -> Option<Why>
+        requires { (b : BankData) × (c : ℕ) × (i : Stage) × StandsFor self.now b c i × Rests self.now i × (i.state.finished ≡ false) }
+        ensures { (b : BankData) (c : ℕ) (i : Stage) → StandsFor self.now b c i → Rests self.now i → i.state.finished ≡ false →
+            result ≡ why_of None (move_at i.state.ticks (run_of self.now).plan.errands) self.now.moved }
+    {
+        if self.moved {
+            return None;
+        }
+        let plan = &self.engine.origin.plan;
+        match plan.moves(self.done, self.engine.ticks) {
+            Some(fabric) => Some(Why::Move(fabric)),
+            None => None,
+        }
+    }
+
+    /// The move that stands where it rests is done.
+    pub fn set_moved(&mut self)
+        ensures stands { (b : BankData) (c : ℕ) (i : Stage) → StandsFor self.old b c i → StandsFor self.new b c i }
+        ensures moved { self.new ≡ record self.old { moved = true } }
+    {
+        self.moved = true;
+    }
+
     /// Ends its run where it rests and hasn't ended.
     pub fn stop(&mut self)
         ensures stands { (b : BankData) (c : ℕ) (i : Stage) → StandsFor self.old b c i → StandsFor self.new b c i }
@@ -257,7 +348,7 @@ impl Shell {
         ensures stands { OnOk result ((c : ℕ) (i : Stage) → StandsFor self.old (bank_of bank.now) c i → left_in self.old ≡ [] → is_at_boundary (flat_in self.old) i ≡ true →
             StandsFor self.new (bank_of bank.now) c i × (left_in self.new ≡ [])) }
         ensures free { OnOk result (free_in self.new ≡ free_in self.old ++ record { name = name; tick = self.old.engine.ticks } ∷ []) }
-        ensures same { (self.new.number ≡ self.old.number) × (self.new.engine ≡ self.old.engine) × (self.new.stopped ≡ self.old.stopped) }
+        ensures same { (self.new.number ≡ self.old.number) × (self.new.engine ≡ self.old.engine) × (self.new.moved ≡ self.old.moved) × (self.new.stopped ≡ self.old.stopped) }
         ensures err { OnErr result (IsUnchanged self.old self.new (bank_of bank.now) (bank_of bank.now)) }
     {
         let copy = copy_text(alloc, &name)?;

@@ -7,5 +7,5 @@ use Rattle.ten_make.proofs.image.image.Goals as goal
 pub returns : goal.returns
 returns c =
     let made = c.in_ok-made.made in
-    let image : Image = record { design = c.args.design; order = c.args.order; table = made.table; rise = made.rise; slots = made.slots; stores = made.stores; ports = made.ports } in
-    subst (λ xs. IsImage (flat_of c.args.design) xs image) c.deref.ensures.value (c.in_ok-made.ensures image refl (sym c.deref.ensures.value) refl refl refl refl refl)
+    let image : Image = record { design = c.args.design; order = c.args.order; table = made.table; rise = made.rise; slots = made.slots; stores = made.stores; ports = made.ports; cost = made.cost } in
+    subst (λ xs. IsImage (flat_of c.args.design) xs image) c.deref.ensures.value (c.in_ok-made.ensures image refl (sym c.deref.ensures.value) refl refl refl refl refl refl)

@@ -1,3 +1,4 @@
+use Rattle.std.proofs.Common.{◌∙◌}
 use Rattle.vl_design.specs.Trees.{flat_of}
 use Rattle.ten_make.proofs.Imaging.{first-cells, image-is}
 use Rattle.ten_make.proofs.image.made.Goals as goal
@@ -12,11 +13,11 @@ pub states-requires-clause-paired : goal.states-requires-clause-paired
 states-requires-clause-paired c = c.calls_of_a_table_stand_apart.ensures.paired (flat_of c.args.design.now)
 
 pub returns : goal.returns
-returns c image design-is order-is table-is begins-at slots-are stores-are ports-are =
+returns c image design-is order-is table-is begins-at slots-are stores-are ports-are cost-is =
     let d = flat_of c.args.design.now in
     let t = c.in_ok-nodes.nodes in
     let made = c.in_ok-states.ensures in
     image-is d c.args.order.now t.nodes.items c.in_ok-states.states t.rise.first c.in_ok-ports.ports image c.in_ok-nodes.ensures.nodes c.in_ok-nodes.ensures.few c.in_ok-nodes.ensures.rise
     (c.calls_of_a_table_stand_apart.ensures.apart d) c.in_ok-ports.ensures.ports c.in_ok-ports.ensures.held
     (record { register = made.state; states = made.states; stores = made.stores })
-    (record { design = design-is; ordered = order-is; table = table-is; slots = slots-are; stores = stores-are; begins = begins-at; ports = ports-are })
+    (record { design = design-is; ordered = order-is; table = table-is; slots = slots-are; stores = stores-are; begins = begins-at; ports = ports-are; costs = cost-is ∙ c.in_ok-cost.ensures })

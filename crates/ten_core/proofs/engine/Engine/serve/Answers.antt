@@ -7,7 +7,7 @@ use Rattle.ten_files.specs.Tables.{open_files, IsTableOf}
 use Rattle.trap_runtime.specs.Served as s
 use Rattle.trap_runtime.specs.declared.served.Served.TheVariants as way
 use Rattle.ten_calls.specs.Works.{saved}
-use Rattle.ten_core.proofs.Serving.{some-call, can-be-served, served-behind}
+use Rattle.ten_core.proofs.Serving.{some-call, can-be-served, served-behind, shape-behind}
 use Rattle.ten_core.specs.Tenants.{tenant_of}
 use Rattle.ten_core.specs.Traps.{IsAtCall}
 use Rattle.ten_core.specs.declared.origin.Origin.{Origin}
@@ -43,5 +43,20 @@ returns-clause-ok c o order n i tame at =
     (subst (λ w. IsTrue c.is_end-self.result ↔ (w ≡ way.Finish)) done.way c.is_end-self.ensures)
     c.ask.new.asked.items
     (c.ask.ensures ∙ (ap (λ xs. xs ++ saved c.in_ok-way.way) c.reserve.ensures.items ∙ ap (λ w. t.asked ++ saved w) done.way))
+    (bank_of c.go_to.new.bank)
+    (c.go_to.ensures ∙ ap (λ (x : Origin). record (bank_of c.serve.new.bank) { regs = slice_set (bank_of c.serve.new.bank).regs x.image.table.state call.1 }) c.deref-3.ensures)
+
+pub returns-clause-shape : goal.returns-clause-shape
+returns-clause-shape c =
+    let r = c.requires.runs in
+    let b = bank_of c.args.bank.now in
+    let t = tenant_of c.args.self.now b in
+    let call = c.next_call-next.result in
+    let done = c.in_ok-way.ensures in
+    let is = subst (λ (x : Origin). IsAtCall (cells.table_of x.image.table) b call.0.now call.1) c.deref.ensures c.next_call-next.ensures in
+    shape-behind r.origin r.order t r.acts r.stage r.at r.tame c.requires.waits call.0.now call.1 is
+    (bank_of c.serve.new.bank) c.serve.new.table c.serve.new.out.items
+    (subst (λ (x : Origin). record { bank = bank_of c.serve.new.bank; table = open_files x.files c.serve.new.table; printed = c.serve.new.out.items }
+    ≡ s.served x.files call.0.now (record { bank = b; table = open_files x.files t.rows; printed = t.printed })) c.deref-2.ensures done.served)
     (bank_of c.go_to.new.bank)
     (c.go_to.ensures ∙ ap (λ (x : Origin). record (bank_of c.serve.new.bank) { regs = slice_set (bank_of c.serve.new.bank).regs x.image.table.state call.1 }) c.deref-3.ensures)

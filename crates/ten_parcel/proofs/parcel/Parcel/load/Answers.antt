@@ -20,4 +20,4 @@ returns-in_ok-make_saves-in-Runs c =
     let g = runs-on x c.in_ok-engine.field-0 e k c.in-Runs.is c.in_ok-engine.ensures in
     let f = c.begun-shell.ensures.stands (bank_of k) (begins-there n x e k c.requires g) (can-there n x e k c.requires g) in
     loaded n x e k c.requires g c.begun-shell.result c.begun-shell.ensures.shell f c.make_saves.new.self c.make_saves.ensures.stands c.in_ok-make_saves-in-Runs.ensures.none
-    c.make_saves.ensures.same c.make_saves.ensures.engine
+    c.make_saves.ensures.same c.make_saves.ensures.engine c.make_saves.ensures.moved

@@ -9,6 +9,7 @@ invariant-saves l = record {
   stands : (n : ℕ) (i : Stage) → StandsFor l.fn.self (bank_of l.bank) n i → StandsFor l.self (bank_of l.bank) n i;
   same : IsSameTenant l.fn.self l.self;
   engine : l.self.engine ≡ l.fn.self.engine;
+  moved : l.self.moved ≡ l.fn.self.moved;
 }
 
 abbrev pub decreases-saves : goal.decreases-saves

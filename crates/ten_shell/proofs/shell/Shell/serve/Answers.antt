@@ -47,3 +47,8 @@ pub returns-clause-which : goal.returns-clause-which
 returns-clause-which c =
     let w = c.requires.2 in
     sym (ap not (w.at.waits ∙ sym (c.at_trap.ensures (bank_of c.args.bank.now) (run_of c.args.self.now) w.order c.requires.0 c.requires.1 w.at) ∙ c.if-at_trap.false))
+
+pub returns-clause-left : goal.returns-clause-left
+returns-clause-left c = λ h.
+    let w = c.requires.2 in
+    absurd (clash c.args.self.now.engine.waits h (w.at.waits ∙ sym (c.at_trap.ensures (bank_of c.args.bank.now) (run_of c.args.self.now) w.order c.requires.0 c.requires.1 w.at) ∙ c.if-at_trap.false))

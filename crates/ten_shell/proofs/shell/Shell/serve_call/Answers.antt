@@ -2,7 +2,7 @@ use Rattle.std.proofs.Common.{◌∙◌, ◌+◌, ◌<◌, ◌^◌, sym, subst}
 use Rattle.std.proofs.lemmas.Result.{on_ok_weaker}
 use Rattle.cell_form.specs.Views.{bank_of}
 use Rattle.ten_shell.specs.Shells.{run_of}
-use Rattle.ten_shell.proofs.Standing.{called}
+use Rattle.ten_shell.proofs.Standing.{called, called-left}
 use Rattle.ten_shell.proofs.shell.Shell.serve_call.Goals as goal
 
 pub serve-requires-clause-cycles : goal.serve-requires-clause-cycles
@@ -20,3 +20,14 @@ returns-clause-point c =
     let trap = sym w.at.waits ∙ c.requires.3 in
     called s (bank_of c.args.bank.now) n i w done.done done.saves (near.call_ticks o w.order n i w.running) trap c.serve.new.self (bank_of c.serve.new.bank) c.serve.ensures.origin
     (near.call o w.order n i w.running trap) (k o w.order n i w.running.tame w.at)) c.serve.ensures.ok
+
+pub returns-clause-left : goal.returns-clause-left
+returns-clause-left c =
+    let s = c.args.self.now in
+    let o = run_of s in
+    let done = c.errands_before_a_tick_are_done_at_it.ensures in
+    let near = c.each_act_comes_nearer.ensures in
+    on_ok_weaker c.serve.result (λ k. λ n i w there.
+    let trap = sym w.at.waits ∙ c.requires.3 in
+    called-left s (bank_of c.args.bank.now) n i w done.done done.saves (near.call_ticks o w.order n i w.running) trap c.serve.new.self (bank_of c.serve.new.bank) c.serve.ensures.origin
+    (near.call o w.order n i w.running trap) (k o w.order n i w.running.tame w.at) there) c.serve.ensures.ok

@@ -4,7 +4,7 @@ use Rattle.ten_core.specs.Runs.{after_cycle}
 use Rattle.ten_core.specs.Tenants.{table_in}
 use Rattle.ten_run.specs.Running.{IsRunning}
 use Rattle.ten_shell.specs.Shells.{run_of}
-use Rattle.ten_shell.proofs.Standing.{cycled}
+use Rattle.ten_shell.proofs.Standing.{cycled, cycled-left}
 use Rattle.ten_shell.proofs.shell.Shell.stepped.Goals as goal
 
 pub stepped-requires-clause-cycles : goal.stepped-requires-clause-cycles
@@ -23,3 +23,15 @@ returns-clause-point c = λ b n i w m next.
     let running = subst (λ x. IsRunning o w.order (cond x n (suc n)) (after_cycle o w.order i)) (sym at.waits) (near.cycle o w.order n i w.running m.goes_on (sym w.at.waits ∙ m.no_call)) in
     cycled s b n i w c.a_run_at_rest_is_at_a_boundary.ensures.boundary near.rises near.ticks m done.done done.saves e c.done_behind-self.result (table_cycled (table_in s.engine) b) (cond e.waits n (suc n))
     c.stepped.ensures.origin running at (c.done_behind-self.ensures b n i w m)
+
+pub returns-clause-left : goal.returns-clause-left
+returns-clause-left c = λ b n i w m next there.
+    let s = c.args.self.now in
+    let o = run_of s in
+    let done = c.errands_before_a_tick_are_done_at_it.ensures in
+    let near = c.each_act_comes_nearer.ensures in
+    let e = c.stepped.new.self in
+    let at = c.stepped.ensures.at b o w.order n i next w.running.tame w.at in
+    let running = subst (λ x. IsRunning o w.order (cond x n (suc n)) (after_cycle o w.order i)) (sym at.waits) (near.cycle o w.order n i w.running m.goes_on (sym w.at.waits ∙ m.no_call)) in
+    cycled-left s b n i w c.a_run_at_rest_is_at_a_boundary.ensures.boundary near.rises near.ticks m done.done done.saves e c.done_behind-self.result (table_cycled (table_in s.engine) b) (cond e.waits n (suc n))
+    c.stepped.ensures.origin running at (c.done_behind-self.ensures b n i w m) there

@@ -1,0 +1,4 @@
+mod Entering
+mod Leaving
+mod Points
+mod Steps

@@ -1,0 +1,4 @@
+//! Tenants that run to their ends in the core of a fabric.
+#![tactic(auto)]
+
+pub mod alone;

@@ -1,0 +1,4 @@
+//! What runs have printed on their way to their ends.
+#![tactic(auto)]
+
+pub mod laws;

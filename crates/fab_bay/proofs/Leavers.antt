@@ -1,0 +1,223 @@
+-- A tenant that comes out.
+use Rattle.std.proofs.Common.{◌≡◌, ◌≢◌, ℕ, suc, ◌+◌, ◌<◌, ◌≤◌, Bool, true, false, Option, Some, None, List, [], ◌∷◌, ◌++◌, length, get_or, take, drop, map, refl, sym, ap, ap₂, ◌∙◌, subst, append_assoc, arith, eqb, eq-eqb}
+use Rattle.std.specs.Prelude.{◌&&◌, ◌==◌, is_some, nat_le, if◌then◌else◌, vec_len, vec_capacity}
+use Rattle.std.specs.List.{remove}
+use Rattle.std.proofs.lemmas.Bool.{eqb-true, le-leb}
+use Rattle.std.proofs.lemmas.List.{append-nil, map-append}
+use Rattle.vl_design.specs.declared.design.End.{End}
+use Rattle.vl_design.specs.Alone as alone
+use Rattle.vl_design.specs.Alone.{first_tick}
+use Rattle.fab_lock.specs.declared.entry.Entry.{Entry}
+use Rattle.fab_lock.specs.declared.entry.Kind.{Kind}
+use Rattle.fab_lock.specs.declared.entry.Kind.TheVariants.{Left}
+use Rattle.ten_core.specs.declared.origin.Origin.{Origin}
+use Rattle.ten_core.specs.Tenants.{origin_of}
+use Rattle.ten_parcel.specs.declared.parcel.Parcel.{Parcel}
+use Rattle.ten_parcel.specs.Parcels.{free_of, is_moved, number_of, origin_in, run_of, ticks_of}
+use Rattle.ten_plan.specs.Plans.{move_at}
+use Rattle.ten_shell.specs.declared.shell.Why.{Why}
+use Rattle.ten_shell.specs.declared.shell.Why.TheVariants as why
+use Rattle.ten_shell.specs.Leaving.{end_in, why_in, why_of}
+use Rattle.fab_points.specs.Points.{departed, due, is_there, rests, run_in, tick_of, Point}
+use Rattle.fab_points.specs.Fabrics.{first_of, found, left, taken, without, Fabric}
+use Rattle.fab_points.specs.Worlds as worlds
+use Rattle.fab_points.specs.Worlds.{is_at_rest, run, Event, Take, Leave, World}
+use Rattle.fab_core.specs.Standing.{IsFabric, IsPointOf}
+use Rattle.fab_notes.specs.declared.note.Note.{Note}
+use Rattle.fab_notes.specs.declared.transit.Stay.{Stay}
+use Rattle.fab_notes.specs.declared.transit.Transit.{Transit}
+use Rattle.fab_notes.specs.Deeds as deeds
+use Rattle.fab_notes.specs.Deeds.{deed_in, deed_of, Deed}
+use Rattle.fab_notes.specs.Ends.{EndsNotBefore}
+use Rattle.fab_notes.specs.Histories as histories
+use Rattle.fab_notes.specs.Histories.{is_done, place_of, replay, stay_now, Inside, May, MayLeave, Place, Seat}
+use Rattle.fab_notes.specs.Stays.{chains}
+use Rattle.fab_notes.specs.Tokens.{out_at, outs, put_at, puts, told, token_of, Token}
+use Rattle.fab_bay.specs.declared.berth.Berth.{Berth}
+use Rattle.fab_bay.specs.declared.noted.Label.{Label}
+use Rattle.fab_bay.specs.declared.noted.NotedCore.{NotedCore}
+use Rattle.fab_bay.specs.Berths.{begun, deed_at, seat, seats, AreBerths, AreWaiters, IsBerth, IsWaiter}
+use Rattle.fab_bay.specs.Standing.{IsNoted}
+use Rattle.fab_bay.specs.Ways.{tokens, AreOut, Goes}
+use Rattle.fab_bay.proofs.Kept.{goes_by, noted_by, out-snoc, still_noted, told_next, told_of, tokens-snoc, written_none, written_of, written_one, written_then, IsStill, IsTold, IsWritten}
+use Rattle.fab_bay.proofs.Places.{berths_at, berths_many, berths_remove, first-at, berth-place, some-equal, split_at, waiters_at, waiters_berths, waiters_remove, FirstAt}
+use Rattle.fab_bay.proofs.Pointed.{run_is, tells, tick_there, Tells}
+use Rattle.fab_notes.proofs.Seats.{apart_legal, place_mid, without_mid, AreApart}
+
+-- ---- one stay more
+
+both : (a b : Bool) → a ≡ true → b ≡ true → (a && b) ≡ true
+both true b p q = q
+both false b p q = let z : ⊥ = cc in absurd z
+
+split_and : (a b : Bool) → (a && b) ≡ true → (a ≡ true) × (b ≡ true)
+split_and true b e = (refl, e)
+split_and false b e = let z : ⊥ = cc in absurd z
+
+pub chains-snoc : (s k : ℕ) (xs : List Stay) (x : Stay) → chains s xs k ≡ true → x.from ≡ k → x.from ≤ x.to → chains s (xs ++ x ∷ []) x.to ≡ true
+chains-snoc s k [] x c e l =
+    both (x.from == s) (nat_le x.from x.to && (x.to == x.to)) (eq-eqb x.from s (e ∙ sym (eqb-true s k c)))
+    (both (nat_le x.from x.to) (x.to == x.to) (le-leb x.from x.to l) (eq-eqb x.to x.to refl))
+chains-snoc s k (y ∷ ys) x c e l =
+    let a = split_and (y.from == s) (nat_le y.from y.to && chains y.to ys k) c in
+    let b = split_and (nat_le y.from y.to) (chains y.to ys k) a.1 in
+    both (y.from == s) (nat_le y.from y.to && chains y.to (ys ++ x ∷ []) x.to) a.0
+    (both (nat_le y.from y.to) (chains y.to (ys ++ x ∷ []) x.to) b.0 (chains-snoc y.to k ys x b.1 e l))
+
+-- ---- how it leaves
+
+-- the point of a tenant that leaves, and the move of its boundary where it leaves for that
+pub record IsLeaver (w : Why) (p : Point) (q : Parcel) : Type 0 where
+  pub at : IsPointOf q (departed w p)
+  pub rests : rests p ≡ true
+  pub move : (to : ℕ) → w ≡ why.Move to → due p ≡ Some w
+
+begun_same : (w : Why) (p : Point) → begun (departed w p) ≡ begun p
+begun_same (why.Move to) p = refl
+begun_same (why.Ended e) p = refl
+
+origin_same : (w : Why) (p : Point) → (departed w p).origin ≡ p.origin
+origin_same (why.Move to) p = refl
+origin_same (why.Ended e) p = refl
+
+free_same : (w : Why) (p : Point) → (departed w p).free ≡ p.free
+free_same (why.Move to) p = refl
+free_same (why.Ended e) p = refl
+
+pub number_same : (w : Why) (p : Point) → (departed w p).number ≡ p.number
+number_same (why.Move to) p = refl
+number_same (why.Ended e) p = refl
+
+moved_stays : (w : Why) (p : Point) → p.moved ≡ true → (departed w p).moved ≡ true
+moved_stays (why.Move to) p e = refl
+moved_stays (why.Ended e) p h = h
+
+why_moves : (e : Option End) (to : Option ℕ) (moved : Bool) (k : ℕ) → why_of e to moved ≡ Some (why.Move k) → is_some to ≡ true
+why_moves (Some end) to moved k h = let z : ⊥ = cc in absurd z
+why_moves None (Some f) moved k h = refl
+why_moves None None moved k h = let z : ⊥ = cc in absurd z
+
+due_moves : (p : Point) (k : ℕ) → rests p ≡ true → due p ≡ Some (why.Move k) → is_some (move_at (begun p) (run_in p).plan.errands) ≡ true
+due_moves p k r e =
+    why_moves (end_in (run_in p).plan p.stopped p.stage.state) (move_at (begun p) (run_in p).plan.errands) p.moved k
+    (sym (ap (λ (b : Bool). if b then why_in (run_in p).plan p.stopped p.moved p.stage.state else None) r) ∙ e)
+
+-- a move was done before, or it stands there
+moved_by : (w : Why) (p : Point) (A : Type 0) → rests p ≡ true → ((to : ℕ) → w ≡ why.Move to → due p ≡ Some w) → (departed w p).moved ≡ true
+    → (p.moved ≡ true → A) → (is_some (move_at (begun p) (run_in p).plan.errands) ≡ true → A) → A
+moved_by (why.Move to) p A r d e f g = g (due_moves p to r (d to refl))
+moved_by (why.Ended x) p A r d e f g = f e
+
+module _ (n : ℕ) (b : Berth) (p : Point) (w : Why) (q : Parcel) (h : IsBerth n b p) (now : b.noted ≡ tick_of p) (l : IsLeaver w p q) where
+  tell : Tells q (departed w p)
+  tell = tells q (departed w p) l.at
+
+  pub leaver_ticks : ticks_of q ≡ b.noted
+  leaver_ticks = tell.ticks ∙ (begun_same w p ∙ (sym (tick_there p l.rests) ∙ sym now))
+
+  pub leaver_number : number_of q ≡ b.tenant
+  leaver_number = tell.number ∙ (number_same w p ∙ sym h.number)
+
+  leaver_run : run_of q ≡ run_in p
+  leaver_run = ap origin_of (tell.origin ∙ origin_same w p)
+
+  -- what the code needs of it
+  pub leaver_order : b.since ≤ ticks_of q
+  leaver_order = let o = h.order in let t = leaver_ticks in omega (arith, o.0, t)
+
+  pub leaver_chained : chains (first_tick (run_of q).resume) b.stays.items b.since ≡ true
+  leaver_chained = subst (λ (o : alone.Origin). chains (first_tick o.resume) b.stays.items b.since ≡ true) (sym leaver_run) h.chained
+
+  pub leaver_end : EndsNotBefore (run_of q) (ticks_of q)
+  leaver_end =
+      subst (λ (o : alone.Origin). EndsNotBefore o (ticks_of q)) (sym leaver_run)
+      (subst (λ (k : ℕ). EndsNotBefore (run_in p) k) (sym (tell.ticks ∙ begun_same w p)) h.end)
+
+  done_by : (x : Bool) → is_there p ≡ x → is_done b.since b.noted (deed_at b) ≡ true → p.moved ≡ true
+  done_by true t d =
+      let s = split_and (b.noted == b.since) (deed_at b).moved d in
+      h.done t (sym now ∙ eqb-true b.noted b.since s.0) s.1
+  done_by false t d =
+      let s = split_and (b.noted == b.since) (deed_at b).moved d in
+      let e = eqb-true b.noted b.since s.0 in
+      let late = h.later t in
+      let tick = tick_there p l.rests in
+      let z : ⊥ = omega (arith, e, late, tick, now) in absurd z
+
+  -- a tenant whose stays have this one may leave
+  pub may_leave : (g : ℕ) (came : Bool) (t : Transit) (e : Entry) (o : Option Deed) → t.parcel ≡ q → t.stays.items ≡ b.stays.items ++ stay_now g b.since b.noted came → e.from ≡ ticks_of t.parcel
+      → o ≡ Some (deed_of t) → MayLeave g b.since b.noted came (deed_at b) e o
+  may_leave g came t e o is stays from known = record {
+    from = from ∙ (ap ticks_of is ∙ leaver_ticks);
+    deed = deed_of t;
+    known = known;
+    origin = ap origin_in is ∙ (tell.origin ∙ (origin_same w p ∙ sym h.origin));
+    free = ap free_of is ∙ (tell.free ∙ (free_same w p ∙ sym h.free));
+    stays = stays ∙ ap (λ (xs : List Stay). xs ++ stay_now g b.since b.noted came) h.stays;
+    done = λ d. ap is_moved is ∙ (tell.moved ∙ moved_stays w p (done_by (is_there p) refl d));
+    moves = λ m no.
+        moved_by w p (is_some (move_at b.noted (deeds.run_in (deed_at b)).plan.errands) ≡ true) l.rests l.move (sym (ap is_moved is ∙ tell.moved) ∙ m)
+        (λ x. let y = h.moved x in
+        let z : is_done b.since b.noted (deed_at b) ≡ true = both (b.noted == b.since) (deed_at b).moved (eq-eqb b.noted b.since (now ∙ y.1)) y.2 in
+        let w : ⊥ = cc in absurd w)
+        (λ x. subst (λ (r : Origin). is_some (move_at b.noted (origin_of r).plan.errands) ≡ true) (sym h.origin)
+        (subst (λ (k : ℕ). is_some (move_at k (run_in p).plan.errands) ≡ true) (sym (now ∙ tick_there p l.rests)) x));
+  }
+
+-- ---- what is told then
+
+abbrev pub entry_out : ℕ → Transit → Entry
+entry_out k t = record { seat = k; kind = Left; tenant = number_of t.parcel; from = ticks_of t.parcel; to = ticks_of t.parcel }
+
+-- the note of a tenant that comes out
+pub record IsOutNote (k : ℕ) (t : Transit) (n : Note) : Type 0 where
+  pub entry : n.entry ≡ entry_out k t
+  pub deed : deed_in n ≡ Some (deed_of t)
+
+module _ (l : Label) (notes : List Note) (n : Note) (k : ℕ) (t : Transit) (m : IsOutNote k t n) where
+  -- the seat that is left is in the midst
+  told_out : (bs ws bs' ws' : List Berth) (xs ys : List Seat) (s : Seat) → IsTold l notes bs ws → seats bs ws ≡ xs ++ s ∷ ys → seats bs' ws' ≡ xs ++ ys → n.entry.tenant ≡ s.tenant → n.entry.to ≡ s.now
+      → MayLeave l.fabric s.since s.now s.came s.deed n.entry (deed_in n) → IsTold l (notes ++ n ∷ []) bs' ws'
+  told_out bs ws bs' ws' xs ys s h before after who to may =
+      let apart : AreApart (xs ++ s ∷ ys) = subst AreApart (h.replayed ∙ before) (apart_legal l.fabric l.capacity notes h.legal) in
+      let at : place_of n.entry.tenant (seats bs ws) ≡ Inside s.since s.now s.came s.deed = ap₂ place_of who before ∙ place_mid xs ys s apart in
+      told_next l notes n bs ws bs' ws' Left (ap (λ (x : Entry). x.kind) m.entry) h (subst (λ (q : Place). May l.fabric Left q n) (sym at) (may, to)) tt
+      (ap₂ histories.without who before ∙ (without_mid xs ys s apart ∙ sym after)) (λ o i. let z : ⊥ = cc in absurd z)
+
+  pub told_left : (bs ws : List Berth) (i : ℕ) (b : Berth) → i < length bs → b ≡ get_or bs i b → IsTold l notes bs ws → number_of t.parcel ≡ b.tenant → ticks_of t.parcel ≡ b.noted
+      → MayLeave l.fabric b.since b.noted true (deed_at b) n.entry (deed_in n) → IsTold l (notes ++ n ∷ []) (remove bs i) ws
+  told_left bs ws i b lt is h who to may =
+      let xs = take i bs in
+      let ys = drop (suc i) bs in
+      told_out bs ws (remove bs i) ws (map (seat true) xs) (map (seat true) ys ++ map (seat false) ws) (seat true b) h
+      (ap (λ (zs : List Berth). seats zs ws) (split_at bs i b lt ∙ ap (λ (z : Berth). xs ++ z ∷ ys) (sym is))
+      ∙ (ap (λ (zs : List Seat). zs ++ map (seat false) ws) (map-append (seat true) xs (b ∷ ys)) ∙ append_assoc (map (seat true) xs) (seat true b ∷ map (seat true) ys) (map (seat false) ws)))
+      (ap (λ (zs : List Seat). zs ++ map (seat false) ws) (map-append (seat true) xs ys) ∙ append_assoc (map (seat true) xs) (map (seat true) ys) (map (seat false) ws))
+      (ap (λ (x : Entry). x.tenant) m.entry ∙ who) (ap (λ (x : Entry). x.to) m.entry ∙ to) may
+
+  pub told_withdrawn : (bs ws : List Berth) (i : ℕ) (b : Berth) → i < length ws → b ≡ get_or ws i b → IsTold l notes bs ws → number_of t.parcel ≡ b.tenant → ticks_of t.parcel ≡ b.noted
+      → MayLeave l.fabric b.since b.noted false (deed_at b) n.entry (deed_in n) → IsTold l (notes ++ n ∷ []) bs (remove ws i)
+  told_withdrawn bs ws i b lt is h who to may =
+      let xs = take i ws in
+      let ys = drop (suc i) ws in
+      told_out bs ws bs (remove ws i) (map (seat true) bs ++ map (seat false) xs) (map (seat false) ys) (seat false b) h
+      (ap (λ (zs : List Berth). seats bs zs) (split_at ws i b lt ∙ ap (λ (z : Berth). xs ++ z ∷ ys) (sym is))
+      ∙ (ap (λ (zs : List Seat). map (seat true) bs ++ zs) (map-append (seat false) xs (b ∷ ys)) ∙ sym (append_assoc (map (seat true) bs) (map (seat false) xs) (seat false b ∷ map (seat false) ys))))
+      (ap (λ (zs : List Seat). map (seat true) bs ++ zs) (map-append (seat false) xs ys) ∙ sym (append_assoc (map (seat true) bs) (map (seat false) xs) (map (seat false) ys)))
+      (ap (λ (x : Entry). x.tenant) m.entry ∙ who) (ap (λ (x : Entry). x.to) m.entry ∙ to) may
+
+  token_told : told n.entry (deed_in n) ≡ tokens (t ∷ [])
+  token_told = ap (λ (e : Entry). told e (deed_in n)) m.entry ∙ ap (told (entry_out k t)) m.deed
+
+  pub written_out : (x y : NotedCore) → y.label ≡ x.label → y.notes.items ≡ x.notes.items ++ n ∷ [] → y.told.items ≡ x.told.items ++ n.entry ∷ [] → number_of t.parcel < x.label.tenants
+      → IsWritten k x y (tokens (t ∷ []))
+  written_out x y label ns ts few =
+      written_one k x y n (tokens (t ∷ [])) label ns ts (ap (λ (e : Entry). e.seat) m.entry) (subst (λ (j : ℕ). j < x.label.tenants) (sym (ap (λ (e : Entry). e.tenant) m.entry)) few)
+      (ap (λ (j : Kind). put_at j n) (ap (λ (e : Entry). e.kind) m.entry))
+      (ap (λ (j : Kind). out_at j n) (ap (λ (e : Entry). e.kind) m.entry) ∙ token_told)
+
+-- a stay more behind those that lead to where it begins
+pub stay_more : (s g since r to : ℕ) (xs ys : List Stay) → ys ≡ xs ++ record { fabric = g; from = since; to = r } ∷ [] → r ≡ to → since ≤ to → chains s xs since ≡ true → chains s ys to ≡ true
+stay_more s g since r to xs ys is e l h =
+    ap (λ (zs : List Stay). chains s zs to) is
+    ∙ (ap (λ (k : ℕ). chains s (xs ++ record { fabric = g; from = since; to = k } ∷ []) to) e ∙ chains-snoc s since xs (record { fabric = g; from = since; to = to }) h refl l)

@@ -1,0 +1,183 @@
+-- Berths and points of a number.
+use Rattle.std.proofs.Common.{◌≡◌, ◌≢◌, ℕ, zero, suc, ◌+◌, ◌<◌, Bool, true, false, Option, Some, None, List, [], ◌∷◌, ◌++◌, length, set, get_or, take, drop, map, refl, sym, ap, ◌∙◌, arith, subst, eq-eqb, eqb}
+use Rattle.std.specs.Prelude.{◌==◌, ◌||◌, if◌then◌else◌, is_some, option_map, position}
+use Rattle.std.specs.List.{remove}
+use Rattle.std.proofs.lemmas.Bool.{eqb-true}
+use Rattle.std.proofs.lemmas.Bool.Decides.{nat_tests}
+use Rattle.std.proofs.lemmas.List.{set-get_or, set_split, map-append, append-nil}
+use Rattle.fab_points.specs.Points.{Point}
+use Rattle.fab_points.specs.Fabrics.{first_of, is_of, without}
+use Rattle.fab_notes.specs.Histories.{place_of, Place, Away, Inside, Seat}
+use Rattle.fab_bay.specs.declared.berth.Berth.{Berth}
+use Rattle.fab_bay.specs.Berths.{seat, seats, AreBerths, AreWaiters, IsBerth, IsWaiter}
+use Rattle.fab_notes.proofs.Legality.{not_away, place_behind}
+
+pub position-cons : {X : Type 0} (p : X → Bool) (x : X) (xs : List X) → position p (x ∷ xs) ≡ (if p x then Some 0 else option_map (λ k. k + 1) (position p xs))
+position-cons p x xs = grind (arith, nat_tests)
+
+-- a place depends on numbers alone
+position-map : {X : Type 0} (number : X → ℕ) (t : ℕ) (xs : List X) → position (λ x. number x == t) xs ≡ position (λ n. n == t) (map number xs)
+position-map number t [] = refl
+position-map number t (x ∷ xs) =
+    position-cons (λ y. number y == t) x xs
+    ∙ ap (λ o. if number x == t then Some 0 else option_map (λ k. k + 1) o) (position-map number t xs)
+    ∙ sym (position-cons (λ n. n == t) (number x) (map number xs))
+
+berth-numbers : (n : ℕ) (bs : List Berth) (ps : List Point) → AreBerths n bs ps → map (λ (b : Berth). b.tenant) bs ≡ map (λ (p : Point). p.number) ps
+berth-numbers n [] [] h = refl
+berth-numbers n [] (p ∷ ps) h = absurd h
+berth-numbers n (b ∷ bs) [] h = absurd h
+berth-numbers n (b ∷ bs) (p ∷ ps) h = ap (λ k. k ∷ map (λ (x : Berth). x.tenant) bs) h.0.number ∙ ap (λ ns. p.number ∷ ns) (berth-numbers n bs ps h.1)
+
+pub waiters_berths : (n : ℕ) (bs : List Berth) (ps : List Point) → AreWaiters n bs ps → AreBerths n bs ps
+waiters_berths n [] [] h = tt
+waiters_berths n [] (p ∷ ps) h = absurd h
+waiters_berths n (b ∷ bs) [] h = absurd h
+waiters_berths n (b ∷ bs) (p ∷ ps) h = (h.0.berth, waiters_berths n bs ps h.1)
+
+-- berths and points of a number are at one place
+pub berth-place : (t n : ℕ) (bs : List Berth) (ps : List Point) → AreBerths n bs ps → position (λ b. b.tenant == t) bs ≡ position (is_of t) ps
+berth-place t n bs ps h =
+    position-map (λ (b : Berth). b.tenant) t bs ∙ ap (position (λ k. k == t)) (berth-numbers n bs ps h) ∙ sym (position-map (λ (p : Point). p.number) t ps)
+
+some-by : (b : Bool) (o : Option ℕ) (p : Point) (q : Option Point) → is_some o ≡ is_some q → is_some (if b then Some 0 else option_map (λ k. k + 1) o) ≡ is_some (if b then Some p else q)
+some-by true o p q e = refl
+some-by false None p q e = e
+some-by false (Some k) p q e = e
+
+pub first-some : (t : ℕ) (ps : List Point) → is_some (position (is_of t) ps) ≡ is_some (first_of t ps)
+first-some t [] = refl
+first-some t (p ∷ ps) = ap is_some (position-cons (is_of t) p ps) ∙ some-by (is_of t p) (position (is_of t) ps) p (first_of t ps) (first-some t ps)
+
+pub some-equal : {X : Type 0} (x y : X) → Some x ≡ Some y → x ≡ y
+some-equal x y e = cc
+
+-- the first of a number is at a place
+pub record FirstAt (t : ℕ) (ps : List Point) (k : ℕ) : Type 0 where
+  pub there : k < length ps
+  pub first : (d : Point) → first_of t ps ≡ Some (get_or ps k d)
+  pub out : without t ps ≡ remove ps k
+  pub number : (d : Point) → (get_or ps k d).number ≡ t
+
+first-here : (t : ℕ) (p : Point) (ps : List Point) → is_of t p ≡ true → FirstAt t (p ∷ ps) 0
+first-here t p ps e = record {
+  there = omega arith;
+  first = λ d. ap (λ b. if b then Some p else first_of t ps) e;
+  out = ap (λ b. if b then ps else p ∷ without t ps) e;
+  number = λ d. eqb-true p.number t e;
+}
+
+first-behind : (t : ℕ) (p : Point) (ps : List Point) (k : ℕ) → is_of t p ≡ false → FirstAt t ps k → FirstAt t (p ∷ ps) (suc k)
+first-behind t p ps k e h = record {
+  there = let l = h.there in omega (arith, l);
+  first = λ d. ap (λ b. if b then Some p else first_of t ps) e ∙ h.first d;
+  out = ap (λ b. if b then ps else p ∷ without t ps) e ∙ ap (λ xs. p ∷ xs) h.out;
+  number = h.number;
+}
+
+first-by : (t : ℕ) (p : Point) (ps : List Point) (b : Bool) (o : Option ℕ) (k : ℕ) → is_of t p ≡ b → position (is_of t) ps ≡ o → ((m : ℕ) → position (is_of t) ps ≡ Some m → FirstAt t ps m) →
+    (if b then Some 0 else option_map (λ n. n + 1) o) ≡ Some k → FirstAt t (p ∷ ps) k
+first-by t p ps true o k e f h is = subst (FirstAt t (p ∷ ps)) (some-equal 0 k is) (first-here t p ps e)
+first-by t p ps false None k e f h is = let z : ⊥ = cc in absurd z
+first-by t p ps false (Some m) k e f h is = subst (FirstAt t (p ∷ ps)) (let s : suc m ≡ m + 1 = omega arith in s ∙ some-equal (m + 1) k is) (first-behind t p ps m e (h m f))
+
+pub first-at : (t : ℕ) (ps : List Point) (k : ℕ) → position (is_of t) ps ≡ Some k → FirstAt t ps k
+first-at t [] k e = let z : ⊥ = cc in absurd z
+first-at t (p ∷ ps) k e = first-by t p ps (is_of t p) (position (is_of t) ps) k refl refl (first-at t ps) (sym (position-cons (is_of t) p ps) ∙ e)
+
+-- ---- berths at places
+
+pub berths_many : (n : ℕ) (bs : List Berth) (ps : List Point) → AreBerths n bs ps → length bs ≡ length ps
+berths_many n [] [] h = refl
+berths_many n [] (p ∷ ps) h = absurd h
+berths_many n (b ∷ bs) [] h = absurd h
+berths_many n (b ∷ bs) (p ∷ ps) h = let e = berths_many n bs ps h.1 in omega (arith, e)
+
+pub berths_at : (n : ℕ) (bs : List Berth) (ps : List Point) (k : ℕ) (b : Berth) (p : Point) → AreBerths n bs ps → k < length bs → IsBerth n (get_or bs k b) (get_or ps k p)
+berths_at n [] ps k b p h l = absurd (omega arith)
+berths_at n (x ∷ bs) [] k b p h l = absurd h
+berths_at n (x ∷ bs) (q ∷ ps) zero b p h l = h.0
+berths_at n (x ∷ bs) (q ∷ ps) (suc k) b p h l = berths_at n bs ps k b p h.1 (omega (arith, l))
+
+pub berths_remove : (n : ℕ) (bs : List Berth) (ps : List Point) (k : ℕ) → AreBerths n bs ps → AreBerths n (remove bs k) (remove ps k)
+berths_remove n [] [] zero h = tt
+berths_remove n [] [] (suc k) h = tt
+berths_remove n [] (p ∷ ps) k h = absurd h
+berths_remove n (b ∷ bs) [] k h = absurd h
+berths_remove n (b ∷ bs) (p ∷ ps) zero h = h.1
+berths_remove n (b ∷ bs) (p ∷ ps) (suc k) h = (h.0, berths_remove n bs ps k h.1)
+
+pub waiters_at : (n : ℕ) (bs : List Berth) (ps : List Point) (k : ℕ) (b : Berth) (p : Point) → AreWaiters n bs ps → k < length bs → IsWaiter n (get_or bs k b) (get_or ps k p)
+waiters_at n [] ps k b p h l = absurd (omega arith)
+waiters_at n (x ∷ bs) [] k b p h l = absurd h
+waiters_at n (x ∷ bs) (q ∷ ps) zero b p h l = h.0
+waiters_at n (x ∷ bs) (q ∷ ps) (suc k) b p h l = waiters_at n bs ps k b p h.1 (omega (arith, l))
+
+pub waiters_remove : (n : ℕ) (bs : List Berth) (ps : List Point) (k : ℕ) → AreWaiters n bs ps → AreWaiters n (remove bs k) (remove ps k)
+waiters_remove n [] [] zero h = tt
+waiters_remove n [] [] (suc k) h = tt
+waiters_remove n [] (p ∷ ps) k h = absurd h
+waiters_remove n (b ∷ bs) [] k h = absurd h
+waiters_remove n (b ∷ bs) (p ∷ ps) zero h = h.1
+waiters_remove n (b ∷ bs) (p ∷ ps) (suc k) h = (h.0, waiters_remove n bs ps k h.1)
+
+pub waiters_snoc : (n : ℕ) (bs : List Berth) (ps : List Point) (b : Berth) (p : Point) → AreWaiters n bs ps → IsWaiter n b p → AreWaiters n (bs ++ b ∷ []) (ps ++ p ∷ [])
+waiters_snoc n [] [] b p h i = (i, tt)
+waiters_snoc n [] (q ∷ ps) b p h i = absurd h
+waiters_snoc n (x ∷ bs) [] b p h i = absurd h
+waiters_snoc n (x ∷ bs) (q ∷ ps) b p h i = (h.0, waiters_snoc n bs ps b p h.1 i)
+
+pub split_at : (bs : List Berth) (i : ℕ) (d : Berth) → i < length bs → bs ≡ take i bs ++ get_or bs i d ∷ drop (suc i) bs
+split_at bs i d l = sym (set-get_or bs i d) ∙ set_split bs i (get_or bs i d) l
+
+pub removed_many : (bs : List Berth) (k : ℕ) → k < length bs → length (remove bs k) + 1 ≡ length bs
+removed_many [] k l = absurd (omega arith)
+removed_many (b ∷ bs) zero l = omega arith
+removed_many (b ∷ bs) (suc k) l = let e = removed_many bs k (omega (arith, l)) in omega (arith, e)
+
+-- ---- places by the history
+
+-- whether one of this number is among berths
+abbrev is_among : ℕ → List Berth → Bool
+is_among t bs = is_some (position (λ b. b.tenant == t) bs)
+
+among-by : (b : Bool) (o : Option ℕ) → is_some (if b then Some 0 else option_map (λ k. k + 1) o) ≡ (b || is_some o)
+among-by true o = refl
+among-by false None = refl
+among-by false (Some k) = refl
+
+among-cons : (t : ℕ) (b : Berth) (bs : List Berth) → is_among t (b ∷ bs) ≡ ((b.tenant == t) || is_among t bs)
+among-cons t b bs = ap is_some (position-cons (λ x. x.tenant == t) b bs) ∙ among-by (b.tenant == t) (position (λ x. x.tenant == t) bs)
+
+away_by : (t : ℕ) (came : Bool) (bs : List Berth) → is_among t bs ≡ false → place_of t (map (seat came) bs) ≡ Away
+away_by t came [] e = refl
+away_by t came (b ∷ bs) e = step (b.tenant == t) (is_among t bs) refl (sym (among-cons t b bs) ∙ e) (away_by t came bs)
+  where
+    step : (x y : Bool) → is_among t bs ≡ y → (x || y) ≡ false → (is_among t bs ≡ false → place_of t (map (seat came) bs) ≡ Away)
+        → (if x then Inside b.since b.noted came (seat came b).deed else place_of t (map (seat came) bs)) ≡ Away
+    step true y i e r = let z : ⊥ = cc in absurd z
+    step false y i e r = r (i ∙ e)
+
+here_by : (t : ℕ) (came : Bool) (bs : List Berth) (ss : List Seat) → is_among t bs ≡ true → place_of t (map (seat came) bs ++ ss) ≢ Away
+here_by t came [] ss e = let z : ⊥ = cc in absurd z
+here_by t came (b ∷ bs) ss e = step (b.tenant == t) (is_among t bs) refl (sym (among-cons t b bs) ∙ e) (here_by t came bs ss)
+  where
+    step : (x y : Bool) → is_among t bs ≡ y → (x || y) ≡ true → (is_among t bs ≡ true → place_of t (map (seat came) bs ++ ss) ≢ Away)
+        → (if x then Inside b.since b.noted came (seat came b).deed else place_of t (map (seat came) bs ++ ss)) ≢ Away
+    step true y i e r = λ a. not_away b.since b.noted came (seat came b).deed a
+    step false y i e r = r (i ∙ e)
+
+-- a tenant is away by the history where it is among neither
+pub away_if : (t : ℕ) (bs ws : List Berth) → (is_some (position (λ b. b.tenant == t) bs) || is_some (position (λ b. b.tenant == t) ws)) ≡ false → place_of t (seats bs ws) ≡ Away
+away_if t bs ws e = step (is_among t bs) (is_among t ws) refl refl e
+  where
+    step : (x y : Bool) → is_among t bs ≡ x → is_among t ws ≡ y → (x || y) ≡ false → place_of t (seats bs ws) ≡ Away
+    step true y i j e = let z : ⊥ = cc in absurd z
+    step false y i j e = place_behind t (map (seat true) bs) (map (seat false) ws) (away_by t true bs i) ∙ away_by t false ws (j ∙ e)
+
+pub here_if : (t : ℕ) (bs ws : List Berth) → (is_some (position (λ b. b.tenant == t) bs) || is_some (position (λ b. b.tenant == t) ws)) ≡ true → place_of t (seats bs ws) ≢ Away
+here_if t bs ws e = step (is_among t bs) (is_among t ws) refl refl e
+  where
+    step : (x y : Bool) → is_among t bs ≡ x → is_among t ws ≡ y → (x || y) ≡ true → place_of t (seats bs ws) ≢ Away
+    step true y i j e = here_by t true bs (map (seat false) ws) i
+    step false y i j e = λ a. here_by t false ws [] (j ∙ e) (ap (place_of t) (append-nil (map (seat false) ws)) ∙ sym (place_behind t (map (seat true) bs) (map (seat false) ws) (away_by t true bs i)) ∙ a)

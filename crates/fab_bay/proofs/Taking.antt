@@ -1,0 +1,46 @@
+-- Calls that take a tenant out.
+use Rattle.std.proofs.Common.{◌≡◌, ℕ, ◌+◌, List, [], ◌∷◌, ◌++◌, refl, sym, ap, ◌∙◌, subst, append_assoc, arith}
+use Rattle.fab_lock.specs.declared.entry.Entry.{Entry}
+use Rattle.fab_notes.specs.declared.transit.Transit.{Transit}
+use Rattle.fab_bay.specs.declared.leaving.Found.{Found}
+use Rattle.fab_bay.specs.declared.leaving.Found.TheVariants.{Here, Absent, Short}
+use Rattle.fab_bay.specs.declared.leaving.Taken.{Taken}
+use Rattle.fab_bay.specs.declared.noted.NotedCore.{NotedCore}
+use Rattle.fab_notes.specs.declared.note.Note.{Note}
+use Rattle.fab_bay.specs.Nearness.{IsNear}
+use Rattle.fab_bay.specs.Refusals.{IsAway}
+use Rattle.fab_bay.specs.Rounds.{IsFoundReady, IsNearOn}
+use Rattle.fab_bay.specs.Taking.{IsFound}
+use Rattle.fab_bay.specs.Ways.{AreShort, Goes, Took, Way}
+use Rattle.fab_bay.proofs.Calls.{whole, IsLike}
+use Rattle.std.proofs.lemmas.List.{append_cancel_left}
+use Rattle.fab_bay.proofs.Nears.{short-append}
+use Rattle.fab_bay.proofs.Rounds.{onward}
+
+-- what was done before
+pub found-after : (k t n : ℕ) (x y z : NotedCore) → ((out : List Transit) → Goes k n x y out out) → (w : Found) → IsFoundReady k t y z w → IsFoundReady k t x z w
+found-after k t n x y z g (Here out) f = (f.0, n + f.1, onward k n f.1 (n + f.1) x y z [] [] (out ∷ []) (g []) f.2 refl)
+found-after k t n x y z g Absent f = absurd f
+found-after k t n x y z g Short f = (n + f.0, onward k n f.0 (n + f.0) x y z [] [] [] (g []) f.1 refl)
+
+pub found-notes : (k t : ℕ) (x y : NotedCore) (w : Found) → IsFoundReady k t x y w → (added : List Note) × (y.notes.items ≡ x.notes.items ++ added)
+found-notes k t x y (Here out) f = (f.2.added, f.2.notes)
+found-notes k t x y Absent f = absurd f
+found-notes k t x y Short f = (f.1.added, f.1.notes)
+
+pub found-label : (k t : ℕ) (x y : NotedCore) (w : Found) → IsFoundReady k t x y w → y.label ≡ x.label
+found-label k t x y (Here out) f = f.2.label
+found-label k t x y Absent f = absurd f
+found-label k t x y Short f = f.1.label
+
+module _ (k t : ℕ) (x b m d e : NotedCore) (s : Taken) (begins : IsLike x b) (none : b.told.items ≡ []) (settles : (out : List Transit) → Goes k 0 m d out out) (ends : IsLike d e)
+    (told : s.entries.items ≡ d.told.items) (there : IsAway x.notes.items t → ⊥) where
+  took : (n : ℕ) (out : List Transit) → Goes k n b m [] out → Took k x e s.entries.items out
+  took n out g =
+      let way : Way k n x e [] s.entries.items [] out = whole k n x b m d e s.entries.items out begins none g (settles out) ends told in
+      record { cycles = n; goes = way; told = way.told }
+
+  pub found-by : (w : Found) → IsFoundReady k t b m w → IsFound k t x e s w
+  found-by (Here out) f = (f.0, took f.1 (out ∷ []) f.2)
+  found-by Absent f = absurd f
+  found-by Short f = (there, took f.0 [] f.1)

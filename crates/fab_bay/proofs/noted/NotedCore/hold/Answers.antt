@@ -1,0 +1,12 @@
+use Rattle.std.proofs.Common.{refl}
+use Rattle.fab_bay.proofs.Events.{goes-hold}
+use Rattle.fab_bay.proofs.Near.{near-hold}
+use Rattle.fab_bay.proofs.noted.NotedCore.hold.Goals as goal
+
+pub returns-clause-goes : goal.returns-clause-goes
+returns-clause-goes c = λ number out.
+    let x = c.args.self.now in
+    goes-hold number x (record x { core = c.hold.new.self }) out (record { label = refl; berths = refl; waiting = refl; notes = refl; told = refl }) c.requires.free c.hold.ensures
+
+pub returns-clause-near : goal.returns-clause-near
+returns-clause-near c = let f = c.requires.fabric.0 in let h = c.requires.fabric.1 in near-hold c.args.self.now c.hold.new.self f h (c.hold.ensures f h.core)

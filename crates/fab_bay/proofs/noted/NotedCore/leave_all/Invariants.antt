@@ -1,0 +1,9 @@
+use Rattle.fab_bay.specs.Rounds.{IsReady}
+use Rattle.fab_bay.specs.Ways.{transits, Goes}
+use Rattle.fab_bay.proofs.noted.NotedCore.leave_all.Given as goal
+
+abbrev pub invariant-loop : goal.invariant-loop
+invariant-loop l = record {
+  ready : IsReady l.self;
+  goes : Goes l.number 0 l.initial.self l.self (transits l.initial.leaving.items) (transits l.leaving.items);
+}

@@ -1,0 +1,11 @@
+use Rattle.std.proofs.Common.{[]}
+use Rattle.fab_bay.proofs.Going.{none}
+use Rattle.fab_bay.proofs.Nears.{nears-same}
+use Rattle.fab_bay.proofs.Rounds.{ready-on}
+use Rattle.fab_bay.proofs.noted.NotedCore.rebuild_at_rest.Goals as goal
+
+pub returns-then-not-is_at_rest-clause-goes : goal.returns-then-not-is_at_rest-clause-goes
+returns-then-not-is_at_rest-clause-goes c = λ out. none c.args.number c.args.self.now out
+
+pub returns-clause-ready : goal.returns-clause-ready
+returns-clause-ready c = ready-on c.args.number 0 c.args.self.now c.rebuild.new.self c.requires.ready (c.rebuild.ensures.goes []) c.rebuild.ensures.room

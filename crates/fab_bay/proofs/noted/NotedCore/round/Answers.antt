@@ -1,0 +1,15 @@
+use Rattle.std.proofs.Common.{[], arith}
+use Rattle.fab_bay.specs.Ways.{transits}
+use Rattle.fab_bay.proofs.Rounds.{onward, ready-on}
+use Rattle.fab_bay.proofs.noted.NotedCore.round.Goals as goal
+
+pub returns-clause-ready : goal.returns-clause-ready
+returns-clause-ready c =
+    let r = c.before_cycle.ensures.ready in
+    ready-on c.args.number 1 c.before_cycle.new.self c.cycle.new.self r (c.cycle.ensures.goes c.args.number []) (c.cycle.ensures.room r.room)
+
+pub returns-clause-cycle : goal.returns-clause-cycle
+returns-clause-cycle c = λ _.
+    let a = transits c.args.leaving.now.items in
+    let b = transits c.before_cycle.new.leaving.items in
+    onward c.args.number 0 1 1 c.args.self.now c.before_cycle.new.self c.cycle.new.self a b b c.before_cycle.ensures.goes (c.cycle.ensures.goes c.args.number b) (omega arith)

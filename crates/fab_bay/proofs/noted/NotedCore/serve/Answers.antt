@@ -1,0 +1,153 @@
+use Rattle.std.proofs.Common.{◌≡◌, ◌+◌, ◌++◌, length, refl, sym, ap, ◌∙◌, subst}
+use Rattle.std.specs.declared.alloc.Global.{Global}
+use Rattle.std.specs.declared.vec.Vec.{Vec}
+use Rattle.fab_core.specs.declared.cores.FabCore.{FabCore}
+use Rattle.fab_points.specs.Fabrics.{all_served}
+use Rattle.fab_bay.specs.declared.berth.Berth.{Berth}
+use Rattle.fab_bay.specs.Standing.{HasRoomFor}
+use Rattle.fab_bay.proofs.Events.{first-served, goes-core, goes-same, goes-serve, on-ok, room-by, same-back, same-noted, serve-noted, Core}
+use Rattle.fab_bay.proofs.Near.{near-by, near-core, near-served, short-none}
+use Rattle.fab_bay.proofs.Onward.{goes-then}
+use Rattle.fab_bay.proofs.noted.NotedCore.serve.Goals as goal
+
+pub returns-then-is_err-clause-goes : goal.returns-then-is_err-clause-goes
+returns-then-is_err-clause-goes c = λ out. goes-same c.args.number c.args.self.now c.prepare.new.self out c.prepare.ensures.same
+
+pub returns-then-is_err-clause-room : goal.returns-then-is_err-clause-room
+returns-then-is_err-clause-room c =
+    let x = c.args.self.now in
+    let y = c.prepare.new.self in
+    room-by (length x.berths.items) (length y.berths.items) y (ap (λ (v : Vec Berth Global). length v.items) (sym c.prepare.ensures.same.berths)) (c.prepare.ensures.kept (length x.berths.items) c.requires.room)
+
+pub serve-requires : goal.serve-requires
+serve-requires c =
+    let f = c.requires.fabric.0 in
+    let h = c.requires.fabric.1 in
+    let w = c.requires.waits f h in
+    (f, w.0, (same-noted c.args.self.now c.prepare.new.self f c.prepare.ensures.same h).core, w.1, w.2)
+
+pub saved_one-requires-clause-fabric : goal.saved_one-requires-clause-fabric
+saved_one-requires-clause-fabric c =
+    let f = c.requires.fabric.0 in
+    let h = c.requires.fabric.1 in
+    let w = c.requires.waits f h in
+    let y = c.prepare.new.self in
+    let k = same-noted c.args.self.now y f c.prepare.ensures.same h in
+    let r = first-served c.args.tenant f.residents w.0 w.1 in (
+      all_served c.args.tenant f,
+      r.0,
+      serve-noted c.each_act_comes_nearer.ensures.call_ticks c.args.tenant y (record y { core = c.serve.new.self }) f (record { label = refl; berths = refl; waiting = refl; notes = refl; told = refl })
+          (c.in-Ok.ensures.fabric f k.core) k,
+      r.1,
+    )
+
+pub returns-in-Err-clause-goes : goal.returns-in-Err-clause-goes
+returns-in-Err-clause-goes c = λ out.
+    let x = c.args.self.now in
+    let y = c.prepare.new.self in
+    let z = record y { core = c.serve.new.self } in
+    goes-then c.args.number 0 0 x y z out out out (goes-same c.args.number x y out c.prepare.ensures.same)
+    (goes-core c.args.number y z out (record { label = refl; berths = refl; waiting = refl; notes = refl; told = refl }) c.in-Err.ensures.err)
+
+pub returns-else-saved-clause-goes : goal.returns-else-saved-clause-goes
+returns-else-saved-clause-goes c = λ out.
+    let x = c.args.self.now in
+    let y = c.prepare.new.self in
+    let z = record y { core = c.serve.new.self } in
+    goes-then c.args.number 0 0 x y z out out out (goes-same c.args.number x y out c.prepare.ensures.same)
+    (goes-serve c.each_act_comes_nearer.ensures.call_ticks c.args.number c.args.tenant y z out (record { label = refl; berths = refl; waiting = refl; notes = refl; told = refl }) c.in-Ok.ensures.fabric
+    (λ f h. c.requires.waits f (same-noted y x f (same-back x y c.prepare.ensures.same) h)))
+
+pub returns-then-saved-clause-goes : goal.returns-then-saved-clause-goes
+returns-then-saved-clause-goes c = λ out.
+    let x = c.args.self.now in
+    let y = c.prepare.new.self in
+    let z = record y { core = c.serve.new.self } in
+    let u = c.saved_one.new.self in
+    goes-then c.args.number 0 0 x z u out out out
+    (goes-then c.args.number 0 0 x y z out out out (goes-same c.args.number x y out c.prepare.ensures.same)
+    (goes-serve c.each_act_comes_nearer.ensures.call_ticks c.args.number c.args.tenant y z out (record { label = refl; berths = refl; waiting = refl; notes = refl; told = refl }) c.in-Ok.ensures.fabric
+    (λ f h. c.requires.waits f (same-noted y x f (same-back x y c.prepare.ensures.same) h))))
+    (c.saved_one.ensures.goes out)
+
+pub returns-then-saved-clause-room : goal.returns-then-saved-clause-room
+returns-then-saved-clause-room c =
+    let x = c.args.self.now in
+    let y = c.prepare.new.self in
+    let u = c.saved_one.new.self in
+    let n = length x.berths.items in
+    let r : HasRoomFor (n + 2) y = on-ok (HasRoomFor (n + 2) y) c.prepare.result (sym c.is_err.ensures.value ∙ c.if-is_err.false) c.prepare.ensures.room in
+    room-by n (length u.berths.items) u (sym (c.saved_one.ensures.long ∙ ap (λ (v : Vec Berth Global). length v.items) c.prepare.ensures.same.berths)) (c.saved_one.ensures.room n (record { notes = r.notes; told = r.told }))
+
+pub returns-then-is_err-clause-near : goal.returns-then-is_err-clause-near
+returns-then-is_err-clause-near c = let s = c.prepare.ensures.same in near-by c.args.self.now c.prepare.new.self s.core s.berths
+
+pub returns-then-is_err-clause-short : goal.returns-then-is_err-clause-short
+returns-then-is_err-clause-short c = λ n added e. short-none c.args.self.now.notes.items c.prepare.new.self.notes.items added c.prepare.ensures.same.notes e
+
+pub returns-then-is_err-clause-holding : goal.returns-then-is_err-clause-holding
+returns-then-is_err-clause-holding c = ap (λ (k : FabCore). k.holding) c.prepare.ensures.same.core
+
+pub returns-in-Err-clause-near : goal.returns-in-Err-clause-near
+returns-in-Err-clause-near c = λ n.
+    let x = c.args.self.now in
+    let y = c.prepare.new.self in
+    let s = c.prepare.ensures.same in
+    let f = c.requires.fabric.0 in
+    let k = same-noted x y f s c.requires.fabric.1 in
+    near-core y c.serve.new.self f k (c.in-Err.ensures.err f k.core) (near-by x y s.core s.berths n)
+
+pub returns-in-Err-clause-short : goal.returns-in-Err-clause-short
+returns-in-Err-clause-short c = λ n added e. short-none c.args.self.now.notes.items c.prepare.new.self.notes.items added c.prepare.ensures.same.notes e
+
+pub returns-in-Err-clause-holding : goal.returns-in-Err-clause-holding
+returns-in-Err-clause-holding c =
+    let f = c.requires.fabric.0 in
+    let h = c.requires.fabric.1 in
+    let k = same-noted c.args.self.now c.prepare.new.self f c.prepare.ensures.same h in
+    (c.in-Err.ensures.err f k.core).holding ∙ sym h.core.holding
+
+pub returns-else-saved-clause-near : goal.returns-else-saved-clause-near
+returns-else-saved-clause-near c = λ n.
+    let x = c.args.self.now in
+    let y = c.prepare.new.self in
+    let s = c.prepare.ensures.same in
+    let f = c.requires.fabric.0 in
+    let k = same-noted x y f s c.requires.fabric.1 in
+    near-served c.each_act_comes_nearer.ensures.call_ticks c.args.tenant y c.serve.new.self f k (c.in-Ok.ensures.fabric f k.core) (near-by x y s.core s.berths n)
+
+pub returns-else-saved-clause-short : goal.returns-else-saved-clause-short
+returns-else-saved-clause-short c = λ n added e. short-none c.args.self.now.notes.items c.prepare.new.self.notes.items added c.prepare.ensures.same.notes e
+
+pub returns-else-saved-clause-holding : goal.returns-else-saved-clause-holding
+returns-else-saved-clause-holding c =
+    let f = c.requires.fabric.0 in
+    let h = c.requires.fabric.1 in
+    let k = same-noted c.args.self.now c.prepare.new.self f c.prepare.ensures.same h in
+    (c.in-Ok.ensures.fabric f k.core).holding ∙ sym h.core.holding
+
+pub returns-then-saved-clause-near : goal.returns-then-saved-clause-near
+returns-then-saved-clause-near c = λ n.
+    let x = c.args.self.now in
+    let y = c.prepare.new.self in
+    let s = c.prepare.ensures.same in
+    let f = c.requires.fabric.0 in
+    let k = same-noted x y f s c.requires.fabric.1 in
+    c.saved_one.ensures.near (near-served c.each_act_comes_nearer.ensures.call_ticks c.args.tenant y c.serve.new.self f k (c.in-Ok.ensures.fabric f k.core) (near-by x y s.core s.berths n))
+
+pub returns-then-saved-clause-short : goal.returns-then-saved-clause-short
+returns-then-saved-clause-short c = λ n added e.
+    let x = c.args.self.now in
+    let y = c.prepare.new.self in
+    let s = c.prepare.ensures.same in
+    let f = c.requires.fabric.0 in
+    let k = same-noted x y f s c.requires.fabric.1 in
+    let near = near-served c.each_act_comes_nearer.ensures.call_ticks c.args.tenant y c.serve.new.self f k (c.in-Ok.ensures.fabric f k.core) (near-by x y s.core s.berths n) in
+    c.saved_one.ensures.short near added (e ∙ ap (λ l. l ++ added) (sym s.notes))
+
+pub returns-then-saved-clause-holding : goal.returns-then-saved-clause-holding
+returns-then-saved-clause-holding c =
+    let f = c.requires.fabric.0 in
+    let h = c.requires.fabric.1 in
+    let k = same-noted c.args.self.now c.prepare.new.self f c.prepare.ensures.same h in
+    ap (λ (w : FabCore). w.holding) c.saved_one.ensures.core ∙ (c.in-Ok.ensures.fabric f k.core).holding ∙ sym h.core.holding

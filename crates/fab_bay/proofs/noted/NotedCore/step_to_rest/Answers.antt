@@ -1,0 +1,45 @@
+use Rattle.std.proofs.Common.{◌≡◌, true, false, [], sym, ap, ◌∙◌, arith}
+use Rattle.fab_bay.proofs.Nears.{nears-kept, nears-then}
+use Rattle.fab_bay.proofs.Rounds.{both, ready-on}
+use Rattle.fab_bay.proofs.noted.NotedCore.step_to_rest.Goals as goal
+
+pub returns-then-is_err-clause-goes : goal.returns-then-is_err-clause-goes
+returns-then-is_err-clause-goes c = (0, c.serve_all.ensures.goes)
+
+pub returns-then-is_at_rest-clause-goes : goal.returns-then-is_at_rest-clause-goes
+returns-then-is_at_rest-clause-goes c = (0, both c.args.number 0 0 0 c.args.self.now c.serve_all.new.self c.hold_on.new.self c.serve_all.ensures.goes c.hold_on.ensures.goes (omega arith))
+
+pub returns-then-is_at_rest-clause-near : goal.returns-then-is_at_rest-clause-near
+returns-then-is_at_rest-clause-near c =
+    let g = c.serve_all.ensures.goes [] in
+    let h = c.hold_on.ensures.goes [] in
+    nears-then c.args.self.now c.serve_all.new.self c.hold_on.new.self g.added h.added g.notes h.notes c.serve_all.ensures.near c.hold_on.ensures.near
+
+pub returns-clause-near : goal.returns-clause-near
+returns-clause-near c =
+    let x = c.args.self.now in
+    let served = c.serve_all.new.self in
+    let held = c.hold_on.new.self in
+    let g = c.serve_all.ensures.goes [] in
+    let h = c.hold_on.ensures.goes [] in
+    let w = both c.args.number 0 0 0 x served held c.serve_all.ensures.goes c.hold_on.ensures.goes (omega arith) [] in
+    let e = c.cycle.ensures.goes c.args.number [] in
+    nears-then x held c.cycle.new.self w.added e.added w.notes e.notes (nears-then x served held g.added h.added g.notes h.notes c.serve_all.ensures.near c.hold_on.ensures.near)
+    (nears-kept held c.cycle.new.self (ap (λ v. v.items) c.cycle.ensures.notes) (c.cycle.ensures.near c.hold_on.ensures.holds))
+
+pub cycle-requires-clause-order : goal.cycle-requires-clause-order
+cycle-requires-clause-order c = λ f n free. let z : ◌≡◌ true false = sym c.hold_on.ensures.holds ∙ (n.core.holding ∙ free) in let y : ⊥ = cc in absurd y
+
+pub returns-clause-ready : goal.returns-clause-ready
+returns-clause-ready c =
+    let r = c.hold_on.ensures.ready in
+    ready-on c.args.number 1 c.hold_on.new.self c.cycle.new.self r (c.cycle.ensures.goes c.args.number []) (c.cycle.ensures.room r.room)
+
+pub returns-clause-goes : goal.returns-clause-goes
+returns-clause-goes c =
+    let k = c.args.number in
+    let x = c.args.self.now in
+    let held = c.hold_on.new.self in (
+      1,
+      both k 0 1 1 x held c.cycle.new.self (both k 0 0 0 x c.serve_all.new.self held c.serve_all.ensures.goes c.hold_on.ensures.goes (omega arith)) (c.cycle.ensures.goes k) (omega arith),
+    )

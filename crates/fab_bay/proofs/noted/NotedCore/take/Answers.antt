@@ -1,0 +1,42 @@
+use Rattle.std.proofs.Common.{[], refl, ap, ◌∙◌}
+use Rattle.fab_bay.specs.declared.leaving.Taken.{Taken}
+use Rattle.fab_bay.specs.declared.noted.NotedCore.{NotedCore}
+use Rattle.fab_bay.specs.Refusals.{IsAway}
+use Rattle.fab_bay.specs.Nearness.{IsNear}
+use Rattle.fab_bay.specs.Standing.{IsBay}
+use Rattle.fab_bay.proofs.Calls.{bay-again, bay-like, IsLike}
+use Rattle.fab_bay.proofs.Near.{near-settled}
+use Rattle.fab_bay.proofs.Taking.{found-by, found-label}
+use Rattle.fab_bay.proofs.noted.NotedCore.take.Goals as goal
+
+pub returns-then-not-has-clause-taken : goal.returns-then-not-has-clause-taken
+returns-then-not-has-clause-taken c = (λ _. refl, (c.has.ensures.away c.if-not-has.true, refl, c.new.ensures.items))
+
+pub returns-clause-taken : goal.returns-clause-taken
+returns-clause-taken c =
+    let x = c.args.self.now in
+    let b = c.prepare.new.self in
+    let m = c.take_there-found.new.self in
+    let d = c.settle.new.self in
+    let e : NotedCore = record { label = d.label; core = d.core; berths = d.berths; waiting = d.waiting; notes = d.notes; told = c.replace-entries.new.dest } in
+    let found = c.take_there-found.result in
+    let t : Taken = record { entries = c.replace-entries.result; found = found } in
+    let s = c.prepare.ensures.same in
+    let begins : IsLike x b = record { label = s.label; core = s.core; berths = s.berths; waiting = s.waiting; notes = s.notes } in
+    let ends : IsLike d e = record { label = refl; core = refl; berths = refl; waiting = refl; notes = refl } in
+    let there : (IsAway x.notes.items c.args.tenant → ⊥) = c.has.ensures.there c.if-not-has.false in (
+      λ away. absurd (there away),
+      found-by c.args.number c.args.tenant x b m d e t begins (s.told ∙ c.new-2.ensures.items) c.settle.ensures.goes ends (ap (λ v. v.items) c.replace-entries.ensures.value) there found c.take_there-found.ensures.found,
+    )
+
+pub returns-clause-bay : goal.returns-clause-bay
+returns-clause-bay c =
+    let d = c.settle.new.self in
+    let e : NotedCore = record { label = d.label; core = d.core; berths = d.berths; waiting = d.waiting; notes = d.notes; told = c.replace-entries.new.dest } in
+    bay-again c.args.number c.take_there-found.new.self d e c.take_there-found.ensures.ready (c.settle.ensures.goes []) c.settle.ensures.settled
+    (record { label = refl; core = refl; berths = refl; waiting = refl; notes = refl })
+
+pub returns-clause-label : goal.returns-clause-label
+returns-clause-label c =
+    (c.settle.ensures.goes []).label
+    ∙ (found-label c.args.number c.args.tenant c.prepare.new.self c.take_there-found.new.self c.take_there-found.result c.take_there-found.ensures.found ∙ c.prepare.ensures.same.label)

@@ -1,0 +1,42 @@
+use Rattle.fab_bay.proofs.Gone.{room_kept, room_same}
+use Rattle.fab_bay.proofs.Kept.{still_back, still_goes, still_noted, still_of, still_then}
+use Rattle.fab_bay.proofs.noted.NotedCore.take_out.Goals as goal
+
+pub take_with_room-requires : goal.take_with_room-requires
+take_with_room-requires c =
+    let x = c.args.self.now in
+    let y = c.prepare.new.self in
+    let s = c.prepare.ensures.same in
+    let f = c.requires.fabric.0 in
+    record {
+      fabric = (f, still_noted x y f (still_of x y s) c.requires.fabric.1);
+      rest = λ g h. c.requires.rest g (still_noted y x g (still_back x y s) h);
+      there = λ g h. c.requires.there g (still_noted y x g (still_back x y s) h);
+      room = room_kept 2 x y s c.in-Ok.ensures.room;
+    }
+
+pub returns-in-Err : goal.returns-in-Err
+returns-in-Err c =
+    let x = c.args.self.now in
+    let y = c.prepare.new.self in
+    let s = c.prepare.ensures.same in
+    record {
+      goes = tt;
+      number = tt;
+      err = λ out. still_goes c.args.number x y out (still_of x y s);
+      room = room_same x y s c.prepare.ensures.kept c.requires.room;
+    }
+
+pub returns-in-Ok : goal.returns-in-Ok
+returns-in-Ok c =
+    let x = c.args.self.now in
+    let y = c.prepare.new.self in
+    let z = c.take_with_room.new.self in
+    let s = c.prepare.ensures.same in
+    let e = c.take_with_room.ensures in
+    record {
+      goes = λ out. still_then c.args.number 0 x y z out _ (still_of x y s) (e.goes out);
+      number = e.number;
+      err = tt;
+      room = e.room;
+    }

@@ -1,0 +1,18 @@
+-- What taking a tenant out does (own).
+use Rattle.std.specs.Prelude.{◌≡◌, ◌≢◌, ℕ, [], ◌∷◌}
+use Rattle.ten_parcel.specs.Parcels.{number_of}
+use Rattle.fab_bay.specs.declared.leaving.Found.{Found}
+use Rattle.fab_bay.specs.declared.leaving.Found.TheVariants.{Here, Absent, Short}
+use Rattle.fab_bay.specs.declared.leaving.Taken.{Taken}
+use Rattle.fab_bay.specs.declared.noted.NotedCore.{NotedCore}
+use Rattle.fab_bay.specs.Refusals.{IsAway}
+use Rattle.fab_bay.specs.Ways.{Took}
+
+-- the tenant is out; or it wasn't there, and nothing was done; or memory ended the call, and it is still there
+abbrev pub IsFound : (number tenant : ℕ) (x y : NotedCore) → Taken → Found → Type 0
+IsFound number tenant x y t (Here out) = (number_of out.parcel ≡ tenant) × Took number x y t.entries.items (out ∷ [])
+IsFound number tenant x y t Absent = IsAway x.notes.items tenant × (y.notes.items ≡ x.notes.items) × (t.entries.items ≡ [])
+IsFound number tenant x y t Short = (IsAway x.notes.items tenant → ⊥) × Took number x y t.entries.items []
+
+abbrev pub IsTaken : (number tenant : ℕ) (x y : NotedCore) → Taken → Type 0
+IsTaken number tenant x y t = (IsAway x.notes.items tenant → t.found ≡ Absent) × IsFound number tenant x y t t.found

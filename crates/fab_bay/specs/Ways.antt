@@ -1,0 +1,122 @@
+-- What a call does with a core and its history (own).
+use Rattle.std.specs.Prelude.{◌≡◌, ℕ, suc, ◌<◌, ◌≤◌, ◌+◌, ◌⊎◌, Bool, true, false, List, [], ◌∷◌, ◌++◌, map, length, Option, Some, None, ⊤}
+use Rattle.fab_lock.specs.declared.entry.Entry.{Entry}
+use Rattle.fab_lock.specs.declared.entry.Kind.{Kind}
+use Rattle.fab_lock.specs.declared.entry.Kind.TheVariants as kind
+use Rattle.fab_points.specs.Points.{Point}
+use Rattle.fab_points.specs.Fabrics.{first_leaving, head_fits, Fabric}
+use Rattle.fab_points.specs.Worlds.{happens, run, Event, World, Load, Arrive, Cycle, Serve, Hold, Rebuild, Take, Leave}
+use Rattle.fab_core.specs.Standing.{IsPointOf}
+use Rattle.fab_notes.specs.declared.note.Note.{Note}
+use Rattle.fab_notes.specs.declared.transit.Transit.{Transit}
+use Rattle.ten_parcel.specs.Parcels.{number_of, ticks_of}
+use Rattle.fab_notes.specs.Deeds.{deed_in, deed_of}
+use Rattle.fab_notes.specs.Histories.{replay}
+use Rattle.fab_notes.specs.Tokens.{outs, puts, token_of, AllBear, Token}
+use Rattle.fab_bay.specs.declared.leaving.Leaving.{Leaving}
+use Rattle.fab_bay.specs.declared.leaving.Receipt.{Receipt}
+use Rattle.fab_bay.specs.declared.leaving.Turn.{Turn}
+use Rattle.fab_bay.specs.declared.noted.NotedCore.{NotedCore}
+use Rattle.fab_bay.specs.Standing.{IsNoted}
+
+-- ---- tenants that came out
+
+abbrev pub transits : List Leaving → List Transit
+transits ls = map (λ l. l.transit) ls
+
+-- they are at these points
+abbrev pub AreOut : List Transit → List Point → Type 0
+AreOut [] [] = ⊤
+AreOut [] (p ∷ ps) = ⊥
+AreOut (t ∷ ts) [] = ⊥
+AreOut (t ∷ ts) (p ∷ ps) = IsPointOf t.parcel p × AreOut ts ps
+
+abbrev pub tokens : List Transit → List Token
+tokens ts = map token_of ts
+
+-- ---- events
+
+-- how many cycles there are among events
+abbrev pub cycles_in : List Event → ℕ
+cycles_in [] = 0
+cycles_in (Cycle ∷ es) = suc (cycles_in es)
+cycles_in (Load p ∷ es) = cycles_in es
+cycles_in (Arrive t ∷ es) = cycles_in es
+cycles_in (Serve t ∷ es) = cycles_in es
+cycles_in (Hold ∷ es) = cycles_in es
+cycles_in (Rebuild ∷ es) = cycles_in es
+cycles_in (Take t ∷ es) = cycles_in es
+cycles_in (Leave t ∷ es) = cycles_in es
+
+-- a cycle comes only where the fabric holds, or no resident is due to leave and the head of the line doesn't fit
+abbrev pub MayBe : Event → Fabric → Type 0
+MayBe Cycle f = f.holding ≡ false → (first_leaving f.residents ≡ None) × (head_fits f ≡ false)
+MayBe e f = ⊤
+
+abbrev pub AreInOrder : List Event → World → Type 0
+AreInOrder [] w = ⊤
+AreInOrder (e ∷ es) w = MayBe e w.fabric × AreInOrder es (happens w e)
+
+-- ---- ways
+
+-- each is of a tenant of a number below this one
+abbrev pub AreBelow : ℕ → List Note → Type 0
+AreBelow n [] = ⊤
+AreBelow n (m ∷ ms) = (m.entry.tenant < n) × AreBelow n ms
+
+-- from x to y by the seat of this number, in so many cycles: notes are added that bear it, none of a tenant that is put in line, and they say who came out
+-- behind those before; what they tell is behind what was told before; and events happen to every fabric for which x stands, and lead to one for which y stands
+pub record Way (number cycles : ℕ) (x y : NotedCore) (said said' : List Entry) (out out' : List Transit) : Type 0 where
+  pub label : y.label ≡ x.label
+  pub added : List Note
+  pub notes : y.notes.items ≡ x.notes.items ++ added
+  pub told : said' ≡ said ++ map (λ n. n.entry) added
+  pub bear : AllBear number added
+  pub few : AreBelow x.label.tenants added
+  pub puts : puts added ≡ []
+  pub outs : tokens out' ≡ tokens out ++ outs added
+  pub events : List Event
+  pub count : cycles_in events ≡ cycles
+  pub leads : (f : Fabric) (ps : List Point) → IsNoted x f → AreOut out ps →
+      IsNoted y (run events (record { fabric = f; transit = ps })).fabric × AreOut out' (run events (record { fabric = f; transit = ps })).transit
+  pub ordered : (f : Fabric) (ps : List Point) → IsNoted x f → AreOut out ps → AreInOrder events (record { fabric = f; transit = ps })
+
+-- in a call: what is told is kept beside the history
+abbrev pub Goes : (number cycles : ℕ) (x y : NotedCore) (out out' : List Transit) → Type 0
+Goes number cycles x y out out' = Way number cycles x y x.told.items y.told.items out out'
+
+-- nobody is there by the history
+abbrev pub IsEmpty : List Note → Type 0
+IsEmpty notes = replay [] notes ≡ []
+
+-- a turn of at most so many cycles: it did just so many, or nobody is left, unless memory ended it
+pub record Turned (number most : ℕ) (x y : NotedCore) (t : Turn) : Type 0 where
+  pub cycles : ℕ
+  pub goes : Way number cycles x y [] t.entries.items [] (transits t.leaving.items)
+  pub entries : t.entries.items ≡ map (λ n. n.entry) goes.added
+  pub few : cycles ≤ most
+  pub all : t.short ≡ false → (cycles ≡ most) ⊎ IsEmpty y.notes.items
+
+-- no run that is told of is longer than a tick
+abbrev pub is_short : Kind → Entry → Type 0
+is_short kind.Ran e = e.to ≤ e.from + 1
+is_short k e = ⊤
+
+abbrev pub AreShort : List Note → Type 0
+AreShort [] = ⊤
+AreShort (n ∷ ns) = is_short n.entry.kind n.entry × AreShort ns
+
+-- a tenant was taken out, if it came out
+pub record Took (number : ℕ) (x y : NotedCore) (entries : List Entry) (out : List Transit) : Type 0 where
+  pub cycles : ℕ
+  pub goes : Way number cycles x y [] entries [] out
+  pub told : entries ≡ map (λ n. n.entry) goes.added
+
+-- a tenant was put in line by the seat of this number: one note is added, and the receipt says so
+pub record IsPut (number : ℕ) (x y : NotedCore) (t : Transit) (r : Receipt) : Type 0 where
+  pub note : Note
+  pub notes : y.notes.items ≡ x.notes.items ++ note ∷ []
+  pub entry : note.entry ≡ r.entry
+  pub deed : deed_in note ≡ Some (deed_of t)
+  pub tells : r.entry ≡ record { seat = number; kind = kind.Line; tenant = number_of t.parcel; from = ticks_of t.parcel; to = ticks_of t.parcel }
+  pub position : r.position ≡ length x.notes.items

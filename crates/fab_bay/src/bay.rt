@@ -1,0 +1,126 @@
+//! The value that the threads of a fabric share.
+
+ghost use Rattle.std.specs.Prelude.{◌≡◌, ◌<◌, ◌≤◌, [], false, true, None, IfErr, IfOk, OnErr, map};
+ghost use Rattle.std.specs.Bool.{Decides};
+ghost use Rattle.ten_parcel.specs.Parcels.{number_of};
+ghost use Rattle.fab_points.specs.Points.{ended, Point};
+ghost use Rattle.fab_points.specs.Fabrics.{within};
+ghost use Rattle.fab_core.specs.Standing.{IsPointOf};
+ghost use Rattle.fab_notes.specs.Deeds.{cost_of, deed_of};
+ghost use Rattle.fab_notes.specs.Tokens.{token_of};
+ghost use Rattle.fab_bay.specs.Refusals.{IsAway, IsRefusal};
+ghost use Rattle.fab_bay.specs.Standing.{IsBay};
+ghost use Rattle.fab_bay.specs.Taking.{IsTaken};
+ghost use Rattle.fab_bay.specs.Ways.{IsEmpty, IsPut, Turned};
+
+use crate::leaving::{Receipt, Refused, Taken, Turn};
+use crate::noted::{Label, NotedCore};
+use fab_core::cores::FabCore;
+use fab_lock::Kept;
+use fab_notes::note::Note;
+use fab_notes::transit::Transit;
+use std::alloc::{AllocError, Global};
+use std::marker::Model;
+
+/// A core with its history, which is legal and says who is where, at which tick.
+#[derive(Drop)]
+pub struct Bay {
+    noted: NotedCore,
+}
+
+impl Model for Bay {
+    ghost use Rattle.fab_bay.specs.declared.noted.NotedCore.{NotedCore};
+    ghost use Rattle.fab_bay.specs.Standing.{IsBay};
+    ghost use Rattle.fab_bay.specs.contracts.noted.NotedCore as held;
+
+    ghost Value = { NotedCore };
+
+    ghost coded = { held.the_row.coded };
+
+    ghost view = { λ b. b.noted };
+
+    ghost invariant = { λ b. IsBay b.noted };
+}
+
+impl Kept for Bay {
+    ghost use Rattle.fab_lock.specs.declared.entry.Entry.{Entry};
+
+    type Label = Label;
+
+    type Note = Note;
+
+    ghost label = { λ b. b.label };
+
+    ghost history = { λ b. b.notes.items };
+
+    ghost entry = { λ n. n.entry };
+}
+
+impl Bay {
+    /// A fabric without tenants.
+    pub fn new(alloc: Global, label: Label) -> Bay
+        ensures label { result.label ≡ label }
+        ensures notes { result.notes.items ≡ [] }
+    {
+        Bay {
+            noted: NotedCore {
+                label,
+                core: FabCore::new(alloc, label.capacity),
+                berths: Vec::new(alloc),
+                waiting: Vec::new(alloc),
+                notes: Vec::new(alloc),
+                told: Vec::new(alloc),
+            },
+        }
+    }
+
+    /// Puts a tenant at rest that hasn't ended in line; or else it is given back, and all is as it was.
+    pub fn put(&mut self, number: u32, transit: Transit) -> Result<Receipt, Refused>
+        requires transit { (p : Point) × IsPointOf transit.parcel p × (ended p ≡ None) }
+        requires tenant { number_of transit.parcel < self.old.label.tenants }
+        requires first { self.old.label.any_puts ≡ false → number ≡ 0 }
+        ensures put { IfOk result (λ r. IsPut number self.old self.new transit r) }
+        ensures room { IfOk result (λ r. (within (cost_of (deed_of transit)) self.old.label.capacity ≡ true) × IsAway self.old.notes.items (number_of transit.parcel)) }
+        ensures back { IfErr result (λ r. r.transit ≡ transit) }
+        ensures why { IfErr result (λ r. IsRefusal self.old.label.capacity self.old.notes.items (token_of transit) r.why) }
+        ensures label { self.new.label ≡ self.old.label }
+        ensures same { OnErr result (self.new.notes.items ≡ self.old.notes.items) }
+    {
+        self.noted.put(number, transit)
+    }
+
+    /// At most so many cycles, and what comes between them. Unless memory ends it, it does just so many cycles or leaves nobody. An `Err` is
+    /// want of memory before anything was done.
+    pub fn turn(&mut self, alloc: Global, number: u32, most: u64) -> Result<Turn, AllocError>
+        requires some { 1 ≤ most }
+        ensures turned { IfOk result (λ t. Turned number most self.old self.new t) }
+        ensures idle { IfOk result (λ t. Decides t.idle (IsEmpty self.old.notes.items)) }
+        ensures label { self.new.label ≡ self.old.label }
+        ensures err { OnErr result (self.new.notes.items ≡ self.old.notes.items) }
+    {
+        self.noted.turn(alloc, number, most)
+    }
+
+    /// Takes a tenant out. No tick rises by more than one. An `Err` is want of memory before anything was done.
+    pub fn take(&mut self, alloc: Global, number: u32, tenant: u32) -> Result<Taken, AllocError>
+        ensures taken { IfOk result (λ t. IsTaken number tenant self.old self.new t) }
+        ensures label { self.new.label ≡ self.old.label }
+        ensures err { OnErr result (self.new.notes.items ≡ self.old.notes.items) }
+    {
+        self.noted.take(alloc, number, tenant)
+    }
+
+    /// It stands for a fabric, by a legal history, with each tick noted.
+    pub fn stands(&self)
+        ensures { IsBay self.now }
+    {
+        let _ = &self.noted;
+    }
+
+    /// Its history.
+    pub fn history(&self) -> &[Note]
+        ensures { result.now ≡ self.now.notes.items }
+    {
+        self.noted.notes.as_slice()
+    }
+}

@@ -1,0 +1,43 @@
+//! Cycles of a fabric.
+
+ghost use Rattle.std.specs.Prelude.{◌≡◌, false, true, List, None};
+ghost use Rattle.fab_points.specs.Fabrics.{first_leaving, head_fits, Fabric};
+ghost use Rattle.fab_notes.specs.declared.transit.Transit.{Transit as Out};
+ghost use Rattle.fab_bay.specs.Nearness.{IsNear};
+ghost use Rattle.fab_bay.specs.Standing.{CanSettle, IsNoted};
+ghost use Rattle.fab_bay.specs.Ways.{Goes};
+
+use crate::noted::NotedCore;
+use ten_run::laws::{a_run_at_rest_is_at_a_boundary, each_act_comes_nearer};
+use vl_design::laws::has_one_state_at_a_boundary;
+
+impl NotedCore {
+    /// Each resident that may does one cycle. Where the fabric doesn't hold, nobody is due to leave and the head of the line doesn't fit.
+    pub(crate) fn cycle(&mut self)
+        requires fabric { (f : Fabric) × IsNoted self.old f }
+        requires order { (f : Fabric) → IsNoted self.old f → f.holding ≡ false → (first_leaving f.residents ≡ None) × (head_fits f ≡ false) }
+        ensures goes { (number : _) (out : List Out) → Goes number 1 self.old self.new out out }
+        ensures near { self.old.core.holding ≡ true → IsNear self.old → IsNear self.new }
+        ensures holding { self.new.core.holding ≡ self.old.core.holding }
+        ensures notes { self.new.notes ≡ self.old.notes }
+        ensures room { CanSettle self.old → CanSettle self.new }
+    {
+        each_act_comes_nearer();
+        a_run_at_rest_is_at_a_boundary();
+        has_one_state_at_a_boundary();
+        self.core.cycle();
+    }
+
+    /// No resident starts another tick, until the joined bank is made anew.
+    pub(crate) fn hold(&mut self)
+        requires fabric { (f : Fabric) × IsNoted self.old f }
+        requires free { self.old.core.holding ≡ false }
+        ensures goes { (number : _) (out : List Out) → Goes number 0 self.old self.new out out }
+        ensures room { CanSettle self.old → CanSettle self.new }
+        ensures holds { self.new.core.holding ≡ true }
+        ensures notes { self.new.notes ≡ self.old.notes }
+        ensures near { IsNear self.old → IsNear self.new }
+    {
+        self.core.hold();
+    }
+}

@@ -1,0 +1,37 @@
+//! A core with its history.
+
+use crate::berth::Berth;
+use fab_core::cores::FabCore;
+use fab_lock::Entry;
+use fab_notes::note::Note;
+use vl_cost::capacity::Cost;
+
+/// What never changes of a bay.
+#[derive(Clone, Copy, Debug, PartialEq, Drop)]
+pub struct Label {
+    /// The number of its fabric.
+    pub fabric: u32,
+    /// What the fabric has.
+    pub capacity: Cost,
+    /// Tenants have numbers below this one.
+    pub tenants: u32,
+    /// Every seat may put tenants in line; else only that of number 0.
+    pub any_puts: bool,
+}
+
+/// A core with its history. In a call ticks run ahead of it.
+#[derive(Drop)]
+pub struct NotedCore {
+    /// What never changes.
+    pub label: Label,
+    /// The core.
+    pub core: FabCore,
+    /// What is noted of the residents, in order.
+    pub berths: Vec<Berth>,
+    /// What is noted of the tenants in line, in order.
+    pub waiting: Vec<Berth>,
+    /// The history.
+    pub notes: Vec<Note>,
+    /// What the notes of the call in progress tell.
+    pub told: Vec<Entry>,
+}

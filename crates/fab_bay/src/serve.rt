@@ -1,0 +1,77 @@
+//! What residents wait for.
+
+ghost use Rattle.std.specs.Prelude.{◌≡◌, ◌++◌, ◌+◌, ◌==◌, true, ℕ, List, Some, length, position};
+ghost use Rattle.fab_points.specs.Points.{waits, Point};
+ghost use Rattle.fab_points.specs.Fabrics.{first_of, Fabric};
+ghost use Rattle.fab_notes.specs.declared.note.Note.{Note as OneNote};
+ghost use Rattle.fab_notes.specs.declared.transit.Transit.{Transit as Out};
+ghost use Rattle.fab_bay.specs.Nearness.{IsNear};
+ghost use Rattle.fab_bay.specs.Standing.{CanSettle, HasRoomFor, IsNoted};
+ghost use Rattle.fab_bay.specs.Ways.{AreShort, Goes};
+
+use crate::noted::NotedCore;
+use fab_notes::laws::a_history_goes_on;
+use fab_notes::note::Note;
+use std::alloc::{AllocError, Global};
+use ten_run::laws::each_act_comes_nearer;
+
+impl NotedCore {
+    /// The place of a resident.
+    fn place_of(&self, tenant: u32) -> Option<usize>
+        ensures { result ≡ position (λ b. b.tenant == tenant) self.now.berths.items }
+    {
+        self.berths.iter().position(|b| b.tenant == tenant)
+    }
+
+    /// Writes that a snapshot of a resident was made, and before that its run up to there.
+    fn saved_one(&mut self, number: u32, tenant: u32)
+        requires fabric { (f : Fabric) × (p : Point) × IsNoted self.old f × (first_of tenant f.residents ≡ Some p) }
+        requires room { HasRoomFor 2 self.old }
+        ensures goes { (out : List Out) → Goes number 0 self.old self.new out out }
+        ensures core { self.new.core ≡ self.old.core }
+        ensures near { IsNear self.old → IsNear self.new }
+        ensures short { IsNear self.old → (added : List OneNote) → self.new.notes.items ≡ self.old.notes.items ++ added → AreShort added }
+        ensures long { length self.new.berths.items ≡ length self.old.berths.items }
+        ensures room { (n : ℕ) → HasRoomFor (n + 2) self.old → HasRoomFor n self.new }
+    {
+        a_history_goes_on();
+        let Some(place) = self.place_of(tenant) else {
+            unreachable!()
+        };
+        self.ran_one(place, number);
+        let tick = self.berths[place].noted;
+        self.write(Note::saved(number, tenant, tick));
+    }
+
+    /// Serves the call at which a resident waits, or makes the next snapshot that is due at its boundary, and writes that. Want of memory
+    /// leaves all as it was.
+    pub(crate) fn serve(
+        &mut self,
+        alloc: Global,
+        number: u32,
+        tenant: u32,
+    ) -> Result<(), AllocError>
+        requires fabric { (f : Fabric) × IsNoted self.old f }
+        requires waits { (f : Fabric) → IsNoted self.old f → (p : Point) × (first_of tenant f.residents ≡ Some p) × (waits p ≡ true) }
+        requires room { CanSettle self.old }
+        ensures goes { (out : List Out) → Goes number 0 self.old self.new out out }
+        ensures near { IsNear self.old → IsNear self.new }
+        ensures short { IsNear self.old → (added : List OneNote) → self.new.notes.items ≡ self.old.notes.items ++ added → AreShort added }
+        ensures holding { self.new.core.holding ≡ self.old.core.holding }
+        ensures room { CanSettle self.new }
+    {
+        each_act_comes_nearer();
+        if self.prepare(2).is_err() {
+            return Err(AllocError);
+        }
+        match self.core.serve(alloc, tenant) {
+            Err(error) => Err(error),
+            Ok(saved) => {
+                if saved {
+                    self.saved_one(number, tenant);
+                }
+                Ok(())
+            }
+        }
+    }
+}

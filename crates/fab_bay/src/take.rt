@@ -1,0 +1,156 @@
+//! Tenants that are taken out.
+
+ghost use Rattle.std.specs.Prelude.{◌≡◌, ℕ, [], List, ◌∷◌, false, true, IfOk, OnErr};
+ghost use Rattle.ten_parcel.specs.Parcels.{number_of};
+ghost use Rattle.fab_points.specs.Fabrics.{has, Fabric};
+ghost use Rattle.fab_notes.specs.declared.transit.Transit.{Transit as Out};
+ghost use Rattle.fab_bay.specs.Refusals.{IsAway};
+ghost use Rattle.fab_bay.specs.Rounds.{is_among, IsFoundReady, IsNearOn, IsReady};
+ghost use Rattle.fab_bay.specs.Standing.{IsBay, IsNoted};
+ghost use Rattle.fab_bay.specs.Taking.{IsTaken};
+ghost use Rattle.fab_bay.specs.Ways.{Goes};
+
+use crate::berth::Berth;
+use crate::leaving::{Found, Taken};
+use crate::noted::NotedCore;
+use std::alloc::{AllocError, Global};
+
+/// The tenant is among these.
+fn is_among(tenant: u32, berths: &[Berth]) -> bool
+    ensures { result ≡ is_among tenant berths.now }
+{
+    for berth in berths {
+        if berth.tenant == tenant {
+            return true;
+        }
+    }
+    false
+}
+
+impl NotedCore {
+    /// The tenant is a resident or in line.
+    fn has(&self, tenant: u32) -> bool
+        requires { (f : Fabric) × IsNoted self.now f }
+        ensures away { result ≡ false → IsAway self.now.notes.items tenant }
+        ensures there { result ≡ true → IsAway self.now.notes.items tenant → ⊥ }
+        ensures fabric { (f : Fabric) → IsNoted self.now f → has tenant f ≡ result }
+    {
+        if is_among(tenant, &self.berths) {
+            return true;
+        }
+        is_among(tenant, &self.waiting)
+    }
+
+    /// It holds.
+    fn hold_on(&mut self, number: u32)
+        requires ready { IsReady self.old }
+        ensures ready { IsReady self.new }
+        ensures goes { (out : List Out) → Goes number 0 self.old self.new out out }
+        ensures holds { self.new.core.holding ≡ true }
+        ensures near { IsNearOn self.old self.new }
+    {
+        if self.core.holding {
+            return;
+        }
+        self.hold();
+    }
+
+    /// Residents that wait are served; where the fabric holds and not all rest, those that don't do a cycle. True where all rest.
+    fn step_to_rest(&mut self, alloc: Global, number: u32) -> Result<bool, AllocError>
+        requires ready { IsReady self.old }
+        ensures ready { IsReady self.new }
+        ensures goes { (cycles : ℕ) × ((out : List Out) → Goes number cycles self.old self.new out out) }
+        ensures near { IsNearOn self.old self.new }
+    {
+        if self.serve_all(alloc, number).is_err() {
+            return Err(AllocError);
+        }
+        self.hold_on(number);
+        if self.is_at_rest() {
+            return Ok(true);
+        }
+        self.cycle();
+        Ok(false)
+    }
+
+    /// The fabric holds, and residents run until all rest. False where memory ended that.
+    fn run_to_rest(&mut self, alloc: Global, number: u32) -> bool
+        requires ready { IsReady self.old }
+        ensures ready { IsReady self.new }
+        ensures goes { (cycles : ℕ) × ((out : List Out) → Goes number cycles self.old self.new out out) }
+        ensures near { IsNearOn self.old self.new }
+    {
+        for _ in 0..u64::MAX {
+            match self.step_to_rest(alloc, number) {
+                Ok(true) => return true,
+                Ok(false) => {}
+                Err(_) => return false,
+            }
+        }
+        false
+    }
+
+    /// Takes a tenant out where all rest; then the joined bank is made anew, if there is memory for it.
+    fn take_at_rest(&mut self, alloc: Global, number: u32, tenant: u32) -> Found
+        requires ready { IsReady self.old }
+        ensures ready { IsReady self.new }
+        ensures found { IsFoundReady number tenant self.old self.new result }
+    {
+        if !self.is_at_rest() {
+            return Found::Short;
+        }
+        if !self.has(tenant) {
+            return Found::Short;
+        }
+        match self.take_out(number, tenant) {
+            Ok(out) => {
+                let _rebuilt = self.rebuild_at_rest(alloc, number).is_ok();
+                Found::Here(out)
+            }
+            Err(_) => Found::Short,
+        }
+    }
+
+    /// The residents run to a boundary, and a tenant is taken out there.
+    fn take_there(&mut self, alloc: Global, number: u32, tenant: u32) -> Found
+        requires ready { IsReady self.old }
+        ensures ready { IsReady self.new }
+        ensures found { IsFoundReady number tenant self.old self.new result }
+    {
+        if !self.run_to_rest(alloc, number) {
+            return Found::Short;
+        }
+        self.take_at_rest(alloc, number, tenant)
+    }
+
+    /// Takes a tenant out: it holds, runs the residents to a boundary, takes the tenant, and makes the joined bank anew. No tick rises by more
+    /// than one. An `Err` is want of memory before anything was done. Where memory fails to make the joined bank anew, the tenant is out all
+    /// the same, and the fabric goes on to hold.
+    pub(crate) fn take(
+        &mut self,
+        alloc: Global,
+        number: u32,
+        tenant: u32,
+    ) -> Result<Taken, AllocError>
+        requires bay { IsBay self.old }
+        ensures taken { IfOk result (λ t. IsTaken number tenant self.old self.new t) }
+        ensures bay { IsBay self.new }
+        ensures label { self.new.label ≡ self.old.label }
+        ensures err { OnErr result (self.new.notes.items ≡ self.old.notes.items) }
+    {
+        if !self.has(tenant) {
+            return Ok(Taken {
+                entries: Vec::new(alloc),
+                found: Found::Absent,
+            });
+        }
+        self.told = Vec::new(alloc);
+        if self.prepare(0).is_err() {
+            return Err(AllocError);
+        }
+        let found = self.take_there(alloc, number, tenant);
+        self.settle(number);
+        let entries = std::mem::replace(&mut self.told, Vec::new(alloc));
+        Ok(Taken { entries, found })
+    }
+}

@@ -1,0 +1,4 @@
+pub mod Doing
+pub mod Giving
+pub mod Histories
+pub mod Raising

@@ -1,0 +1,5 @@
+pub mod Ends
+pub mod Stays
+pub mod Deeds
+pub mod Histories
+pub mod Tokens

@@ -1,0 +1,18 @@
+//! What holds of histories. Each function does nothing; its contract is the law.
+
+ghost use Rattle.std.specs.Prelude.{◌≡◌, ℕ, List, [], ◌∷◌, ◌++◌};
+ghost use Rattle.vl_cost.specs.declared.capacity.Cost.{Cost as Capacity};
+ghost use Rattle.fab_notes.specs.declared.note.Note.{Note as OneNote};
+ghost use Rattle.fab_notes.specs.Histories.{after, of_tenant, place_of, replay, Away, HasRoom, IsLawful, IsLegal, May};
+
+/// In a legal history the notes of each tenant may follow one another.
+pub fn the_notes_of_each_tenant_are_lawful()
+    ensures { (g t : ℕ) (c : Capacity) (notes : List OneNote) → IsLegal g c notes → IsLawful g Away (of_tenant t notes) }
+{}
+
+/// A history stays legal where one note more may follow and has room.
+pub fn a_history_goes_on()
+    ensures legal { (g : ℕ) (c : Capacity) (notes : List OneNote) (n : OneNote) → IsLegal g c notes → May g n.entry.kind (place_of n.entry.tenant (replay [] notes)) n →
+        HasRoom c n.entry.kind (replay [] notes) n → IsLegal g c (notes ++ n ∷ []) }
+    ensures replay { (notes : List OneNote) (n : OneNote) → replay [] (notes ++ n ∷ []) ≡ after n.entry.kind (replay [] notes) n }
+{}

@@ -1,0 +1,32 @@
+//! Tenants between fabrics.
+
+ghost use Rattle.std.specs.Prelude.{◌≡◌, true};
+ghost use Rattle.vl_design.specs.Alone.{first_tick};
+ghost use Rattle.ten_parcel.specs.Parcels.{run_of, ticks_of};
+ghost use Rattle.fab_notes.specs.Ends.{EndsNotBefore};
+ghost use Rattle.fab_notes.specs.Stays.{chains};
+
+use ten_parcel::parcel::Parcel;
+
+/// A stay of a tenant on a fabric.
+#[derive(Clone, Copy, Debug, PartialEq, Eq, Drop)]
+pub struct Stay {
+    /// The number of the fabric.
+    pub fabric: u32,
+    /// The tick at which it began.
+    pub from: u64,
+    /// The tick at which it ended.
+    pub to: u64,
+}
+
+/// A tenant at rest on no fabric, with its stays so far: the first begins where its run does, each next one where the one before it
+/// ends, and the last ends where the tenant rests. Its run doesn't end before that.
+#[derive(Drop)]
+pub struct Transit {
+    /// The tenant.
+    pub parcel: Parcel,
+    /// Its stays so far.
+    pub stays: Vec<Stay>,
+    ghost chained: { chains (first_tick (run_of parcel).resume) stays.items (ticks_of parcel) ≡ true },
+    ghost before_end: { EndsNotBefore (run_of parcel) (ticks_of parcel) },
+}

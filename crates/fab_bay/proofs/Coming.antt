@@ -25,9 +25,10 @@ use Rattle.fab_bay.specs.declared.noted.Label.{Label}
 use Rattle.fab_bay.specs.declared.noted.NotedCore.{NotedCore}
 use Rattle.fab_bay.specs.Berths.{seat, seats, AreBerths, AreWaiters}
 use Rattle.fab_bay.specs.Standing.{CanSettle, HasRoomFor, IsNoted}
-use Rattle.fab_bay.specs.Ways.{tokens, AreOut, Goes}
+use Rattle.fab_bay.specs.Ways.{tokens, AreOut, AreShort, Goes}
 use Rattle.fab_bay.proofs.Gone.{room_less}
 use Rattle.fab_bay.proofs.Kept.{goes_by, noted_by, told_next, told_of, written_none, written_one, written_then, IsTold, IsWritten}
+use Rattle.fab_bay.proofs.Near.{short-none, short-one, short-then}
 use Rattle.fab_bay.proofs.Places.{berths_many, waiters_at, waiters_berths}
 use Rattle.fab_notes.proofs.Seats.{apart_legal, came_map, changed_mid, head_map, place_mid, used_before, AreApart}
 
@@ -162,6 +163,8 @@ pub record IsComing (k i : ℕ) (x z : NotedCore) : Type 0 where
   pub told : IsTold x.label z.notes.items z.berths.items z.waiting.items
   pub room : (m : ℕ) → m + i ≤ length x.berths.items + length x.waiting.items + length x.waiting.items → HasRoomFor m z
   pub free : vec_len z.berths + length x.waiting.items ≤ vec_capacity z.berths + i
+  -- nobody runs
+  pub short : (added : List Note) → z.notes.items ≡ x.notes.items ++ added → AreShort added
 
 -- the fabric for which a core stood before
 pub record IsStart (x : NotedCore) (f : Fabric) : Type 0 where
@@ -273,6 +276,9 @@ module _ (k i : ℕ) (x y z : NotedCore) (f : Fabric) (b : Berth) (n : Note) (s 
             (subst (λ (bs : List Berth). IsTold x.label (y.notes.items ++ n ∷ []) (y.berths.items ++ b ∷ []) bs) (sym line) told));
         room = λ m e. c.room m (h.room (suc m) (omega (arith, e)));
         free = omega (arith, free, more, wide);
+        short = λ added e.
+            short-then x.notes.items y.notes.items z.notes.items h.written.added (n ∷ []) added h.written.notes c.notes e (h.short h.written.added h.written.notes)
+            (short-one n Came (ap (λ (a : Entry). a.kind) c.entry) tt);
       }
 
 -- ---- all that join have come
@@ -308,6 +314,7 @@ coming_start k w x f r n room free = record {
   told = told_start w x f r n;
   room = λ m e. room_less m (length x.berths.items + length x.waiting.items + length x.waiting.items) x (omega (arith, e)) room;
   free = omega (arith, free);
+  short = λ added e. short-none x.notes.items x.notes.items added refl e;
 }
 
 pub coming_there : (k i : ℕ) (x y : NotedCore) (f : Fabric) → IsStart x f → i < joining f → IsComing k i x y → length y.waiting.items + i ≡ length x.waiting.items

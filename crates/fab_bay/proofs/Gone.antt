@@ -191,7 +191,7 @@ module _ (k tenant place : ℕ) (x y z : NotedCore) (b : Berth) (t : Transit) (n
         world = λ ps. leave_world tenant f ps p rest w first is;
       }
 
-  taken_here : taken tenant f ≡ left tenant f
+  pub taken_here : taken tenant f ≡ left tenant f
   taken_here =
       ap (λ (b : Bool). if b then left tenant f else record f { line = without tenant f.line })
       (ap is_some ((ran_first tenant place x y b o.ran f h).first (first_point f.residents (ran_first tenant place x y b o.ran f h).there)))

@@ -9,6 +9,9 @@ pub mod Going
 pub mod Rounds
 pub mod Calls
 pub mod Nears
+pub mod Gaps
+pub mod Acts
+pub mod Staying
 pub mod Taking
 pub mod Bays
 pub mod Arriving
@@ -18,3 +21,5 @@ pub mod Kept
 pub mod Leavers
 pub mod Places
 pub mod Pointed
+pub mod Owning
+pub mod Crosses

@@ -15,7 +15,7 @@ use Rattle.fab_join.specs.Parts.{PartData}
 use Rattle.fab_points.specs.Points.{Point, called, cycled, due, is_there, order_in, rests, run_in, saved, served, tick_of, waits}
 use Rattle.fab_points.specs.Fabrics.{all_served, all_stepped, can_step, changed, first_of, held, is_of, stepped, Fabric}
 use Rattle.ten_run.specs.Running.{IsRunning}
-use Rattle.fab_lock.specs.declared.entry.Kind.TheVariants.{Saved}
+use Rattle.fab_lock.specs.declared.entry.Kind.{Kind}
 use Rattle.fab_core.specs.declared.cores.FabCore.{FabCore}
 use Rattle.fab_core.specs.declared.resident.Resident.{Resident}
 use Rattle.fab_core.specs.Standing.{AreStanding, IsFabric, IsPoint}
@@ -40,7 +40,7 @@ same-begun j (r ∷ rs) (x ∷ ps) (y ∷ qs) zero p q h k e g =
     ap (λ (z : Point). z.stage.state.ticks) (sym (some-same x p e)) ∙ sym h.0.point.stands.at.ticks ∙ k.0.point.stands.at.ticks ∙ ap (λ (z : Point). z.stage.state.ticks) (some-same y q g)
 same-begun j (r ∷ rs) (x ∷ ps) (y ∷ qs) (suc i) p q h k e g = same-begun j rs ps qs i p q h.1 k.1 e g
 
-any-fabric : (y : NotedCore) (f : Fabric) → IsFabric y.core f → length y.berths.items ≡ length f.residents → ((place : ℕ) (b : Berth) (p : Point) → slice_get y.berths.items place ≡ Some b → slice_get f.residents place ≡ Some p → begun p ≤ b.noted + 1) → IsNear y
+pub any-fabric : (y : NotedCore) (f : Fabric) → IsFabric y.core f → length y.berths.items ≡ length f.residents → ((place : ℕ) (b : Berth) (p : Point) → slice_get y.berths.items place ≡ Some b → slice_get f.residents place ≡ Some p → begun p ≤ b.noted + 1) → IsNear y
 any-fabric y f core long near g place b q other at stands =
     let lt : place < length f.residents = subst (λ n. place < n) long (slice_get_within y.berths.items place b at) in
     let p = get-there f.residents place lt in
@@ -202,8 +202,9 @@ short-then x y z a b added e g h s t =
 pub short-none : (x y added : List Note) → y ≡ x → y ≡ x ++ added → AreShort added
 short-none x y added e h = subst AreShort (cancel x [] added (append-nil x ∙ sym e ∙ h)) tt
 
-pub short-saved : (n : Note) → n.entry.kind ≡ Saved → AreShort (n ∷ [])
-short-saved n e = (subst (λ k. is_short k n.entry) (sym e) tt, tt)
+-- of a kind that isn't a run, or a run of no more than a tick
+pub short-one : (n : Note) (k : Kind) → n.entry.kind ≡ k → is_short k n.entry → AreShort (n ∷ [])
+short-one n k e h = (subst (λ (j : Kind). is_short j n.entry) (sym e) h, tt)
 
 -- ---- the core alone changes, and stands for the same fabrics
 

@@ -34,11 +34,20 @@ found-label k t x y Absent f = absurd f
 found-label k t x y Short f = f.1.label
 
 module _ (k t : ℕ) (x b m d e : NotedCore) (s : Taken) (begins : IsLike x b) (none : b.told.items ≡ []) (settles : (out : List Transit) → Goes k 0 m d out out) (ends : IsLike d e)
-    (told : s.entries.items ≡ d.told.items) (there : IsAway x.notes.items t → ⊥) where
+    (told : s.entries.items ≡ d.told.items) (there : IsAway x.notes.items t → ⊥)
+    (near : IsNear b) (on : IsNearOn b m) (short : IsNear m → (added : List Note) → d.notes.items ≡ m.notes.items ++ added → AreShort added) where
   took : (n : ℕ) (out : List Transit) → Goes k n b m [] out → Took k x e s.entries.items out
   took n out g =
       let way : Way k n x e [] s.entries.items [] out = whole k n x b m d e s.entries.items out begins none g (settles out) ends told in
-      record { cycles = n; goes = way; told = way.told }
+      let h : Goes k 0 m d out out = settles out in
+      let same : way.added ≡ g.added ++ h.added
+      = append_cancel_left x.notes.items way.added (g.added ++ h.added)
+      (sym way.notes
+      ∙ (ends.notes
+      ∙ (h.notes ∙ (ap (λ (ns : List Note). ns ++ h.added) (g.notes ∙ ap (λ (ns : List Note). ns ++ g.added) begins.notes) ∙ append_assoc x.notes.items g.added h.added)))) in
+      let all : AreShort way.added
+      = subst (λ (ns : List Note). AreShort ns) (sym same) (short-append g.added h.added (on.short near g.added g.notes) (short (on.near near) h.added h.notes)) in
+      record { cycles = n; goes = way; told = way.told; short = all }
 
   pub found-by : (w : Found) → IsFoundReady k t b m w → IsFound k t x e s w
   found-by (Here out) f = (f.0, took f.1 (out ∷ []) f.2)

@@ -5,3 +5,4 @@ pub mod Refusals
 pub mod Taking
 pub mod Nearness
 pub mod Rounds
+pub mod Acts

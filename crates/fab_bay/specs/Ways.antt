@@ -1,9 +1,9 @@
 -- What a call does with a core and its history (own).
-use Rattle.std.specs.Prelude.{◌≡◌, ℕ, suc, ◌<◌, ◌≤◌, ◌+◌, ◌⊎◌, Bool, true, false, List, [], ◌∷◌, ◌++◌, map, length, Option, Some, None, ⊤}
+use Rattle.std.specs.Prelude.{◌≡◌, ℕ, suc, ◌<◌, ◌≤◌, ◌+◌, ◌⊎◌, Bool, true, false, List, [], ◌∷◌, ◌++◌, map, length, Option, Some, None, All, ⊤}
 use Rattle.fab_lock.specs.declared.entry.Entry.{Entry}
 use Rattle.fab_lock.specs.declared.entry.Kind.{Kind}
 use Rattle.fab_lock.specs.declared.entry.Kind.TheVariants as kind
-use Rattle.fab_points.specs.Points.{Point}
+use Rattle.fab_points.specs.Points.{departed, due, Point}
 use Rattle.fab_points.specs.Fabrics.{first_leaving, head_fits, Fabric}
 use Rattle.fab_points.specs.Worlds.{happens, run, Event, World, Load, Arrive, Cycle, Serve, Hold, Rebuild, Take, Leave}
 use Rattle.fab_core.specs.Standing.{IsPointOf}
@@ -33,6 +33,10 @@ AreOut (t ∷ ts) (p ∷ ps) = IsPointOf t.parcel p × AreOut ts ps
 
 abbrev pub tokens : List Transit → List Token
 tokens ts = map token_of ts
+
+-- why a tenant that came out was due to leave: it stands where one that was due so, and wasn't stopped, comes to stand
+abbrev pub LeftFor : Leaving → Type 0
+LeftFor l = (p : Point) × IsPointOf l.transit.parcel (departed l.why p) × (due p ≡ Some l.why) × (p.stopped ≡ false)
 
 -- ---- events
 
@@ -89,13 +93,14 @@ Goes number cycles x y out out' = Way number cycles x y x.told.items y.told.item
 abbrev pub IsEmpty : List Note → Type 0
 IsEmpty notes = replay [] notes ≡ []
 
--- a turn of at most so many cycles: it did just so many, or nobody is left, unless memory ended it
+-- a turn of at most so many cycles: it did just so many, or nobody is left, unless memory ended it; and whoever came out was due to leave for the reason that is told
 pub record Turned (number most : ℕ) (x y : NotedCore) (t : Turn) : Type 0 where
   pub cycles : ℕ
   pub goes : Way number cycles x y [] t.entries.items [] (transits t.leaving.items)
   pub entries : t.entries.items ≡ map (λ n. n.entry) goes.added
   pub few : cycles ≤ most
   pub all : t.short ≡ false → (cycles ≡ most) ⊎ IsEmpty y.notes.items
+  pub whys : All LeftFor t.leaving.items
 
 -- no run that is told of is longer than a tick
 abbrev pub is_short : Kind → Entry → Type 0
@@ -106,11 +111,12 @@ abbrev pub AreShort : List Note → Type 0
 AreShort [] = ⊤
 AreShort (n ∷ ns) = is_short n.entry.kind n.entry × AreShort ns
 
--- a tenant was taken out, if it came out
+-- a tenant was taken out, if it came out; nobody ran for more than a tick
 pub record Took (number : ℕ) (x y : NotedCore) (entries : List Entry) (out : List Transit) : Type 0 where
   pub cycles : ℕ
   pub goes : Way number cycles x y [] entries [] out
   pub told : entries ≡ map (λ n. n.entry) goes.added
+  pub short : AreShort goes.added
 
 -- a tenant was put in line by the seat of this number: one note is added, and the receipt says so
 pub record IsPut (number : ℕ) (x y : NotedCore) (t : Transit) (r : Receipt) : Type 0 where

@@ -2,17 +2,19 @@
 
 ghost use Rattle.std.specs.Prelude.{◌≡◌, ◌<◌, ◌≤◌, [], false, true, None, IfErr, IfOk, OnErr, map};
 ghost use Rattle.std.specs.Bool.{Decides};
-ghost use Rattle.ten_parcel.specs.Parcels.{number_of};
+ghost use Rattle.ten_parcel.specs.Parcels.{number_of, origin_in};
 ghost use Rattle.fab_points.specs.Points.{ended, Point};
 ghost use Rattle.fab_points.specs.Fabrics.{within};
 ghost use Rattle.fab_core.specs.Standing.{IsPointOf};
 ghost use Rattle.fab_notes.specs.Deeds.{cost_of, deed_of};
-ghost use Rattle.fab_notes.specs.Tokens.{token_of};
+ghost use Rattle.fab_notes.specs.Origins.{AreOwn, StartsFrom};
+ghost use Rattle.fab_notes.specs.Tokens.{puts, token_of};
 ghost use Rattle.fab_bay.specs.Refusals.{IsAway, IsRefusal};
 ghost use Rattle.fab_bay.specs.Standing.{IsBay};
 ghost use Rattle.fab_bay.specs.Taking.{IsTaken};
 ghost use Rattle.fab_bay.specs.Ways.{IsEmpty, IsPut, Turned};
 
+use crate::berth::Berth;
 use crate::leaving::{Receipt, Refused, Taken, Turn};
 use crate::noted::{Label, NotedCore};
 use fab_core::cores::FabCore;
@@ -22,13 +24,15 @@ use fab_notes::transit::Transit;
 use std::alloc::{AllocError, Global};
 use std::marker::Model;
 
-/// A core with its history, which is legal and says who is where, at which tick.
+/// A core with its history, which is legal and says who is where, at which tick; whoever was put in line starts from what the label names.
 #[derive(Drop)]
 pub struct Bay {
     noted: NotedCore,
 }
 
 impl Model for Bay {
+    ghost use Rattle.fab_notes.specs.Origins.{AreOwn};
+    ghost use Rattle.fab_notes.specs.Tokens.{puts};
     ghost use Rattle.fab_bay.specs.declared.noted.NotedCore.{NotedCore};
     ghost use Rattle.fab_bay.specs.Standing.{IsBay};
     ghost use Rattle.fab_bay.specs.contracts.noted.NotedCore as held;
@@ -39,7 +43,7 @@ impl Model for Bay {
 
     ghost view = { λ b. b.noted };
 
-    ghost invariant = { λ b. IsBay b.noted };
+    ghost invariant = { λ b. IsBay b.noted × AreOwn b.noted.label.origins (puts b.noted.notes.items) };
 }
 
 impl Kept for Bay {
@@ -62,10 +66,11 @@ impl Bay {
         ensures label { result.label ≡ label }
         ensures notes { result.notes.items ≡ [] }
     {
+        let core = FabCore::new(alloc, label.capacity);
         Bay {
             noted: NotedCore {
                 label,
-                core: FabCore::new(alloc, label.capacity),
+                core,
                 berths: Vec::new(alloc),
                 waiting: Vec::new(alloc),
                 notes: Vec::new(alloc),
@@ -79,6 +84,7 @@ impl Bay {
         requires transit { (p : Point) × IsPointOf transit.parcel p × (ended p ≡ None) }
         requires tenant { number_of transit.parcel < self.old.label.tenants }
         requires first { self.old.label.any_puts ≡ false → number ≡ 0 }
+        requires own { StartsFrom self.old.label.origins (number_of transit.parcel) (origin_in transit.parcel) }
         ensures put { IfOk result (λ r. IsPut number self.old self.new transit r) }
         ensures room { IfOk result (λ r. (within (cost_of (deed_of transit)) self.old.label.capacity ≡ true) × IsAway self.old.notes.items (number_of transit.parcel)) }
         ensures back { IfErr result (λ r. r.transit ≡ transit) }
@@ -110,9 +116,10 @@ impl Bay {
         self.noted.take(alloc, number, tenant)
     }
 
-    /// It stands for a fabric, by a legal history, with each tick noted.
+    /// It stands for a fabric, by a legal history, with each tick noted, and whoever was put in line starts from what the label names.
     pub fn stands(&self)
-        ensures { IsBay self.now }
+        ensures bay { IsBay self.now }
+        ensures own { AreOwn self.now.label.origins (puts self.now.notes.items) }
     {
         let _ = &self.noted;
     }
@@ -122,5 +129,19 @@ impl Bay {
         ensures { result.now ≡ self.now.notes.items }
     {
         self.noted.notes.as_slice()
+    }
+
+    /// What is noted of its residents, in order.
+    pub fn residents(&self) -> &[Berth]
+        ensures { result.now ≡ self.now.berths.items }
+    {
+        self.noted.berths.as_slice()
+    }
+
+    /// What is noted of its tenants in line, in order.
+    pub fn line(&self) -> &[Berth]
+        ensures { result.now ≡ self.now.waiting.items }
+    {
+        self.noted.waiting.as_slice()
     }
 }

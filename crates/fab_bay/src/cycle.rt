@@ -1,7 +1,8 @@
 //! Cycles of a fabric.
 
 ghost use Rattle.std.specs.Prelude.{◌≡◌, false, true, List, None};
-ghost use Rattle.fab_points.specs.Fabrics.{first_leaving, head_fits, Fabric};
+ghost use Rattle.fab_points.specs.Fabrics.{all_stepped, first_leaving, head_fits, held, Fabric};
+ghost use Rattle.fab_core.specs.Standing.{IsFabric};
 ghost use Rattle.fab_notes.specs.declared.transit.Transit.{Transit as Out};
 ghost use Rattle.fab_bay.specs.Nearness.{IsNear};
 ghost use Rattle.fab_bay.specs.Standing.{CanSettle, IsNoted};
@@ -17,6 +18,7 @@ impl NotedCore {
         requires fabric { (f : Fabric) × IsNoted self.old f }
         requires order { (f : Fabric) → IsNoted self.old f → f.holding ≡ false → (first_leaving f.residents ≡ None) × (head_fits f ≡ false) }
         ensures goes { (number : _) (out : List Out) → Goes number 1 self.old self.new out out }
+        ensures core { (f : Fabric) → IsNoted self.old f → IsFabric self.new.core (all_stepped f) }
         ensures near { self.old.core.holding ≡ true → IsNear self.old → IsNear self.new }
         ensures holding { self.new.core.holding ≡ self.old.core.holding }
         ensures notes { self.new.notes ≡ self.old.notes }
@@ -34,6 +36,7 @@ impl NotedCore {
         requires free { self.old.core.holding ≡ false }
         ensures goes { (number : _) (out : List Out) → Goes number 0 self.old self.new out out }
         ensures room { CanSettle self.old → CanSettle self.new }
+        ensures held { (f : Fabric) → IsNoted self.old f → IsNoted self.new (held f) }
         ensures holds { self.new.core.holding ≡ true }
         ensures notes { self.new.notes ≡ self.old.notes }
         ensures near { IsNear self.old → IsNear self.new }

@@ -7,11 +7,13 @@ ghost use Rattle.ten_shell.specs.declared.shell.Why.{Why as Reason};
 ghost use Rattle.fab_points.specs.Points.{due, Point};
 ghost use Rattle.fab_points.specs.Fabrics.{first_of, has, Fabric};
 ghost use Rattle.fab_points.specs.Worlds.{is_at_rest};
+ghost use Rattle.fab_notes.specs.declared.note.Note.{Note as OneNote};
 ghost use Rattle.fab_notes.specs.declared.transit.Transit.{Transit as Out};
 ghost use Rattle.fab_notes.specs.Ends.{EndsNotBefore};
 ghost use Rattle.fab_notes.specs.Stays.{chains};
+ghost use Rattle.fab_bay.specs.Nearness.{IsNear};
 ghost use Rattle.fab_bay.specs.Standing.{CanSettle, HasRoomFor, IsNoted};
-ghost use Rattle.fab_bay.specs.Ways.{Goes};
+ghost use Rattle.fab_bay.specs.Ways.{AreShort, Goes, LeftFor};
 
 use crate::berth::Berth;
 use crate::leaving::Leaving;
@@ -65,6 +67,7 @@ impl NotedCore {
         requires room { HasRoomFor (length self.old.berths.items + 2) self.old }
         ensures goes { (out : List Out) → Goes number 0 self.old self.new out (out ++ result.transit ∷ []) }
         ensures why { (f : Fabric) (p : Point) → IsNoted self.old f → first_of tenant f.residents ≡ Some p → due p ≡ Some result.why }
+        ensures left { LeftFor result }
         ensures room { CanSettle self.new }
     {
         let Some(place) = berth_of(&self.berths, tenant) else {
@@ -93,6 +96,7 @@ impl NotedCore {
         ensures goes { IfOk result (λ l. (out : List Out) → Goes number 0 self.old self.new out (out ++ l.transit ∷ [])) }
         ensures err { OnErr result ((out : List Out) → Goes number 0 self.old self.new out out) }
         ensures why { IfOk result (λ l. (f : Fabric) (p : Point) → IsNoted self.old f → first_of tenant f.residents ≡ Some p → due p ≡ Some l.why) }
+        ensures left { IfOk result (λ l. LeftFor l) }
         ensures room { CanSettle self.new }
     {
         match self.prepare(2) {
@@ -109,6 +113,8 @@ impl NotedCore {
         requires room { HasRoomFor (length self.old.berths.items + 2) self.old }
         ensures goes { (out : List Out) → Goes number 0 self.old self.new out (out ++ result ∷ []) }
         ensures number { number_of result.parcel ≡ tenant }
+        ensures near { IsNear self.old → IsNear self.new }
+        ensures short { IsNear self.old → (added : List OneNote) → self.new.notes.items ≡ self.old.notes.items ++ added → AreShort added }
         ensures room { CanSettle self.new }
     {
         self.ran_one(place, number);
@@ -132,6 +138,8 @@ impl NotedCore {
         requires room { HasRoomFor (length self.old.berths.items + 2) self.old }
         ensures goes { (out : List Out) → Goes number 0 self.old self.new out (out ++ result ∷ []) }
         ensures number { number_of result.parcel ≡ tenant }
+        ensures near { IsNear self.old → IsNear self.new }
+        ensures short { IsNear self.old → (added : List OneNote) → self.new.notes.items ≡ self.old.notes.items ++ added → AreShort added }
         ensures room { CanSettle self.new }
     {
         let Some(parcel) = self.core.take(tenant) else {
@@ -152,6 +160,8 @@ impl NotedCore {
         requires room { HasRoomFor (length self.old.berths.items + 2) self.old }
         ensures goes { (out : List Out) → Goes number 0 self.old self.new out (out ++ result ∷ []) }
         ensures number { number_of result.parcel ≡ tenant }
+        ensures near { IsNear self.old → IsNear self.new }
+        ensures short { IsNear self.old → (added : List OneNote) → self.new.notes.items ≡ self.old.notes.items ++ added → AreShort added }
         ensures room { CanSettle self.new }
     {
         if let Some(place) = berth_of(&self.berths, tenant) {
@@ -172,6 +182,8 @@ impl NotedCore {
         ensures goes { IfOk result (λ t. (out : List Out) → Goes number 0 self.old self.new out (out ++ t ∷ [])) }
         ensures number { IfOk result (λ t. number_of t.parcel ≡ tenant) }
         ensures err { OnErr result ((out : List Out) → Goes number 0 self.old self.new out out) }
+        ensures near { IsNear self.old → IsNear self.new }
+        ensures short { IsNear self.old → (added : List OneNote) → self.new.notes.items ≡ self.old.notes.items ++ added → AreShort added }
         ensures room { CanSettle self.new }
     {
         match self.prepare(2) {

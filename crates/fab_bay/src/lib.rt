@@ -2,7 +2,7 @@
 #![tactic(auto)]
 
 pub mod bay;
-mod berth;
+pub mod berth;
 mod cycle;
 mod flush;
 mod leave;

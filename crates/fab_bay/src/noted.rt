@@ -4,10 +4,12 @@ use crate::berth::Berth;
 use fab_core::cores::FabCore;
 use fab_lock::Entry;
 use fab_notes::note::Note;
+use std::snapshot::Snapshot;
+use ten_core::origin::Origin;
 use vl_cost::capacity::Cost;
 
 /// What never changes of a bay.
-#[derive(Clone, Copy, Debug, PartialEq, Drop)]
+#[derive(Drop)]
 pub struct Label {
     /// The number of its fabric.
     pub fabric: u32,
@@ -17,6 +19,8 @@ pub struct Label {
     pub tenants: u32,
     /// Every seat may put tenants in line; else only that of number 0.
     pub any_puts: bool,
+    /// What the tenants of each number start from, where that is named. It has no bytes.
+    pub origins: Option<Snapshot<Vec<Origin>>>,
 }
 
 /// A core with its history. In a call ticks run ahead of it.

@@ -1,10 +1,11 @@
 //! What residents wait for.
 
-ghost use Rattle.std.specs.Prelude.{◌≡◌, ◌++◌, ◌+◌, ◌==◌, true, ℕ, List, Some, length, position};
+ghost use Rattle.std.specs.Prelude.{◌≡◌, ◌++◌, ◌+◌, ◌<◌, ◌==◌, false, true, ℕ, IfOk, List, Some, length, position};
 ghost use Rattle.fab_points.specs.Points.{waits, Point};
 ghost use Rattle.fab_points.specs.Fabrics.{first_of, Fabric};
 ghost use Rattle.fab_notes.specs.declared.note.Note.{Note as OneNote};
 ghost use Rattle.fab_notes.specs.declared.transit.Transit.{Transit as Out};
+ghost use Rattle.fab_bay.specs.Acts.{acts_to_come, saves_to_come};
 ghost use Rattle.fab_bay.specs.Nearness.{IsNear};
 ghost use Rattle.fab_bay.specs.Standing.{CanSettle, HasRoomFor, IsNoted};
 ghost use Rattle.fab_bay.specs.Ways.{AreShort, Goes};
@@ -43,14 +44,14 @@ impl NotedCore {
         self.write(Note::saved(number, tenant, tick));
     }
 
-    /// Serves the call at which a resident waits, or makes the next snapshot that is due at its boundary, and writes that. Want of memory
-    /// leaves all as it was.
+    /// Serves the call at which a resident waits, or makes the next snapshot that is due at its boundary, and writes that. The answer is
+    /// whether it was a snapshot. Want of memory leaves all as it was.
     pub(crate) fn serve(
         &mut self,
         alloc: Global,
         number: u32,
         tenant: u32,
-    ) -> Result<(), AllocError>
+    ) -> Result<bool, AllocError>
         requires fabric { (f : Fabric) × IsNoted self.old f }
         requires waits { (f : Fabric) → IsNoted self.old f → (p : Point) × (first_of tenant f.residents ≡ Some p) × (waits p ≡ true) }
         requires room { CanSettle self.old }
@@ -58,6 +59,8 @@ impl NotedCore {
         ensures near { IsNear self.old → IsNear self.new }
         ensures short { IsNear self.old → (added : List OneNote) → self.new.notes.items ≡ self.old.notes.items ++ added → AreShort added }
         ensures holding { self.new.core.holding ≡ self.old.core.holding }
+        ensures call { IfOk result (λ saved. saved ≡ false → acts_to_come self.new < acts_to_come self.old) }
+        ensures save { IfOk result (λ saved. saved ≡ true → (acts_to_come self.new ≡ acts_to_come self.old) × (saves_to_come self.new < saves_to_come self.old)) }
         ensures room { CanSettle self.new }
     {
         each_act_comes_nearer();
@@ -70,7 +73,7 @@ impl NotedCore {
                 if saved {
                     self.saved_one(number, tenant);
                 }
-                Ok(())
+                Ok(saved)
             }
         }
     }

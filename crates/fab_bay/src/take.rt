@@ -1,9 +1,11 @@
 //! Tenants that are taken out.
 
-ghost use Rattle.std.specs.Prelude.{◌≡◌, ℕ, [], List, ◌∷◌, false, true, IfOk, OnErr};
+ghost use Rattle.std.specs.Prelude.{◌≡◌, ◌<◌, ℕ, [], List, ◌∷◌, false, true, None, IfOk, OnErr};
 ghost use Rattle.ten_parcel.specs.Parcels.{number_of};
-ghost use Rattle.fab_points.specs.Fabrics.{has, Fabric};
+ghost use Rattle.fab_points.specs.Fabrics.{first_waiting, has, held, Fabric};
+ghost use Rattle.fab_points.specs.Worlds.{is_at_rest};
 ghost use Rattle.fab_notes.specs.declared.transit.Transit.{Transit as Out};
+ghost use Rattle.fab_bay.specs.Acts.{acts_to_come};
 ghost use Rattle.fab_bay.specs.Refusals.{IsAway};
 ghost use Rattle.fab_bay.specs.Rounds.{is_among, IsFoundReady, IsNearOn, IsReady};
 ghost use Rattle.fab_bay.specs.Standing.{IsBay, IsNoted};
@@ -14,6 +16,7 @@ use crate::berth::Berth;
 use crate::leaving::{Found, Taken};
 use crate::noted::NotedCore;
 use std::alloc::{AllocError, Global};
+use ten_run::laws::each_act_comes_nearer;
 
 /// The tenant is among these.
 fn is_among(tenant: u32, berths: &[Berth]) -> bool
@@ -46,6 +49,7 @@ impl NotedCore {
         requires ready { IsReady self.old }
         ensures ready { IsReady self.new }
         ensures goes { (out : List Out) → Goes number 0 self.old self.new out out }
+        ensures held { (f : Fabric) → IsNoted self.old f → IsNoted self.new (held f) }
         ensures holds { self.new.core.holding ≡ true }
         ensures near { IsNearOn self.old self.new }
     {
@@ -55,15 +59,42 @@ impl NotedCore {
         self.hold();
     }
 
-    /// Residents that wait are served; where the fabric holds and not all rest, those that don't do a cycle. True where all rest.
+    /// Makes the snapshots that residents wait for, up to the first call, which is served. The answer is whether a call was: if none was,
+    /// nobody waits any longer.
+    fn serve_to_call(&mut self, alloc: Global, number: u32) -> Result<bool, AllocError>
+        requires ready { IsReady self.old }
+        ensures ready { IsReady self.new }
+        ensures goes { (out : List Out) → Goes number 0 self.old self.new out out }
+        ensures near { IsNearOn self.old self.new }
+        ensures call { IfOk result (λ called. called ≡ true → acts_to_come self.new < acts_to_come self.old) }
+        ensures still { IfOk result (λ called. called ≡ false → acts_to_come self.new ≡ acts_to_come self.old) }
+        ensures quiet { IfOk result (λ called. called ≡ false → (f : Fabric) → IsNoted self.new f → first_waiting f.residents ≡ None) }
+    {
+        'saves: while let Some(tenant) = self.core.next_trap() {
+            match self.serve(alloc, number, tenant) {
+                Ok(true) => {}
+                Ok(false) => return Ok(true),
+                Err(_) => return Err(AllocError),
+            }
+        }
+        Ok(false)
+    }
+
+    /// The next act on the way to rest: a call is served, or else the fabric holds, and residents that don't rest do a cycle. True where all
+    /// rest instead.
     fn step_to_rest(&mut self, alloc: Global, number: u32) -> Result<bool, AllocError>
         requires ready { IsReady self.old }
         ensures ready { IsReady self.new }
         ensures goes { (cycles : ℕ) × ((out : List Out) → Goes number cycles self.old self.new out out) }
         ensures near { IsNearOn self.old self.new }
+        ensures rest { IfOk result (λ rested. rested ≡ true → (f : Fabric) → IsNoted self.new f → is_at_rest f ≡ true) }
+        ensures nearer { IfOk result (λ rested. rested ≡ false → acts_to_come self.new < acts_to_come self.old) }
     {
-        if self.serve_all(alloc, number).is_err() {
-            return Err(AllocError);
+        each_act_comes_nearer();
+        match self.serve_to_call(alloc, number) {
+            Ok(true) => return Ok(false),
+            Ok(false) => {}
+            Err(_) => return Err(AllocError),
         }
         self.hold_on(number);
         if self.is_at_rest() {
@@ -73,35 +104,32 @@ impl NotedCore {
         Ok(false)
     }
 
-    /// The fabric holds, and residents run until all rest. False where memory ended that.
+    /// The fabric holds, and residents run until all rest, each to a boundary. False where memory ended that.
     fn run_to_rest(&mut self, alloc: Global, number: u32) -> bool
         requires ready { IsReady self.old }
         ensures ready { IsReady self.new }
         ensures goes { (cycles : ℕ) × ((out : List Out) → Goes number cycles self.old self.new out out) }
         ensures near { IsNearOn self.old self.new }
+        ensures rest { result ≡ true → (f : Fabric) → IsNoted self.new f → is_at_rest f ≡ true }
     {
-        for _ in 0..u64::MAX {
+        'acts: loop {
             match self.step_to_rest(alloc, number) {
                 Ok(true) => return true,
                 Ok(false) => {}
                 Err(_) => return false,
             }
         }
-        false
     }
 
     /// Takes a tenant out where all rest; then the joined bank is made anew, if there is memory for it.
     fn take_at_rest(&mut self, alloc: Global, number: u32, tenant: u32) -> Found
         requires ready { IsReady self.old }
+        requires rest { (f : Fabric) → IsNoted self.old f → is_at_rest f ≡ true }
+        requires there { IsAway self.old.notes.items tenant → ⊥ }
         ensures ready { IsReady self.new }
         ensures found { IsFoundReady number tenant self.old self.new result }
+        ensures near { IsNearOn self.old self.new }
     {
-        if !self.is_at_rest() {
-            return Found::Short;
-        }
-        if !self.has(tenant) {
-            return Found::Short;
-        }
         match self.take_out(number, tenant) {
             Ok(out) => {
                 let _rebuilt = self.rebuild_at_rest(alloc, number).is_ok();
@@ -114,8 +142,10 @@ impl NotedCore {
     /// The residents run to a boundary, and a tenant is taken out there.
     fn take_there(&mut self, alloc: Global, number: u32, tenant: u32) -> Found
         requires ready { IsReady self.old }
+        requires there { IsAway self.old.notes.items tenant → ⊥ }
         ensures ready { IsReady self.new }
         ensures found { IsFoundReady number tenant self.old self.new result }
+        ensures near { IsNearOn self.old self.new }
     {
         if !self.run_to_rest(alloc, number) {
             return Found::Short;

@@ -1,13 +1,13 @@
 //! Turns.
 
-ghost use Rattle.std.specs.Prelude.{◌≡◌, ◌≤◌, ◌<◌, [], List, IfOk, OnOk, OnErr, false, true};
+ghost use Rattle.std.specs.Prelude.{◌≡◌, ◌≤◌, ◌<◌, [], All, List, IfOk, OnOk, OnErr, false, true};
 ghost use Rattle.std.specs.Bool.{Decides};
 ghost use Rattle.fab_points.specs.Fabrics.{Fabric};
 ghost use Rattle.fab_points.specs.Worlds.{is_at_rest};
 ghost use Rattle.fab_notes.specs.declared.transit.Transit.{Transit as Out};
 ghost use Rattle.fab_bay.specs.Standing.{IsBay, IsNoted};
 ghost use Rattle.fab_bay.specs.Rounds.{IsDue, IsNearOn, IsReady, IsVacant, MayCycle, Rounds};
-ghost use Rattle.fab_bay.specs.Ways.{transits, Goes, IsEmpty, Turned};
+ghost use Rattle.fab_bay.specs.Ways.{transits, Goes, IsEmpty, LeftFor, Turned};
 
 use crate::leaving::{Leaving, Turn};
 use crate::noted::NotedCore;
@@ -77,8 +77,10 @@ impl NotedCore {
         requires ready { IsReady self.old }
         requires rest { (f : Fabric) → IsNoted self.old f → is_at_rest f ≡ true }
         requires due { IsDue tenant self.old }
+        requires whys { All LeftFor leaving.old.items }
         ensures ready { IsReady self.new }
         ensures goes { Goes number 0 self.old self.new (transits leaving.old.items) (transits leaving.new.items) }
+        ensures whys { All LeftFor leaving.new.items }
     {
         if leaving.reserve(1).is_err() {
             return Err(AllocError);
@@ -95,8 +97,10 @@ impl NotedCore {
     /// Where all rest, the residents that are due to leave come out.
     fn leave_all(&mut self, number: u32, leaving: &mut Vec<Leaving>) -> Result<(), AllocError>
         requires ready { IsReady self.old }
+        requires whys { All LeftFor leaving.old.items }
         ensures ready { IsReady self.new }
         ensures goes { Goes number 0 self.old self.new (transits leaving.old.items) (transits leaving.new.items) }
+        ensures whys { All LeftFor leaving.new.items }
     {
         let count = self.berths.len();
         for _ in 0..count {
@@ -118,6 +122,7 @@ impl NotedCore {
         requires ready { IsReady self.old }
         ensures ready { IsReady self.new }
         ensures goes { (out : List Out) → Goes number 0 self.old self.new out out }
+        ensures near { IsNearOn self.old self.new }
     {
         if !self.is_at_rest() {
             return Ok(());
@@ -133,9 +138,11 @@ impl NotedCore {
         leaving: &mut Vec<Leaving>,
     ) -> Result<(), AllocError>
         requires ready { IsReady self.old }
+        requires whys { All LeftFor leaving.old.items }
         ensures ready { IsReady self.new }
         ensures goes { Goes number 0 self.old self.new (transits leaving.old.items) (transits leaving.new.items) }
         ensures cycle { OnOk result (MayCycle self.new) }
+        ensures whys { All LeftFor leaving.new.items }
     {
         if self.serve_all(alloc, number).is_err() {
             return Err(AllocError);
@@ -159,11 +166,13 @@ impl NotedCore {
         leaving: &mut Vec<Leaving>,
     ) -> Result<bool, AllocError>
         requires ready { IsReady self.old }
+        requires whys { All LeftFor leaving.old.items }
         ensures ready { IsReady self.new }
         ensures cycle { IfOk result (λ went. went ≡ true → Goes number 1 self.old self.new (transits leaving.old.items) (transits leaving.new.items)) }
         ensures none { IfOk result (λ went. went ≡ false → Goes number 0 self.old self.new (transits leaving.old.items) (transits leaving.new.items)) }
         ensures vacant { IfOk result (λ went. went ≡ false → IsEmpty self.new.notes.items) }
         ensures err { OnErr result (Goes number 0 self.old self.new (transits leaving.old.items) (transits leaving.new.items)) }
+        ensures whys { All LeftFor leaving.new.items }
     {
         if self.before_cycle(alloc, number, leaving).is_err() {
             return Err(AllocError);
@@ -178,8 +187,10 @@ impl NotedCore {
     /// At most so many cycles, and what comes between them. True where memory ended it.
     fn rounds(&mut self, alloc: Global, number: u32, most: u64, leaving: &mut Vec<Leaving>) -> bool
         requires ready { IsReady self.old }
+        requires whys { All LeftFor leaving.old.items }
         ensures ready { IsReady self.new }
         ensures rounds { Rounds number most self.old self.new (transits leaving.old.items) (transits leaving.new.items) result }
+        ensures whys { All LeftFor leaving.new.items }
     {
         for done in 0..most {
             match self.round(alloc, number, leaving) {

@@ -9,6 +9,8 @@ use Rattle.fab_lock.specs.Views.{after_give}
 use Rattle.fab_notes.specs.declared.note.Note.{Note}
 use Rattle.fab_notes.specs.declared.transit.Transit.{Transit}
 use Rattle.fab_notes.specs.Histories.{IsLegal}
+use Rattle.fab_notes.specs.Origins.{AreOwn}
+use Rattle.fab_notes.specs.Tokens.{puts}
 use Rattle.ten_parcel.specs.Parcels.{number_of}
 use Rattle.fab_bay.specs.declared.leaving.Found.{Found}
 use Rattle.fab_bay.specs.declared.leaving.Found.TheVariants.{Here, Absent, Short}
@@ -23,13 +25,14 @@ use Rattle.fab_desk.specs.Desks.{entry_of, itself, serving, DeskView, Finds, Giv
 use Rattle.fab_desk.proofs.Histories.{bears, reaches_notes}
 
 -- a seat finds the history of a bay
-pub found_by : (label : Label) (v : DeskView) (x : NotedCore) (words : List ℕ) → IsBay x → x.label ≡ label → LockFinds entry_of x.notes.items words v → IsFound label v x
-found_by label v x words b e f = record {
+pub found_by : (label : Label) (v : DeskView) (x : NotedCore) (words : List ℕ) → IsBay x → AreOwn x.label.origins (puts x.notes.items) → x.label ≡ label → LockFinds entry_of x.notes.items words v → IsFound label v x
+found_by label v x words b o e f = record {
   bay = b;
   label_is = e;
   finds = record {
     legal = subst (λ (l : Label). IsLegal l.fabric l.capacity x.notes.items) e b.noted.legal;
     lines = λ h. b.noted.lines (ap (λ (l : Label). l.any_puts) e ∙ h);
+    starts = subst (λ (l : Label). AreOwn l.origins (puts x.notes.items)) e o;
     begins = f.begins;
     own = f.own;
     unused = f.unused;

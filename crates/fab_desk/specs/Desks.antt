@@ -8,7 +8,8 @@ use Rattle.fab_lock.specs.Histories.{StartsWith, notes_of, high}
 use Rattle.fab_notes.specs.declared.note.Note.{Note}
 use Rattle.fab_notes.specs.declared.transit.Transit.{Transit}
 use Rattle.fab_notes.specs.Histories.{AreLinesByFirst, IsLegal}
-use Rattle.fab_notes.specs.Tokens.{token_of, AllBear}
+use Rattle.fab_notes.specs.Origins.{AreOwn}
+use Rattle.fab_notes.specs.Tokens.{puts, token_of, AllBear}
 use Rattle.fab_bay.specs.declared.leaving.Receipt.{Receipt}
 use Rattle.fab_bay.specs.declared.leaving.Refused.{Refused}
 use Rattle.fab_bay.specs.declared.leaving.Taken.{Taken}
@@ -29,12 +30,13 @@ entry_of n = n.entry
 abbrev pub itself : Entry → Entry
 itself e = e
 
--- A seat that knows v may find this history: it is legal; it begins with what the seat has seen; of the seat's own number it has just the
+-- A seat that knows v may find this history: it is legal; whoever is put in line starts from what the label names; it begins with what the seat has seen; of the seat's own number it has just the
 -- notes that the seat gave, and of the numbers of its range none other; of each seat that was joined into it just theirs; and for each
 -- tenant it goes as far as the seat was told
 pub record Finds (label : Label) (v : DeskView) (found : List Note) : Type 0 where
   pub legal : IsLegal label.fabric label.capacity found
   pub lines : label.any_puts ≡ false → AreLinesByFirst found
+  pub starts : AreOwn label.origins (puts found)
   pub begins : StartsWith found v.seen
   pub own : notes_of entry_of v.low found ≡ v.own
   pub unused : (n : ℕ) → v.low < n → n ≤ v.low + v.others → notes_of entry_of n found ≡ []

@@ -1,7 +1,7 @@
 //! What threads do at a desk.
 
 ghost use Rattle.std.specs.Prelude.{◌≡◌, ◌<◌, ◌≤◌, ◌++◌, List, false, true, None, All, IfErr, IfOk, OnErr};
-ghost use Rattle.ten_parcel.specs.Parcels.{number_of};
+ghost use Rattle.ten_parcel.specs.Parcels.{number_of, origin_in};
 ghost use Rattle.fab_lock.specs.Facts.{IsSeatOf};
 ghost use Rattle.fab_lock.specs.declared.entry.Entry.{Entry as Told};
 ghost use Rattle.fab_lock.specs.Histories.{high, Reaches, StartsWith};
@@ -9,6 +9,7 @@ ghost use Rattle.fab_lock.specs.Views.{after_glance, after_grab, after_join, fir
 ghost use Rattle.fab_points.specs.Points.{ended, Point};
 ghost use Rattle.fab_core.specs.Standing.{IsPointOf};
 ghost use Rattle.fab_notes.specs.declared.note.Note.{Note};
+ghost use Rattle.fab_notes.specs.Origins.{StartsFrom};
 ghost use Rattle.fab_desk.specs.Desks.{entry_of, itself, serving, DidNothing, DidPut, DidRefuse, DidTake, DidTurn, Finds, Gives, IsFound};
 
 use crate::desk::{Desk, DeskSeat};
@@ -28,14 +29,9 @@ impl Desk {
         ensures label { IfOk result (λ made. made.0.label ≡ label) }
         ensures view { IfOk result (λ made. made.1.view ≡ first_view label label.tenants) }
     {
-        match Lock::new(alloc, Bay::new(alloc, label), label.tenants) {
-            Ok((lock, seat)) => Ok((
-                Desk {
-                    lock,
-                    tenants: label.tenants,
-                },
-                DeskSeat { seat },
-            )),
+        let tenants = label.tenants;
+        match Lock::new(alloc, Bay::new(alloc, label), tenants) {
+            Ok((lock, seat)) => Ok((Desk { lock, tenants }, DeskSeat { seat })),
             Err(_) => Err(AllocError),
         }
     }
@@ -95,6 +91,7 @@ impl Desk {
         requires transit { (p : Point) × IsPointOf transit.parcel p × (ended p ≡ None) }
         requires tenant { number_of transit.parcel < self.now.label.tenants }
         requires first { self.now.label.any_puts ≡ false → seat.old.view.low ≡ 0 }
+        requires own { StartsFrom self.now.label.origins (number_of transit.parcel) (origin_in transit.parcel) }
         ensures seat { IsSeatOf self.now seat.new }
         ensures put { IfOk result (λ r. DidPut self.now.label transit seat.old.view seat.new.view r) }
         ensures refused { IfErr result (λ r. DidRefuse self.now.label transit seat.old.view seat.new.view r) }

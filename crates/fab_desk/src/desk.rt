@@ -15,10 +15,14 @@ pub struct Desk {
 
 impl Model for Desk {
     ghost use Rattle.std.specs.Prelude.{◌≡◌};
+    ghost use Rattle.std.specs.Coded.{codes};
+    ghost use Rattle.fab_bay.specs.contracts.noted.Label as label;
     ghost use Rattle.fab_bay.specs.declared.noted.Label.{Label};
     ghost use Rattle.fab_lock.specs.Facts.{LockFacts};
 
     ghost Value = { LockFacts Label };
+
+    ghost coded = { Prim.hlevel (codes, label.the_row.coded) };
 
     ghost view = { λ d. d.lock };
 
@@ -36,13 +40,14 @@ impl Model for DeskSeat {
     ghost use Rattle.std.specs.Prelude.{◌≡◌, false};
     ghost use Rattle.std.specs.Coded.{codes};
     ghost use Rattle.vl_design.specs.contracts.design.StmtNode as stmt;
+    ghost use Rattle.fab_bay.specs.contracts.noted.Label as label;
     ghost use Rattle.fab_bay.specs.declared.noted.Label.{Label};
     ghost use Rattle.fab_lock.specs.Facts.{SeatFacts};
     ghost use Rattle.fab_notes.specs.declared.note.Note.{Note};
 
     ghost Value = { SeatFacts Label Note };
 
-    ghost coded = { Prim.hlevel (codes, stmt.the_row.coded) };
+    ghost coded = { Prim.hlevel (codes, stmt.the_row.coded, label.the_row.coded) };
 
     ghost view = { λ s. s.seat };
 

@@ -3,5 +3,6 @@
 
 pub mod calls;
 pub mod desk;
+pub mod laws;
 #[cfg(test)]
 mod tests;

@@ -1,2 +1,4 @@
+pub mod Firsts
 pub mod Legality
+pub mod Owns
 pub mod Seats

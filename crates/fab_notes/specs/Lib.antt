@@ -3,3 +3,4 @@ pub mod Stays
 pub mod Deeds
 pub mod Histories
 pub mod Tokens
+pub mod Origins

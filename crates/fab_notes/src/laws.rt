@@ -4,6 +4,8 @@ ghost use Rattle.std.specs.Prelude.{◌≡◌, ℕ, List, [], ◌∷◌, ◌++�
 ghost use Rattle.vl_cost.specs.declared.capacity.Cost.{Cost as Capacity};
 ghost use Rattle.fab_notes.specs.declared.note.Note.{Note as OneNote};
 ghost use Rattle.fab_notes.specs.Histories.{after, of_tenant, place_of, replay, Away, HasRoom, IsLawful, IsLegal, May};
+ghost use Rattle.fab_notes.specs.Origins.{AreOwn, Origins};
+ghost use Rattle.fab_notes.specs.Tokens.{outs, puts};
 
 /// In a legal history the notes of each tenant may follow one another.
 pub fn the_notes_of_each_tenant_are_lawful()
@@ -15,4 +17,9 @@ pub fn a_history_goes_on()
     ensures legal { (g : ℕ) (c : Capacity) (notes : List OneNote) (n : OneNote) → IsLegal g c notes → May g n.entry.kind (place_of n.entry.tenant (replay [] notes)) n →
         HasRoom c n.entry.kind (replay [] notes) n → IsLegal g c (notes ++ n ∷ []) }
     ensures replay { (notes : List OneNote) (n : OneNote) → replay [] (notes ++ n ∷ []) ≡ after n.entry.kind (replay [] notes) n }
+{}
+
+/// In a legal history whoever leaves starts from what is named for its number, where whoever is put in line does.
+pub fn who_leaves_starts_from_its_own()
+    ensures { (all : Origins) (g : ℕ) (c : Capacity) (notes : List OneNote) → IsLegal g c notes → AreOwn all (puts notes) → AreOwn all (outs notes) }
 {}

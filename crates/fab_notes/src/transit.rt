@@ -1,11 +1,14 @@
 //! Tenants between fabrics.
 
-ghost use Rattle.std.specs.Prelude.{◌≡◌, true};
+ghost use Rattle.std.specs.Prelude.{◌≡◌, [], true, IfOk};
 ghost use Rattle.vl_design.specs.Alone.{first_tick};
-ghost use Rattle.ten_parcel.specs.Parcels.{run_of, ticks_of};
+ghost use Rattle.ten_parcel.specs.Parcels.{run_of, ticks_of, IsLoaded};
+ghost use Rattle.ten_shell.specs.Shells.{CanRunOn};
 ghost use Rattle.fab_notes.specs.Ends.{EndsNotBefore};
 ghost use Rattle.fab_notes.specs.Stays.{chains};
 
+use std::alloc::{AllocError, Global};
+use ten_core::origin::Origin;
 use ten_parcel::parcel::Parcel;
 
 /// A stay of a tenant on a fabric.
@@ -29,4 +32,21 @@ pub struct Transit {
     pub stays: Vec<Stay>,
     ghost chained: { chains (first_tick (run_of parcel).resume) stays.items (ticks_of parcel) ≡ true },
     ghost before_end: { EndsNotBefore (run_of parcel) (ticks_of parcel) },
+}
+
+impl Transit {
+    /// A tenant at the first boundary of its run, without stays. An `Err` is want of memory alone.
+    pub fn load(alloc: Global, number: u32, origin: Origin) -> Result<Transit, AllocError>
+        requires { CanRunOn origin }
+        ensures loaded { IfOk result (λ t. IsLoaded number origin t.parcel) }
+        ensures stays { IfOk result (λ t. t.stays.items ≡ []) }
+    {
+        match Parcel::load(alloc, number, origin) {
+            Err(error) => Err(error),
+            Ok(parcel) => Ok(Transit {
+                parcel,
+                stays: Vec::new(alloc),
+            }),
+        }
+    }
 }

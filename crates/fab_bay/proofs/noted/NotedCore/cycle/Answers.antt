@@ -20,3 +20,6 @@ returns-clause-holding c =
     let f = c.requires.fabric.0 in
     let h = c.requires.fabric.1 in
     (c.cycle.ensures.fabric f h.core).holding ∙ sym h.core.holding
+
+pub returns-clause-core : goal.returns-clause-core
+returns-clause-core c = λ f h. c.cycle.ensures.fabric f h.core

@@ -1,5 +1,6 @@
 use Rattle.std.proofs.Common.{refl}
-use Rattle.fab_bay.proofs.Events.{goes-hold}
+use Rattle.fab_points.specs.Fabrics.{held}
+use Rattle.fab_bay.proofs.Events.{goes-hold, keeps-noted}
 use Rattle.fab_bay.proofs.Near.{near-hold}
 use Rattle.fab_bay.proofs.noted.NotedCore.hold.Goals as goal
 
@@ -10,3 +11,8 @@ returns-clause-goes c = λ number out.
 
 pub returns-clause-near : goal.returns-clause-near
 returns-clause-near c = let f = c.requires.fabric.0 in let h = c.requires.fabric.1 in near-hold c.args.self.now c.hold.new.self f h (c.hold.ensures f h.core)
+
+pub returns-clause-held : goal.returns-clause-held
+returns-clause-held c = λ f h.
+    let x = c.args.self.now in
+    keeps-noted x (record x { core = c.hold.new.self }) f (held f) (record { label = refl; berths = refl; waiting = refl; notes = refl; told = refl }) h (c.hold.ensures f h.core) refl h.residents h.line

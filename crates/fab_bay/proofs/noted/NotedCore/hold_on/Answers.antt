@@ -1,4 +1,7 @@
-use Rattle.std.proofs.Common.{[], ap}
+use Rattle.std.proofs.Common.{[], ap, sym, ◌∙◌, subst}
+use Rattle.fab_points.specs.Fabrics.{Fabric}
+use Rattle.fab_bay.specs.Standing.{IsNoted}
+use Rattle.fab_bay.proofs.Acts.{held-by}
 use Rattle.fab_bay.proofs.Going.{none}
 use Rattle.fab_bay.proofs.Nears.{nears-kept, nears-same}
 use Rattle.fab_bay.proofs.Rounds.{ready-on}
@@ -20,3 +23,6 @@ returns-clause-ready c =
 
 pub returns-clause-goes : goal.returns-clause-goes
 returns-clause-goes c = λ out. c.hold.ensures.goes c.args.number out
+
+pub returns-then-self-clause-held : goal.returns-then-self-clause-held
+returns-then-self-clause-held c = λ f h. subst (λ (g : Fabric). IsNoted c.args.self.now g) (sym (held-by f (sym h.core.holding ∙ c.if-self.true))) h

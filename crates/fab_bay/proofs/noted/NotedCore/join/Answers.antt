@@ -3,7 +3,9 @@ use Rattle.std.specs.Prelude.{vec_len, vec_capacity}
 use Rattle.fab_points.specs.Fabrics.{joining}
 use Rattle.fab_bay.specs.declared.noted.NotedCore.{NotedCore}
 use Rattle.fab_bay.proofs.Coming.{coming_more, coming_room, coming_start, coming_there, joined_many, many_join, rebuilt_goes, start_many, start_of, IsCame, IsComing, IsRebuilt, IsStart}
+use Rattle.fab_bay.proofs.Gaps.{joined-near}
 use Rattle.fab_bay.proofs.Kept.{still_goes, IsStill}
+use Rattle.fab_bay.proofs.Near.{near-core, short-none}
 use Rattle.fab_bay.proofs.Places.{berths_many}
 use Rattle.fab_bay.proofs.noted.NotedCore.join.Goals as goal
 
@@ -17,6 +19,8 @@ returns-in-Err c =
     let s : IsStill x z = record { label = refl; core = c.in-Err.ensures.err; berths = refl; waiting = refl; notes = refl; told = refl } in
     record {
       goes = λ out. still_goes c.args.number x z out s;
+      near = let f = c.requires.fabric.0 in let h = c.requires.fabric.1 in near-core x c.rebuild.new.self f h (c.in-Err.ensures.err f h.core);
+      short = λ n added e. short-none x.notes.items x.notes.items added refl e;
       room = let r = c.requires.room in let a = r.notes in let b = r.told in record { notes = omega (arith, a); told = omega (arith, b) };
     }
 
@@ -145,5 +149,7 @@ returns-after-loop-place c =
     let i = c.loop-place.place in
     record {
       goes = λ out. rebuilt_goes c.args.number x y c.loop-place.self i r v.coming out c.requires.rest (λ g n. let j = v.joins g n in omega (arith, j, t, most));
+      near = let j = v.joins f h in joined-near c.args.number i x y c.loop-place.self r v.coming f h (omega (arith, j, t, most));
+      short = λ n added e. v.coming.short added e;
       room = let j = v.joins f h in coming_room c.args.number i x y c.loop-place.self f r h (omega (arith, j, t, most)) v.coming;
     }

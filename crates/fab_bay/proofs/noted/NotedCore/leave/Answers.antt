@@ -24,6 +24,7 @@ returns-in-Err c =
       goes = tt;
       err = λ out. still_goes c.args.number x y out (still_of x y s);
       why = tt;
+      left = tt;
       room = room_same x y s c.prepare.ensures.kept c.requires.room;
     }
 
@@ -38,5 +39,6 @@ returns-in-Ok c =
       goes = λ out. still_then c.args.number 0 x y z out _ (still_of x y s) (e.goes out);
       err = tt;
       why = λ f p h first. e.why f p (still_noted x y f (still_of x y s) h) first;
+      left = e.left;
       room = e.room;
     }

@@ -6,7 +6,7 @@ use Rattle.fab_bay.proofs.Rounds.{onward}
 use Rattle.fab_bay.proofs.noted.NotedCore.leave_all.Goals as goal
 
 pub loop-init : goal.loop-init
-loop-init c = record { ready = c.requires.ready; goes = none c.args.number c.args.self.now (transits c.args.leaving.now.items) }
+loop-init c = record { ready = c.requires.ready; goes = none c.args.number c.args.self.now (transits c.args.leaving.now.items); whys = c.requires.whys }
 
 pub leave_one-requires-clause-due : goal.leave_one-requires-clause-due
 leave_one-requires-clause-due c = λ f n. leaves-first f c.in-Some.tenant n.core.once (sym c.in-Some.is ∙ c.next_leaving.ensures f n.core)
@@ -22,4 +22,5 @@ loop-preserved c = record {
   goes =
       onward c.args.number 0 0 0 c.args.self.now c.loop.self c.leave_one.new.self (transits c.args.leaving.now.items) (transits c.loop.leaving.items) (transits c.leave_one.new.leaving.items)
       c.loop.invariant.goes c.leave_one.ensures.goes (omega arith);
+  whys = c.leave_one.ensures.whys;
 }

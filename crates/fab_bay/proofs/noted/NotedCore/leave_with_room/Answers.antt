@@ -1,4 +1,4 @@
-use Rattle.std.proofs.Common.{◌≡◌, ◌++◌, ◌∷◌, [], ◌+◌, suc, length, List, Some, None, ap, sym, ◌∙◌, subst, arith, get_or}
+use Rattle.std.proofs.Common.{◌≡◌, false, ◌++◌, ◌∷◌, [], ◌+◌, suc, length, List, Some, None, ap, sym, ◌∙◌, subst, arith, get_or}
 use Rattle.std.specs.Prelude.{◌==◌, position}
 use Rattle.fab_points.specs.Points.{departed, Point}
 use Rattle.fab_points.specs.Fabrics.{left}
@@ -127,6 +127,7 @@ returns c =
           let u = c.leave-leaver.ensures.out g v.0 (c.ran_one.ensures.kept g j).core v.2 in
           gone_leave k t i x y z b s n o g j (c.requires.rest g j) w v.0 v.2 u.0 (subst (λ (a : Parcel). IsPointOf a (departed w v.0)) (sym c.into_leaver-transit.ensures.parcel) u.1)
           (subst (λ (a : FabCore). IsFabric a (left t g)) (sym c.write.ensures.core) (c.leave-leaver.ensures.fabric g (c.ran_one.ensures.kept g j).core)));
+      left = (p, at, out.0, subst (λ (a : Point). a.stopped ≡ false) (sym same) (ran_berth t i x y b r f h p).lives);
       why = λ g a j first. (c.leave-leaver.ensures.out g a (c.ran_one.ensures.kept g j).core first).0;
       room = room_left x y z i (ran_still t i x y b r f h) (m2 ∙ sym m) o.berths
           (c.ran_one.ensures.room (length x.berths.items + 1) (room_less (suc (length x.berths.items + 1)) (length x.berths.items + 2) x (omega arith) c.requires.room))

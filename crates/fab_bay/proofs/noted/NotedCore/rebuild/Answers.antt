@@ -1,6 +1,8 @@
-use Rattle.std.proofs.Common.{◌≡◌, ◌+◌, length, ap, sym, ◌∙◌, subst, arith}
+use Rattle.std.proofs.Common.{◌≡◌, ◌+◌, List, ◌++◌, length, ap, sym, ◌∙◌, subst, arith}
+use Rattle.fab_notes.specs.declared.note.Note.{Note}
 use Rattle.fab_bay.proofs.Gone.{room_less, room_same}
 use Rattle.fab_bay.proofs.Kept.{still_back, still_goes, still_noted, still_of, still_then}
+use Rattle.fab_bay.proofs.Near.{near-by, short-none}
 use Rattle.fab_bay.proofs.noted.NotedCore.rebuild.Goals as goal
 
 pub rebuild_with_room-requires : goal.rebuild_with_room-requires
@@ -26,6 +28,8 @@ returns-in-Err c =
     let s = c.prepare.ensures.same in
     record {
       goes = λ out. still_goes c.args.number x y out (still_of x y s);
+      near = near-by x y s.core s.berths;
+      short = λ n added e. short-none x.notes.items y.notes.items added s.notes e;
       room = room_same x y s c.prepare.ensures.kept c.requires.room;
     }
 
@@ -37,5 +41,7 @@ returns-in-Ok c =
     let s = c.prepare.ensures.same in
     record {
       goes = λ out. still_then c.args.number 0 x y z out out (still_of x y s) (c.rebuild_with_room.ensures.goes out);
+      near = λ n. c.rebuild_with_room.ensures.near (near-by x y s.core s.berths n);
+      short = λ n added e. c.rebuild_with_room.ensures.short (near-by x y s.core s.berths n) added (e ∙ ap (λ (ns : List Note). ns ++ added) (sym s.notes));
       room = c.rebuild_with_room.ensures.room;
     }

@@ -5,7 +5,7 @@ use Rattle.fab_bay.proofs.Rounds.{onward}
 use Rattle.fab_bay.proofs.noted.NotedCore.rounds.Goals as goal
 
 pub loop-done-init : goal.loop-done-init
-loop-done-init c = record { ready = c.requires.ready; goes = none c.args.number c.args.self.now (transits c.args.leaving.now.items) }
+loop-done-init c = record { ready = c.requires.ready; goes = none c.args.number c.args.self.now (transits c.args.leaving.now.items); whys = c.requires.whys }
 
 pub returns-in-Ok-false-clause-rounds : goal.returns-in-Ok-false-clause-rounds
 returns-in-Ok-false-clause-rounds c =
@@ -41,5 +41,6 @@ loop-done-preserved c =
     let d = transits c.round.new.leaving.items in
     record {
       ready = c.round.ensures.ready;
+      whys = c.round.ensures.whys;
       goes = onward c.args.number n 1 (n + 1) c.args.self.now c.loop-done.self c.round.new.self a b d c.loop-done.invariant.goes (c.in-Ok-true.ensures.cycle cc) (omega arith);
     }

@@ -4,38 +4,38 @@ use Rattle.fab_bay.proofs.Nears.{nears-same, nears-then}
 use Rattle.fab_bay.proofs.Rounds.{both}
 use Rattle.fab_bay.proofs.noted.NotedCore.run_to_rest.Goals as goal
 
-pub loop-init : goal.loop-init
-loop-init c = record { ready = c.requires.ready; near = nears-same c.args.self.now; goes = (0, λ out. none c.args.number c.args.self.now out) }
+pub acts-init : goal.acts-init
+acts-init c = record { ready = c.requires.ready; near = nears-same c.args.self.now; goes = (0, λ out. none c.args.number c.args.self.now out) }
 
 pub returns-in-Ok-true-clause-goes : goal.returns-in-Ok-true-clause-goes
 returns-in-Ok-true-clause-goes c =
-    let g = c.loop.invariant.goes in
+    let g = c.acts.invariant.goes in
     let h = c.step_to_rest.ensures.goes in
-    (g.0 + h.0, both c.args.number g.0 h.0 (g.0 + h.0) c.args.self.now c.loop.self c.step_to_rest.new.self g.1 h.1 refl)
+    (g.0 + h.0, both c.args.number g.0 h.0 (g.0 + h.0) c.args.self.now c.acts.self c.step_to_rest.new.self g.1 h.1 refl)
 
 pub returns-in-Err-clause-goes : goal.returns-in-Err-clause-goes
 returns-in-Err-clause-goes c =
-    let g = c.loop.invariant.goes in
+    let g = c.acts.invariant.goes in
     let h = c.step_to_rest.ensures.goes in
-    (g.0 + h.0, both c.args.number g.0 h.0 (g.0 + h.0) c.args.self.now c.loop.self c.step_to_rest.new.self g.1 h.1 refl)
+    (g.0 + h.0, both c.args.number g.0 h.0 (g.0 + h.0) c.args.self.now c.acts.self c.step_to_rest.new.self g.1 h.1 refl)
 
 pub returns-in-Ok-true-clause-near : goal.returns-in-Ok-true-clause-near
 returns-in-Ok-true-clause-near c =
-    nears-then c.args.self.now c.loop.self c.step_to_rest.new.self (c.loop.invariant.goes.1 []).added (c.step_to_rest.ensures.goes.1 []).added (c.loop.invariant.goes.1 []).notes
-    (c.step_to_rest.ensures.goes.1 []).notes c.loop.invariant.near c.step_to_rest.ensures.near
+    nears-then c.args.self.now c.acts.self c.step_to_rest.new.self (c.acts.invariant.goes.1 []).added (c.step_to_rest.ensures.goes.1 []).added (c.acts.invariant.goes.1 []).notes
+    (c.step_to_rest.ensures.goes.1 []).notes c.acts.invariant.near c.step_to_rest.ensures.near
 
 pub returns-in-Err-clause-near : goal.returns-in-Err-clause-near
 returns-in-Err-clause-near c =
-    nears-then c.args.self.now c.loop.self c.step_to_rest.new.self (c.loop.invariant.goes.1 []).added (c.step_to_rest.ensures.goes.1 []).added (c.loop.invariant.goes.1 []).notes
-    (c.step_to_rest.ensures.goes.1 []).notes c.loop.invariant.near c.step_to_rest.ensures.near
+    nears-then c.args.self.now c.acts.self c.step_to_rest.new.self (c.acts.invariant.goes.1 []).added (c.step_to_rest.ensures.goes.1 []).added (c.acts.invariant.goes.1 []).notes
+    (c.step_to_rest.ensures.goes.1 []).notes c.acts.invariant.near c.step_to_rest.ensures.near
 
-pub loop-preserved : goal.loop-preserved
-loop-preserved c =
-    let g = c.loop.invariant.goes in
+pub acts-preserved : goal.acts-preserved
+acts-preserved c =
+    let g = c.acts.invariant.goes in
     let h = c.step_to_rest.ensures.goes in
     record {
       ready = c.step_to_rest.ensures.ready;
-      near = nears-then c.args.self.now c.loop.self c.step_to_rest.new.self (c.loop.invariant.goes.1 []).added (c.step_to_rest.ensures.goes.1 []).added (c.loop.invariant.goes.1 []).notes
-          (c.step_to_rest.ensures.goes.1 []).notes c.loop.invariant.near c.step_to_rest.ensures.near;
-      goes = (g.0 + h.0, both c.args.number g.0 h.0 (g.0 + h.0) c.args.self.now c.loop.self c.step_to_rest.new.self g.1 h.1 refl);
+      near = nears-then c.args.self.now c.acts.self c.step_to_rest.new.self (c.acts.invariant.goes.1 []).added (c.step_to_rest.ensures.goes.1 []).added (c.acts.invariant.goes.1 []).notes
+          (c.step_to_rest.ensures.goes.1 []).notes c.acts.invariant.near c.step_to_rest.ensures.near;
+      goes = (g.0 + h.0, both c.args.number g.0 h.0 (g.0 + h.0) c.args.self.now c.acts.self c.step_to_rest.new.self g.1 h.1 refl);
     }

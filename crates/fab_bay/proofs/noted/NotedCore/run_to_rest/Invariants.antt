@@ -1,12 +1,16 @@
 use Rattle.std.proofs.Common.{ℕ, List}
 use Rattle.fab_notes.specs.declared.transit.Transit.{Transit}
+use Rattle.fab_bay.specs.Acts.{acts_to_come}
 use Rattle.fab_bay.specs.Rounds.{IsNearOn, IsReady}
 use Rattle.fab_bay.specs.Ways.{Goes}
 use Rattle.fab_bay.proofs.noted.NotedCore.run_to_rest.Given as goal
 
-abbrev pub invariant-loop : goal.invariant-loop
-invariant-loop l = record {
+abbrev pub invariant-acts : goal.invariant-acts
+invariant-acts l = record {
   ready : IsReady l.self;
   near : IsNearOn l.initial.self l.self;
   goes : (cycles : ℕ) × ((out : List Transit) → Goes l.number cycles l.initial.self l.self out out);
 }
+
+abbrev pub decreases-acts : goal.decreases-acts
+decreases-acts l = acts_to_come l.self

@@ -5,11 +5,12 @@ use Rattle.std.specs.declared.vec.Vec.{Vec}
 use Rattle.std.proofs.lemmas.Option.{slice_get_read}
 use Rattle.fab_points.specs.Points.{tick_of}
 use Rattle.fab_lock.specs.declared.entry.Entry.{Entry}
+use Rattle.fab_lock.specs.declared.entry.Kind.TheVariants.{Saved}
 use Rattle.fab_notes.specs.Tokens.{out_at, put_at}
 use Rattle.fab_bay.specs.declared.berth.Berth.{Berth}
 use Rattle.fab_bay.specs.declared.noted.Label.{Label}
 use Rattle.fab_bay.proofs.Events.{berthed, has-place}
-use Rattle.fab_bay.proofs.Near.{near-by, ran-near-short, short-saved, short-then}
+use Rattle.fab_bay.proofs.Near.{near-by, ran-near-short, short-one, short-then}
 use Rattle.fab_bay.proofs.Onward.{goes-note, goes-then}
 use Rattle.fab_bay.proofs.Ran.{behind, berth-at, noted_at, room-less, saved-noted, some-same}
 use Rattle.fab_bay.proofs.noted.NotedCore.saved_one.Goals as goal
@@ -94,4 +95,4 @@ returns-clause-short c = λ n added eq.
     let d = c.ran_one.ensures.goes [] in
     let m = c.saved.result in
     short-then x.notes.items y.notes.items c.write.new.self.notes.items d.added (m ∷ []) added d.notes c.write.ensures.notes eq
-    (ran-near-short x y c.requires.fabric.0 i d.added c.requires.fabric.2 b.inside c.ran_one.ensures.short n d.notes) (short-saved m (ap (λ (w : Entry). w.kind) c.saved.ensures.entry))
+    (ran-near-short x y c.requires.fabric.0 i d.added c.requires.fabric.2 b.inside c.ran_one.ensures.short n d.notes) (short-one m Saved (ap (λ (w : Entry). w.kind) c.saved.ensures.entry) tt)

@@ -1,10 +1,15 @@
-use Rattle.std.proofs.Common.{◌≡◌, ◌+◌, ◌++◌, length, refl, sym, ap, ◌∙◌, subst}
+use Rattle.std.proofs.Common.{◌≡◌, ◌+◌, ◌++◌, ◌<◌, length, refl, sym, ap, ◌∙◌, subst}
 use Rattle.std.specs.declared.alloc.Global.{Global}
 use Rattle.std.specs.declared.vec.Vec.{Vec}
+use Rattle.sub_nodes.specs.Code.{table_of}
+use Rattle.sub_nodes.specs.Stands.{at_trap}
+use Rattle.fab_points.specs.Points.{run_in}
 use Rattle.fab_core.specs.declared.cores.FabCore.{FabCore}
 use Rattle.fab_points.specs.Fabrics.{all_served}
 use Rattle.fab_bay.specs.declared.berth.Berth.{Berth}
+use Rattle.fab_bay.specs.Acts.{acts_in, saves_in}
 use Rattle.fab_bay.specs.Standing.{HasRoomFor}
+use Rattle.fab_bay.proofs.Acts.{call-nearer, save-along, save-fewer, still-by, trap-by}
 use Rattle.fab_bay.proofs.Events.{first-served, goes-core, goes-same, goes-serve, on-ok, room-by, same-back, same-noted, serve-noted, Core}
 use Rattle.fab_bay.proofs.Near.{near-by, near-core, near-served, short-none}
 use Rattle.fab_bay.proofs.Onward.{goes-then}
@@ -151,3 +156,32 @@ returns-then-saved-clause-holding c =
     let h = c.requires.fabric.1 in
     let k = same-noted c.args.self.now c.prepare.new.self f c.prepare.ensures.same h in
     ap (λ (w : FabCore). w.holding) c.saved_one.ensures.core ∙ (c.in-Ok.ensures.fabric f k.core).holding ∙ sym h.core.holding
+
+pub returns-else-saved-clause-call : goal.returns-else-saved-clause-call
+returns-else-saved-clause-call c = λ e.
+    let x = c.args.self.now in
+    let y = c.prepare.new.self in
+    let s = c.prepare.ensures.same in
+    let f = c.requires.fabric.0 in
+    let w = c.requires.waits f c.requires.fabric.1 in
+    let k = same-noted x y f s c.requires.fabric.1 in
+    let trap = trap-by c.in-Ok.saved (at_trap (table_of (run_in w.0).flat) w.0.stage) (c.in-Ok.ensures.which f w.0 k.core w.1) e in
+    let fewer = call-nearer c.each_act_comes_nearer.ensures.call_nearer c.args.tenant y.core c.serve.new.self f w.0 k.core (c.in-Ok.ensures.fabric f k.core) w.1 trap in
+    subst (λ (a : FabCore). acts_in c.serve.new.self.residents.items < acts_in a.residents.items) s.core fewer
+
+pub returns-then-saved-clause-save : goal.returns-then-saved-clause-save
+returns-then-saved-clause-save c = λ e.
+    let x = c.args.self.now in
+    let y = c.prepare.new.self in
+    let s = c.prepare.ensures.same in
+    let f = c.requires.fabric.0 in
+    let w = c.requires.waits f c.requires.fabric.1 in
+    let k = same-noted x y f s c.requires.fabric.1 in
+    let still = still-by c.in-Ok.saved (at_trap (table_of (run_in w.0).flat) w.0.stage) (c.in-Ok.ensures.which f w.0 k.core w.1) e in
+    let along = save-along c.args.tenant y.core c.serve.new.self f w.0 k.core (c.in-Ok.ensures.fabric f k.core) w.1 still in
+    let fewer = save-fewer c.args.tenant y.core c.serve.new.self f w.0 k.core (c.in-Ok.ensures.fabric f k.core) w.1 still w.2 in
+    let last = c.saved_one.ensures.core in (
+      ap (λ (a : FabCore). acts_in a.residents.items) last ∙ (along ∙ ap (λ (a : FabCore). acts_in a.residents.items) s.core),
+      subst (λ (a : FabCore). saves_in a.residents.items < saves_in x.core.residents.items) (sym last)
+          (subst (λ (a : FabCore). saves_in c.serve.new.self.residents.items < saves_in a.residents.items) s.core fewer),
+    )

@@ -1,30 +1,35 @@
 use Rattle.std.proofs.Common.{◌≡◌, true, false, [], sym, ap, ◌∙◌, arith}
+use Rattle.fab_points.specs.Fabrics.{held}
+use Rattle.fab_bay.proofs.Acts.{acts-by, cycle-nearer}
 use Rattle.fab_bay.proofs.Nears.{nears-kept, nears-then}
 use Rattle.fab_bay.proofs.Rounds.{both, ready-on}
 use Rattle.fab_bay.proofs.noted.NotedCore.step_to_rest.Goals as goal
 
-pub returns-then-is_err-clause-goes : goal.returns-then-is_err-clause-goes
-returns-then-is_err-clause-goes c = (0, c.serve_all.ensures.goes)
+pub returns-in-Ok-true-clause-goes : goal.returns-in-Ok-true-clause-goes
+returns-in-Ok-true-clause-goes c = (0, c.serve_to_call.ensures.goes)
+
+pub returns-in-Err-clause-goes : goal.returns-in-Err-clause-goes
+returns-in-Err-clause-goes c = (0, c.serve_to_call.ensures.goes)
 
 pub returns-then-is_at_rest-clause-goes : goal.returns-then-is_at_rest-clause-goes
-returns-then-is_at_rest-clause-goes c = (0, both c.args.number 0 0 0 c.args.self.now c.serve_all.new.self c.hold_on.new.self c.serve_all.ensures.goes c.hold_on.ensures.goes (omega arith))
+returns-then-is_at_rest-clause-goes c = (0, both c.args.number 0 0 0 c.args.self.now c.serve_to_call.new.self c.hold_on.new.self c.serve_to_call.ensures.goes c.hold_on.ensures.goes (omega arith))
 
 pub returns-then-is_at_rest-clause-near : goal.returns-then-is_at_rest-clause-near
 returns-then-is_at_rest-clause-near c =
-    let g = c.serve_all.ensures.goes [] in
+    let g = c.serve_to_call.ensures.goes [] in
     let h = c.hold_on.ensures.goes [] in
-    nears-then c.args.self.now c.serve_all.new.self c.hold_on.new.self g.added h.added g.notes h.notes c.serve_all.ensures.near c.hold_on.ensures.near
+    nears-then c.args.self.now c.serve_to_call.new.self c.hold_on.new.self g.added h.added g.notes h.notes c.serve_to_call.ensures.near c.hold_on.ensures.near
 
 pub returns-clause-near : goal.returns-clause-near
 returns-clause-near c =
     let x = c.args.self.now in
-    let served = c.serve_all.new.self in
+    let served = c.serve_to_call.new.self in
     let held = c.hold_on.new.self in
-    let g = c.serve_all.ensures.goes [] in
+    let g = c.serve_to_call.ensures.goes [] in
     let h = c.hold_on.ensures.goes [] in
-    let w = both c.args.number 0 0 0 x served held c.serve_all.ensures.goes c.hold_on.ensures.goes (omega arith) [] in
+    let w = both c.args.number 0 0 0 x served held c.serve_to_call.ensures.goes c.hold_on.ensures.goes (omega arith) [] in
     let e = c.cycle.ensures.goes c.args.number [] in
-    nears-then x held c.cycle.new.self w.added e.added w.notes e.notes (nears-then x served held g.added h.added g.notes h.notes c.serve_all.ensures.near c.hold_on.ensures.near)
+    nears-then x held c.cycle.new.self w.added e.added w.notes e.notes (nears-then x served held g.added h.added g.notes h.notes c.serve_to_call.ensures.near c.hold_on.ensures.near)
     (nears-kept held c.cycle.new.self (ap (λ v. v.items) c.cycle.ensures.notes) (c.cycle.ensures.near c.hold_on.ensures.holds))
 
 pub cycle-requires-clause-order : goal.cycle-requires-clause-order
@@ -41,5 +46,20 @@ returns-clause-goes c =
     let x = c.args.self.now in
     let held = c.hold_on.new.self in (
       1,
-      both k 0 1 1 x held c.cycle.new.self (both k 0 0 0 x c.serve_all.new.self held c.serve_all.ensures.goes c.hold_on.ensures.goes (omega arith)) (c.cycle.ensures.goes k) (omega arith),
+      both k 0 1 1 x held c.cycle.new.self (both k 0 0 0 x c.serve_to_call.new.self held c.serve_to_call.ensures.goes c.hold_on.ensures.goes (omega arith)) (c.cycle.ensures.goes k) (omega arith),
     )
+
+pub returns-clause-nearer : goal.returns-clause-nearer
+returns-clause-nearer c = λ _.
+    let served = c.serve_to_call.new.self in
+    let still = c.hold_on.new.self in
+    let ready = c.serve_to_call.ensures.ready in
+    let f = ready.fabric in
+    let h = c.hold_on.ensures.held f ready.noted in
+    let a = acts-by served.core f ready.noted.core in
+    let b = acts-by still.core (held f) h.core in
+    let no_call : c.in-Ok-false.field-0 ≡ false = cc in
+    let d = c.in-Ok-false.ensures.still no_call in
+    let e = cycle-nearer c.each_act_comes_nearer.ensures.cycle_nearer still.core c.cycle.new.self.core f h.core (c.cycle.ensures.core (held f) h) (c.in-Ok-false.ensures.quiet no_call f ready.noted)
+    (c.is_at_rest.ensures (held f) h ∙ c.if-is_at_rest.false) in
+    omega (arith, a, b, d, e)

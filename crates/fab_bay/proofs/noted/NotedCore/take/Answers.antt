@@ -1,4 +1,6 @@
-use Rattle.std.proofs.Common.{[], refl, ap, ◌∙◌}
+use Rattle.std.proofs.Common.{List, [], refl, sym, ap, ◌∙◌}
+use Rattle.fab_notes.specs.declared.note.Note.{Note}
+use Rattle.fab_notes.specs.Histories.{place_of, replay}
 use Rattle.fab_bay.specs.declared.leaving.Taken.{Taken}
 use Rattle.fab_bay.specs.declared.noted.NotedCore.{NotedCore}
 use Rattle.fab_bay.specs.Refusals.{IsAway}
@@ -24,9 +26,12 @@ returns-clause-taken c =
     let s = c.prepare.ensures.same in
     let begins : IsLike x b = record { label = s.label; core = s.core; berths = s.berths; waiting = s.waiting; notes = s.notes } in
     let ends : IsLike d e = record { label = refl; core = refl; berths = refl; waiting = refl; notes = refl } in
+    let bay : IsBay b = bay-like x b begins c.requires.bay in
+    let near : IsNear b = near-settled b bay.fabric bay.noted bay.settled in
     let there : (IsAway x.notes.items c.args.tenant → ⊥) = c.has.ensures.there c.if-not-has.false in (
       λ away. absurd (there away),
-      found-by c.args.number c.args.tenant x b m d e t begins (s.told ∙ c.new-2.ensures.items) c.settle.ensures.goes ends (ap (λ v. v.items) c.replace-entries.ensures.value) there found c.take_there-found.ensures.found,
+      found-by c.args.number c.args.tenant x b m d e t begins (s.told ∙ c.new-2.ensures.items) c.settle.ensures.goes ends (ap (λ v. v.items) c.replace-entries.ensures.value) there
+          near c.take_there-found.ensures.near c.settle.ensures.short found c.take_there-found.ensures.found,
     )
 
 pub returns-clause-bay : goal.returns-clause-bay
@@ -40,3 +45,6 @@ pub returns-clause-label : goal.returns-clause-label
 returns-clause-label c =
     (c.settle.ensures.goes []).label
     ∙ (found-label c.args.number c.args.tenant c.prepare.new.self c.take_there-found.new.self c.take_there-found.result c.take_there-found.ensures.found ∙ c.prepare.ensures.same.label)
+
+pub take_there-found-requires-clause-there : goal.take_there-found-requires-clause-there
+take_there-found-requires-clause-there c = λ away. c.has.ensures.there c.if-not-has.false (ap (λ (ns : List Note). place_of c.args.tenant (replay [] ns)) (sym c.prepare.ensures.same.notes) ∙ away)

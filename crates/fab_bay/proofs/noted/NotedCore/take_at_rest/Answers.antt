@@ -1,14 +1,21 @@
 use Rattle.std.proofs.Common.{[], ◌∷◌, arith}
-use Rattle.fab_bay.proofs.Going.{none}
-use Rattle.fab_bay.proofs.Nears.{nears-same, nears-then}
+use Rattle.fab_bay.proofs.Nears.{nears-then}
 use Rattle.fab_bay.proofs.Rounds.{onward, ready-on, ready-out}
+use Rattle.fab_bay.proofs.Staying.{has-there}
 use Rattle.fab_bay.proofs.noted.NotedCore.take_at_rest.Goals as goal
 
-pub returns-then-not-is_at_rest-clause-found : goal.returns-then-not-is_at_rest-clause-found
-returns-then-not-is_at_rest-clause-found c = (0, none c.args.number c.args.self.now [])
+pub take_out-requires-clause-there : goal.take_out-requires-clause-there
+take_out-requires-clause-there c = λ f n. has-there c.args.self.now f c.args.tenant n c.requires.there
 
-pub returns-then-not-has-clause-found : goal.returns-then-not-has-clause-found
-returns-then-not-has-clause-found c = (0, none c.args.number c.args.self.now [])
+pub returns-in-Ok-clause-near : goal.returns-in-Ok-clause-near
+returns-in-Ok-clause-near c =
+    let g = c.in-Ok.ensures.goes [] in
+    let h = c.rebuild_at_rest.ensures.goes [] in
+    nears-then c.args.self.now c.take_out.new.self c.rebuild_at_rest.new.self g.added h.added g.notes h.notes (record { near = c.take_out.ensures.near; short = c.take_out.ensures.short })
+    c.rebuild_at_rest.ensures.near
+
+pub returns-in-Err-clause-near : goal.returns-in-Err-clause-near
+returns-in-Err-clause-near c = record { near = c.take_out.ensures.near; short = c.take_out.ensures.short }
 
 pub rebuild_at_rest-requires : goal.rebuild_at_rest-requires
 rebuild_at_rest-requires c = record {

@@ -1,5 +1,8 @@
+use Rattle.std.proofs.Common.{List, ◌++◌, sym, ap, ◌∙◌}
+use Rattle.fab_notes.specs.declared.note.Note.{Note}
 use Rattle.fab_bay.proofs.Gone.{room_kept, room_same}
 use Rattle.fab_bay.proofs.Kept.{still_back, still_goes, still_noted, still_of, still_then}
+use Rattle.fab_bay.proofs.Near.{near-by, short-none}
 use Rattle.fab_bay.proofs.noted.NotedCore.take_out.Goals as goal
 
 pub take_with_room-requires : goal.take_with_room-requires
@@ -24,6 +27,8 @@ returns-in-Err c =
       goes = tt;
       number = tt;
       err = λ out. still_goes c.args.number x y out (still_of x y s);
+      near = near-by x y s.core s.berths;
+      short = λ n added e. short-none x.notes.items y.notes.items added s.notes e;
       room = room_same x y s c.prepare.ensures.kept c.requires.room;
     }
 
@@ -38,5 +43,7 @@ returns-in-Ok c =
       goes = λ out. still_then c.args.number 0 x y z out _ (still_of x y s) (e.goes out);
       number = e.number;
       err = tt;
+      near = λ n. e.near (near-by x y s.core s.berths n);
+      short = λ n added i. e.short (near-by x y s.core s.berths n) added (i ∙ ap (λ (ns : List Note). ns ++ added) (sym s.notes));
       room = e.room;
     }

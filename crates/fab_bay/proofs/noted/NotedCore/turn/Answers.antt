@@ -30,6 +30,7 @@ returns-clause-turned c =
       entries = way.told;
       few = r.few;
       all = λ h. second-on (r.cycles ≡ c.args.most) (IsEmpty m.notes.items) (IsEmpty d.notes.items) (empty-on k 0 m d m.told.items d.told.items out out (c.settle.ensures.goes out)) (r.all h);
+      whys = c.rounds-short.ensures.whys;
     }
 
 pub returns-clause-idle : goal.returns-clause-idle

@@ -1,0 +1,32 @@
+-- What is still to come to residents (own).
+use Rattle.std.specs.Prelude.{ℕ, ◌+◌, ◌-◌, ◌*◌, not, ◌&&◌, if◌then◌else◌, List, [], ◌∷◌, length, slice_get}
+use Rattle.sub_nodes.specs.Code.{table_of}
+use Rattle.sub_nodes.specs.Cycles.{rises}
+use Rattle.sub_ends.specs.Left.{left, most_left}
+use Rattle.ten_shell.specs.declared.shell.Shell.{Shell}
+use Rattle.ten_shell.specs.Shells.{flat_in, left_in, run_of}
+use Rattle.fab_core.specs.declared.resident.Resident.{Resident}
+use Rattle.fab_bay.specs.declared.noted.NotedCore.{NotedCore}
+
+-- so many acts are still to come to it at most
+abbrev pub acts_of : Shell → ℕ
+acts_of s = ((run_of s).plan.budget - s.engine.ticks) * most_left (table_of (flat_in s)) + left (table_of (flat_in s)) s.engine.next
+
+-- so many snapshots it has still to make where it is
+abbrev pub saves_of : Shell → ℕ
+saves_of s = if not s.engine.finished && rises (slice_get (table_of (flat_in s)).nodes s.engine.next) then length (left_in s) else 0
+
+abbrev pub acts_in : List Resident → ℕ
+acts_in [] = 0
+acts_in (r ∷ rs) = acts_of r.tenant.shell + acts_in rs
+
+abbrev pub saves_in : List Resident → ℕ
+saves_in [] = 0
+saves_in (r ∷ rs) = saves_of r.tenant.shell + saves_in rs
+
+-- to all residents together
+abbrev pub acts_to_come : NotedCore → ℕ
+acts_to_come x = acts_in x.core.residents.items
+
+abbrev pub saves_to_come : NotedCore → ℕ
+saves_to_come x = saves_in x.core.residents.items

@@ -1,10 +1,9 @@
 -- A tenant that is put in line.
-use Rattle.std.proofs.Common.{◌≡◌, ◌≢◌, ℕ, ◌≤◌, ◌<◌, Bool, true, false, Option, Some, None, List, [], ◌∷◌, ◌++◌, map, refl, sym, ap, ◌∙◌, subst, append_assoc, arith}
+use Rattle.std.proofs.Common.{◌≡◌, ◌≢◌, ℕ, ◌<◌, true, false, Some, None, List, [], ◌∷◌, ◌++◌, map, sym, ap, ◌∙◌, subst, append_assoc, arith}
 use Rattle.std.specs.Prelude.{◌==◌, ◌||◌, is_some, position, vec_len, vec_capacity}
 use Rattle.std.proofs.Props.{props}
 use Rattle.std.proofs.lemmas.List.{map_push}
 use mathlib.Core.HLevel.{is_prop→PathP}
-use Rattle.vl_cost.specs.declared.capacity.Cost.{Cost}
 use Rattle.vl_design.specs.Alone as alone
 use Rattle.vl_design.specs.Alone.{first_tick}
 use Rattle.fab_lock.specs.declared.entry.Entry.{Entry}
@@ -19,12 +18,12 @@ use Rattle.fab_notes.specs.declared.transit.Stay.{Stay}
 use Rattle.fab_notes.specs.declared.transit.Transit.{Transit}
 use Rattle.fab_notes.specs.Deeds.{cost_of, deed_in, deed_of, Deed}
 use Rattle.fab_notes.specs.Ends.{EndsNotBefore}
-use Rattle.fab_notes.specs.Histories.{after, fits_alone, in_line, place_of, replay, Away, HasRoom, May, Place, Seat}
+use Rattle.fab_notes.specs.Histories.{fits_alone, in_line, place_of, replay, Away, May, Place, Seat}
 use Rattle.fab_notes.specs.Stays.{chains}
 use Rattle.fab_bay.specs.declared.berth.Berth.{Berth}
 use Rattle.fab_bay.specs.declared.noted.Label.{Label}
 use Rattle.fab_bay.specs.declared.noted.NotedCore.{NotedCore}
-use Rattle.fab_bay.specs.Berths.{begun, deed_at, seat, seats, IsBerth, IsWaiter}
+use Rattle.fab_bay.specs.Berths.{begun, deed_at, seat, seats, IsWaiter}
 use Rattle.fab_bay.specs.Refusals.{IsAway}
 use Rattle.fab_bay.specs.Standing.{IsNoted}
 use Rattle.fab_bay.proofs.Kept.{noted_by, told_next, told_of, IsTold}

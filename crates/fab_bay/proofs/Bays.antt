@@ -1,5 +1,5 @@
 -- What a bay keeps.
-use Rattle.std.proofs.Common.{◌≡◌, ℕ, List, [], ◌∷◌, refl, sym, ap, ◌∙◌, subst, false, Result, Ok, Err}
+use Rattle.std.proofs.Common.{◌≡◌, List, [], refl, sym, ap, ◌∙◌, subst, false, Result, Ok, Err}
 use Rattle.std.specs.Prelude.{OnOk, OnErr}
 use Rattle.vl_cost.specs.declared.capacity.Cost.{Cost}
 use Rattle.fab_points.specs.Points.{Point}

@@ -18,18 +18,18 @@ use Rattle.fab_core.specs.declared.cores.FabCore.{FabCore}
 use Rattle.fab_core.specs.Standing.{IsFabric}
 use Rattle.fab_notes.specs.declared.note.Note.{Note}
 use Rattle.fab_notes.specs.declared.transit.Transit.{Transit}
-use Rattle.fab_notes.specs.Histories.{after, changed, is_head, place_of, seated, used, HasRoom, Inside, May, Place, Seat}
-use Rattle.fab_notes.specs.Tokens.{out_at, put_at, Token}
+use Rattle.fab_notes.specs.Histories.{after, changed, is_head, place_of, seated, used, Inside, May, Place, Seat}
+use Rattle.fab_notes.specs.Tokens.{out_at, put_at}
 use Rattle.fab_bay.specs.declared.berth.Berth.{Berth}
 use Rattle.fab_bay.specs.declared.noted.Label.{Label}
 use Rattle.fab_bay.specs.declared.noted.NotedCore.{NotedCore}
 use Rattle.fab_bay.specs.Berths.{seat, seats, AreBerths, AreWaiters}
 use Rattle.fab_bay.specs.Standing.{CanSettle, HasRoomFor, IsNoted}
 use Rattle.fab_bay.specs.Ways.{tokens, AreOut, AreShort, Goes}
-use Rattle.fab_bay.proofs.Gone.{room_less}
 use Rattle.fab_bay.proofs.Kept.{goes_by, noted_by, told_next, told_of, written_none, written_one, written_then, IsTold, IsWritten}
 use Rattle.fab_bay.proofs.Near.{short-none, short-one, short-then}
 use Rattle.fab_bay.proofs.Places.{berths_many, waiters_at, waiters_berths}
+use Rattle.fab_bay.proofs.Ran.{room_less}
 use Rattle.fab_notes.proofs.Seats.{apart_legal, came_map, changed_mid, head_map, place_mid, used_before, AreApart}
 
 -- ---- what fits

@@ -1,5 +1,5 @@
 -- What events do to a core with its history, where nothing is written.
-use Rattle.std.proofs.Common.{◌≡◌, ℕ, suc, ◌+◌, ◌<◌, length, Bool, true, false, List, [], ◌∷◌, Option, Some, None, Result, Ok, Err, map, refl, sym, ap, ◌∙◌, subst, arith}
+use Rattle.std.proofs.Common.{◌≡◌, ℕ, ◌+◌, ◌<◌, length, Bool, true, false, List, [], ◌∷◌, Some, None, Result, Ok, Err, refl, sym, ap, ◌∙◌, subst, arith}
 use Rattle.std.specs.Prelude.{if◌then◌else◌, slice_get, slice_index_or, ◌==◌, nat_lt, not, position, OnOk}
 use Rattle.std.specs.List.{position_or_len}
 use Rattle.std.specs.Result.{is_err}
@@ -12,8 +12,8 @@ use Rattle.std.specs.declared.vec.Vec.{Vec}
 use Rattle.sub_nodes.specs.Code.{table_of}
 use Rattle.sub_nodes.specs.Stands.{at_trap}
 use Rattle.fab_points.specs.Points.{Point, called, run_in, saved, served, waits}
-use Rattle.fab_points.specs.Fabrics.{all_served, all_stepped, changed, first_leaving, first_of, head_fits, held, is_of, stepped, Fabric}
-use Rattle.fab_points.specs.Worlds.{happens, serves, World, Cycle, Hold, Serve}
+use Rattle.fab_points.specs.Fabrics.{all_served, all_stepped, changed, first_leaving, first_of, head_fits, held, is_of, Fabric}
+use Rattle.fab_points.specs.Worlds.{serves, World, Cycle, Hold, Serve}
 use Rattle.fab_core.specs.declared.cores.FabCore.{FabCore}
 use Rattle.fab_core.specs.Standing.{IsFabric}
 use Rattle.fab_notes.specs.declared.transit.Transit.{Transit}
@@ -21,7 +21,7 @@ use Rattle.fab_notes.specs.Histories.{replay, IsLegal}
 use Rattle.fab_bay.specs.declared.berth.Berth.{Berth}
 use Rattle.fab_bay.specs.declared.noted.Label.{Label}
 use Rattle.fab_bay.specs.declared.noted.NotedCore.{NotedCore}
-use Rattle.fab_bay.specs.Berths.{seats, AreBerths, AreWaiters, IsBerth}
+use Rattle.fab_bay.specs.Berths.{seats, AreBerths, AreWaiters}
 use Rattle.fab_bay.specs.Standing.{HasRoomFor, IsNoted, IsSame}
 use Rattle.fab_bay.specs.Ways.{Goes}
 use Rattle.fab_bay.proofs.Onward.{Changes, goes-event, goes-none}

@@ -17,8 +17,7 @@ use Rattle.fab_bay.specs.Standing.{IsNoted}
 use Rattle.fab_bay.proofs.Coming.{berths_append, berths_take, start_of, IsComing, IsRebuilt}
 use Rattle.fab_bay.proofs.Gone.{ran_first, taken_here, taken_line, IsOut, IsWithdrawn}
 use Rattle.fab_bay.proofs.Near.{any-fabric, tick-begins}
-use Rattle.fab_bay.proofs.Places.{berths_many, berths_remove, waiters_berths}
-use Rattle.fab_bay.proofs.Ran.{some-same}
+use Rattle.fab_bay.proofs.Places.{berths_many, berths_remove, some-equal, waiters_berths}
 
 -- ---- lists
 
@@ -50,7 +49,7 @@ near-waiters n (x ∷ bs) (y ∷ ps) h zero b p e g =
     let noted = h.0.noted in
     let le = tick-begins y in
     let first : begun y ≤ x.noted + 1 = omega (arith, noted, le) in
-    subst (λ (w : Berth). begun p ≤ w.noted + 1) (some-same x b e) (subst (λ (w : Point). begun w ≤ x.noted + 1) (some-same y p g) first)
+    subst (λ (w : Berth). begun p ≤ w.noted + 1) (some-equal x b e) (subst (λ (w : Point). begun w ≤ x.noted + 1) (some-equal y p g) first)
 near-waiters n (x ∷ bs) (y ∷ ps) h (suc i) b p e g = near-waiters n bs ps h.1 i b p e g
 
 near-take : (k : ℕ) (bs : List Berth) (ps : List Point) → AreNear bs ps → AreNear (take k bs) (take k ps)

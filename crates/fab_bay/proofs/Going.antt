@@ -1,7 +1,6 @@
 -- Ways one after another.
-use Rattle.std.proofs.Common.{◌≡◌, ℕ, suc, ◌+◌, List, [], ◌∷◌, ◌++◌, map, refl, sym, ap, ◌∙◌, subst, append_assoc, false, arith}
+use Rattle.std.proofs.Common.{◌≡◌, ℕ, ◌+◌, List, [], ◌∷◌, ◌++◌, map, refl, sym, ap, ◌∙◌, subst, append_assoc, arith}
 use Rattle.std.proofs.lemmas.List.{append-nil}
-use Rattle.vl_cost.specs.declared.capacity.Cost.{Cost}
 use Rattle.fab_lock.specs.declared.entry.Entry.{Entry}
 use Rattle.fab_lock.specs.declared.entry.Kind.{Kind}
 use Rattle.fab_lock.specs.declared.entry.Kind.TheVariants as kind
@@ -55,7 +54,7 @@ nobody-comes : (e : Entry) (o : Option Deed) → tokens_of.told e o ≡ [] → i
 nobody-comes e None h = refl
 nobody-comes e (Some d) h = let z : ⊥ = cc in absurd z
 
-front-empty : (xs ys : List Token) → xs ++ ys ≡ [] → (xs ≡ []) × (ys ≡ [])
+pub front-empty : (xs ys : List Token) → xs ++ ys ≡ [] → (xs ≡ []) × (ys ≡ [])
 front-empty [] ys h = (refl, h)
 front-empty (x ∷ xs) ys h = let z : ⊥ = cc in absurd z
 

@@ -1,8 +1,7 @@
 -- What becomes of a core without one of its tenants.
-use Rattle.std.proofs.Common.{◌≡◌, ℕ, suc, ◌+◌, ◌<◌, ◌≤◌, Bool, true, false, Option, Some, None, List, [], ◌∷◌, ◌++◌, length, set, get_or, refl, sym, ap, ◌∙◌, subst, arith}
-use Rattle.std.specs.Prelude.{◌&&◌, ◌||◌, ◌==◌, is_some, if◌then◌else◌, position, slice_get, slice_set, vec_len, vec_capacity}
+use Rattle.std.proofs.Common.{◌≡◌, ℕ, suc, ◌+◌, ◌<◌, ◌≤◌, Bool, true, false, Option, Some, None, List, [], ◌∷◌, ◌++◌, length, get_or, refl, sym, ap, ◌∙◌, subst, arith}
+use Rattle.std.specs.Prelude.{◌||◌, ◌==◌, is_some, if◌then◌else◌, position, slice_get, slice_set, vec_len, vec_capacity}
 use Rattle.std.specs.List.{remove}
-use Rattle.std.proofs.Math.ListN.{length-set}
 use Rattle.std.proofs.lemmas.List.{append-nil, get_or-set_same}
 use Rattle.std.proofs.lemmas.Option.{slice_get-get_or}
 use Rattle.vl_design.specs.declared.design.End.TheVariants as end
@@ -16,27 +15,23 @@ use Rattle.fab_points.specs.Points.{departed, due, rests, run_in, tick_of, Point
 use Rattle.fab_points.specs.Fabrics.{first_of, found, has, left, taken, without, Fabric}
 use Rattle.fab_points.specs.Worlds as worlds
 use Rattle.fab_points.specs.Worlds.{happens, is_at_rest, leaves, takes, Event, Take, Leave, World}
-use Rattle.fab_core.specs.declared.cores.FabCore.{FabCore}
 use Rattle.fab_core.specs.Standing.{IsFabric, IsPointOf}
 use Rattle.fab_notes.specs.declared.note.Note.{Note}
-use Rattle.fab_notes.specs.declared.transit.Stay.{Stay}
 use Rattle.fab_notes.specs.declared.transit.Transit.{Transit}
-use Rattle.fab_notes.specs.Deeds.{deed_in, deed_of, Deed}
+use Rattle.fab_notes.specs.Deeds.{deed_in}
 use Rattle.fab_notes.specs.Ends.{EndsNotBefore}
 use Rattle.fab_notes.specs.Stays.{chains}
 use Rattle.fab_bay.specs.declared.berth.Berth.{Berth}
-use Rattle.fab_bay.specs.declared.noted.Label.{Label}
 use Rattle.fab_bay.specs.declared.noted.NotedCore.{NotedCore}
-use Rattle.fab_bay.specs.Berths.{AreBerths, AreWaiters, IsBerth, IsWaiter}
+use Rattle.fab_bay.specs.Berths.{AreBerths, IsBerth, IsWaiter}
 use Rattle.fab_bay.specs.Standing.{CanSettle, HasRoomFor, IsNoted, IsSame}
 use Rattle.fab_bay.specs.Ways.{tokens, AreOut, Goes}
-use Rattle.fab_bay.proofs.Kept.{goes_by, noted_by, out-snoc, told_of, tokens-snoc, written_none, written_of, written_then, IsTold, IsWritten}
+use Rattle.fab_bay.proofs.Kept.{goes_by, noted_by, out-snoc, told_of, tokens-snoc, written_of, written_then, IsWritten}
 use Rattle.fab_bay.proofs.Leavers.{leaver_chained, leaver_end, leaver_number, leaver_order, leaver_ticks, may_leave, told_left, told_withdrawn, written_out, IsLeaver, IsOutNote}
-use Rattle.fab_bay.proofs.Places.{berth-place, berths_at, berths_many, berths_remove, first-at, first-some, removed_many, some-equal, waiters_at, waiters_berths, waiters_remove, FirstAt}
+use Rattle.fab_core.proofs.Firsts.{first-at, first-some, FirstAt}
+use Rattle.fab_bay.proofs.Places.{berth-place, berths_at, berths_many, berths_remove, removed_many, some-equal, waiters_at, waiters_berths, waiters_remove, number_at}
 use Rattle.fab_bay.proofs.Pointed.{tells}
-
-pub room_less : (m n : ℕ) (x : NotedCore) → m ≤ n → HasRoomFor n x → HasRoomFor m x
-room_less m n x l r = let a = r.notes in let b = r.told in record { notes = omega (arith, a, l); told = omega (arith, b, l) }
+use Rattle.fab_bay.proofs.Ran.{room_less}
 
 -- ---- worlds
 
@@ -123,7 +118,7 @@ module _ (k tenant place : ℕ) (x y z : NotedCore) (b : Berth) (t : Transit) (n
     out_number f w d h l =
         let p = get_or f.residents place d in
         let berth = ran_berth tenant place x y b o.ran f h d in
-        leaver_number y.label.tenants b p w t.parcel berth (ran_noted tenant place x y b o.ran f h d) l ∙ (berth.number ∙ (ran_first tenant place x y b o.ran f h).number d)
+        leaver_number y.label.tenants b p w t.parcel berth (ran_noted tenant place x y b o.ran f h d) l ∙ (berth.number ∙ number_at tenant f.residents place d (ran_first tenant place x y b o.ran f h))
 
     pub out_noted : (f : Fabric) (w : Why) (d : Point) → IsNoted x f → IsLeaver w (get_or f.residents place d) t.parcel → IsFabric z.core (left tenant f) → IsNoted z (left tenant f)
     out_noted f w d h l core =
@@ -289,7 +284,7 @@ module _ (k tenant place : ℕ) (x z : NotedCore) (b : Berth) (t : Transit) (n :
   pub withdrawn_number : number_of t.parcel ≡ tenant
   withdrawn_number =
       leaver_number x.label.tenants b (get_or f.line place p) ended_why t.parcel waiter.berth waiter.noted taker_line
-      ∙ (waiter.berth.number ∙ (line_first tenant place x b o.none o.there o.read f h).number p)
+      ∙ (waiter.berth.number ∙ number_at tenant f.line place p (line_first tenant place x b o.none o.there o.read f h))
 
   pub withdrawn_written : IsWritten k x z (tokens (t ∷ []))
   withdrawn_written =

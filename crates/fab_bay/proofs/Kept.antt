@@ -1,17 +1,16 @@
 -- A core's history one note longer, and what calls write.
-use Rattle.std.proofs.Common.{◌≡◌, ℕ, ◌+◌, ◌<◌, Bool, true, false, List, [], ◌∷◌, ◌++◌, map, refl, sym, ap, ◌∙◌, subst, append_assoc}
-use Rattle.std.proofs.lemmas.List.{append-nil, map-append, map_push}
-use Rattle.vl_cost.specs.declared.capacity.Cost.{Cost}
+use Rattle.std.proofs.Common.{◌≡◌, ℕ, ◌<◌, true, false, List, [], ◌∷◌, ◌++◌, map, refl, sym, ap, ◌∙◌, subst, append_assoc}
+use Rattle.std.proofs.lemmas.List.{append-nil}
 use Rattle.fab_lock.specs.declared.entry.Entry.{Entry}
 use Rattle.fab_lock.specs.declared.entry.Kind.{Kind}
 use Rattle.fab_points.specs.Points.{Point}
 use Rattle.fab_points.specs.Fabrics.{Fabric}
-use Rattle.fab_points.specs.Worlds.{run, Event, World}
+use Rattle.fab_points.specs.Worlds.{run, Event}
 use Rattle.fab_core.specs.declared.cores.FabCore.{FabCore}
 use Rattle.fab_core.specs.Standing.{IsFabric}
 use Rattle.fab_notes.specs.declared.note.Note.{Note}
 use Rattle.fab_notes.specs.declared.transit.Transit.{Transit}
-use Rattle.fab_notes.specs.Histories.{after, is_line, place_of, replay, AreLinesByFirst, HasRoom, IsLegal, May, Seat}
+use Rattle.fab_notes.specs.Histories.{after, is_line, place_of, replay, AreLinesByFirst, HasRoom, IsLegal, May}
 use Rattle.fab_notes.specs.Tokens.{out_at, outs, put_at, puts, AllBear, Token}
 use Rattle.fab_bay.specs.declared.berth.Berth.{Berth}
 use Rattle.fab_bay.specs.declared.noted.Label.{Label}
@@ -20,6 +19,7 @@ use Rattle.fab_bay.specs.Berths.{seats, AreBerths, AreWaiters}
 use Rattle.fab_bay.specs.Standing.{IsNoted, IsSame}
 use Rattle.fab_bay.specs.Ways.{cycles_in, tokens, AreBelow, AreInOrder, AreOut, Goes}
 use Rattle.fab_notes.proofs.Legality.{kept_legal, kept_replay}
+use Rattle.fab_bay.proofs.Going.{bear-append, below-append, outs-append, puts-append, told-append}
 
 -- ---- a history
 
@@ -68,26 +68,6 @@ noted_by y l notes bs ws f el en eb ew core capacity residents line t = record {
 }
 
 -- ---- what is written
-
-outs-append : (xs ys : List Note) → outs (xs ++ ys) ≡ outs xs ++ outs ys
-outs-append [] ys = refl
-outs-append (x ∷ xs) ys = ap (λ l. out_at x.entry.kind x ++ l) (outs-append xs ys) ∙ sym (append_assoc (out_at x.entry.kind x) (outs xs) (outs ys))
-
-puts-append : (xs ys : List Note) → puts (xs ++ ys) ≡ puts xs ++ puts ys
-puts-append [] ys = refl
-puts-append (x ∷ xs) ys = ap (λ l. put_at x.entry.kind x ++ l) (puts-append xs ys) ∙ sym (append_assoc (put_at x.entry.kind x) (puts xs) (puts ys))
-
-bear-append : (k : ℕ) (xs ys : List Note) → AllBear k xs → AllBear k ys → AllBear k (xs ++ ys)
-bear-append k [] ys a b = b
-bear-append k (x ∷ xs) ys a b = (a.0, bear-append k xs ys a.1 b)
-
-below-append : (k : ℕ) (xs ys : List Note) → AreBelow k xs → AreBelow k ys → AreBelow k (xs ++ ys)
-below-append k [] ys a b = b
-below-append k (x ∷ xs) ys a b = (a.0, below-append k xs ys a.1 b)
-
-told-append : (xs ys : List Note) → map (λ (n : Note). n.entry) (xs ++ ys) ≡ map (λ (n : Note). n.entry) xs ++ map (λ (n : Note). n.entry) ys
-told-append [] ys = refl
-told-append (x ∷ xs) ys = ap (λ (l : List Entry). x.entry ∷ l) (told-append xs ys)
 
 -- notes that bear a seat's number are added, none of a tenant that is put in line, and they say that these came out
 pub record IsWritten (number : ℕ) (x y : NotedCore) (out : List Token) : Type 0 where

@@ -1,9 +1,9 @@
 -- A tenant that comes out.
-use Rattle.std.proofs.Common.{◌≡◌, ◌≢◌, ℕ, suc, ◌+◌, ◌<◌, ◌≤◌, Bool, true, false, Option, Some, None, List, [], ◌∷◌, ◌++◌, length, get_or, take, drop, map, refl, sym, ap, ap₂, ◌∙◌, subst, append_assoc, arith, eqb, eq-eqb}
-use Rattle.std.specs.Prelude.{◌&&◌, ◌==◌, is_some, nat_le, if◌then◌else◌, vec_len, vec_capacity}
+use Rattle.std.proofs.Common.{◌≡◌, ℕ, suc, ◌<◌, ◌≤◌, Bool, true, false, Option, Some, None, List, [], ◌∷◌, ◌++◌, length, get_or, take, drop, map, refl, sym, ap, ap₂, ◌∙◌, subst, append_assoc, arith, eq-eqb}
+use Rattle.std.specs.Prelude.{◌&&◌, ◌==◌, is_some, nat_le, if◌then◌else◌}
 use Rattle.std.specs.List.{remove}
 use Rattle.std.proofs.lemmas.Bool.{eqb-true, le-leb}
-use Rattle.std.proofs.lemmas.List.{append-nil, map-append}
+use Rattle.std.proofs.lemmas.List.{map-append}
 use Rattle.vl_design.specs.declared.design.End.{End}
 use Rattle.vl_design.specs.Alone as alone
 use Rattle.vl_design.specs.Alone.{first_tick}
@@ -19,10 +19,7 @@ use Rattle.ten_shell.specs.declared.shell.Why.{Why}
 use Rattle.ten_shell.specs.declared.shell.Why.TheVariants as why
 use Rattle.ten_shell.specs.Leaving.{end_in, why_in, why_of}
 use Rattle.fab_points.specs.Points.{departed, due, is_there, rests, run_in, tick_of, Point}
-use Rattle.fab_points.specs.Fabrics.{first_of, found, left, taken, without, Fabric}
-use Rattle.fab_points.specs.Worlds as worlds
-use Rattle.fab_points.specs.Worlds.{is_at_rest, run, Event, Take, Leave, World}
-use Rattle.fab_core.specs.Standing.{IsFabric, IsPointOf}
+use Rattle.fab_core.specs.Standing.{IsPointOf}
 use Rattle.fab_notes.specs.declared.note.Note.{Note}
 use Rattle.fab_notes.specs.declared.transit.Stay.{Stay}
 use Rattle.fab_notes.specs.declared.transit.Transit.{Transit}
@@ -32,16 +29,15 @@ use Rattle.fab_notes.specs.Ends.{EndsNotBefore}
 use Rattle.fab_notes.specs.Histories as histories
 use Rattle.fab_notes.specs.Histories.{is_done, place_of, replay, stay_now, Inside, May, MayLeave, Place, Seat}
 use Rattle.fab_notes.specs.Stays.{chains}
-use Rattle.fab_notes.specs.Tokens.{out_at, outs, put_at, puts, told, token_of, Token}
+use Rattle.fab_notes.specs.Tokens.{out_at, put_at, told}
 use Rattle.fab_bay.specs.declared.berth.Berth.{Berth}
 use Rattle.fab_bay.specs.declared.noted.Label.{Label}
 use Rattle.fab_bay.specs.declared.noted.NotedCore.{NotedCore}
-use Rattle.fab_bay.specs.Berths.{begun, deed_at, seat, seats, AreBerths, AreWaiters, IsBerth, IsWaiter}
-use Rattle.fab_bay.specs.Standing.{IsNoted}
-use Rattle.fab_bay.specs.Ways.{tokens, AreOut, Goes}
-use Rattle.fab_bay.proofs.Kept.{goes_by, noted_by, out-snoc, still_noted, told_next, told_of, tokens-snoc, written_none, written_of, written_one, written_then, IsStill, IsTold, IsWritten}
-use Rattle.fab_bay.proofs.Places.{berths_at, berths_many, berths_remove, first-at, berth-place, some-equal, split_at, waiters_at, waiters_berths, waiters_remove, FirstAt}
-use Rattle.fab_bay.proofs.Pointed.{run_is, tells, tick_there, Tells}
+use Rattle.fab_bay.specs.Berths.{begun, deed_at, seat, seats, IsBerth}
+use Rattle.fab_bay.specs.Ways.{tokens}
+use Rattle.fab_bay.proofs.Kept.{told_next, written_one, IsTold, IsWritten}
+use Rattle.fab_bay.proofs.Places.{split_at}
+use Rattle.fab_bay.proofs.Pointed.{tells, tick_there, Tells}
 use Rattle.fab_notes.proofs.Seats.{apart_legal, place_mid, without_mid, AreApart}
 
 -- ---- one stay more

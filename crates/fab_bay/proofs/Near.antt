@@ -1,24 +1,22 @@
 -- How far residents are ahead of their last notes, call by call.
-use Rattle.std.proofs.Common.{◌≡◌, ◌≢◌, ℕ, zero, suc, ◌+◌, ◌-◌, ◌<◌, ◌≤◌, ◌⊎◌, inl, inr, Bool, true, false, List, [], ◌∷◌, ◌++◌, Option, Some, None, length, map, refl, sym, ap, ◌∙◌, subst, arith, eqb, append_assoc}
-use Rattle.std.specs.Prelude.{◌&&◌, ◌||◌, not, is_some, if◌then◌else◌, slice_get, slice_set}
+use Rattle.std.proofs.Common.{◌≡◌, ◌≢◌, ℕ, zero, suc, ◌+◌, ◌-◌, ◌<◌, ◌≤◌, ◌⊎◌, inl, inr, Bool, true, false, List, [], ◌∷◌, ◌++◌, Some, length, map, refl, sym, ap, ◌∙◌, subst, arith, eqb, append_assoc}
+use Rattle.std.specs.Prelude.{◌&&◌, ◌||◌, not, is_some, if◌then◌else◌, slice_get}
 use Rattle.std.specs.declared.alloc.Global.{Global}
 use Rattle.std.specs.declared.vec.Vec.{Vec}
 use Rattle.std.proofs.lemmas.Bool.Decides.{eqb_tells}
 use Rattle.std.proofs.lemmas.List.{append-nil, length-map}
 use Rattle.std.proofs.lemmas.Option.{slice_get_within}
-use Rattle.cell_form.specs.Data.{BankData}
 use Rattle.sub_nodes.specs.Code.{table_of}
 use Rattle.sub_nodes.specs.Stands.{at_trap}
-use Rattle.ten_shell.specs.declared.shell.Shell.{Shell}
 use Rattle.ten_shell.specs.Shells.{is_left}
 use Rattle.fab_join.specs.Parts.{PartData}
-use Rattle.fab_points.specs.Points.{Point, called, cycled, due, is_there, order_in, rests, run_in, saved, served, tick_of, waits}
-use Rattle.fab_points.specs.Fabrics.{all_served, all_stepped, can_step, changed, first_of, held, is_of, stepped, Fabric}
+use Rattle.fab_points.specs.Points.{Point, called, cycled, due, is_there, order_in, run_in, saved, served, tick_of}
+use Rattle.fab_points.specs.Fabrics.{all_served, all_stepped, can_step, changed, held, is_of, stepped, Fabric}
 use Rattle.ten_run.specs.Running.{IsRunning}
 use Rattle.fab_lock.specs.declared.entry.Kind.{Kind}
 use Rattle.fab_core.specs.declared.cores.FabCore.{FabCore}
 use Rattle.fab_core.specs.declared.resident.Resident.{Resident}
-use Rattle.fab_core.specs.Standing.{AreStanding, IsFabric, IsPoint}
+use Rattle.fab_core.specs.Standing.{AreStanding, IsFabric}
 use Rattle.fab_notes.specs.declared.note.Note.{Note}
 use Rattle.fab_bay.specs.declared.berth.Berth.{Berth}
 use Rattle.fab_bay.specs.declared.noted.NotedCore.{NotedCore}
@@ -26,7 +24,9 @@ use Rattle.fab_bay.specs.Berths.{begun, AreSettled}
 use Rattle.fab_bay.specs.Nearness.{IsNear}
 use Rattle.fab_bay.specs.Standing.{IsNoted}
 use Rattle.fab_bay.specs.Ways.{is_short, AreShort}
-use Rattle.fab_bay.proofs.Ran.{behind, berths-long, cancel, get-set-other, get-set-same, noted_at, some-same, there, tick-begun, RanClause}
+use Rattle.fab_bay.proofs.Nears.{short-append}
+use Rattle.fab_bay.proofs.Places.{berths_many, some-equal}
+use Rattle.fab_bay.proofs.Ran.{behind, cancel, get-set-other, get-set-same, noted_at, there, tick-begun, RanClause}
 use Rattle.fab_bay.proofs.Steps.{rising, running, CallTicksLaw, TicksLaw}
 
 -- ---- the same core has begun the same ticks
@@ -37,7 +37,7 @@ same-begun j [] (x ∷ ps) qs i p q h k e g = absurd h
 same-begun j (r ∷ rs) [] qs i p q h k e g = absurd h
 same-begun j (r ∷ rs) (x ∷ ps) [] i p q h k e g = absurd k
 same-begun j (r ∷ rs) (x ∷ ps) (y ∷ qs) zero p q h k e g =
-    ap (λ (z : Point). z.stage.state.ticks) (sym (some-same x p e)) ∙ sym h.0.point.stands.at.ticks ∙ k.0.point.stands.at.ticks ∙ ap (λ (z : Point). z.stage.state.ticks) (some-same y q g)
+    ap (λ (z : Point). z.stage.state.ticks) (sym (some-equal x p e)) ∙ sym h.0.point.stands.at.ticks ∙ k.0.point.stands.at.ticks ∙ ap (λ (z : Point). z.stage.state.ticks) (some-equal y q g)
 same-begun j (r ∷ rs) (x ∷ ps) (y ∷ qs) (suc i) p q h k e g = same-begun j rs ps qs i p q h.1 k.1 e g
 
 pub any-fabric : (y : NotedCore) (f : Fabric) → IsFabric y.core f → length y.berths.items ≡ length f.residents → ((place : ℕ) (b : Berth) (p : Point) → slice_get y.berths.items place ≡ Some b → slice_get f.residents place ≡ Some p → begun p ≤ b.noted + 1) → IsNear y
@@ -69,11 +69,11 @@ settled-near (x ∷ bs) (y ∷ ps) zero b p s e g =
     let n : x.noted ≡ tick_of y = s.0 in
     let le = tick-begins y in
     let first : begun y ≤ x.noted + 1 = omega (arith, n, le) in
-    subst (λ (w : Berth). begun p ≤ w.noted + 1) (some-same x b e) (subst (λ (w : Point). begun w ≤ x.noted + 1) (some-same y p g) first)
+    subst (λ (w : Berth). begun p ≤ w.noted + 1) (some-equal x b e) (subst (λ (w : Point). begun w ≤ x.noted + 1) (some-equal y p g) first)
 settled-near (x ∷ bs) (y ∷ ps) (suc i) b p s e g = settled-near bs ps i b p s.1 e g
 
 pub near-settled : (x : NotedCore) (f : Fabric) → IsNoted x f → AreSettled x.berths.items f.residents → IsNear x
-near-settled x f h s = any-fabric x f h.core (berths-long x.label.tenants x.berths.items f.residents h.residents) (λ place b p at stands. settled-near x.berths.items f.residents place b p s at stands)
+near-settled x f h s = any-fabric x f h.core (berths_many x.label.tenants x.berths.items f.residents h.residents) (λ place b p at stands. settled-near x.berths.items f.residents place b p s at stands)
 
 -- ---- a cycle while the fabric holds
 
@@ -102,13 +102,13 @@ stepped-near same j (r ∷ rs) (c ∷ bs) (p ∷ ps) zero b q s near e g =
     let le = near 0 c p refl refl in
     let eq = begun-stepped same p (running r.tenant.shell _ p s.0.point) in
     let first : begun (stepped true p) ≤ c.noted + 1 = omega (arith, le, eq) in
-    subst (λ (w : Berth). begun q ≤ w.noted + 1) (some-same c b e) (subst (λ (w : Point). begun w ≤ c.noted + 1) (some-same (stepped true p) q g) first)
+    subst (λ (w : Berth). begun q ≤ w.noted + 1) (some-equal c b e) (subst (λ (w : Point). begun w ≤ c.noted + 1) (some-equal (stepped true p) q g) first)
 stepped-near same j (r ∷ rs) (c ∷ bs) (p ∷ ps) (suc i) b q s near e g = stepped-near same j rs bs ps i b q s.1 (λ place d x at stands. near (suc place) d x at stands) e g
 
 pub near-cycle : TicksLaw → (x : NotedCore) (k : FabCore) (f : Fabric) → IsNoted x f → x.core.holding ≡ true → IsFabric k (all_stepped f) → IsNear x → IsNear (record x { core = k })
 near-cycle same x k f h hold core near =
     let on : f.holding ≡ true = sym h.core.holding ∙ hold in
-    let long = berths-long x.label.tenants x.berths.items f.residents h.residents in
+    let long = berths_many x.label.tenants x.berths.items f.residents h.residents in
     any-fabric (record x { core = k }) (all_stepped f) core (long ∙ sym (length-map f.residents (stepped f.holding))) (λ place b q at stands.
     stepped-near same x.core.joined x.core.residents.items x.berths.items f.residents place b q h.core.residents (λ i c p e g. near f i c p h.core e g) at
     (subst (λ v. slice_get (map (stepped v) f.residents) place ≡ Some q) on stands))
@@ -116,7 +116,7 @@ near-cycle same x k f h hold core near =
 -- ---- a hold
 
 pub near-hold : (x : NotedCore) (k : FabCore) (f : Fabric) → IsNoted x f → IsFabric k (held f) → IsNear x → IsNear (record x { core = k })
-near-hold x k f h core near = any-fabric (record x { core = k }) (held f) core (berths-long x.label.tenants x.berths.items f.residents h.residents) (λ place b p at stands. near f place b p h.core at stands)
+near-hold x k f h core near = any-fabric (record x { core = k }) (held f) core (berths_many x.label.tenants x.berths.items f.residents h.residents) (λ place b p at stands. near f place b p h.core at stands)
 
 -- ---- what is served
 
@@ -142,7 +142,7 @@ served-near same t j (r ∷ rs) (c ∷ bs) (p ∷ ps) i b q s near e g =
         omega (arith, le, eq)
 
     put-in : (x : Point) → begun x ≤ c.noted + 1 → Some c ≡ Some b → Some x ≡ Some q → begun q ≤ b.noted + 1
-    put-in x le e g = subst (λ (w : Berth). begun q ≤ w.noted + 1) (some-same c b e) (subst (λ (w : Point). begun w ≤ c.noted + 1) (some-same x q g) le)
+    put-in x le e g = subst (λ (w : Berth). begun q ≤ w.noted + 1) (some-equal c b e) (subst (λ (w : Point). begun w ≤ c.noted + 1) (some-equal x q g) le)
 
     by : (v : Bool) (k : ℕ) → slice_get (c ∷ bs) k ≡ Some b → slice_get (if v then served p ∷ ps else p ∷ changed t served ps) k ≡ Some q
         → ((m : ℕ) → slice_get bs m ≡ Some b → slice_get (changed t served ps) m ≡ Some q → begun q ≤ b.noted + 1) → begun q ≤ b.noted + 1
@@ -161,7 +161,7 @@ served-long t (p ∷ ps) = by (is_of t p) (served-long t ps)
 
 pub near-served : CallTicksLaw → (t : ℕ) (x : NotedCore) (k : FabCore) (f : Fabric) → IsNoted x f → IsFabric k (all_served t f) → IsNear x → IsNear (record x { core = k })
 near-served same t x k f h core near =
-    any-fabric (record x { core = k }) (all_served t f) core (berths-long x.label.tenants x.berths.items f.residents h.residents ∙ sym (served-long t f.residents)) (λ place b q at stands.
+    any-fabric (record x { core = k }) (all_served t f) core (berths_many x.label.tenants x.berths.items f.residents h.residents ∙ sym (served-long t f.residents)) (λ place b q at stands.
     served-near same t x.core.joined x.core.residents.items x.berths.items f.residents place b q h.core.residents (λ i c p e g. near f i c p h.core e g) at stands)
 
 -- ---- notes
@@ -180,7 +180,7 @@ near-ran x y f place h lt ran core near g i c p is at stands = step (eqb_tells i
         let isx : IsFabric x.core g = subst (λ (k : FabCore). IsFabric k g) core is in
         let set = ran g p d.old isx (subst (λ k. slice_get g.residents k ≡ Some p) e.1 stands) d.at in
         let here : slice_get y.berths.items place ≡ Some (noted_at (tick_of p) d.old) = ap (λ bs. slice_get bs place) set ∙ get-set-same x.berths.items place (noted_at (tick_of p) d.old) lt in
-        let same : c.noted ≡ tick_of p = ap (λ (w : Berth). w.noted) (some-same c (noted_at (tick_of p) d.old) (sym (subst (λ k. slice_get y.berths.items k ≡ Some c) e.1 at) ∙ here)) in
+        let same : c.noted ≡ tick_of p = ap (λ (w : Berth). w.noted) (some-equal c (noted_at (tick_of p) d.old) (sym (subst (λ k. slice_get y.berths.items k ≡ Some c) e.1 at) ∙ here)) in
         let le = tick-begins p in
         omega (arith, le, same)
     step (inr e) =
@@ -189,10 +189,6 @@ near-ran x y f place h lt ran core near g i c p is at stands = step (eqb_tells i
         near g i c p (subst (λ (k : FabCore). IsFabric k g) core is) (sym was ∙ at) stands
 
 -- ---- short runs
-
-short-append : (xs ys : List Note) → AreShort xs → AreShort ys → AreShort (xs ++ ys)
-short-append [] ys a b = b
-short-append (x ∷ xs) ys a b = (a.0, short-append xs ys a.1 b)
 
 -- of two parts each is short
 pub short-then : (x y z a b added : List Note) → y ≡ x ++ a → z ≡ y ++ b → z ≡ x ++ added → AreShort a → AreShort b → AreShort added
@@ -209,7 +205,7 @@ short-one n k e h = (subst (λ (j : Kind). is_short j n.entry) (sym e) h, tt)
 -- ---- the core alone changes, and stands for the same fabrics
 
 pub near-core : (x : NotedCore) (k : FabCore) (f : Fabric) → IsNoted x f → IsFabric k f → IsNear x → IsNear (record x { core = k })
-near-core x k f h core near = any-fabric (record x { core = k }) f core (berths-long x.label.tenants x.berths.items f.residents h.residents) (λ place b p at stands. near f place b p h.core at stands)
+near-core x k f h core near = any-fabric (record x { core = k }) f core (berths_many x.label.tenants x.berths.items f.residents h.residents) (λ place b p at stands. near f place b p h.core at stands)
 
 -- what `ran_one` promises of its note
 abbrev pub ShortClause : (x y : NotedCore) → ℕ → Type 0

@@ -1,13 +1,14 @@
 -- Berths and points of a number.
-use Rattle.std.proofs.Common.{◌≡◌, ◌≢◌, ℕ, zero, suc, ◌+◌, ◌<◌, Bool, true, false, Option, Some, None, List, [], ◌∷◌, ◌++◌, length, set, get_or, take, drop, map, refl, sym, ap, ◌∙◌, arith, subst, eq-eqb, eqb}
+use Rattle.std.proofs.Common.{◌≡◌, ◌≢◌, ℕ, zero, suc, ◌+◌, ◌<◌, Bool, true, false, Option, Some, None, List, [], ◌∷◌, ◌++◌, length, get_or, take, drop, map, refl, sym, ap, ◌∙◌, arith}
 use Rattle.std.specs.Prelude.{◌==◌, ◌||◌, if◌then◌else◌, is_some, option_map, position}
 use Rattle.std.specs.List.{remove}
 use Rattle.std.proofs.lemmas.Bool.{eqb-true}
 use Rattle.std.proofs.lemmas.Bool.Decides.{nat_tests}
-use Rattle.std.proofs.lemmas.List.{set-get_or, set_split, map-append, append-nil}
+use Rattle.std.proofs.lemmas.List.{set-get_or, set_split, append-nil}
 use Rattle.fab_points.specs.Points.{Point}
-use Rattle.fab_points.specs.Fabrics.{first_of, is_of, without}
-use Rattle.fab_notes.specs.Histories.{place_of, Place, Away, Inside, Seat}
+use Rattle.fab_points.specs.Fabrics.{first_of, is_of}
+use Rattle.fab_core.proofs.Firsts.{FirstAt}
+use Rattle.fab_notes.specs.Histories.{place_of, Away, Inside, Seat}
 use Rattle.fab_bay.specs.declared.berth.Berth.{Berth}
 use Rattle.fab_bay.specs.Berths.{seat, seats, AreBerths, AreWaiters, IsBerth, IsWaiter}
 use Rattle.fab_notes.proofs.Legality.{not_away, place_behind}
@@ -40,50 +41,20 @@ pub berth-place : (t n : ℕ) (bs : List Berth) (ps : List Point) → AreBerths 
 berth-place t n bs ps h =
     position-map (λ (b : Berth). b.tenant) t bs ∙ ap (position (λ k. k == t)) (berth-numbers n bs ps h) ∙ sym (position-map (λ (p : Point). p.number) t ps)
 
-some-by : (b : Bool) (o : Option ℕ) (p : Point) (q : Option Point) → is_some o ≡ is_some q → is_some (if b then Some 0 else option_map (λ k. k + 1) o) ≡ is_some (if b then Some p else q)
-some-by true o p q e = refl
-some-by false None p q e = e
-some-by false (Some k) p q e = e
-
-pub first-some : (t : ℕ) (ps : List Point) → is_some (position (is_of t) ps) ≡ is_some (first_of t ps)
-first-some t [] = refl
-first-some t (p ∷ ps) = ap is_some (position-cons (is_of t) p ps) ∙ some-by (is_of t p) (position (is_of t) ps) p (first_of t ps) (first-some t ps)
-
 pub some-equal : {X : Type 0} (x y : X) → Some x ≡ Some y → x ≡ y
 some-equal x y e = cc
 
--- the first of a number is at a place
-pub record FirstAt (t : ℕ) (ps : List Point) (k : ℕ) : Type 0 where
-  pub there : k < length ps
-  pub first : (d : Point) → first_of t ps ≡ Some (get_or ps k d)
-  pub out : without t ps ≡ remove ps k
-  pub number : (d : Point) → (get_or ps k d).number ≡ t
+first-number : (t : ℕ) (ps : List Point) (p : Point) → first_of t ps ≡ Some p → p.number ≡ t
+first-number t [] p e = let z : ⊥ = cc in absurd z
+first-number t (q ∷ ps) p e = by (is_of t q) refl e (first-number t ps p)
+  where
+    by : (v : Bool) → is_of t q ≡ v → (if v then Some q else first_of t ps) ≡ Some p → (first_of t ps ≡ Some p → p.number ≡ t) → p.number ≡ t
+    by true i e more = ap (λ (x : Point). x.number) (some-equal p q (sym e)) ∙ eqb-true q.number t i
+    by false i e more = more e
 
-first-here : (t : ℕ) (p : Point) (ps : List Point) → is_of t p ≡ true → FirstAt t (p ∷ ps) 0
-first-here t p ps e = record {
-  there = omega arith;
-  first = λ d. ap (λ b. if b then Some p else first_of t ps) e;
-  out = ap (λ b. if b then ps else p ∷ without t ps) e;
-  number = λ d. eqb-true p.number t e;
-}
-
-first-behind : (t : ℕ) (p : Point) (ps : List Point) (k : ℕ) → is_of t p ≡ false → FirstAt t ps k → FirstAt t (p ∷ ps) (suc k)
-first-behind t p ps k e h = record {
-  there = let l = h.there in omega (arith, l);
-  first = λ d. ap (λ b. if b then Some p else first_of t ps) e ∙ h.first d;
-  out = ap (λ b. if b then ps else p ∷ without t ps) e ∙ ap (λ xs. p ∷ xs) h.out;
-  number = h.number;
-}
-
-first-by : (t : ℕ) (p : Point) (ps : List Point) (b : Bool) (o : Option ℕ) (k : ℕ) → is_of t p ≡ b → position (is_of t) ps ≡ o → ((m : ℕ) → position (is_of t) ps ≡ Some m → FirstAt t ps m) →
-    (if b then Some 0 else option_map (λ n. n + 1) o) ≡ Some k → FirstAt t (p ∷ ps) k
-first-by t p ps true o k e f h is = subst (FirstAt t (p ∷ ps)) (some-equal 0 k is) (first-here t p ps e)
-first-by t p ps false None k e f h is = let z : ⊥ = cc in absurd z
-first-by t p ps false (Some m) k e f h is = subst (FirstAt t (p ∷ ps)) (let s : suc m ≡ m + 1 = omega arith in s ∙ some-equal (m + 1) k is) (first-behind t p ps m e (h m f))
-
-pub first-at : (t : ℕ) (ps : List Point) (k : ℕ) → position (is_of t) ps ≡ Some k → FirstAt t ps k
-first-at t [] k e = let z : ⊥ = cc in absurd z
-first-at t (p ∷ ps) k e = first-by t p ps (is_of t p) (position (is_of t) ps) k refl refl (first-at t ps) (sym (position-cons (is_of t) p ps) ∙ e)
+-- the first of a number at its place has it
+pub number_at : (t : ℕ) (ps : List Point) (k : ℕ) (d : Point) → FirstAt t ps k → (get_or ps k d).number ≡ t
+number_at t ps k d h = first-number t ps (get_or ps k d) (h.first d)
 
 -- ---- berths at places
 

@@ -1,10 +1,9 @@
 -- What parcels at points tell.
-use Rattle.std.proofs.Common.{◌≡◌, ℕ, ◌≤◌, Bool, true, false, Option, Some, None, List, refl, sym, ap, ◌∙◌, subst}
+use Rattle.std.proofs.Common.{◌≡◌, Bool, true, false, Option, Some, None, refl, ap}
 use Rattle.std.specs.Prelude.{◌&&◌, ◌||◌, ◌-◌, not, nat_le, slice_get, if◌then◌else◌}
 use Rattle.vl_design.specs.declared.design.End.{End}
 use Rattle.vl_design.specs.declared.design.End.TheVariants as end
-use Rattle.vl_design.specs.Alone as alone
-use Rattle.vl_design.specs.Alone.{reason_at, stop_at}
+use Rattle.vl_design.specs.Alone.{stop_at}
 use Rattle.sub_nodes.specs.Code.{table_of}
 use Rattle.sub_nodes.specs.Cycles.{rises}
 use Rattle.ten_core.specs.Tenants.{origin_of}

@@ -1,6 +1,6 @@
 -- Notes of runs and of snapshots, and what is known of berths behind them.
-use Rattle.std.proofs.Common.{◌≡◌, ◌≢◌, ℕ, zero, suc, ◌+◌, ◌-◌, ◌<◌, ◌≤◌, ◌⊎◌, inl, inr, Bool, true, false, List, [], ◌∷◌, ◌++◌, Option, Some, None, length, map, refl, sym, ap, ◌∙◌, subst, arith, eqb}
-use Rattle.std.specs.Prelude.{is_some, if◌then◌else◌, slice_get, slice_set, slice_index_or, vec_len, vec_capacity, ◌||◌, ⊤}
+use Rattle.std.proofs.Common.{◌≡◌, ◌≢◌, ℕ, zero, suc, ◌+◌, ◌-◌, ◌<◌, ◌≤◌, ◌⊎◌, inl, inr, Bool, true, false, List, [], ◌∷◌, ◌++◌, Some, length, map, refl, sym, ap, ◌∙◌, subst, arith, eqb}
+use Rattle.std.specs.Prelude.{if◌then◌else◌, slice_get, slice_set, slice_index_or, ◌||◌}
 use Rattle.std.proofs.lemmas.Bool.{false≢true}
 use Rattle.std.proofs.lemmas.List.{length-set}
 use Rattle.std.proofs.lemmas.Option.{slice_get_read}
@@ -8,7 +8,6 @@ use Rattle.std.proofs.lemmas.Bool.Decides.{eqb_tells}
 use Rattle.std.specs.declared.alloc.Global.{Global}
 use Rattle.std.specs.declared.vec.Vec.{Vec}
 use Rattle.vl_design.specs.Alone.{Origin}
-use Rattle.vl_cost.specs.declared.capacity.Cost.{Cost}
 use Rattle.ten_core.specs.declared.origin.Origin.{Origin as From}
 use Rattle.ten_core.specs.Tenants.{origin_of}
 use Rattle.fab_lock.specs.declared.entry.Entry.{Entry}
@@ -22,23 +21,22 @@ use Rattle.fab_notes.specs.Deeds as deed
 use Rattle.fab_notes.specs.declared.transit.Transit.{Transit}
 use Rattle.fab_notes.specs.Tokens.{out_at, put_at}
 use Rattle.fab_notes.specs.Ends.{EndsNotBefore}
-use Rattle.fab_notes.specs.Histories.{after, changed, is_done, is_line, moved_to, place_of, replay, AreLinesByFirst, HasNoMove, HasRoom, Inside, IsLegal, May, MayRun, Place, Seat}
+use Rattle.fab_notes.specs.Histories.{after, changed, is_done, is_line, moved_to, place_of, HasNoMove, HasRoom, Inside, May, MayRun, Seat}
 use Rattle.fab_bay.specs.declared.berth.Berth.{Berth}
-use Rattle.fab_bay.specs.declared.noted.Label.{Label}
 use Rattle.fab_bay.specs.declared.noted.NotedCore.{NotedCore}
 use Rattle.fab_bay.specs.Berths.{begun, deed_at, seat, seats, AreBerths, AreSettled, AreWaiters, IsBerth}
 use Rattle.fab_bay.specs.Standing.{HasRoomFor, IsNoted}
 use Rattle.fab_bay.specs.Ways.{is_short, AreShort, Goes}
+use Rattle.fab_bay.proofs.Kept.{noted_by, told_next, told_of}
 use Rattle.fab_bay.proofs.Onward.{goes-note}
-use Rattle.fab_bay.proofs.Midst.{apart_replay, changed_at, place_at, AreApart}
+use Rattle.fab_bay.proofs.Places.{some-equal}
+use Rattle.fab_bay.proofs.Midst.{changed_at, place_at}
+use Rattle.fab_notes.proofs.Seats.{apart_legal, AreApart}
 
 -- ---- lists of berths
 
 tail-same : (x y : Note) (xs ys : List Note) → x ∷ xs ≡ y ∷ ys → xs ≡ ys
 tail-same x y xs ys e = cc
-
-pub some-same : {X : Type 0} (x y : X) → Some x ≡ Some y → x ≡ y
-some-same x y e = cc
 
 pub record There (n : ℕ) (bs : List Berth) (ps : List Point) (i : ℕ) : Type 0 where
   pub berth : Berth
@@ -56,20 +54,14 @@ there n (b ∷ bs) (p ∷ ps) (suc i) h lt = let r = there n bs ps i h.1 (omega 
 pub berth-at : (n : ℕ) (bs : List Berth) (ps : List Point) (i : ℕ) (b : Berth) (p : Point) → AreBerths n bs ps → slice_get bs i ≡ Some b → slice_get ps i ≡ Some p → IsBerth n b p
 berth-at n [] ps i b p h e g = let z : ⊥ = cc in absurd z
 berth-at n (x ∷ bs) [] i b p h e g = absurd h
-berth-at n (x ∷ bs) (y ∷ ps) zero b p h e g = subst (λ z. IsBerth n z p) (some-same x b e) (subst (λ z. IsBerth n x z) (some-same y p g) h.0)
+berth-at n (x ∷ bs) (y ∷ ps) zero b p h e g = subst (λ z. IsBerth n z p) (some-equal x b e) (subst (λ z. IsBerth n x z) (some-equal y p g) h.0)
 berth-at n (x ∷ bs) (y ∷ ps) (suc i) b p h e g = berth-at n bs ps i b p h.1 e g
 
 pub berths-set : (n : ℕ) (bs : List Berth) (ps : List Point) (i : ℕ) (b : Berth) (p : Point) → AreBerths n bs ps → slice_get ps i ≡ Some p → IsBerth n b p → AreBerths n (slice_set bs i b) ps
 berths-set n [] ps i b p h g k = h
 berths-set n (x ∷ bs) [] i b p h g k = absurd h
-berths-set n (x ∷ bs) (y ∷ ps) zero b p h g k = (subst (λ z. IsBerth n b z) (sym (some-same y p g)) k, h.1)
+berths-set n (x ∷ bs) (y ∷ ps) zero b p h g k = (subst (λ z. IsBerth n b z) (sym (some-equal y p g)) k, h.1)
 berths-set n (x ∷ bs) (y ∷ ps) (suc i) b p h g k = (h.0, berths-set n bs ps i b p h.1 g k)
-
-pub berths-long : (n : ℕ) (bs : List Berth) (ps : List Point) → AreBerths n bs ps → length bs ≡ length ps
-berths-long n [] [] h = refl
-berths-long n [] (p ∷ ps) h = absurd h
-berths-long n (b ∷ bs) [] h = absurd h
-berths-long n (b ∷ bs) (p ∷ ps) h = ap suc (berths-long n bs ps h.1)
 
 pub get-set-same : {X : Type 0} (xs : List X) (i : ℕ) (v : X) → i < length xs → slice_get (slice_set xs i v) i ≡ Some v
 get-set-same [] i v lt = let z : ⊥ = omega (arith, lt) in absurd z
@@ -85,7 +77,7 @@ get-set-other (x ∷ xs) (suc i) (suc j) v ne = get-set-other xs i j v (λ e. ne
 
 pub set-same : {X : Type 0} (xs : List X) (i : ℕ) (x : X) → slice_get xs i ≡ Some x → slice_set xs i x ≡ xs
 set-same [] i x e = refl
-set-same (y ∷ xs) zero x e = ap (λ z. z ∷ xs) (sym (some-same y x e))
+set-same (y ∷ xs) zero x e = ap (λ z. z ∷ xs) (sym (some-equal y x e))
 set-same (y ∷ xs) (suc i) x e = ap (λ zs. y ∷ zs) (set-same xs i x e)
 
 -- ---- a run
@@ -138,16 +130,6 @@ may-run n b p m h lt from to =
 
 -- ---- a note more
 
-abbrev pub LegalLaw : Type 0
-LegalLaw = (g : ℕ) (c : Cost) (notes : List Note) (n : Note) → IsLegal g c notes → May g n.entry.kind (place_of n.entry.tenant (replay [] notes)) n → HasRoom c n.entry.kind (replay [] notes) n → IsLegal g c (notes ++ n ∷ [])
-
-abbrev pub ReplayLaw : Type 0
-ReplayLaw = (notes : List Note) (n : Note) → replay [] (notes ++ n ∷ []) ≡ after n.entry.kind (replay [] notes) n
-
-lines-snoc : (ns : List Note) (n : Note) → AreLinesByFirst ns → (is_line n.entry.kind ≡ true → n.entry.seat ≡ 0) → AreLinesByFirst (ns ++ n ∷ [])
-lines-snoc [] n l h = (h, tt)
-lines-snoc (m ∷ ns) n l h = (l.0, lines-snoc ns n l.1 h)
-
 abbrev pub seats_of : NotedCore → List Seat
 seats_of x = seats x.berths.items x.waiting.items
 
@@ -164,24 +146,13 @@ pub record Follows (x y : NotedCore) (f g : Fabric) (n : Note) : Type 0 where
   pub line : AreWaiters x.label.tenants y.waiting.items g.line
   pub first : x.label.any_puts ≡ false → is_line n.entry.kind ≡ true → n.entry.seat ≡ 0
 
-pub noted-next : LegalLaw → ReplayLaw → (x y : NotedCore) (f g : Fabric) (n : Note) → IsNoted x f → Follows x y f g n → IsNoted y g
-noted-next legal replays x y f g n h w = record {
-  core = w.core;
-  capacity = w.capacity ∙ h.capacity ∙ ap (λ (l : Label). l.capacity) (sym w.label);
-  residents = subst (λ (l : Label). AreBerths l.tenants y.berths.items g.residents) (sym w.label) w.residents;
-  line = subst (λ (l : Label). AreWaiters l.tenants y.waiting.items g.line) (sym w.label) w.line;
-  legal = subst (λ (l : Label). IsLegal l.fabric l.capacity y.notes.items) (sym w.label) (subst (λ ns. IsLegal x.label.fabric x.label.capacity ns) (sym w.notes)
-      (legal x.label.fabric x.label.capacity x.notes.items n h.legal
-      (subst (λ ss. May x.label.fabric n.entry.kind (place_of n.entry.tenant ss) n) (sym h.replayed) w.may)
-      (subst (λ ss. HasRoom x.label.capacity n.entry.kind ss n) (sym h.replayed) w.room)));
-  replayed = ap (λ ns. replay [] ns) w.notes ∙ replays x.notes.items n ∙ ap (λ ss. after n.entry.kind ss n) h.replayed ∙ w.after;
-  lines = λ e.
-      let any : x.label.any_puts ≡ false = ap (λ (l : Label). l.any_puts) (sym w.label) ∙ e in
-      subst AreLinesByFirst (sym w.notes) (lines-snoc x.notes.items n (h.lines any) (w.first any));
-}
+pub noted-next : (x y : NotedCore) (f g : Fabric) (n : Note) → IsNoted x f → Follows x y f g n → IsNoted y g
+noted-next x y f g n h w =
+    noted_by y x.label (x.notes.items ++ n ∷ []) y.berths.items y.waiting.items g w.label w.notes refl refl w.core (w.capacity ∙ h.capacity) w.residents w.line
+    (told_next x.label x.notes.items n x.berths.items x.waiting.items y.berths.items y.waiting.items n.entry.kind refl (told_of x f h) w.may w.room w.after w.first)
 
 pub apart-seats : (x : NotedCore) (f : Fabric) → IsNoted x f → AreApart (seats_of x)
-apart-seats x f h = subst AreApart h.replayed (apart_replay x.label.fabric x.label.capacity [] x.notes.items tt h.legal)
+apart-seats x f h = subst AreApart h.replayed (apart_legal x.label.fabric x.label.capacity x.notes.items h.legal)
 
 -- a note of this kind, of the tenant in a berth
 pub record Tells (n : Note) (k : Kind) (b : Berth) (from to : ℕ) : Type 0 where
@@ -202,11 +173,11 @@ is-place : (x : NotedCore) (f : Fabric) (i : ℕ) (b : Berth) (n : Note) (k : Ki
     → place_of n.entry.tenant (seats_of x) ≡ Inside b.since b.noted true (deed_at b)
 is-place x f i b n k from to h at w = ap (λ t. place_of t (seats_of x)) w.tenant ∙ place_at x.berths.items i b (map (seat false) x.waiting.items) at (apart-seats x f h)
 
-pub ran-noted : LegalLaw → ReplayLaw → (x y : NotedCore) (f : Fabric) (i : ℕ) (b : Berth) (p : Point) (n : Note) → IsNoted x f → slice_get x.berths.items i ≡ Some b → slice_get f.residents i ≡ Some p
+pub ran-noted : (x y : NotedCore) (f : Fabric) (i : ℕ) (b : Berth) (p : Point) (n : Note) → IsNoted x f → slice_get x.berths.items i ≡ Some b → slice_get f.residents i ≡ Some p
     → b.noted < tick_of p → Tells n Ran b b.noted (tick_of p) → Writes x y n → y.berths.items ≡ slice_set x.berths.items i (noted_at (tick_of p) b) → IsNoted y f
-ran-noted legal replays x y f i b p n h at stands lt w v set =
+ran-noted x y f i b p n h at stands lt w v set =
     let is = berth-at x.label.tenants x.berths.items f.residents i b p h.residents at stands in
-    noted-next legal replays x y f f n h (record {
+    noted-next x y f f n h (record {
       core = subst (λ c. IsFabric c f) (sym v.core) h.core;
       capacity = refl;
       label = v.label;
@@ -217,7 +188,7 @@ ran-noted legal replays x y f i b p n h at stands lt w v set =
       after = ap (λ k. after k (seats_of x) n) w.kind
           ∙ ap (λ t. changed t (moved_to n.entry.to) (seats_of x)) w.tenant
           ∙ ap (λ k. changed b.tenant (moved_to k) (seats_of x)) w.to_is
-          ∙ changed_at x.berths.items i (tick_of p) b (map (seat false) x.waiting.items) at (apart-seats x f h)
+          ∙ changed_at x.berths.items i b (map (seat false) x.waiting.items) at (apart-seats x f h) (tick_of p)
           ∙ ap (λ bs. seats bs x.waiting.items) (sym set)
           ∙ ap (λ (z : Vec Berth Global). seats y.berths.items z.items) (sym v.waiting);
       residents = subst (λ bs. AreBerths x.label.tenants bs f.residents) (sym set)
@@ -226,10 +197,10 @@ ran-noted legal replays x y f i b p n h at stands lt w v set =
       first = λ any e. absurd (false≢true (sym (ap is_line w.kind) ∙ e));
     })
 
-pub saved-noted : LegalLaw → ReplayLaw → (x y : NotedCore) (f : Fabric) (i : ℕ) (b : Berth) (n : Note) → IsNoted x f → slice_get x.berths.items i ≡ Some b → Tells n Saved b b.noted b.noted → Writes x y n
+pub saved-noted : (x y : NotedCore) (f : Fabric) (i : ℕ) (b : Berth) (n : Note) → IsNoted x f → slice_get x.berths.items i ≡ Some b → Tells n Saved b b.noted b.noted → Writes x y n
     → y.berths ≡ x.berths → IsNoted y f
-saved-noted legal replays x y f i b n h at w v set =
-    noted-next legal replays x y f f n h (record {
+saved-noted x y f i b n h at w v set =
+    noted-next x y f f n h (record {
       core = subst (λ c. IsFabric c f) (sym v.core) h.core;
       capacity = refl;
       label = v.label;
@@ -245,8 +216,8 @@ saved-noted legal replays x y f i b n h at w v set =
 
 -- ---- room
 
-pub room-less : (n m : ℕ) (x : NotedCore) → m ≤ n → HasRoomFor n x → HasRoomFor m x
-room-less n m x le h = let a = h.notes in let b = h.told in record { notes = omega (arith, a, le); told = omega (arith, b, le) }
+pub room_less : (m n : ℕ) (x : NotedCore) → m ≤ n → HasRoomFor n x → HasRoomFor m x
+room_less m n x l r = let a = r.notes in let b = r.told in record { notes = omega (arith, a, l); told = omega (arith, b, l) }
 
 -- ---- all settled
 
@@ -268,7 +239,7 @@ settled-more k bs new ps old at lt h set other j b p under is stands = step (eqb
     step : ((eqb j k ≡ true) × (j ≡ k)) ⊎ ((eqb j k ≡ false) × (j ≢ k)) → b.noted ≡ tick_of p
     step (inl e) =
         let same : slice_get new k ≡ Some (noted_at (tick_of p) old) = ap (λ xs. slice_get xs k) (set p (subst (λ i. slice_get ps i ≡ Some p) e.1 stands)) ∙ get-set-same bs k (noted_at (tick_of p) old) lt in
-        ap (λ (z : Berth). z.noted) (some-same b (noted_at (tick_of p) old) (sym (subst (λ i. slice_get new i ≡ Some b) e.1 is) ∙ same))
+        ap (λ (z : Berth). z.noted) (some-equal b (noted_at (tick_of p) old) (sym (subst (λ i. slice_get new i ≡ Some b) e.1 is) ∙ same))
     step (inr e) = let ne = e.1 in h j b p (omega (arith, under, ne)) (sym (other j e.1) ∙ is) stands
 
 -- ---- one resident
@@ -292,9 +263,9 @@ pub record Wrote (number : ℕ) (x y : NotedCore) (place : ℕ) (old : Berth) (w
 
 pub set-by : (x : NotedCore) (place : ℕ) (old b : Berth) (tick k : ℕ) → slice_get x.berths.items place ≡ Some old → slice_get x.berths.items place ≡ Some b → tick ≡ k
     → slice_set x.berths.items place (noted_at tick old) ≡ slice_set x.berths.items place (noted_at k b)
-set-by x place old b tick k here at e = ap (λ (z : Berth). slice_set x.berths.items place (noted_at tick z)) (some-same old b (sym here ∙ at)) ∙ ap (λ m. slice_set x.berths.items place (noted_at m b)) e
+set-by x place old b tick k here at e = ap (λ (z : Berth). slice_set x.berths.items place (noted_at tick z)) (some-equal old b (sym here ∙ at)) ∙ ap (λ m. slice_set x.berths.items place (noted_at m b)) e
 
-module _ (legal : LegalLaw) (replays : ReplayLaw) (number : ℕ) (x y : NotedCore) (place : ℕ) (old : Berth) (who tick : ℕ) (n : Note) (r : Read x place old who tick) (w : Wrote number x y place old who tick n) where
+module _ (number : ℕ) (x y : NotedCore) (place : ℕ) (old : Berth) (who tick : ℕ) (n : Note) (r : Read x place old who tick) (w : Wrote number x y place old who tick n) where
   kind-is : n.entry.kind ≡ Ran
   kind-is = ap (λ (e : Entry). e.kind) w.entry
 
@@ -309,7 +280,7 @@ module _ (legal : LegalLaw) (replays : ReplayLaw) (number : ℕ) (x y : NotedCor
   ran-kept f h =
       let t = there x.label.tenants x.berths.items f.residents place h.residents r.inside in
       let k = r.resident f t.point h.core t.stands in
-      ran-noted legal replays x y f place old t.point n h r.here t.stands (subst (λ m. old.noted < m) k.1 w.ahead)
+      ran-noted x y f place old t.point n h r.here t.stands (subst (λ m. old.noted < m) k.1 w.ahead)
       (record { kind = kind-is; tenant = tenant-of f t.point h t.stands; from_is = ap (λ (e : Entry). e.from) w.entry; to_is = ap (λ (e : Entry). e.to) w.entry ∙ k.1 })
       w.writes (w.set ∙ ap (λ m. slice_set x.berths.items place (noted_at m old)) k.1)
 
@@ -326,7 +297,7 @@ module _ (legal : LegalLaw) (replays : ReplayLaw) (number : ℕ) (x y : NotedCor
   ran-short f p b added core stands at le e =
       let same : n ∷ [] ≡ added = cancel x.notes.items (n ∷ []) added (sym w.writes.notes ∙ e) in
       let k = (r.resident f p core stands).1 in
-      let noted : old.noted ≡ b.noted = ap (λ (z : Berth). z.noted) (some-same old b (sym r.here ∙ at)) in
+      let noted : old.noted ≡ b.noted = ap (λ (z : Berth). z.noted) (some-equal old b (sym r.here ∙ at)) in
       let from : n.entry.from ≡ old.noted = ap (λ (z : Entry). z.from) w.entry in
       let to : n.entry.to ≡ tick = ap (λ (z : Entry). z.to) w.entry in
       subst AreShort same (subst (λ z. is_short z n.entry) (sym kind-is) (omega (arith, le, k, noted, from, to)), tt)

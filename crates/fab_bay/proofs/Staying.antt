@@ -1,27 +1,26 @@
 -- Whoever is there stays there, by a history to which nobody's leaving is added.
 use Rattle.std.proofs.Common.{◌≡◌, ◌≢◌, ℕ, Bool, true, false, List, [], ◌∷◌, ◌++◌, Option, Some, None, eqb, refl, sym, ap, ◌∙◌, subst}
-use Rattle.std.specs.Prelude.{◌||◌}
+use Rattle.std.specs.Prelude.{◌==◌, ◌||◌, is_some, position}
 use Rattle.std.proofs.lemmas.Bool.{eqb-true}
 use Rattle.vl_cost.specs.declared.capacity.Cost.{Cost}
 use Rattle.fab_lock.specs.declared.entry.Kind.{Kind}
 use Rattle.fab_lock.specs.declared.entry.Kind.TheVariants.{Line, Came, Ran, Saved, Left}
-use Rattle.fab_points.specs.Fabrics.{has, Fabric}
+use Rattle.fab_points.specs.Fabrics.{first_of, has, Fabric}
 use Rattle.fab_notes.specs.declared.note.Note.{Note}
 use Rattle.fab_notes.specs.Deeds.{deed_in, Deed}
 use Rattle.fab_notes.specs.Histories.{after, next, place_of, replay, Away, Inside, IsLegalFrom, May, Place, Seat}
-use Rattle.fab_notes.specs.Tokens.{out_at, outs, told, Token}
+use Rattle.fab_notes.specs.Tokens.{out_at, outs, told}
 use Rattle.fab_notes.proofs.Legality.{not_away, place_here, place_other}
+use Rattle.fab_bay.specs.declared.berth.Berth.{Berth}
 use Rattle.fab_bay.specs.declared.noted.NotedCore.{NotedCore}
 use Rattle.fab_bay.specs.Refusals.{IsAway}
-use Rattle.fab_bay.specs.Rounds.{is_among, IsReady}
+use Rattle.fab_bay.specs.Rounds.{IsReady}
 use Rattle.fab_bay.specs.Standing.{IsNoted}
 use Rattle.fab_bay.specs.Ways.{Goes}
-use Rattle.fab_bay.proofs.Going.{replay-append}
-use Rattle.fab_bay.proofs.Rounds.{away-by, has-is}
-
-both-none : (xs ys : List Token) → xs ++ ys ≡ [] → (xs ≡ []) × (ys ≡ [])
-both-none [] ys h = (refl, h)
-both-none (x ∷ xs) ys h = let z : ⊥ = cc in absurd z
+use Rattle.fab_bay.proofs.Going.{front-empty, replay-append}
+use Rattle.fab_bay.proofs.Arriving.{away_of}
+use Rattle.fab_core.proofs.Firsts.{first-some}
+use Rattle.fab_bay.proofs.Places.{berth-place, waiters_berths}
 
 known-out : (n : Note) (o : Option Deed) (d : Deed) → o ≡ Some d → told n.entry o ≡ [] → ⊥
 known-out n None d e h = let z : ⊥ = cc in z
@@ -49,7 +48,7 @@ after-there g t k ss n m o p = by (eqb n.entry.tenant t) refl
 replay-there : (g : ℕ) (c : Cost) (t : ℕ) (ss : List Seat) (ns : List Note) → IsLegalFrom g c ss ns → outs ns ≡ [] → place_of t ss ≢ Away → place_of t (replay ss ns) ≢ Away
 replay-there g c t ss [] l o p = p
 replay-there g c t ss (n ∷ ns) l o p =
-    let b = both-none (out_at n.entry.kind n) (outs ns) o in
+    let b = front-empty (out_at n.entry.kind n) (outs ns) o in
     replay-there g c t (after n.entry.kind ss n) ns l.2 b.1 (after-there g t n.entry.kind ss n l.0 b.0 p)
 
 legal-behind : (g : ℕ) (c : Cost) (ss : List Seat) (xs ys : List Note) → IsLegalFrom g c ss (xs ++ ys) → IsLegalFrom g c (replay ss xs) ys
@@ -66,10 +65,21 @@ module _ (k n t : ℕ) (x y : NotedCore) (r : IsReady y) (w : Goes k n x y [] []
       (ap (place_of t) (sym (replay-append [] x.notes.items w.added)) ∙ (ap (λ (ns : List Note). place_of t (replay [] ns)) (sym w.notes) ∙ away))
 
 -- whoever isn't away is there
-pub has-there : (x : NotedCore) (f : Fabric) (t : ℕ) → IsNoted x f → (IsAway x.notes.items t → ⊥) → has t f ≡ true
-has-there x f t n there = by (is_among t x.berths.items) (is_among t x.waiting.items) refl refl
-  where
-    by : (a b : Bool) → is_among t x.berths.items ≡ a → is_among t x.waiting.items ≡ b → has t f ≡ true
-    by true b e g = has-is x f t n ∙ ap (λ (v : Bool). v || is_among t x.waiting.items) e
-    by false true e g = has-is x f t n ∙ (ap (λ (v : Bool). v || is_among t x.waiting.items) e ∙ g)
-    by false false e g = absurd (there (away-by x f t n e g))
+module _ (x : NotedCore) (f : Fabric) (t : ℕ) (n : IsNoted x f) where
+  abbrev at : List Berth → Bool
+  at bs = is_some (position (λ b. b.tenant == t) bs)
+
+  residents : has t f ≡ (at x.berths.items || is_some (first_of t f.line))
+  residents = ap (λ (v : Bool). v || is_some (first_of t f.line)) (sym (first-some t f.residents) ∙ ap is_some (sym (berth-place t x.label.tenants x.berths.items f.residents n.residents)))
+
+  line : (at x.berths.items || is_some (first_of t f.line)) ≡ (at x.berths.items || at x.waiting.items)
+  line =
+      ap (λ (v : Bool). at x.berths.items || v)
+      (sym (first-some t f.line) ∙ ap is_some (sym (berth-place t x.label.tenants x.waiting.items f.line (waiters_berths x.label.tenants x.waiting.items f.line n.line))))
+
+  pub has-there : (IsAway x.notes.items t → ⊥) → has t f ≡ true
+  has-there there = residents ∙ (line ∙ by (at x.berths.items || at x.waiting.items) refl)
+    where
+      by : (v : Bool) → (at x.berths.items || at x.waiting.items) ≡ v → v ≡ true
+      by true e = refl
+      by false e = absurd (there (away_of x f t n e))

@@ -1,8 +1,7 @@
 -- What a cycle, and a served call or save, do to a berth.
-use Rattle.std.proofs.Common.{◌≡◌, ◌≢◌, ℕ, zero, suc, ◌+◌, ◌-◌, ◌<◌, ◌≤◌, ◌⊎◌, inl, inr, Bool, true, false, List, [], ◌∷◌, Option, Some, None, map, refl, sym, ap, ◌∙◌, subst, arith, eqb, eq-eqb}
+use Rattle.std.proofs.Common.{◌≡◌, ◌≢◌, ℕ, ◌+◌, ◌-◌, ◌<◌, ◌≤◌, ◌⊎◌, inl, inr, Bool, true, false, List, [], ◌∷◌, Option, Some, None, map, refl, sym, ap, ◌∙◌, subst, arith, eqb, eq-eqb}
 use Rattle.std.specs.Prelude.{◌&&◌, ◌||◌, not, is_some, if◌then◌else◌, slice_get, nat_le, ◌==◌}
 use Rattle.std.proofs.lemmas.Bool.Decides.{eqb_tells}
-use Rattle.std.specs.Arc.{arc_value}
 use Rattle.vl_design.specs.declared.design.End.{End}
 use Rattle.vl_design.specs.declared.design.End.TheVariants as end
 use Rattle.vl_design.specs.Alone.{Boundary, Ends, Origin, reason_at, stop_at}
@@ -23,7 +22,6 @@ use Rattle.ten_core.specs.Tenants.{origin_of}
 use Rattle.ten_plan.specs.Plans.{move_at}
 use Rattle.ten_run.specs.Running.{is_at_rest, IsRunning}
 use Rattle.ten_shell.specs.declared.shell.Shell.{Shell}
-use Rattle.ten_shell.specs.declared.shell.Why.{Why}
 use Rattle.ten_shell.specs.Leaving.{why_of}
 use Rattle.ten_shell.specs.Shells.{is_left, run_of}
 use Rattle.fab_points.specs.Points.{Point, called, cycled, ended, is_there, order_in, run_in, saved, served, tick_of}
@@ -31,8 +29,7 @@ use Rattle.fab_points.specs.Fabrics.{can_step, changed, is_of, stepped}
 use Rattle.fab_join.specs.Parts.{PartData}
 use Rattle.fab_core.specs.declared.resident.Resident.{Resident}
 use Rattle.fab_core.specs.Standing.{AreStanding, IsPoint}
-use Rattle.fab_notes.specs.Ends.{EndsNotBefore}
-use Rattle.fab_notes.specs.Histories.{is_done, HasNoMove}
+use Rattle.fab_notes.specs.Histories.{is_done}
 use Rattle.fab_bay.specs.declared.berth.Berth.{Berth}
 use Rattle.fab_bay.specs.Berths.{AreBerths, IsBerth, begun, deed_at}
 

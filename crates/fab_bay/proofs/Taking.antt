@@ -1,6 +1,5 @@
 -- Calls that take a tenant out.
-use Rattle.std.proofs.Common.{◌≡◌, ℕ, ◌+◌, List, [], ◌∷◌, ◌++◌, refl, sym, ap, ◌∙◌, subst, append_assoc, arith}
-use Rattle.fab_lock.specs.declared.entry.Entry.{Entry}
+use Rattle.std.proofs.Common.{◌≡◌, ℕ, ◌+◌, List, [], ◌∷◌, ◌++◌, refl, sym, ap, ◌∙◌, subst, append_assoc}
 use Rattle.fab_notes.specs.declared.transit.Transit.{Transit}
 use Rattle.fab_bay.specs.declared.leaving.Found.{Found}
 use Rattle.fab_bay.specs.declared.leaving.Found.TheVariants.{Here, Absent, Short}

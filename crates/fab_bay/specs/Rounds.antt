@@ -1,12 +1,11 @@
 -- What rounds of a turn do (own).
-use Rattle.std.specs.Prelude.{◌≡◌, ℕ, ◌≤◌, ◌⊎◌, ◌==◌, ◌||◌, Bool, false, List, [], ◌∷◌, ◌++◌, None, Some}
+use Rattle.std.specs.Prelude.{◌≡◌, ℕ, ◌≤◌, ◌⊎◌, Bool, false, List, [], ◌∷◌, ◌++◌, None, Some}
 use Rattle.ten_shell.specs.declared.shell.Why.{Why}
 use Rattle.fab_points.specs.Points.{due, Point}
 use Rattle.fab_points.specs.Fabrics.{first_leaving, first_of, head_fits, Fabric}
 use Rattle.fab_notes.specs.declared.note.Note.{Note}
 use Rattle.fab_notes.specs.declared.transit.Transit.{Transit}
 use Rattle.ten_parcel.specs.Parcels.{number_of}
-use Rattle.fab_bay.specs.declared.berth.Berth.{Berth}
 use Rattle.fab_bay.specs.declared.leaving.Found.{Found}
 use Rattle.fab_bay.specs.declared.leaving.Found.TheVariants.{Here, Absent, Short}
 use Rattle.fab_bay.specs.declared.noted.NotedCore.{NotedCore}
@@ -45,11 +44,6 @@ pub record Rounds (number most : ℕ) (x y : NotedCore) (out out' : List Transit
   pub all : short ≡ false → (cycles ≡ most) ⊎ IsEmpty y.notes.items
 
 -- ---- taking a tenant out
-
--- one of these berths is of this tenant
-abbrev pub is_among : ℕ → List Berth → Bool
-is_among t [] = false
-is_among t (b ∷ bs) = b.tenant == t || is_among t bs
 
 -- the tenant is out, or memory ended the call
 abbrev pub IsFoundReady : (number tenant : ℕ) (x y : NotedCore) → Found → Type 0

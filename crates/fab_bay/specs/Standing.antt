@@ -1,5 +1,5 @@
 -- What it means that a core with its history stands for a fabric (own).
-use Rattle.std.specs.Prelude.{◌≡◌, ℕ, ◌+◌, ◌≤◌, false, List, [], length, vec_len, vec_capacity}
+use Rattle.std.specs.Prelude.{◌≡◌, ℕ, ◌+◌, ◌≤◌, false, [], length, vec_len, vec_capacity}
 use Rattle.fab_points.specs.Fabrics.{Fabric}
 use Rattle.fab_core.specs.Standing.{IsFabric}
 use Rattle.fab_notes.specs.Histories.{replay, AreLinesByFirst, IsLegal}

@@ -1,5 +1,5 @@
 -- What a call does with a core and its history (own).
-use Rattle.std.specs.Prelude.{◌≡◌, ℕ, suc, ◌<◌, ◌≤◌, ◌+◌, ◌⊎◌, Bool, true, false, List, [], ◌∷◌, ◌++◌, map, length, Option, Some, None, All, ⊤}
+use Rattle.std.specs.Prelude.{◌≡◌, ℕ, suc, ◌<◌, ◌≤◌, ◌+◌, ◌⊎◌, false, List, [], ◌∷◌, ◌++◌, map, length, Some, None, All, ⊤}
 use Rattle.fab_lock.specs.declared.entry.Entry.{Entry}
 use Rattle.fab_lock.specs.declared.entry.Kind.{Kind}
 use Rattle.fab_lock.specs.declared.entry.Kind.TheVariants as kind

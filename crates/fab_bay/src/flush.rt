@@ -13,7 +13,6 @@ ghost use Rattle.fab_bay.specs.Standing.{CanSettle, HasRoomFor, IsNoted, IsSame}
 ghost use Rattle.fab_bay.specs.Ways.{AreShort, Goes};
 
 use crate::noted::NotedCore;
-use fab_notes::laws::a_history_goes_on;
 use fab_notes::note::Note;
 use std::alloc::{AllocError, Global};
 
@@ -67,7 +66,6 @@ impl NotedCore {
         ensures near { IsNear self.old → IsNear self.new }
         ensures room { (n : ℕ) → HasRoomFor (suc n) self.old → HasRoomFor n self.new }
     {
-        a_history_goes_on();
         let (tenant, tick) = self.core.resident(place);
         let from = self.berths[place].noted;
         if from < tick {

@@ -62,7 +62,7 @@ impl Berth {
 
 impl NotedCore {
     /// A tenant of this number is a resident or in line.
-    fn is_there(&self, number: u32) -> bool
+    pub(crate) fn is_there(&self, number: u32) -> bool
         ensures { result ≡ (is_some (position (λ b. b.tenant == number) self.now.berths.items) || is_some (position (λ b. b.tenant == number) self.now.waiting.items)) }
     {
         berth_of(&self.berths, number).is_some() || berth_of(&self.waiting, number).is_some()

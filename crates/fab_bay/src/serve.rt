@@ -1,6 +1,6 @@
 //! What residents wait for.
 
-ghost use Rattle.std.specs.Prelude.{◌≡◌, ◌++◌, ◌+◌, ◌<◌, ◌==◌, false, true, ℕ, IfOk, List, Some, length, position};
+ghost use Rattle.std.specs.Prelude.{◌≡◌, ◌++◌, ◌+◌, ◌<◌, false, true, ℕ, IfOk, List, Some, length};
 ghost use Rattle.fab_points.specs.Points.{waits, Point};
 ghost use Rattle.fab_points.specs.Fabrics.{first_of, Fabric};
 ghost use Rattle.fab_notes.specs.declared.note.Note.{Note as OneNote};
@@ -10,20 +10,13 @@ ghost use Rattle.fab_bay.specs.Nearness.{IsNear};
 ghost use Rattle.fab_bay.specs.Standing.{CanSettle, HasRoomFor, IsNoted};
 ghost use Rattle.fab_bay.specs.Ways.{AreShort, Goes};
 
+use crate::line::berth_of;
 use crate::noted::NotedCore;
-use fab_notes::laws::a_history_goes_on;
 use fab_notes::note::Note;
 use std::alloc::{AllocError, Global};
 use ten_run::laws::each_act_comes_nearer;
 
 impl NotedCore {
-    /// The place of a resident.
-    fn place_of(&self, tenant: u32) -> Option<usize>
-        ensures { result ≡ position (λ b. b.tenant == tenant) self.now.berths.items }
-    {
-        self.berths.iter().position(|b| b.tenant == tenant)
-    }
-
     /// Writes that a snapshot of a resident was made, and before that its run up to there.
     fn saved_one(&mut self, number: u32, tenant: u32)
         requires fabric { (f : Fabric) × (p : Point) × IsNoted self.old f × (first_of tenant f.residents ≡ Some p) }
@@ -35,8 +28,7 @@ impl NotedCore {
         ensures long { length self.new.berths.items ≡ length self.old.berths.items }
         ensures room { (n : ℕ) → HasRoomFor (n + 2) self.old → HasRoomFor n self.new }
     {
-        a_history_goes_on();
-        let Some(place) = self.place_of(tenant) else {
+        let Some(place) = berth_of(&self.berths, tenant) else {
             unreachable!()
         };
         self.ran_one(place, number);

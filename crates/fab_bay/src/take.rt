@@ -2,48 +2,22 @@
 
 ghost use Rattle.std.specs.Prelude.{◌≡◌, ◌<◌, ℕ, [], List, ◌∷◌, false, true, None, IfOk, OnErr};
 ghost use Rattle.ten_parcel.specs.Parcels.{number_of};
-ghost use Rattle.fab_points.specs.Fabrics.{first_waiting, has, held, Fabric};
+ghost use Rattle.fab_points.specs.Fabrics.{first_waiting, held, Fabric};
 ghost use Rattle.fab_points.specs.Worlds.{is_at_rest};
 ghost use Rattle.fab_notes.specs.declared.transit.Transit.{Transit as Out};
 ghost use Rattle.fab_bay.specs.Acts.{acts_to_come};
 ghost use Rattle.fab_bay.specs.Refusals.{IsAway};
-ghost use Rattle.fab_bay.specs.Rounds.{is_among, IsFoundReady, IsNearOn, IsReady};
+ghost use Rattle.fab_bay.specs.Rounds.{IsFoundReady, IsNearOn, IsReady};
 ghost use Rattle.fab_bay.specs.Standing.{IsBay, IsNoted};
 ghost use Rattle.fab_bay.specs.Taking.{IsTaken};
 ghost use Rattle.fab_bay.specs.Ways.{Goes};
 
-use crate::berth::Berth;
 use crate::leaving::{Found, Taken};
 use crate::noted::NotedCore;
 use std::alloc::{AllocError, Global};
 use ten_run::laws::each_act_comes_nearer;
 
-/// The tenant is among these.
-fn is_among(tenant: u32, berths: &[Berth]) -> bool
-    ensures { result ≡ is_among tenant berths.now }
-{
-    for berth in berths {
-        if berth.tenant == tenant {
-            return true;
-        }
-    }
-    false
-}
-
 impl NotedCore {
-    /// The tenant is a resident or in line.
-    fn has(&self, tenant: u32) -> bool
-        requires { (f : Fabric) × IsNoted self.now f }
-        ensures away { result ≡ false → IsAway self.now.notes.items tenant }
-        ensures there { result ≡ true → IsAway self.now.notes.items tenant → ⊥ }
-        ensures fabric { (f : Fabric) → IsNoted self.now f → has tenant f ≡ result }
-    {
-        if is_among(tenant, &self.berths) {
-            return true;
-        }
-        is_among(tenant, &self.waiting)
-    }
-
     /// It holds.
     fn hold_on(&mut self, number: u32)
         requires ready { IsReady self.old }
@@ -168,7 +142,7 @@ impl NotedCore {
         ensures label { self.new.label ≡ self.old.label }
         ensures err { OnErr result (self.new.notes.items ≡ self.old.notes.items) }
     {
-        if !self.has(tenant) {
+        if !self.is_there(tenant) {
             return Ok(Taken {
                 entries: Vec::new(alloc),
                 found: Found::Absent,

@@ -1,6 +1,3 @@
-use Rattle.fab_bay.proofs.Arriving.{put_noted}
-use Rattle.fab_bay.proofs.Coming.{rebuilt_goes}
-use Rattle.fab_bay.proofs.Gone.{gone_line}
 use Rattle.fab_bay.proofs.Leavers.{stay_more}
 use Rattle.fab_bay.proofs.berth.Berth.into_leaver.Goals as goal
 

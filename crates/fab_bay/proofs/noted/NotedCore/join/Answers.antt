@@ -1,8 +1,7 @@
-use Rattle.std.proofs.Common.{◌≡◌, ◌++◌, ◌∷◌, [], ◌+◌, ◌-◌, ◌<◌, ◌≤◌, length, List, ap, sym, ◌∙◌, subst, refl, arith}
+use Rattle.std.proofs.Common.{◌++◌, ◌∷◌, [], ap, ◌∙◌, refl, arith}
 use Rattle.std.specs.Prelude.{vec_len, vec_capacity}
-use Rattle.fab_points.specs.Fabrics.{joining}
 use Rattle.fab_bay.specs.declared.noted.NotedCore.{NotedCore}
-use Rattle.fab_bay.proofs.Coming.{coming_more, coming_room, coming_start, coming_there, joined_many, many_join, rebuilt_goes, start_many, start_of, IsCame, IsComing, IsRebuilt, IsStart}
+use Rattle.fab_bay.proofs.Coming.{coming_more, coming_room, coming_start, coming_there, joined_many, many_join, rebuilt_goes, start_many, start_of, IsCame, IsRebuilt}
 use Rattle.fab_bay.proofs.Gaps.{joined-near}
 use Rattle.fab_bay.proofs.Kept.{still_goes, IsStill}
 use Rattle.fab_bay.proofs.Near.{near-core, short-none}

@@ -1,4 +1,4 @@
-use Rattle.std.proofs.Common.{◌≡◌, false, ◌++◌, ◌∷◌, [], ◌+◌, suc, length, List, Some, None, ap, sym, ◌∙◌, subst, arith, get_or}
+use Rattle.std.proofs.Common.{◌≡◌, false, ◌++◌, ◌∷◌, [], ◌+◌, suc, length, List, ap, sym, ◌∙◌, subst, arith, get_or}
 use Rattle.std.specs.Prelude.{◌==◌, position}
 use Rattle.fab_points.specs.Points.{departed, Point}
 use Rattle.fab_points.specs.Fabrics.{left}
@@ -6,12 +6,11 @@ use Rattle.ten_parcel.specs.declared.parcel.Parcel.{Parcel}
 use Rattle.ten_parcel.specs.Parcels.{ticks_of}
 use Rattle.fab_core.specs.declared.cores.FabCore.{FabCore}
 use Rattle.fab_core.specs.Standing.{IsFabric, IsPointOf}
-use Rattle.fab_notes.specs.declared.transit.Stay.{Stay}
 use Rattle.fab_bay.specs.declared.berth.Berth.{Berth}
-use Rattle.fab_bay.specs.declared.noted.NotedCore.{NotedCore}
-use Rattle.fab_bay.proofs.Gone.{goes_gone_leave, gone_leave, out_written, place_first, place_some, place_there, ran_berth, ran_noted, ran_still, ready_of, rests_if, room_left, room_less, IsOut, IsRan, IsReady}
+use Rattle.fab_bay.proofs.Gone.{goes_gone_leave, gone_leave, out_written, place_first, place_some, place_there, ran_berth, ran_noted, ran_still, ready_of, rests_if, room_left, IsOut, IsRan, IsReady}
 use Rattle.fab_bay.proofs.Leavers.{IsLeaver}
 use Rattle.fab_bay.proofs.Places.{berths_many, some-equal}
+use Rattle.fab_bay.proofs.Ran.{room_less}
 use Rattle.fab_bay.proofs.noted.NotedCore.leave_with_room.Goals as goal
 
 pub unreachable-requires : goal.unreachable-requires

@@ -1,17 +1,17 @@
-use Rattle.std.proofs.Common.{◌≡◌, ◌≢◌, ℕ, ◌++◌, ◌∷◌, [], List, length, arith, true, false, refl, ap, sym, ◌∙◌, subst}
+use Rattle.std.proofs.Common.{◌≢◌, ◌<◌, ℕ, ◌++◌, ◌∷◌, [], List, length, arith, refl, ap, sym, ◌∙◌, subst}
+use Rattle.std.specs.Prelude.{vec_len, vec_capacity}
 use Rattle.vl_cost.specs.declared.capacity.Cost.{Cost}
-use Rattle.fab_points.specs.Fabrics.{within, Fabric}
+use Rattle.fab_points.specs.Fabrics.{within}
 use Rattle.fab_core.specs.declared.cores.FabCore.{FabCore}
 use Rattle.fab_core.specs.Standing.{IsFabric}
 use Rattle.fab_notes.specs.declared.note.Note.{Note}
-use Rattle.fab_notes.specs.Deeds.{cost_of, deed_of}
 use Rattle.fab_notes.specs.Histories.{place_of, replay, Away}
 use Rattle.fab_bay.specs.declared.berth.Berth.{Berth}
 use Rattle.fab_bay.specs.declared.noted.NotedCore.{NotedCore}
 use Rattle.fab_bay.specs.Refusals.{IsAway}
-use Rattle.fab_bay.specs.Standing.{IsNoted}
 use Rattle.fab_bay.proofs.Arriving.{away_of, back_chained, back_end, here_of, put_noted, same_transit, IsNew, IsPutIn}
-use Rattle.fab_bay.proofs.Kept.{still_noted, IsStill}
+use Rattle.fab_bay.proofs.Events.{on-ok}
+use Rattle.fab_bay.proofs.Kept.{still_noted}
 use Rattle.fab_bay.proofs.noted.NotedCore.put.Goals as goal
 
 pub returns-then-not-is_within-clause-why : goal.returns-then-not-is_within-clause-why
@@ -160,3 +160,13 @@ invariant_of-result c = record { chained = back_chained c.args.transit _ c.in-Er
 
 pub returns-in-Err-clause-back : goal.returns-in-Err-clause-back
 returns-in-Err-clause-back c = same_transit _ c.args.transit c.in-Err.ensures.back refl
+
+pub push_reserved-requires : goal.push_reserved-requires
+push_reserved-requires c =
+    let y = c.prepare_line.new.self in
+    (on-ok ((vec_len y.notes < vec_capacity y.notes) × (vec_len y.waiting < vec_capacity y.waiting)) c.prepare_line.result (sym c.is_err.ensures.value ∙ c.if-is_err.false) c.prepare_line.ensures.room).0
+
+pub push_reserved-requires-in-Ok-arrive : goal.push_reserved-requires-in-Ok-arrive
+push_reserved-requires-in-Ok-arrive c =
+    let y = c.prepare_line.new.self in
+    (on-ok ((vec_len y.notes < vec_capacity y.notes) × (vec_len y.waiting < vec_capacity y.waiting)) c.prepare_line.result (sym c.is_err.ensures.value ∙ c.if-is_err.false) c.prepare_line.ensures.room).1

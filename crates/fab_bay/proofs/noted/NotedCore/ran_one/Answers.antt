@@ -1,9 +1,9 @@
-use Rattle.std.proofs.Common.{◌≡◌, ◌<◌, ◌≤◌, suc, Some, length, refl, sym, ap, ◌∙◌, subst}
-use Rattle.std.specs.Prelude.{slice_get}
+use Rattle.std.proofs.Common.{◌<◌, length, refl, subst}
 use Rattle.std.specs.Vec.{with_item}
 use Rattle.std.proofs.lemmas.Option.{slice_get_read}
 use Rattle.fab_bay.proofs.Onward.{goes-none}
-use Rattle.fab_bay.proofs.Ran.{berths-long, noted_at, ran-goes, ran-kept, ran-set, ran-short, still-set, wrote, Read, Writes, Wrote}
+use Rattle.fab_bay.proofs.Places.{berths_many}
+use Rattle.fab_bay.proofs.Ran.{noted_at, ran-goes, ran-kept, ran-set, ran-short, still-set, wrote, Read}
 use Rattle.fab_bay.proofs.Near.{near-ran}
 use Rattle.fab_bay.proofs.noted.NotedCore.ran_one.Goals as goal
 
@@ -12,7 +12,7 @@ resident-tenant-requires c =
     let f = c.requires.fabric.0 in
     let h = c.requires.fabric.1 in
     let x = c.args.self.now in
-    (f, h.core, subst (λ k. c.args.place < k) (berths-long x.label.tenants x.berths.items f.residents h.residents) c.requires.place)
+    (f, h.core, subst (λ k. c.args.place < k) (berths_many x.label.tenants x.berths.items f.residents h.residents) c.requires.place)
 
 pub returns-then-from-tick-clause-goes : goal.returns-then-from-tick-clause-goes
 returns-then-from-tick-clause-goes c =
@@ -27,7 +27,7 @@ returns-then-from-tick-clause-goes c =
     let v = with_item w.berths i (noted_at tick m) in
     let r : Read x i old who tick = record { here = slice_get_read x.berths.items (length x.berths.items) i old refl c.requires.place c.index.ensures; resident = c.resident-tenant.ensures; inside = c.requires.place } in
     let n = wrote c.args.number x w i old m who tick c.ran.result v r c.if-from-tick.true c.ran.ensures.entry (record { label = e.label; core = e.core; waiting = e.waiting; notes = e.notes; told = e.told }) e.berths c.index_mut.ensures.value refl in
-    ran-goes c.a_history_goes_on.ensures.legal c.a_history_goes_on.ensures.replay c.args.number x (record w { berths = v }) i old who tick c.ran.result r n c.requires.fabric.0 c.requires.fabric.1
+    ran-goes c.args.number x (record w { berths = v }) i old who tick c.ran.result r n c.requires.fabric.0 c.requires.fabric.1
 
 pub returns-then-from-tick-clause-kept : goal.returns-then-from-tick-clause-kept
 returns-then-from-tick-clause-kept c =
@@ -42,7 +42,7 @@ returns-then-from-tick-clause-kept c =
     let v = with_item w.berths i (noted_at tick m) in
     let r : Read x i old who tick = record { here = slice_get_read x.berths.items (length x.berths.items) i old refl c.requires.place c.index.ensures; resident = c.resident-tenant.ensures; inside = c.requires.place } in
     let n = wrote c.args.number x w i old m who tick c.ran.result v r c.if-from-tick.true c.ran.ensures.entry (record { label = e.label; core = e.core; waiting = e.waiting; notes = e.notes; told = e.told }) e.berths c.index_mut.ensures.value refl in
-    ran-kept c.a_history_goes_on.ensures.legal c.a_history_goes_on.ensures.replay c.args.number x (record w { berths = v }) i old who tick c.ran.result r n
+    ran-kept c.args.number x (record w { berths = v }) i old who tick c.ran.result r n
 
 pub returns-then-from-tick-clause-noted : goal.returns-then-from-tick-clause-noted
 returns-then-from-tick-clause-noted c =
@@ -57,7 +57,7 @@ returns-then-from-tick-clause-noted c =
     let v = with_item w.berths i (noted_at tick m) in
     let r : Read x i old who tick = record { here = slice_get_read x.berths.items (length x.berths.items) i old refl c.requires.place c.index.ensures; resident = c.resident-tenant.ensures; inside = c.requires.place } in
     let n = wrote c.args.number x w i old m who tick c.ran.result v r c.if-from-tick.true c.ran.ensures.entry (record { label = e.label; core = e.core; waiting = e.waiting; notes = e.notes; told = e.told }) e.berths c.index_mut.ensures.value refl in
-    ran-set c.a_history_goes_on.ensures.legal c.a_history_goes_on.ensures.replay c.args.number x (record w { berths = v }) i old who tick c.ran.result r n
+    ran-set c.args.number x (record w { berths = v }) i old who tick c.ran.result r n
 
 pub returns-then-from-tick-clause-near : goal.returns-then-from-tick-clause-near
 returns-then-from-tick-clause-near c =
@@ -72,7 +72,7 @@ returns-then-from-tick-clause-near c =
     let v = with_item w.berths i (noted_at tick m) in
     let r : Read x i old who tick = record { here = slice_get_read x.berths.items (length x.berths.items) i old refl c.requires.place c.index.ensures; resident = c.resident-tenant.ensures; inside = c.requires.place } in
     let n = wrote c.args.number x w i old m who tick c.ran.result v r c.if-from-tick.true c.ran.ensures.entry (record { label = e.label; core = e.core; waiting = e.waiting; notes = e.notes; told = e.told }) e.berths c.index_mut.ensures.value refl in
-    let set = ran-set c.a_history_goes_on.ensures.legal c.a_history_goes_on.ensures.replay c.args.number x (record w { berths = v }) i old who tick c.ran.result r n in
+    let set = ran-set c.args.number x (record w { berths = v }) i old who tick c.ran.result r n in
     near-ran x (record w { berths = v }) c.requires.fabric.0 i c.requires.fabric.1 c.requires.place set e.core
 
 pub returns-then-from-tick-clause-short : goal.returns-then-from-tick-clause-short
@@ -88,7 +88,7 @@ returns-then-from-tick-clause-short c =
     let v = with_item w.berths i (noted_at tick m) in
     let r : Read x i old who tick = record { here = slice_get_read x.berths.items (length x.berths.items) i old refl c.requires.place c.index.ensures; resident = c.resident-tenant.ensures; inside = c.requires.place } in
     let n = wrote c.args.number x w i old m who tick c.ran.result v r c.if-from-tick.true c.ran.ensures.entry (record { label = e.label; core = e.core; waiting = e.waiting; notes = e.notes; told = e.told }) e.berths c.index_mut.ensures.value refl in
-    ran-short c.a_history_goes_on.ensures.legal c.a_history_goes_on.ensures.replay c.args.number x (record w { berths = v }) i old who tick c.ran.result r n
+    ran-short c.args.number x (record w { berths = v }) i old who tick c.ran.result r n
 
 pub returns-then-from-tick-clause-room : goal.returns-then-from-tick-clause-room
 returns-then-from-tick-clause-room c = λ n h. let r = c.write.ensures.room n h in record { notes = r.notes; told = r.told }

@@ -1,8 +1,9 @@
-use Rattle.std.proofs.Common.{◌≡◌, ◌+◌, List, ◌++◌, length, ap, sym, ◌∙◌, subst, arith}
+use Rattle.std.proofs.Common.{◌+◌, List, ◌++◌, length, ap, sym, ◌∙◌, arith}
 use Rattle.fab_notes.specs.declared.note.Note.{Note}
-use Rattle.fab_bay.proofs.Gone.{room_less, room_same}
+use Rattle.fab_bay.proofs.Gone.{room_same}
 use Rattle.fab_bay.proofs.Kept.{still_back, still_goes, still_noted, still_of, still_then}
 use Rattle.fab_bay.proofs.Near.{near-by, short-none}
+use Rattle.fab_bay.proofs.Ran.{room_less}
 use Rattle.fab_bay.proofs.noted.NotedCore.rebuild.Goals as goal
 
 pub rebuild_with_room-requires : goal.rebuild_with_room-requires

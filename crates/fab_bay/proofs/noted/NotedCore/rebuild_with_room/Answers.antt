@@ -1,4 +1,4 @@
-use Rattle.std.proofs.Common.{◌≡◌, ◌+◌, length, ap, sym, ◌∙◌, subst, refl, arith}
+use Rattle.std.proofs.Common.{length, ap, sym, refl, arith}
 use Rattle.fab_bay.specs.declared.noted.NotedCore.{NotedCore}
 use Rattle.fab_bay.proofs.Gaps.{near-items}
 use Rattle.fab_bay.proofs.Kept.{still_goes, still_noted, still_then, IsStill}

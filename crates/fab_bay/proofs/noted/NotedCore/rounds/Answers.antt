@@ -1,4 +1,4 @@
-use Rattle.std.proofs.Common.{◌≡◌, true, false, ◌+◌, arith, inr}
+use Rattle.std.proofs.Common.{◌+◌, arith, inr}
 use Rattle.fab_bay.specs.Ways.{transits}
 use Rattle.fab_bay.proofs.Going.{none}
 use Rattle.fab_bay.proofs.Rounds.{onward}

@@ -1,5 +1,5 @@
-use Rattle.std.proofs.Common.{◌≡◌, ◌<◌, ◌≤◌, ◌+◌, suc, Some, length, [], ◌∷◌, ◌++◌, refl, sym, ap, ◌∙◌, subst, arith}
-use Rattle.std.specs.Prelude.{slice_get}
+use Rattle.std.proofs.Common.{◌≡◌, ◌<◌, ◌+◌, suc, Some, List, length, [], ◌∷◌, ◌++◌, refl, sym, ap, ◌∙◌, subst, arith}
+use Rattle.std.specs.Prelude.{slice_get, ◌==◌, position}
 use Rattle.std.specs.declared.alloc.Global.{Global}
 use Rattle.std.specs.declared.vec.Vec.{Vec}
 use Rattle.std.proofs.lemmas.Option.{slice_get_read}
@@ -8,33 +8,33 @@ use Rattle.fab_lock.specs.declared.entry.Entry.{Entry}
 use Rattle.fab_lock.specs.declared.entry.Kind.TheVariants.{Saved}
 use Rattle.fab_notes.specs.Tokens.{out_at, put_at}
 use Rattle.fab_bay.specs.declared.berth.Berth.{Berth}
-use Rattle.fab_bay.specs.declared.noted.Label.{Label}
 use Rattle.fab_bay.proofs.Events.{berthed, has-place}
 use Rattle.fab_bay.proofs.Near.{near-by, ran-near-short, short-one, short-then}
 use Rattle.fab_bay.proofs.Onward.{goes-note, goes-then}
-use Rattle.fab_bay.proofs.Ran.{behind, berth-at, noted_at, room-less, saved-noted, some-same}
+use Rattle.fab_bay.proofs.Places.{some-equal}
+use Rattle.fab_bay.proofs.Ran.{behind, berth-at, noted_at, room_less, saved-noted}
 use Rattle.fab_bay.proofs.noted.NotedCore.saved_one.Goals as goal
 
 pub unreachable-requires : goal.unreachable-requires
 unreachable-requires c =
     let x = c.args.self.now in
     let f = c.requires.fabric.0 in
-    has-place x.label.tenants c.args.tenant x.berths.items f.residents c.requires.fabric.1 c.requires.fabric.2.residents c.requires.fabric.3 (sym c.place_of.ensures ∙ c.in_default.is)
+    has-place x.label.tenants c.args.tenant x.berths.items f.residents c.requires.fabric.1 c.requires.fabric.2.residents c.requires.fabric.3 (ap (λ (bs : List Berth). position (λ b. b.tenant == c.args.tenant) bs) (sym c.deref.ensures.value) ∙ (sym c.berth_of.ensures ∙ c.in_default.is))
 
 pub ran_one-requires-clause-fabric : goal.ran_one-requires-clause-fabric
 ran_one-requires-clause-fabric c = (c.requires.fabric.0, c.requires.fabric.2)
 
 pub ran_one-requires-clause-place : goal.ran_one-requires-clause-place
-ran_one-requires-clause-place c = (berthed c.args.tenant c.args.self.now c.in-Some.place (sym c.place_of.ensures ∙ c.in-Some.is)).inside
+ran_one-requires-clause-place c = (berthed c.args.tenant c.args.self.now c.in-Some.place (ap (λ (bs : List Berth). position (λ b. b.tenant == c.args.tenant) bs) (sym c.deref.ensures.value) ∙ (sym c.berth_of.ensures ∙ c.in-Some.is))).inside
 
 pub ran_one-requires-clause-room : goal.ran_one-requires-clause-room
-ran_one-requires-clause-room c = room-less 2 1 c.args.self.now (omega arith) c.requires.room
+ran_one-requires-clause-room c = room_less 1 2 c.args.self.now (omega arith) c.requires.room
 
 pub index-requires : goal.index-requires
 index-requires c =
     let x = c.args.self.now in
     let i = c.in-Some.place in
-    let b = berthed c.args.tenant x i (sym c.place_of.ensures ∙ c.in-Some.is) in
+    let b = berthed c.args.tenant x i (ap (λ (bs : List Berth). position (λ b. b.tenant == c.args.tenant) bs) (sym c.deref.ensures.value) ∙ (sym c.berth_of.ensures ∙ c.in-Some.is)) in
     let d = behind x c.ran_one.new.self c.requires.fabric.0 i c.requires.fabric.2 b.inside c.ran_one.ensures.noted in
     let y = c.ran_one.new.self in
     let lt : i < length y.berths.items = subst (λ n. i < n) (sym d.long) b.inside in
@@ -54,18 +54,18 @@ returns-clause-goes c = λ out.
     let m = c.index.result.now in
     let e = c.write.ensures in
     let f = c.requires.fabric.0 in
-    let b = berthed c.args.tenant x i (sym c.place_of.ensures ∙ c.in-Some.is) in
+    let b = berthed c.args.tenant x i (ap (λ (bs : List Berth). position (λ b. b.tenant == c.args.tenant) bs) (sym c.deref.ensures.value) ∙ (sym c.berth_of.ensures ∙ c.in-Some.is)) in
     let d = behind x y f i c.requires.fabric.2 b.inside c.ran_one.ensures.noted in
     let inside : i < length y.berths.items = subst (λ k. i < k) (sym d.long) b.inside in
     let at : slice_get y.berths.items i ≡ Some m = slice_get_read y.berths.items (length y.berths.items) i m refl inside c.index.ensures in
-    let who : m.tenant ≡ c.args.tenant = ap (λ (w : Berth). w.tenant) (some-same m (noted_at (tick_of d.point) d.old) (sym at ∙ d.here)) ∙ b.tenant d.old d.at in
+    let who : m.tenant ≡ c.args.tenant = ap (λ (w : Berth). w.tenant) (some-equal m (noted_at (tick_of d.point) d.old) (sym at ∙ d.here)) ∙ b.tenant d.old d.at in
     let h = c.ran_one.ensures.kept f c.requires.fabric.2 in
     let few = (berth-at y.label.tenants y.berths.items f.residents i m d.point h.residents at d.stands).few in
     let entry = c.saved.ensures.entry in
     goes-then c.args.number 0 0 x y z out out out (c.ran_one.ensures.goes out)
     (goes-note c.args.number y z out n e.label e.notes e.told (ap (λ (w : Entry). w.seat) entry) (subst (λ k. k < y.label.tenants) (who ∙ sym (ap (λ (w : Entry). w.tenant) entry)) few)
     (ap (λ (w : Entry). put_at w.kind n ++ []) entry) (ap (λ (w : Entry). out_at w.kind n ++ []) entry)
-    (λ g k. saved-noted c.a_history_goes_on.ensures.legal c.a_history_goes_on.ensures.replay y z g i m n k at
+    (λ g k. saved-noted y z g i m n k at
     (record { kind = ap (λ (w : Entry). w.kind) entry; tenant = ap (λ (w : Entry). w.tenant) entry ∙ sym who; from_is = ap (λ (w : Entry). w.from) entry; to_is = ap (λ (w : Entry). w.to) entry })
     (record { label = e.label; core = e.core; waiting = e.waiting; notes = e.notes; told = e.told }) e.berths))
 
@@ -73,12 +73,12 @@ pub returns-clause-long : goal.returns-clause-long
 returns-clause-long c =
     let x = c.args.self.now in
     let i = c.in-Some.place in
-    let b = berthed c.args.tenant x i (sym c.place_of.ensures ∙ c.in-Some.is) in
+    let b = berthed c.args.tenant x i (ap (λ (bs : List Berth). position (λ b. b.tenant == c.args.tenant) bs) (sym c.deref.ensures.value) ∙ (sym c.berth_of.ensures ∙ c.in-Some.is)) in
     let d = behind x c.ran_one.new.self c.requires.fabric.0 i c.requires.fabric.2 b.inside c.ran_one.ensures.noted in
     ap (λ (v : Vec Berth Global). length v.items) c.write.ensures.berths ∙ d.long
 
 pub returns-clause-room : goal.returns-clause-room
-returns-clause-room c = λ n h. c.write.ensures.room n (c.ran_one.ensures.room (suc n) (room-less (n + 2) (suc (suc n)) c.args.self.now (omega arith) h))
+returns-clause-room c = λ n h. c.write.ensures.room n (c.ran_one.ensures.room (suc n) (room_less (suc (suc n)) (n + 2) c.args.self.now (omega arith) h))
 
 pub returns-clause-core : goal.returns-clause-core
 returns-clause-core c = c.write.ensures.core ∙ c.ran_one.ensures.core
@@ -91,7 +91,7 @@ returns-clause-short c = λ n added eq.
     let x = c.args.self.now in
     let y = c.ran_one.new.self in
     let i = c.in-Some.place in
-    let b = berthed c.args.tenant x i (sym c.place_of.ensures ∙ c.in-Some.is) in
+    let b = berthed c.args.tenant x i (ap (λ (bs : List Berth). position (λ b. b.tenant == c.args.tenant) bs) (sym c.deref.ensures.value) ∙ (sym c.berth_of.ensures ∙ c.in-Some.is)) in
     let d = c.ran_one.ensures.goes [] in
     let m = c.saved.result in
     short-then x.notes.items y.notes.items c.write.new.self.notes.items d.added (m ∷ []) added d.notes c.write.ensures.notes eq

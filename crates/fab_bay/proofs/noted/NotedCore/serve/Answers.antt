@@ -1,4 +1,4 @@
-use Rattle.std.proofs.Common.{◌≡◌, ◌+◌, ◌++◌, ◌<◌, length, refl, sym, ap, ◌∙◌, subst}
+use Rattle.std.proofs.Common.{◌+◌, ◌++◌, ◌<◌, length, refl, sym, ap, ◌∙◌, subst}
 use Rattle.std.specs.declared.alloc.Global.{Global}
 use Rattle.std.specs.declared.vec.Vec.{Vec}
 use Rattle.sub_nodes.specs.Code.{table_of}
@@ -10,7 +10,7 @@ use Rattle.fab_bay.specs.declared.berth.Berth.{Berth}
 use Rattle.fab_bay.specs.Acts.{acts_in, saves_in}
 use Rattle.fab_bay.specs.Standing.{HasRoomFor}
 use Rattle.fab_bay.proofs.Acts.{call-nearer, save-along, save-fewer, still-by, trap-by}
-use Rattle.fab_bay.proofs.Events.{first-served, goes-core, goes-same, goes-serve, on-ok, room-by, same-back, same-noted, serve-noted, Core}
+use Rattle.fab_bay.proofs.Events.{first-served, goes-core, goes-same, goes-serve, on-ok, room-by, same-back, same-noted, serve-noted}
 use Rattle.fab_bay.proofs.Near.{near-by, near-core, near-served, short-none}
 use Rattle.fab_bay.proofs.Onward.{goes-then}
 use Rattle.fab_bay.proofs.noted.NotedCore.serve.Goals as goal

@@ -1,4 +1,4 @@
-use Rattle.std.proofs.Common.{◌≡◌, ◌<◌, ◌≤◌, ◌+◌, ◌-◌, suc, length, [], refl, sym, ap, ◌∙◌, subst, arith}
+use Rattle.std.proofs.Common.{◌<◌, ◌≤◌, ◌-◌, suc, length, [], refl, sym, ap, ◌∙◌, subst, arith}
 use Rattle.std.specs.Prelude.{slice_get}
 use Rattle.fab_points.specs.Points.{tick_of}
 use Rattle.fab_core.specs.declared.cores.FabCore.{FabCore}
@@ -6,7 +6,7 @@ use Rattle.fab_core.specs.Standing.{IsFabric}
 use Rattle.fab_bay.proofs.Events.{room-by}
 use Rattle.fab_bay.proofs.Near.{ran-near-short, short-none, short-then}
 use Rattle.fab_bay.proofs.Onward.{goes-none, goes-then}
-use Rattle.fab_bay.proofs.Ran.{behind, get-set-other, noted_at, room-less, settled-all, settled-more}
+use Rattle.fab_bay.proofs.Ran.{behind, get-set-other, noted_at, room_less, settled-all, settled-more}
 use Rattle.fab_bay.proofs.noted.NotedCore.settle.Goals as goal
 
 pub loop-place-init : goal.loop-place-init
@@ -29,7 +29,7 @@ ran_one-requires-clause-room c =
     let i = c.loop-place.place in
     let n = length c.args.self.now.berths.items in
     let lt : i < n = omega arith in
-    room-less (n - i) 1 s (omega (arith, lt)) (c.loop-place.invariant.room (n - i) (omega (arith, lt)))
+    room_less 1 (n - i) s (omega (arith, lt)) (c.loop-place.invariant.room (n - i) (omega (arith, lt)))
 
 pub loop-place-preserved : goal.loop-place-preserved
 loop-place-preserved c =

@@ -6,13 +6,16 @@ use Rattle.fab_bay.specs.declared.noted.NotedCore.{NotedCore}
 use Rattle.fab_bay.specs.Refusals.{IsAway}
 use Rattle.fab_bay.specs.Nearness.{IsNear}
 use Rattle.fab_bay.specs.Standing.{IsBay}
+use Rattle.fab_bay.proofs.Arriving.{away_of, here_of}
 use Rattle.fab_bay.proofs.Calls.{bay-again, bay-like, IsLike}
 use Rattle.fab_bay.proofs.Near.{near-settled}
 use Rattle.fab_bay.proofs.Taking.{found-by, found-label}
 use Rattle.fab_bay.proofs.noted.NotedCore.take.Goals as goal
 
-pub returns-then-not-has-clause-taken : goal.returns-then-not-has-clause-taken
-returns-then-not-has-clause-taken c = (λ _. refl, (c.has.ensures.away c.if-not-has.true, refl, c.new.ensures.items))
+pub returns-then-not-is_there-clause-taken : goal.returns-then-not-is_there-clause-taken
+returns-then-not-is_there-clause-taken c =
+    let bay = c.requires.bay in
+    (λ _. refl, (away_of c.args.self.now bay.fabric c.args.tenant bay.noted (sym c.is_there.ensures ∙ c.if-not-is_there.true), refl, c.new.ensures.items))
 
 pub returns-clause-taken : goal.returns-clause-taken
 returns-clause-taken c =
@@ -28,7 +31,7 @@ returns-clause-taken c =
     let ends : IsLike d e = record { label = refl; core = refl; berths = refl; waiting = refl; notes = refl } in
     let bay : IsBay b = bay-like x b begins c.requires.bay in
     let near : IsNear b = near-settled b bay.fabric bay.noted bay.settled in
-    let there : (IsAway x.notes.items c.args.tenant → ⊥) = c.has.ensures.there c.if-not-has.false in (
+    let there : (IsAway x.notes.items c.args.tenant → ⊥) = here_of x c.requires.bay.fabric c.args.tenant c.requires.bay.noted (sym c.is_there.ensures ∙ c.if-not-is_there.false) in (
       λ away. absurd (there away),
       found-by c.args.number c.args.tenant x b m d e t begins (s.told ∙ c.new-2.ensures.items) c.settle.ensures.goes ends (ap (λ v. v.items) c.replace-entries.ensures.value) there
           near c.take_there-found.ensures.near c.settle.ensures.short found c.take_there-found.ensures.found,
@@ -47,4 +50,6 @@ returns-clause-label c =
     ∙ (found-label c.args.number c.args.tenant c.prepare.new.self c.take_there-found.new.self c.take_there-found.result c.take_there-found.ensures.found ∙ c.prepare.ensures.same.label)
 
 pub take_there-found-requires-clause-there : goal.take_there-found-requires-clause-there
-take_there-found-requires-clause-there c = λ away. c.has.ensures.there c.if-not-has.false (ap (λ (ns : List Note). place_of c.args.tenant (replay [] ns)) (sym c.prepare.ensures.same.notes) ∙ away)
+take_there-found-requires-clause-there c = λ away.
+    here_of c.args.self.now c.requires.bay.fabric c.args.tenant c.requires.bay.noted (sym c.is_there.ensures ∙ c.if-not-is_there.false)
+    (ap (λ (ns : List Note). place_of c.args.tenant (replay [] ns)) (sym c.prepare.ensures.same.notes) ∙ away)

@@ -1,5 +1,4 @@
-use Rattle.std.proofs.Common.{◌≡◌, ◌++◌, ◌∷◌, [], ◌+◌, suc, true, false, length, List, Some, None, ap, sym, ◌∙◌, subst, arith, get_or}
-use Rattle.fab_points.specs.Points.{Point}
+use Rattle.std.proofs.Common.{◌++◌, ◌∷◌, [], ◌+◌, suc, length, ap, sym, ◌∙◌, subst, arith, get_or}
 use Rattle.fab_points.specs.Fabrics.{has, taken}
 use Rattle.ten_parcel.specs.declared.parcel.Parcel.{Parcel}
 use Rattle.ten_parcel.specs.Parcels.{ticks_of}
@@ -8,10 +7,10 @@ use Rattle.fab_lock.specs.declared.entry.Kind.TheVariants.{Left}
 use Rattle.fab_core.specs.declared.cores.FabCore.{FabCore}
 use Rattle.fab_core.specs.Standing.{IsFabric, IsPointOf}
 use Rattle.fab_bay.proofs.Gaps.{taken-near}
-use Rattle.fab_bay.proofs.Gone.{goes_gone_take, gone_take, has_resident, out_number, out_written, place_first, place_there, ran_berth, ran_noted, ran_still, ready_of, room_left, room_less, for_none, taker_of, yes-no, IsOut, IsRan, IsReady}
-use Rattle.fab_bay.proofs.Leavers.{IsLeaver}
+use Rattle.fab_bay.proofs.Gone.{goes_gone_take, gone_take, has_resident, out_number, out_written, place_there, ran_berth, ran_noted, ran_still, ready_of, room_left, for_none, taker_of, yes-no, IsOut, IsRan, IsReady}
 use Rattle.fab_bay.proofs.Near.{ran-near-short, short-one, short-then}
-use Rattle.fab_bay.proofs.Places.{berths_many, some-equal}
+use Rattle.fab_bay.proofs.Places.{berths_many}
+use Rattle.fab_bay.proofs.Ran.{room_less}
 use Rattle.fab_bay.proofs.noted.NotedCore.take_resident.Goals as goal
 
 pub ran_one-requires : goal.ran_one-requires

@@ -1,4 +1,4 @@
-use Rattle.std.proofs.Common.{◌≡◌, ◌++◌, ◌∷◌, [], ◌+◌, suc, true, false, length, List, Some, None, ap, sym, ◌∙◌, subst, arith, get_or}
+use Rattle.std.proofs.Common.{◌∷◌, [], ap, sym, ◌∙◌, subst, arith, get_or}
 use Rattle.std.proofs.lemmas.List.{append-nil}
 use Rattle.fab_points.specs.Points.{Point}
 use Rattle.fab_points.specs.Fabrics.{has, taken}
@@ -8,7 +8,7 @@ use Rattle.fab_lock.specs.declared.entry.Kind.TheVariants.{Left}
 use Rattle.fab_core.specs.declared.cores.FabCore.{FabCore}
 use Rattle.fab_core.specs.Standing.{IsFabric, IsPointOf}
 use Rattle.fab_bay.proofs.Gaps.{withdrawn-near}
-use Rattle.fab_bay.proofs.Gone.{for_none, goes_gone_take, gone_line, has_waiter, line_taker, line_waiter, ready_of, room_less, room_stays, waiter_there, withdrawn_number, withdrawn_written, yes-no, IsReady, IsWithdrawn}
+use Rattle.fab_bay.proofs.Gone.{for_none, goes_gone_take, gone_line, has_waiter, line_taker, line_waiter, ready_of, room_stays, waiter_there, withdrawn_number, withdrawn_written, yes-no, IsReady, IsWithdrawn}
 use Rattle.fab_bay.proofs.Leavers.{leaver_ticks}
 use Rattle.fab_bay.proofs.Near.{short-one, short-then}
 use Rattle.fab_bay.proofs.noted.NotedCore.take_waiter.Goals as goal

@@ -111,7 +111,7 @@ module _ (d : Flat) (at : Env) where
   pub own-number : (v w : ℕ) (old new : ListData) (r : Own) → Fits (names_of d) old at → r.width ≡ w → r.signed ≡ false → Gives Nothing 1 old new r.slot w (λ b. resized false w w v) → IsOwn d (Num v w false) at old new r
   own-number v w old new r fits wide sign g =
       own-compiled (Num v w false) (record { width = w; signed = false }) old new r refl wide sign
-      (λ files. num-compiles (scope_of d files) (record { width = w; signed = false }) at v w false old new r.slot fits g)
+      (λ files. num-compiles (scope_of d files) (record { width = w; signed = false }) at v w false 1 old new r.slot (omega arith) fits g)
 
   -- a descriptor is cut to 32 bits
   pub file-cut : (fd : Exp) (l0 l1 l2 : ListData) (own : Own) (r : ℕ) → Fits (names_of d) l0 at → IsOwn d fd at l0 l1 own →

@@ -1,5 +1,5 @@
 -- Spots are added, one for each signal, word or select.
-use Rattle.std.proofs.Common.{◌≡◌, ℕ, zero, suc, ◌+◌, ◌<◌, ◌≤◌, ℤ, Bool, false, List, [], ◌∷◌, ◌++◌, Option, Some, None, map, get_or, refl, sym, ap, ◌∙◌, arith, subst, nat_lt, append-nil}
+use Rattle.std.proofs.Common.{◌≡◌, ℕ, zero, suc, ◌+◌, ◌<◌, ◌≤◌, ℤ, Bool, false, List, [], ◌∷◌, ◌++◌, Option, Some, None, map, get_or, refl, sym, ap, ◌∙◌, arith, subst, nat_lt, append-nil, true}
 use Rattle.std.specs.Prelude.{pos, All, ◌+ℤ◌, slice_get}
 use Rattle.std.proofs.lemmas.Bool.{ltb-false}
 use Rattle.std.proofs.lemmas.Int.{ints}
@@ -30,8 +30,8 @@ use Rattle.cell_paths.proofs.Staying.{stands-stays, sound-behind}
 use Rattle.cell_expr.specs.declared.address.Address.{Address}
 use Rattle.cell_expr.specs.declared.spot.Spot.{Spot}
 use Rattle.cell_expr.specs.Compiled.{Compiles}
-use Rattle.cell_expr.specs.Counts.{parts_count}
-use Rattle.cell_expr.specs.Spots.{IsOf, word_in, memory_at, part_cells, Based, IsSpot, spot_in, bits_of, cells_of, stored_by, Spotted}
+use Rattle.cell_expr.specs.Counts.{parts_count, part_count}
+use Rattle.cell_expr.specs.Spots.{IsOf, word_in, memory_at, spot_cells, Based, IsSpot, spot_in, bits_of, cells_of, stored_by, Spotted}
 use Rattle.cell_expr.specs.Stored.{target_stored}
 use Rattle.cell_expr.proofs.Spotting.{word-stays, is-of-stays}
 
@@ -57,6 +57,7 @@ based-signal scope at k l h apart = record {
   is_of = (h, ltb-false k at.first apart);
   wide = refl;
   many = refl;
+  all = λ later. refl;
   stored = refl;
   value = λ s b x sound st. refl;
 }
@@ -75,6 +76,7 @@ based-word scope at n m slot e signed old new h sign c = record {
   is_of = (h, c.slot.there);
   wide = refl;
   many = refl;
+  all = λ later. refl;
   stored = refl;
   value = λ s b x sound st.
       let rows = scope.names.rows in
@@ -83,8 +85,8 @@ based-word scope at n m slot e signed old new h sign c = record {
 
 -- ---- one spot more
 
-pub spotted-one : (names : Names) (n w k : ℕ) (at : Env) (old new : ListData) (before after : List Spot) (p : Spot) (ms : List ℕ) (f : Sample → List t.Spot) → Longer (HasMemories names at) n old new → after ≡ before ++ p ∷ [] → IsSpot names at.first new p →
-    p.width ≡ w → part_cells p.word ≡ k → memory_at p.signal p.word ≡ ms → ((s : Shape) (b : BankData) (x : Sample) → AreSound s old → Stands names b old at x → spot_in names.rows b new p ∷ [] ≡ f x) → Spotted names n at old new before after w k ms f
+pub spotted-one : (names : Names) (n w : ℕ) (k : Bool → ℕ) (at : Env) (old new : ListData) (before after : List Spot) (p : Spot) (ms : List ℕ) (f : Sample → List t.Spot) → Longer (HasMemories names at) n old new → after ≡ before ++ p ∷ [] → IsSpot names at.first new p →
+    p.width ≡ w → ((later : Bool) → spot_cells later p ≡ k later) → memory_at p.signal p.word ≡ ms → ((s : Shape) (b : BankData) (x : Sample) → AreSound s old → Stands names b old at x → spot_in names.rows b new p ∷ [] ≡ f x) → Spotted names n at old new before after w k ms f
 spotted-one names n w k at old new before after p ms f longer e sound width many words is = record {
   longer = longer;
   more = p ∷ [];
@@ -92,7 +94,7 @@ spotted-one names n w k at old new before after p ms f longer e sound width many
   sound = at-first;
   value = is;
   wide = omega (arith, width);
-  many = omega (arith, many);
+  many = λ later. (let m = many later in omega (arith, m));
   words = append-nil (memory_at p.signal p.word) ∙ words;
 }
   where
@@ -112,27 +114,27 @@ module _ (scope : Scope) (at : Env) (before after : List Spot) (n : ℕ) (base :
       Spotted scope.names n at l0 l1 before after (t.target_width scope.names base) (parts_count base) (target_stored base) (λ x. t.spots scope x base)
   spotted-whole w same are =
       spotted-one scope.names n (t.target_width scope.names base) (parts_count base) at l0 l1 before after (record { signal = k; word = word; low = place.Constant (pos 0); width = w }) (target_stored base) (λ x. t.spots scope x base)
-      given.longer are (record { is_of = given.is_of; width = rw same (named-width scope.names k (of-named scope.names at.first l1 k word given.is_of)); low = tt }) (same ∙ sym given.wide) given.many given.stored
+      given.longer are (record { is_of = given.is_of; width = rw same (named-width scope.names k (of-named scope.names at.first l1 k word given.is_of)); low = tt }) (same ∙ sym given.wide) (λ later. ap (λ q. part_count later q false) given.many ∙ sym (given.all later)) given.stored
       (λ s b x sound st. ap (λ z. record { signal = k; word = word_in rows b l1 k word; low = pos 0; width = z } ∷ []) same ∙ sym (given.value s b x sound st))
 
   pub spotted-slice : (low z : ℤ) (w : ℕ) → IsWidth w → z ≡ low → after ≡ before ++ record { signal = k; word = word; low = place.Constant z; width = w } ∷ [] →
-      Spotted scope.names n at l0 l1 before after w (parts_count base) (target_stored base) (λ x. t.spots scope x (SliceAt base low w))
+      Spotted scope.names n at l0 l1 before after w (parts_count (SliceAt base low w)) (target_stored base) (λ x. t.spots scope x (SliceAt base low w))
   spotted-slice low z w wide same are =
-      spotted-one scope.names n w (parts_count base) at l0 l1 before after (record { signal = k; word = word; low = place.Constant z; width = w }) (target_stored base) (λ x. t.spots scope x (SliceAt base low w))
-      given.longer are (record { is_of = given.is_of; width = wide; low = tt }) refl given.many given.stored
+      spotted-one scope.names n w (parts_count (SliceAt base low w)) at l0 l1 before after (record { signal = k; word = word; low = place.Constant z; width = w }) (target_stored base) (λ x. t.spots scope x (SliceAt base low w))
+      given.longer are (record { is_of = given.is_of; width = wide; low = tt }) refl (λ later. ap (λ q. part_count later q false) given.many) given.stored
       (λ s b x sound st. (
       let q : z ≡ pos 0 +ℤ low = omega (arith, ints, same) in
       ap (λ y. record { signal = k; word = word_in rows b l1 k word; low = y; width = w } ∷ []) q ∙ ap (map (t.within low w)) (sym (given.value s b x sound st))))
 
   pub spotted-pick : (m : ℕ) (e : Exp) (from : LowestBit) (w index : ℕ) (signed : Bool) (l2 : ListData) → Fits scope.names l0 at → IsWidth w → signed ≡ (form scope.names e).signed → Compiles scope.names scope m e (form scope.names e) at l1 l2 index →
       after ≡ before ++ record { signal = k; word = word; low = place.By index signed from; width = w } ∷ [] →
-      Spotted scope.names (n + m) at l0 l2 before after w (parts_count base) (target_stored base) (λ x. t.spots scope x (PickAt base e from w))
+      Spotted scope.names (n + m) at l0 l2 before after w (parts_count (PickAt base e from w)) (target_stored base) (λ x. t.spots scope x (PickAt base e from w))
   spotted-pick m e from w index signed l2 fits wide sign c are =
       let names = scope.names in
       let H : Shape → Type 0 = HasMemories names at in
       let g = longer-grows H m l1 l2 c.longer in
-      spotted-one names (n + m) w (parts_count base) at l0 l2 before after (record { signal = k; word = word; low = place.By index signed from; width = w }) (target_stored base) (λ x. t.spots scope x (PickAt base e from w))
-      (longer-then H n m l0 l1 l2 given.longer c.longer) are (record { is_of = is-of-stays names at.first l1 l2 k word g given.is_of; width = wide; low = c.slot.there }) refl given.many given.stored
+      spotted-one names (n + m) w (parts_count (PickAt base e from w)) at l0 l2 before after (record { signal = k; word = word; low = place.By index signed from; width = w }) (target_stored base) (λ x. t.spots scope x (PickAt base e from w))
+      (longer-then H n m l0 l1 l2 given.longer c.longer) are (record { is_of = is-of-stays names at.first l1 l2 k word g given.is_of; width = wide; low = c.slot.there }) refl (λ later. ap (λ q. part_count later q true) given.many) given.stored
       (λ s b x sound st. (
       let behind = sound-behind names at n s l0 l1 given.longer sound in
       let st1 = stands-stays names b l0 l1 at x (longer-grows H n l0 l1 given.longer) fits st in
@@ -144,7 +146,7 @@ module _ (scope : Scope) (at : Env) (before after : List Spot) (n : ℕ) (base :
 
 -- ---- the spots of one target
 
-module _ (names : Names) (n : ℕ) (at : Env) (old new : ListData) (before after : List Spot) (w k : ℕ) (ms : List ℕ) (f : Sample → List t.Spot) (none : before ≡ []) (s : Spotted names n at old new before after w k ms f) where
+module _ (names : Names) (n : ℕ) (at : Env) (old new : ListData) (before after : List Spot) (w : ℕ) (k : Bool → ℕ) (ms : List ℕ) (f : Sample → List t.Spot) (none : before ≡ []) (s : Spotted names n at old new before after w k ms f) where
   all-are : after ≡ s.more
   all-are = s.are ∙ ap (λ z. z ++ s.more) none
 
@@ -157,8 +159,8 @@ module _ (names : Names) (n : ℕ) (at : Env) (old new : ListData) (before after
   pub spotted-bits : bits_of after ≡ w
   spotted-bits = ap bits_of all-are ∙ s.wide
 
-  pub spotted-cells : cells_of after ≡ k
-  spotted-cells = ap cells_of all-are ∙ s.many
+  pub spotted-cells : (later : Bool) → cells_of later after ≡ k later
+  spotted-cells later = ap (cells_of later) all-are ∙ s.many later
 
   pub spotted-words : stored_by after ≡ ms
   spotted-words = ap stored_by all-are ∙ s.words

@@ -30,7 +30,7 @@ use Rattle.cell_paths.specs.Paths.{on, Does}
 use Rattle.cell_paths.proofs.Staying.{stands-stays, sound-behind, memories-kept, longer-plain}
 use Rattle.cell_expr.specs.Compiled.{Compiles}
 use Rattle.cell_expr.proofs.Holding.{resized-zero}
-use Rattle.cell_expr.specs.Counts.{exp_count, exps_count, stm_count, fun_count, body_count}
+use Rattle.cell_expr.specs.Counts.{exps_count, stm_count, fun_count, body_count}
 use Rattle.cell_expr.specs.Passes.{AreCompiled, Begins, Passes}
 use Rattle.cell_expr.proofs.Holding.{holds-wider, holds-node}
 
@@ -92,26 +92,26 @@ module _ (names : Names) (files : List File) (depth : ℕ) (g : Fun) where
 
 -- ---- at any depth
 
-pub call-at-none : (names : Names) (files : List File) (depth f : ℕ) (es : Exps) (c : Form) (at : Env) (l0 new : ListData) (r : ℕ) → depth ≡ 0 → Fits names l0 at → Gives Nothing 1 l0 new r c.width (λ b. 0) →
-    Compiles names (scope_at names files (calls_in names files depth)) (exp_count (body_count names.funs depth) (Call f es)) (Call f es) c at l0 new r
-call-at-none names files depth f es c at l0 new r e fits g =
-    let n = exp_count (body_count names.funs 0) (Call f es) in
-    let F : ℕ → Type 0 = λ d. Compiles names (scope_at names files (calls_in names files d)) (exp_count (body_count names.funs d) (Call f es)) (Call f es) c at l0 new r in
-    subst F (sym e) (call-none names files f es c at l0 new r n fits (omega arith) resized-zero g)
+pub call-at-none : (names : Names) (files : List File) (depth f : ℕ) (es : Exps) (c : Form) (at : Env) (l0 new : ListData) (r k : ℕ) → depth ≡ 0 → 1 ≤ k → Fits names l0 at → Gives Nothing 1 l0 new r c.width (λ b. 0) →
+    Compiles names (scope_at names files (calls_in names files depth)) k (Call f es) c at l0 new r
+call-at-none names files depth f es c at l0 new r k e le fits g =
+    let F : ℕ → Type 0 = λ d. Compiles names (scope_at names files (calls_in names files d)) k (Call f es) c at l0 new r in
+    subst F (sym e) (call-none names files f es c at l0 new r k fits le resized-zero g)
 
-pub call-at : (names : Names) (files : List File) (depth d : ℕ) (g : Fun) (f : ℕ) (es : Exps) (c : Form) (at body0 body1 body2 : Env) (l0 l1 l2 l3 new : ListData) (r : ℕ) → depth ≡ suc d → slice_get names.funs f ≡ Some g → IsSignal (names_in names g) g.result → Fits names l0 at →
+pub call-at : (names : Names) (files : List File) (depth d : ℕ) (g : Fun) (f : ℕ) (es : Exps) (c : Form) (at body0 body1 body2 : Env) (l0 l1 l2 l3 new : ListData) (r k : ℕ) → depth ≡ suc d → body_count names.funs depth f + exps_count (body_count names.funs depth) es + 3 ≤ k → slice_get names.funs f ≡ Some g → IsSignal (names_in names g) g.result → Fits names l0 at →
     Begins (names_in names g) 2 body0 l0 l1 →
     Passes names (names_in names g) (exps_count (body_count names.funs depth) es) at body0 body1 l1 l2 g.inputs (λ x. arguments (scope_at names files (calls_in names files depth)) x es (input_widths_of names (Some g))) →
     Does (names_in names g) (stm_count (body_count names.funs d) g.body) (exec (scope_at (names_in names g) files (calls_in (names_in names g) files d)) g.body) body1.here body1 body2 l2 l3 →
     Gives Nothing 1 l3 new r c.width (λ b. resized c.signed (signal_form (names_in names g).rows g.result).width c.width (held_or b l3 (entry body2 g.result))) →
-    Compiles names (scope_at names files (calls_in names files depth)) (exp_count (body_count names.funs depth) (Call f es)) (Call f es) c at l0 new r
-call-at names files depth d g f es c at body0 body1 body2 l0 l1 l2 l3 new r e there result fits begins passes does gives =
+    Compiles names (scope_at names files (calls_in names files depth)) k (Call f es) c at l0 new r
+call-at names files depth d g f es c at body0 body1 body2 l0 l1 l2 l3 new r k e le there result fits begins passes does gives =
     let n = exps_count (body_count names.funs (suc d)) es in
     let m = stm_count (body_count names.funs d) g.body in
     let P : ℕ → Type 0 = λ z. Passes names (names_in names g) (exps_count (body_count names.funs z) es) at body0 body1 l1 l2 g.inputs (λ x. arguments (scope_at names files (calls_in names files z)) x es (input_widths_of names (Some g))) in
-    let F : ℕ → Type 0 = λ z. Compiles names (scope_at names files (calls_in names files z)) (exp_count (body_count names.funs z) (Call f es)) (Call f es) c at l0 new r in
-    let size : body_count names.funs (suc d) f ≡ m + 2 = ap (fun_count (body_count names.funs d)) there in
-    subst F (sym e) (call-compiles names files d g f es c at body0 body1 body2 l0 l1 l2 l3 new r n m (body_count names.funs (suc d) f + n + 1) there result fits (omega (arith, size)) begins (subst P e passes) does gives)
+    let F : ℕ → Type 0 = λ z. Compiles names (scope_at names files (calls_in names files z)) k (Call f es) c at l0 new r in
+    let le' : body_count names.funs (suc d) f + n + 3 ≤ k = subst (λ z. body_count names.funs z f + exps_count (body_count names.funs z) es + 3 ≤ k) e le in
+    let size : body_count names.funs (suc d) f ≡ m = ap (fun_count (body_count names.funs d)) there in
+    subst F (sym e) (call-compiles names files d g f es c at body0 body1 body2 l0 l1 l2 l3 new r n m k there result fits (omega (arith, size, le')) begins (subst P e passes) does gives)
 
 -- the functions are compiled within each of them too
 pub compiled-in : (names : Names) (g : Fun) → AreCompiled names → AreCompiled (names_in names g)

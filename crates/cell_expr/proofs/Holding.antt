@@ -89,3 +89,7 @@ resized-zero true own width = of (is_negative own 0) refl
     of : (b : Bool) → is_negative own 0 ≡ b → wrapped width (if b then neg_ℤ (pos (2 ^ own - 0)) else pos 0) ≡ 0
     of false e = mod-eq_of_lt (pow_pos width)
     of true e = let p = pow_pos own in let h : 2 ^ own ≤ 0 = leb-true (2 ^ own) 0 e in absurd (omega (arith, p, h))
+
+-- no bits more
+pub holds-plain : (names : Names) (at : Env) (n w : ℕ) (old new : ListData) (r : ℕ) (f : Sample → ℕ) → Holds names n at old new r (w + 0) f → Holds names n at old new r w f
+holds-plain names at n w old new r f h = (let e : w + 0 ≡ w = omega arith in subst (λ z. Holds names n at old new r z f) e h)

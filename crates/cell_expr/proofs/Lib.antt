@@ -24,3 +24,7 @@ pub mod Waiting
 pub mod Walking
 pub mod Wording
 pub mod Words
+pub mod Counting
+pub mod Widening
+pub mod Costing
+pub mod Budget

@@ -1,8 +1,9 @@
 -- Assignments (IEEE 1364-2005, clause 9.2).
-use Rattle.std.proofs.Common.{◌≡◌, ℕ, ◌+◌, ◌*◌, List, [], ◌∷◌, ◌++◌, map, refl, sym, ap, ◌∙◌, arith, subst, append_assoc, append-nil}
+use Rattle.std.proofs.Common.{◌≡◌, ℕ, ◌+◌, List, [], ◌∷◌, ◌++◌, map, refl, sym, ap, ◌∙◌, arith, subst, append_assoc, append-nil}
 use Rattle.std.proofs.lemmas.List.{map-append}
 use Rattle.std.proofs.lemmas.List.Elements.{All-append}
-use Rattle.vl_design.specs.Syntax.{Exp, Target, Set, Later}
+use Rattle.std.specs.Prelude.{Bool, true, false}
+use Rattle.vl_design.specs.Syntax.{Exp, Target, NoTargets, Set, Later}
 use Rattle.vl_design.specs.Targets as t
 use Rattle.vl_design.specs.Exec.{exec}
 use Rattle.vl_design.specs.State.{Update}
@@ -23,7 +24,7 @@ use Rattle.cell_expr.specs.declared.spot.Spot.{Spot}
 use Rattle.cell_expr.specs.Compiled.{Compiles}
 use Rattle.cell_expr.specs.Spots.{memory_at, IsSpot, spot_in, bits_of, cells_of, stored_by, Spotted, Assigned}
 use Rattle.cell_expr.specs.Stored.{target_stored}
-use Rattle.cell_expr.specs.Counts.{parts_count}
+use Rattle.cell_expr.specs.Counts.{parts_count, all_parts_count}
 use Rattle.vl_design.specs.Sound.{IsSoundExp, IsSoundTarget}
 use Rattle.vl_eval.proofs.Widths.{form-width}
 use Rattle.cell_expr.proofs.Adding.{spotted-sound, spotted-bits, spotted-cells, spotted-words, assigned-narrow, assigned-wide}
@@ -33,9 +34,9 @@ bits-both : (xs ys : List Spot) → bits_of (xs ++ ys) ≡ bits_of xs + bits_of 
 bits-both [] ys = omega arith
 bits-both (x ∷ xs) ys = let e = bits-both xs ys in omega (arith, e)
 
-cells-both : (xs ys : List Spot) → cells_of (xs ++ ys) ≡ cells_of xs + cells_of ys
-cells-both [] ys = omega arith
-cells-both (x ∷ xs) ys = let e = cells-both xs ys in omega (arith, e)
+cells-both : (later : Bool) (xs ys : List Spot) → cells_of later (xs ++ ys) ≡ cells_of later xs + cells_of later ys
+cells-both later [] ys = omega arith
+cells-both later (x ∷ xs) ys = let e = cells-both later xs ys in omega (arith, e)
 
 stored-both : (xs ys : List Spot) → stored_by (xs ++ ys) ≡ stored_by xs ++ stored_by ys
 stored-both [] ys = refl
@@ -43,7 +44,7 @@ stored-both (x ∷ xs) ys = ap (λ z. memory_at x.signal x.word ++ z) (stored-bo
 
 -- ---- spots of a target after those of others
 
-pub spotted-none : (names : Names) (at : Env) (l : ListData) (before : List Spot) → Spotted names 0 at l l before before 0 0 [] (λ x. [])
+pub spotted-none : (names : Names) (at : Env) (l : ListData) (before : List Spot) → Spotted names 0 at l l before before 0 (all_parts_count NoTargets) [] (λ x. [])
 spotted-none names at l before = record {
   longer = longer-same (HasMemories names at) l;
   more = [];
@@ -51,21 +52,18 @@ spotted-none names at l before = record {
   sound = λ i d h. absurd (omega arith);
   value = λ s b x sound st. refl;
   wide = refl;
-  many = refl;
+  many = λ later. refl;
   words = refl;
 }
 
-pub spotted-then : (names : Names) (n m : ℕ) (at : Env) (old mid new : ListData) (first before after : List Spot) (v w p q : ℕ) (ms ns : List ℕ) (f g : Sample → List t.Spot) → Fits names old at →
-    Spotted names n at old mid first before v p ms f → Spotted names m at mid new before after w q ns g → Spotted names (n + m) at old new first after (v + w) (p + q) (ms ++ ns) (λ x. f x ++ g x)
-spotted-then names n m at old mid new first before after v w p q ms ns f g fits a c =
+pub spotted-then : (names : Names) (n m : ℕ) (at : Env) (old mid new : ListData) (first before after : List Spot) (v w : ℕ) (p q pq : Bool → ℕ) (ms ns : List ℕ) (f g : Sample → List t.Spot) → ((later : Bool) → p later + q later ≡ pq later) → Fits names old at →
+    Spotted names n at old mid first before v p ms f → Spotted names m at mid new before after w q ns g → Spotted names (n + m) at old new first after (v + w) pq (ms ++ ns) (λ x. f x ++ g x)
+spotted-then names n m at old mid new first before after v w p q pq ms ns f g sum fits a c =
     let H : Shape → Type 0 = HasMemories names at in
     let late = longer-grows H m mid new c.longer in
     let wide-a = a.wide in
     let wide-c = c.wide in
-    let many-a = a.many in
-    let many-c = c.many in
     let bits = bits-both a.more c.more in
-    let cells = cells-both a.more c.more in
     record {
       longer = longer-then H n m old mid new a.longer c.longer;
       more = a.more ++ c.more;
@@ -78,7 +76,10 @@ spotted-then names n m at old mid new first before after v w p q ms ns f g fits 
           ∙ ap (λ z. z ++ map (spot_in names.rows b new) c.more) (spots-stay names at.first b mid new a.more late a.sound ∙ a.value s b x sound st)
           ∙ ap (λ z. f x ++ z) (c.value behind.shape b x behind.sound st-mid);
       wide = bits ∙ omega (arith, wide-a, wide-c);
-      many = cells ∙ omega (arith, many-a, many-c);
+      many = λ later. (
+          let many-a = a.many later in
+          let many-c = c.many later in
+          let both = sum later in cells-both later a.more c.more ∙ omega (arith, many-a, many-c, both));
       words = stored-both a.more c.more ∙ ap (λ z. z ++ stored_by c.more) a.words ∙ ap (λ z. ms ++ z) c.words;
     }
 
@@ -118,16 +119,16 @@ module _ (scope : Scope) (target : Target) (e : Exp) (n slot : ℕ) (spots : Lis
   abbrev updates : BankData → List Update
   updates b = t.updates_at (map (spot_in scope.names.rows b l1) spots) (held b l1 slot)
 
-  pub set-does : (off : ℕ) (at' : Env) → IsIn l0 off → Updates scope.names (cells_of spots) updates off at at' l1 l2 → Does scope.names (n + parts_count target) (exec scope (Set target e)) off at at' l0 l2
+  pub set-does : (off : ℕ) (at' : Env) → IsIn l0 off → Updates scope.names (cells_of false spots) updates off at at' l1 l2 → Does scope.names (n + parts_count target false) (exec scope (Set target e)) off at at' l0 l2
   set-does off at' inside d =
-      does-set scope target e n (parts_count target) updates off at at' l0 l1 l2 fits inside given.longer given.updates (subst (λ z. Updates scope.names z updates off at at' l1 l2) given.many d)
+      does-set scope target e n (parts_count target false) updates off at at' l0 l1 l2 fits inside given.longer given.updates (subst (λ z. Updates scope.names z updates off at at' l1 l2) (given.many false) d)
 
-  pub later-does : (off : ℕ) (p p' : PendingSlots) → Delays scope.names (2 * cells_of spots) updates off p p' l1 l2 → Does scope.names (n + 2 * parts_count target) (exec scope (Later target e)) off at at l0 l2
+  pub later-does : (off : ℕ) (p p' : PendingSlots) → Delays scope.names (cells_of true spots) updates off p p' l1 l2 → Does scope.names (n + parts_count target true) (exec scope (Later target e)) off at at l0 l2
   later-does off p p' d =
       let H : Shape → Type 0 = HasMemories scope.names at in
-      let k = 2 * parts_count target in
-      let many = given.many in
-      does-later scope target e (n + k) off at l0 l2 fits (longer-then H n k l0 l1 l2 given.longer (longer-plain scope.names at (2 * cells_of spots) k l1 l2 (omega (arith, many)) d.longer))
+      let k = parts_count target true in
+      let many = given.many true in
+      does-later scope target e (n + k) off at l0 l2 fits (longer-then H n k l0 l1 l2 given.longer (longer-plain scope.names at (cells_of true spots) k l1 l2 (omega (arith, many)) d.longer))
 
-  pub later-leaves : (off : ℕ) (p p' : PendingSlots) → ArePending scope.names l0 p → IsIn l0 off → Delays scope.names (2 * cells_of spots) updates off p p' l1 l2 → Leaves scope.names (exec scope (Later target e)) off at p p' l0 l2
-  later-leaves off p p' pending inside d = leaves-later scope target e n (2 * cells_of spots) updates off at p p' l0 l1 l2 fits pending inside given.longer given.updates d
+  pub later-leaves : (off : ℕ) (p p' : PendingSlots) → ArePending scope.names l0 p → IsIn l0 off → Delays scope.names (cells_of true spots) updates off p p' l1 l2 → Leaves scope.names (exec scope (Later target e)) off at p p' l0 l2
+  later-leaves off p p' pending inside d = leaves-later scope target e n (cells_of true spots) updates off at p p' l0 l1 l2 fits pending inside given.longer given.updates d

@@ -31,7 +31,7 @@ use Rattle.cell_paths.proofs.Staying.{stands-stays}
 use Rattle.cell_paths.proofs.Walking.{updates-none, updates-more, updates-as, updates-wider, low-stays}
 use Rattle.cell_expr.specs.declared.address.Address.{Address}
 use Rattle.cell_expr.specs.declared.spot.Spot.{Spot}
-use Rattle.cell_expr.specs.Spots.{IsOf, word_in, memory_at, part_cells, IsSpot, spot_in, update_of, bits_of, cells_of, stored_by}
+use Rattle.cell_expr.specs.Spots.{IsOf, word_in, memory_at, spot_cells, IsSpot, spot_in, update_of, bits_of, cells_of, stored_by}
 
 -- ---- lists
 
@@ -153,21 +153,20 @@ whole-update rows b l p part none =
 
 pub updates-spot : (names : Names) (m value off part : ℕ) (p : Spot) (ps : List Spot) (at0 at1 at2 : Env) (l0 l1 l2 l3 : ListData) → p.word ≡ None → Fits names l0 at0 → IsIn l0 off → IsIn l0 value → All (IsSpot names at0.first l0) (p ∷ ps) →
     Gives Nothing 1 l0 l1 part p.width (λ b. held b l0 value / 2 ^ bits_of ps % 2 ^ p.width) →
-    Assigns names 4 p.signal (low_of p.low) part off at0 at1 l1 l2 →
+    Assigns names 3 p.signal (low_of p.low) part off at0 at1 l1 l2 →
     Updates names m (λ b. t.updates_at (map (spot_in names.rows b l2) ps) (held b l2 value)) off at1 at2 l2 l3 →
-    Updates names (part_cells p.word + m) (λ b. t.updates_at (map (spot_in names.rows b l0) (p ∷ ps)) (held b l0 value)) off at0 at2 l0 l3
+    Updates names (spot_cells false p + m) (λ b. t.updates_at (map (spot_in names.rows b l0) (p ∷ ps)) (held b l0 value)) off at0 at2 l0 l3
 updates-spot names m value off part p ps at0 at1 at2 l0 l1 l2 l3 none fits k there spots g a u =
     let rows = names.rows in
     let g01 = longer-grows Nothing 1 l0 l1 g.longer in
-    let g02 = longer-grows Nothing 5 l0 l2 (longer-then Nothing 1 4 l0 l1 l2 g.longer a.longer) in
-    let five : part_cells p.word ≡ 5 = ap part_cells none in
+    let g02 = longer-grows Nothing 4 l0 l2 (longer-then Nothing 1 3 l0 l1 l2 g.longer a.longer) in
     let F : BankData → List Update = λ b. update_in b l1 p.signal (low_of p.low) part ∷ t.updates_at (map (spot_in rows b l2) ps) (held b l2 value) in
     let G : BankData → List Update = λ b. t.updates_at (map (spot_in rows b l0) (p ∷ ps)) (held b l0 value) in
-    updates-wider names (1 + (4 + m)) (part_cells p.word + m) G off at0 at2 l0 l3 (omega (arith, five))
-    (updates-as names (1 + (4 + m)) F G off at0 at2 l0 l3
+    updates-wider names (1 + (3 + m)) (spot_cells false p + m) G off at0 at2 l0 l3 (omega arith)
+    (updates-as names (1 + (3 + m)) F G off at0 at2 l0 l3
     (λ s b sound. ap (λ x. x ∷ t.updates_at (map (spot_in rows b l2) ps) (held b l2 value)) (whole-update rows b l1 p part none) ∙ first-and-others names at0.first value part p ps b s l0 l1 l2 there spots g02 sound g)
-    (updates-behind names 1 (4 + m) off F at0 at2 l0 l1 l3 fits k g.longer
-    (updates-more names 4 m p.signal (low_of p.low) part off (λ b. t.updates_at (map (spot_in rows b l2) ps) (held b l2 value)) at0 at1 at2 l1 l2 l3 (in-stays l0 l1 off g01 k) a u)))
+    (updates-behind names 1 (3 + m) off F at0 at2 l0 l1 l3 fits k g.longer
+    (updates-more names 3 m p.signal (low_of p.low) part off (λ b. t.updates_at (map (spot_in rows b l2) ps) (held b l2 value)) at0 at1 at2 l1 l2 l3 (in-stays l0 l1 off g01 k) a u)))
 
 -- ---- all of them
 
@@ -202,16 +201,16 @@ of-memory names first l k word a some h = subst (IsOf names first l k) some h
 pub updates-left : (names : Names) (value off part : ℕ) (spots : List Spot) (i : ℕ) (d : Spot) (at0 at1 at2 : Env) (l0 l1 l2 l3 : ListData) → i < length spots → (get_or spots i d).word ≡ None → Fits names l0 at0 → IsIn l0 off → IsIn l0 value →
     All (IsSpot names at0.first l0) (drop i spots) →
     Gives Nothing 1 l0 l1 part (get_or spots i d).width (λ b. held b l0 value / 2 ^ bits_of (drop (i + 1) spots) % 2 ^ (get_or spots i d).width) →
-    Assigns names 4 (get_or spots i d).signal (low_of (get_or spots i d).low) part off at0 at1 l1 l2 →
-    Updates names (cells_of (drop (i + 1) spots)) (λ b. t.updates_at (map (spot_in names.rows b l2) (drop (i + 1) spots)) (held b l2 value)) off at1 at2 l2 l3 →
-    Updates names (cells_of (drop i spots)) (λ b. t.updates_at (map (spot_in names.rows b l0) (drop i spots)) (held b l0 value)) off at0 at2 l0 l3
+    Assigns names 3 (get_or spots i d).signal (low_of (get_or spots i d).low) part off at0 at1 l1 l2 →
+    Updates names (cells_of false (drop (i + 1) spots)) (λ b. t.updates_at (map (spot_in names.rows b l2) (drop (i + 1) spots)) (held b l2 value)) off at1 at2 l2 l3 →
+    Updates names (cells_of false (drop i spots)) (λ b. t.updates_at (map (spot_in names.rows b l0) (drop i spots)) (held b l0 value)) off at0 at2 l0 l3
 updates-left names value off part spots i d at0 at1 at2 l0 l1 l2 l3 h none fits k there all g a u =
     let e = drop_more spots i d h in
-    let F : List Spot → Type 0 = λ zs. Updates names (cells_of zs) (λ b. t.updates_at (map (spot_in names.rows b l0) zs) (held b l0 value)) off at0 at2 l0 l3 in
-    subst F (sym e) (updates-spot names (cells_of (drop (i + 1) spots)) value off part (get_or spots i d) (drop (i + 1) spots) at0 at1 at2 l0 l1 l2 l3 none fits k there (subst (All (IsSpot names at0.first l0)) e all) g a u)
+    let F : List Spot → Type 0 = λ zs. Updates names (cells_of false zs) (λ b. t.updates_at (map (spot_in names.rows b l0) zs) (held b l0 value)) off at0 at2 l0 l3 in
+    subst F (sym e) (updates-spot names (cells_of false (drop (i + 1) spots)) value off part (get_or spots i d) (drop (i + 1) spots) at0 at1 at2 l0 l1 l2 l3 none fits k there (subst (All (IsSpot names at0.first l0)) e all) g a u)
 
 pub updates-over : (names : Names) (value off : ℕ) (spots : List Spot) (i : ℕ) (at : Env) (l : ListData) → length spots ≤ i → Fits names l at →
-    Updates names (cells_of (drop i spots)) (λ b. t.updates_at (map (spot_in names.rows b l) (drop i spots)) (held b l value)) off at at l l
+    Updates names (cells_of false (drop i spots)) (λ b. t.updates_at (map (spot_in names.rows b l) (drop i spots)) (held b l value)) off at at l l
 updates-over names value off spots i at l h fits =
-    let F : List Spot → Type 0 = λ zs. Updates names (cells_of zs) (λ b. t.updates_at (map (spot_in names.rows b l) zs) (held b l value)) off at at l l in
+    let F : List Spot → Type 0 = λ zs. Updates names (cells_of false zs) (λ b. t.updates_at (map (spot_in names.rows b l) zs) (held b l value)) off at at l l in
     subst F (sym (drop_all i spots h)) (updates-none names off at l fits)

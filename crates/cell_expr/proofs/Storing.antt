@@ -1,5 +1,5 @@
 -- Nonblocking assignments to words of memories (IEEE 1364-2005, clauses 5.2.2 and 9.2.2).
-use Rattle.std.proofs.Common.{◌≡◌, ℕ, ◌+◌, ◌≤◌, Bool, true, false, List, [], ◌∷◌, ◌++◌, length, Option, Some, None, refl, sym, ap, ◌∙◌, arith, subst, nat_lt, append-nil}
+use Rattle.std.proofs.Common.{◌≡◌, ℕ, ◌+◌, ◌≤◌, Bool, true, false, List, [], ◌∷◌, ◌++◌, length, Option, Some, None, refl, sym, ap, ◌∙◌, arith, subst, nat_lt, append-nil, ◌-◌}
 use Rattle.std.specs.Prelude.{◌==◌, if◌then◌else◌, slice_get, slice_index, slice_set}
 use Rattle.std.proofs.lemmas.Bool.{ltb-true, ltb-false}
 use Rattle.std.proofs.lemmas.List.{set-get_or, set_past}
@@ -16,19 +16,20 @@ use Rattle.cell_form.specs.Data.{ListData, BankData}
 use Rattle.cell_steps.specs.Slots.{held, width_at, IsIn, Nothing}
 use Rattle.cell_steps.proofs.Frames.{held-stays, width-stays, longer-grows, longer-then}
 use Rattle.cell_paths.specs.Envs.{Always}
-use Rattle.cell_paths.specs.Paths.{Low, IsLow, low_in, low_of, update_in}
+use Rattle.cell_paths.specs.Paths.{Low, IsLow, low_in, low_of, update_in, Constant, By}
 use Rattle.cell_paths.proofs.Walking.{low-stays}
 use Rattle.cell_later.specs.Pendings.{PendingSlots, ArePending, Pends}
-use Rattle.cell_later.specs.Delays.{with_later, IsDelayable, IsStorable, stored_in, Delays}
+use Rattle.cell_later.specs.Delays.{with_later, IsDelayable, IsStorable, stored_in, Delays, delay_count}
 use Rattle.cell_later.proofs.Following.{delays-as, delays-wider}
 use Rattle.cell_later.proofs.Keeping.{pends-stays, updated-more}
 use Rattle.cell_expr.specs.declared.address.Address.{Address}
 use Rattle.cell_expr.specs.declared.spot.Spot.{Spot}
 use Rattle.cell_expr.specs.Chosen.{word_named, Chooses}
-use Rattle.cell_expr.specs.Spots.{later_cells, IsSpot, update_of, word_in}
+use Rattle.cell_expr.specs.Spots.{IsSpot, update_of, word_in, spot_cells, has_word, has_index}
 use Rattle.cell_expr.specs.Words.{row_words, words_in}
 use Rattle.cell_expr.proofs.Spotting.{whole-update, of-memory}
 use Rattle.cell_expr.proofs.Wording.{many-words}
+use Rattle.cell_expr.specs.Counts.{part_count}
 
 -- ---- a word that isn't there
 
@@ -109,32 +110,36 @@ delays-chosen names m here off enable number part n k a low p p' l0 l1 l2 is pen
 
 -- ---- one spot
 
-pub delays-whole : (names : Names) (x : Spot) (part off : ℕ) (p p' : PendingSlots) (old new : ListData) → x.word ≡ None → Delays names 9 (λ b. update_in b old x.signal (low_of x.low) part ∷ []) off p p' old new →
-    Delays names (later_cells x.word) (λ b. update_of names.rows b old x part ∷ []) off p p' old new
+pub delays-whole : (names : Names) (x : Spot) (part off : ℕ) (p p' : PendingSlots) (old new : ListData) → x.word ≡ None → Delays names (delay_count (low_of x.low)) (λ b. update_in b old x.signal (low_of x.low) part ∷ []) off p p' old new →
+    Delays names (spot_cells true x - 1) (λ b. update_of names.rows b old x part ∷ []) off p p' old new
 delays-whole names x part off p p' old new none d =
-    let nine : later_cells x.word ≡ 9 = ap later_cells none in
-    delays-wider names 9 (later_cells x.word) (λ b. update_of names.rows b old x part ∷ []) off p p' old new (omega (arith, nine))
-    (delays-as names 9 (λ b. update_in b old x.signal (low_of x.low) part ∷ []) (λ b. update_of names.rows b old x part ∷ []) off p p' old new (λ s b sound. ap (λ u. u ∷ []) (whole-update names.rows b old x part none)) d)
+    let many : delay_count (low_of x.low) ≡ spot_cells true x - 1 = as-many (low_of x.low) ∙ ap (λ o. part_count true (has_word o) (has_index (low_of x.low)) - 1) (sym none) in
+    delays-wider names (delay_count (low_of x.low)) (spot_cells true x - 1) (λ b. update_of names.rows b old x part ∷ []) off p p' old new (omega (arith, many))
+    (delays-as names (delay_count (low_of x.low)) (λ b. update_in b old x.signal (low_of x.low) part ∷ []) (λ b. update_of names.rows b old x part ∷ []) off p p' old new (λ s b sound. ap (λ u. u ∷ []) (whole-update names.rows b old x part none)) d)
+  where
+    as-many : (low : Low) → delay_count low ≡ part_count true false (has_index low) - 1
+    as-many (Constant z) = refl
+    as-many (By index signed from) = refl
 
 pub delays-word : (names : Names) (x : Spot) (a : Address) (part off : ℕ) (p p' : PendingSlots) (old new : ListData) → x.word ≡ Some a →
-    Delays names 16 (λ b. record { signal = x.signal; word = word_named names.rows b old x.signal a; low = low_in b old (low_of x.low); width = width_at old part; value = held b old part } ∷ []) off p p' old new →
-    Delays names (later_cells x.word) (λ b. update_of names.rows b old x part ∷ []) off p p' old new
+    Delays names 14 (λ b. record { signal = x.signal; word = word_named names.rows b old x.signal a; low = low_in b old (low_of x.low); width = width_at old part; value = held b old part } ∷ []) off p p' old new →
+    Delays names (spot_cells true x - 1) (λ b. update_of names.rows b old x part ∷ []) off p p' old new
 delays-word names x a part off p p' old new some d =
     let F : Option Address → Type 0 = λ o.
-    Delays names (later_cells o) (λ b. record { signal = x.signal; word = word_in names.rows b old x.signal o; low = low_in b old (low_of x.low); width = width_at old part; value = held b old part } ∷ []) off p p' old new in
+    Delays names (part_count true (has_word o) (has_index (low_of x.low)) - 1) (λ b. record { signal = x.signal; word = word_in names.rows b old x.signal o; low = low_in b old (low_of x.low); width = width_at old part; value = held b old part } ∷ []) off p p' old new in
     subst F (sym some) d
 
 -- ---- what is delayed of a spot
 
 pub spot-whole : (names : Names) (x : Spot) (part off wide : ℕ) (p p' : PendingSlots) (old new : ListData) → x.word ≡ None → IsDelayable names old p x.signal wide →
-    ((n : Names) → IsDelayable n old p x.signal wide → Delays n 9 (λ b. update_in b old x.signal (low_of x.low) part ∷ []) off p p' old new) →
-    Delays names (later_cells x.word) (λ b. update_of names.rows b old x part ∷ []) off p p' old new
+    ((n : Names) → IsDelayable n old p x.signal wide → Delays n (delay_count (low_of x.low)) (λ b. update_in b old x.signal (low_of x.low) part ∷ []) off p p' old new) →
+    Delays names (spot_cells true x - 1) (λ b. update_of names.rows b old x part ∷ []) off p p' old new
 spot-whole names x part off wide p p' old new none can h = delays-whole names x part off p p' old new none (h names can)
 
 pub spot-word : (names : Names) (first : ℕ) (x : Spot) (a : Address) (here part off wide enable number : ℕ) (p p' : PendingSlots) (l0 l1 l2 : ListData) → x.word ≡ Some a → IsSpot names first l0 x → ArePending names l0 p → IsIn l0 part → Always l1 here 0 →
     Chooses names.rows 7 x.signal a off l0 l1 enable number → IsStorable names l1 p x.signal wide →
-    ((n : Names) → IsStorable n l1 p x.signal wide → Delays n 9 (λ b. stored_in b l1 x.signal enable number (low_of x.low) part) here p p' l1 l2) →
-    Delays names (later_cells x.word) (λ b. update_of names.rows b l0 x part ∷ []) off p p' l0 l2
+    ((n : Names) → IsStorable n l1 p x.signal wide → Delays n 7 (λ b. stored_in b l1 x.signal enable number (low_of x.low) part) here p p' l1 l2) →
+    Delays names (spot_cells true x - 1) (λ b. update_of names.rows b l0 x part ∷ []) off p p' l0 l2
 spot-word names first x a here part off wide enable number p p' l0 l1 l2 some spot pending kp zero c can h =
     let is = of-memory names first l0 x.signal x.word a some spot.is_of in
-    delays-word names x a part off p p' l0 l2 some (delays-chosen names x.signal here off enable number part 7 9 a (low_of x.low) p p' l0 l1 l2 is.0 pending is.1 spot.low kp zero c (h names can))
+    delays-word names x a part off p p' l0 l2 some (delays-chosen names x.signal here off enable number part 7 7 a (low_of x.low) p p' l0 l1 l2 is.0 pending is.1 spot.low kp zero c (h names can))

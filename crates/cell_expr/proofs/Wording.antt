@@ -18,11 +18,12 @@ use Rattle.vl_eval.proofs.Readable.{word-small}
 use Rattle.cell_form.specs.Data.{ListData, BankData}
 use Rattle.cell_form.specs.Values as cell
 use Rattle.cell_steps.specs.Slots.{held, width_at, Gives}
+use Rattle.cell_nodes.specs.Counts.{resizes}
 use Rattle.cell_paths.specs.Envs.{Env, entry, word_or, IsThere, Fits, Stands}
 use Rattle.cell_expr.specs.Compiled.{Compiles}
 use Rattle.cell_expr.specs.Words.{word_read, lowest_of, lowest_in}
 use Rattle.cell_expr.proofs.Choosing.{halves}
-use Rattle.cell_expr.proofs.Holding.{holds-node}
+use Rattle.cell_expr.proofs.Holding.{holds-wider, holds-node}
 
 past : (xs : List ℕ) (i : ℕ) → length xs ≤ i → slice_index xs i ≡ 0
 past [] i h = refl
@@ -75,18 +76,20 @@ word-same names b l at x m z is st =
     ap (λ v. v % 2 ^ (signal_form names.rows m).width) (entry-word b (entry at m) (words_of x.values m) (z -ℤ lowest_in names.rows m) (λ j. st.words m j is) ∙ row-word names.rows x.values m z st.fine is)
     ∙ word-small names.rows x.values m (word_at (slice_get names.rows m) z) st.fine
 
-pub word-compiles : (scope : Scope) (c : Form) (at : Env) (n m : ℕ) (e : Exp) (signed : Bool) (old mid new : ListData) (a r : ℕ) → signed ≡ (form scope.names e).signed → IsMemory scope.names m → Fits scope.names old at →
+pub word-compiles : (scope : Scope) (c : Form) (at : Env) (n k m : ℕ) (e : Exp) (signed : Bool) (old mid new : ListData) (a r : ℕ) → signed ≡ (form scope.names e).signed → IsMemory scope.names m → Fits scope.names old at → n + (1 + resizes (signal_form scope.names.rows m).width c.width) ≤ k →
     Compiles scope.names scope n e (form scope.names e) at old mid a →
-    Gives (λ s. IsThere s (entry at m)) 2 mid new r c.width (λ b. resized c.signed (signal_form scope.names.rows m).width c.width
+    Gives (λ s. IsThere s (entry at m)) (1 + resizes (signal_form scope.names.rows m).width c.width) mid new r c.width (λ b. resized c.signed (signal_form scope.names.rows m).width c.width
     (word_read b (entry at m) (reading signed (width_at mid a) (held b mid a) -ℤ lowest_in scope.names.rows m) % 2 ^ (signal_form scope.names.rows m).width)) →
-    Compiles scope.names scope (n + 2) (Word m e) c at old new r
-word-compiles scope c at n m e signed old mid new a r sign is fits h g =
+    Compiles scope.names scope k (Word m e) c at old new r
+word-compiles scope c at n k m e signed old mid new a r sign is fits le h g =
     let names = scope.names in
     let f = form names e in
     let own = (signal_form names.rows m).width in
     let z : Sample → ℤ = λ x. reading f.signed f.width (value scope x e f) in
-    holds-node names at (λ s. IsThere s (entry at m)) n 2 old mid new r c.width _ (λ x. value scope x (Word m e) c) (λ s t. t m is) fits h.longer g
+    let more = 1 + resizes own c.width in
+    holds-wider names at (n + more) k old new r c.width (λ x. value scope x (Word m e) c) le
+    (holds-node names at (λ s. IsThere s (entry at m)) n more old mid new r c.width _ (λ x. value scope x (Word m e) c) (λ s t. t m is) fits h.longer g
     (λ s t b x sound behind st later.
     let index : reading signed (width_at mid a) (held b mid a) ≡ z x = ap (λ q. reading q (width_at mid a) (held b mid a)) sign ∙ ap (λ w. reading f.signed w (held b mid a)) h.slot.width ∙ ap (reading f.signed f.width) (h.value s b x sound st) in
     ap (λ i. resized c.signed own c.width (word_read b (entry at m) (i -ℤ lowest_in names.rows m) % 2 ^ own)) index
-    ∙ ap (resized c.signed own c.width) (word-same names b mid at x m (z x) is later))
+    ∙ ap (resized c.signed own c.width) (word-same names b mid at x m (z x) is later)))

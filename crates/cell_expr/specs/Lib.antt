@@ -10,3 +10,4 @@ pub mod Passes
 pub mod Spots
 pub mod Stored
 pub mod Words
+pub mod Slack

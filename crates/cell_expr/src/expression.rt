@@ -1,6 +1,6 @@
 //! Expressions and calls of functions as cells (IEEE 1364-2005, clauses 5 and 10.4).
 
-ghost use Rattle.std.specs.Prelude.{◌≡◌, ◌≤◌, ◌<◌, ◌+◌, ◌*◌, ◌^◌, ℕ, List, [], ◌∷◌, Bool, IfOk, IfSome, OnOk, Some, slice_get, length};
+ghost use Rattle.std.specs.Prelude.{◌≡◌, ◌≤◌, ◌<◌, ◌+◌, ◌*◌, ◌^◌, ℕ, List, [], ◌∷◌, Bool, false, IfOk, IfSome, OnOk, Some, slice_get, length};
 ghost use Rattle.vl_base.specs.declared.files.File.{File};
 ghost use Rattle.vl_design.specs.Sound.{AreSound, IsSoundExp, IsSignal, IsMemory, IsSoundFun, IsWidth, Takes, count_of};
 ghost use Rattle.vl_design.specs.Syntax as y;
@@ -13,9 +13,10 @@ ghost use Rattle.vl_base.specs.Selects.{appended};
 ghost use Rattle.vl_base.specs.Value.{resized};
 ghost use Rattle.cell_paths.specs.Envs.{env_of, held_or, Fits};
 ghost use Rattle.cell_expr.specs.Bodies.{IsCellFun};
-ghost use Rattle.cell_expr.specs.Compiled.{Compiles, Holds, width_or};
+ghost use Rattle.cell_expr.specs.Compiled.{Compiles, Holds, beside_count, bits_before as before, is_cast, width_or};
 ghost use Rattle.cell_expr.specs.Contexts.{names_of, scope_of, body_of};
-ghost use Rattle.cell_expr.specs.Counts.{exp_count, exps_count};
+ghost use Rattle.vl_eval.specs.Rooms as rooms;
+ghost use Rattle.cell_expr.specs.Counts.{own_count, exp_count, exps_count, in_count, first_count, all_count, is_plain as plain};
 ghost use Rattle.cell_expr.specs.Passes.{Passes};
 ghost use Rattle.cell_expr.specs.Callers.{Compilers};
 
@@ -23,7 +24,7 @@ use crate::call::{begin, pass};
 use crate::context::{Context, inner};
 use crate::leaf::{read_signal, read_word};
 use cell_form::cell::CellList;
-use cell_nodes::copies::{beside, repeat};
+use cell_nodes::copies::{beside, multiply, repeat};
 use cell_nodes::operators::{choose, combine, operate};
 use cell_nodes::reads::{nothing, number, read, select, slice};
 use cell_paths::at::At;
@@ -31,7 +32,8 @@ use std::alloc::{AllocError, Global};
 use vl_base::bits::{BinOp, UnOp};
 use vl_design::design::{Expr, ExprNode, Form, Func, LowestBit};
 use vl_eval::form::{form_of, signal_form};
-use vl_form::form::{assigned, left_form, operand_form, right_form};
+use vl_eval::room::Room;
+use vl_form::form::{assigned, left_form, operand_form, right_form, unsigned};
 
 /// Puts a part of a concatenation behind others, if there are some.
 fn joined(
@@ -45,7 +47,7 @@ fn joined(
     requires wide { 1 ≤ width_at (list_of cells.old) part }
     requires narrow { width_or (list_of cells.old) all + width_at (list_of cells.old) part ≤ 128 }
     ensures grows { Grows (list_of cells.old) (list_of cells.new) }
-    ensures gives { IfOk result (λ r. Gives Nothing 1 (list_of cells.old) (list_of cells.new) r (width_or (list_of cells.old) all + width_at (list_of cells.old) part)
+    ensures gives { IfOk result (λ r. Gives Nothing (beside_count all) (list_of cells.old) (list_of cells.new) r (width_or (list_of cells.old) all + width_at (list_of cells.old) part)
         (λ b. appended (held_or b (list_of cells.old) all) (width_at (list_of cells.old) part) (held b (list_of cells.old) part))) }
 {
     match all {
@@ -71,6 +73,40 @@ fn number_in(
     number(alloc, cells, value, own, c.signed, c.width as u8)
 }
 
+/// A number, a name or copies, which is read at any width at once where it is extended by zeros.
+fn is_plain(e: &Expr) -> bool
+    ensures { result ≡ plain (exp_of e.now) }
+{
+    match &e.node {
+        ExprNode::Num(_, _) | ExprNode::Label(_) | ExprNode::Sig(_) | ExprNode::Rep(_, _) => true,
+        _ => false,
+    }
+}
+
+/// How many bits stand before a part: so many, where it is the first one.
+fn bits_before(all: Option<u32>, more: u8) -> u8
+    ensures { result ≡ before more all }
+{
+    match all {
+        None => more,
+        Some(_) => 0,
+    }
+}
+
+/// How many bits parts have.
+#[tactic(auto, using(vl_eval::proofs::Rows::list_rules))]
+fn parts_width(room: &Room<'_>, parts: &[Expr]) -> u8
+    requires sound { AreSound (rooms.names_of room.now) (exps_of parts.now) }
+    requires narrow { w.total_width (rooms.names_of room.now) (exps_of parts.now) ≤ 128 }
+    ensures { result ≡ w.total_width (rooms.names_of room.now) (exps_of parts.now) }
+{
+    let mut bits = 0;
+    for part in parts {
+        bits += form_of(room, part).width as u8;
+    }
+    bits
+}
+
 impl<F: Fn(&mut CellList, &mut At, u32) -> Result<(), AllocError>> Context<'_, F> {
     /// Compiles an expression that is read for itself.
     #[cycle(expression)]
@@ -86,7 +122,7 @@ impl<F: Fn(&mut CellList, &mut At, u32) -> Result<(), AllocError>> Context<'_, F
         requires expression { IsSoundExp (names_of self.now) (exp_of e.now) }
         requires fits { Fits (names_of self.now) (list_of cells.old) (env_of at.now) }
         ensures grows { Grows (list_of cells.old) (list_of cells.new) }
-        ensures gives { IfOk result (λ r. (files : List File) → Compiles (names_of self.now) (scope_of self.now files) (exp_count (body_of self.now) (exp_of e.now))
+        ensures gives { IfOk result (λ r. (files : List File) → Compiles (names_of self.now) (scope_of self.now files) (own_count (body_of self.now) (exp_of e.now))
             (exp_of e.now) (w.form (names_of self.now) (exp_of e.now)) (env_of at.now) (list_of cells.old) (list_of cells.new) r) }
     {
         self.compile_in(alloc, cells, at, e, form_of(&self.room, e))
@@ -110,7 +146,7 @@ impl<F: Fn(&mut CellList, &mut At, u32) -> Result<(), AllocError>> Context<'_, F
         requires context { IsWidth c.width }
         requires fits { Fits (names_of self.now) (list_of cells.old) (env_of at.now) }
         ensures grows { Grows (list_of cells.old) (list_of cells.new) }
-        ensures gives { IfOk result (λ r. (files : List File) → Compiles (names_of self.now) (scope_of self.now files) (exp_count (body_of self.now) (y.Word memory (exp_of a.now)))
+        ensures gives { IfOk result (λ r. (files : List File) → Compiles (names_of self.now) (scope_of self.now files) (in_count (names_of self.now) (body_of self.now) c.width (y.Word memory (exp_of a.now)))
             (y.Word memory (exp_of a.now)) c (env_of at.now) (list_of cells.old) (list_of cells.new) r) }
     {
         let address = self.own_in(alloc, cells, at, a)?;
@@ -140,7 +176,7 @@ impl<F: Fn(&mut CellList, &mut At, u32) -> Result<(), AllocError>> Context<'_, F
         requires context { IsWidth c.width }
         requires fits { Fits (names_of self.now) (list_of cells.old) (env_of at.now) }
         ensures grows { Grows (list_of cells.old) (list_of cells.new) }
-        ensures gives { IfOk result (λ r. (files : List File) → Compiles (names_of self.now) (scope_of self.now files) (exp_count (body_of self.now) (y.Pick (exp_of base.now) (exp_of index.now) from bits))
+        ensures gives { IfOk result (λ r. (files : List File) → Compiles (names_of self.now) (scope_of self.now files) (in_count (names_of self.now) (body_of self.now) c.width (y.Pick (exp_of base.now) (exp_of index.now) from bits))
             (y.Pick (exp_of base.now) (exp_of index.now) from bits) c (env_of at.now) (list_of cells.old) (list_of cells.new) r) }
     {
         let base = self.own_in(alloc, cells, at, base)?;
@@ -170,7 +206,7 @@ impl<F: Fn(&mut CellList, &mut At, u32) -> Result<(), AllocError>> Context<'_, F
         requires context { IsWidth c.width }
         requires fits { Fits (names_of self.now) (list_of cells.old) (env_of at.now) }
         ensures grows { Grows (list_of cells.old) (list_of cells.new) }
-        ensures gives { IfOk result (λ r. (files : List File) → Compiles (names_of self.now) (scope_of self.now files) (exp_count (body_of self.now) (y.Slice (exp_of base.now) low bits))
+        ensures gives { IfOk result (λ r. (files : List File) → Compiles (names_of self.now) (scope_of self.now files) (in_count (names_of self.now) (body_of self.now) c.width (y.Slice (exp_of base.now) low bits))
             (y.Slice (exp_of base.now) low bits) c (env_of at.now) (list_of cells.old) (list_of cells.new) r) }
     {
         let base = self.own_in(alloc, cells, at, base)?;
@@ -196,7 +232,7 @@ impl<F: Fn(&mut CellList, &mut At, u32) -> Result<(), AllocError>> Context<'_, F
         requires context { IsWidth c.width }
         requires fits { Fits (names_of self.now) (list_of cells.old) (env_of at.now) }
         ensures grows { Grows (list_of cells.old) (list_of cells.new) }
-        ensures gives { IfOk result (λ r. (files : List File) → Compiles (names_of self.now) (scope_of self.now files) (exp_count (body_of self.now) (y.Un op (exp_of a.now)))
+        ensures gives { IfOk result (λ r. (files : List File) → Compiles (names_of self.now) (scope_of self.now files) (in_count (names_of self.now) (body_of self.now) c.width (y.Un op (exp_of a.now)))
             (y.Un op (exp_of a.now)) c (env_of at.now) (list_of cells.old) (list_of cells.new) r) }
     {
         let form = operand_form(op, form_of(&self.room, a), c);
@@ -224,7 +260,7 @@ impl<F: Fn(&mut CellList, &mut At, u32) -> Result<(), AllocError>> Context<'_, F
         requires context { IsWidth c.width }
         requires fits { Fits (names_of self.now) (list_of cells.old) (env_of at.now) }
         ensures grows { Grows (list_of cells.old) (list_of cells.new) }
-        ensures gives { IfOk result (λ r. (files : List File) → Compiles (names_of self.now) (scope_of self.now files) (exp_count (body_of self.now) (y.Bin op (exp_of a.now) (exp_of b.now)))
+        ensures gives { IfOk result (λ r. (files : List File) → Compiles (names_of self.now) (scope_of self.now files) (in_count (names_of self.now) (body_of self.now) c.width (y.Bin op (exp_of a.now) (exp_of b.now)))
             (y.Bin op (exp_of a.now) (exp_of b.now)) c (env_of at.now) (list_of cells.old) (list_of cells.new) r) }
     {
         let first = form_of(&self.room, a);
@@ -258,7 +294,7 @@ impl<F: Fn(&mut CellList, &mut At, u32) -> Result<(), AllocError>> Context<'_, F
         requires context { IsWidth c.width }
         requires fits { Fits (names_of self.now) (list_of cells.old) (env_of at.now) }
         ensures grows { Grows (list_of cells.old) (list_of cells.new) }
-        ensures gives { IfOk result (λ r. (files : List File) → Compiles (names_of self.now) (scope_of self.now files) (exp_count (body_of self.now) (y.Cond (exp_of test.now) (exp_of a.now) (exp_of b.now)))
+        ensures gives { IfOk result (λ r. (files : List File) → Compiles (names_of self.now) (scope_of self.now files) (in_count (names_of self.now) (body_of self.now) c.width (y.Cond (exp_of test.now) (exp_of a.now) (exp_of b.now)))
             (y.Cond (exp_of test.now) (exp_of a.now) (exp_of b.now)) c (env_of at.now) (list_of cells.old) (list_of cells.new) r) }
     {
         let test = self.own_in(alloc, cells, at, test)?;
@@ -267,7 +303,65 @@ impl<F: Fn(&mut CellList, &mut At, u32) -> Result<(), AllocError>> Context<'_, F
         choose(alloc, cells, test, a, b, false, c.width as u8)
     }
 
-    /// Compiles the parts of a concatenation side by side.
+    /// Compiles an expression that isn't a cast and is read for itself, behind so many bits more that are 0.
+    #[cycle(expression)]
+    #[tactic(auto, using(crate::proofs::Walking::walking))]
+    fn extended_in(
+        &self,
+        alloc: Global,
+        cells: &mut CellList,
+        at: &At,
+        e: &Expr,
+        more: u8,
+    ) -> Result<u32, AllocError>
+        requires functions { Compilers (names_of self.now) self.now.depth (F.pre self.now.compile_body) (F.post self.now.compile_body) }
+        requires expression { IsSoundExp (names_of self.now) (exp_of e.now) }
+        requires own { is_cast (exp_of e.now) ≡ false }
+        requires narrow { (w.form (names_of self.now) (exp_of e.now)).width + more ≤ 128 }
+        requires fits { Fits (names_of self.now) (list_of cells.old) (env_of at.now) }
+        ensures grows { Grows (list_of cells.old) (list_of cells.new) }
+        ensures gives { IfOk result (λ r. (files : List File) → Holds (names_of self.now) (first_count (body_of self.now) more (exp_of e.now))
+            (env_of at.now) (list_of cells.old) (list_of cells.new) r ((w.form (names_of self.now) (exp_of e.now)).width + more)
+            (λ x. v.value (scope_of self.now files) x (exp_of e.now) (w.form (names_of self.now) (exp_of e.now)))) }
+    {
+        if more == 0 {
+            return self.own_in(alloc, cells, at, e);
+        }
+        let width = form_of(&self.room, e).width + u32::from(more);
+        if is_plain(e) {
+            return self.compile_in(alloc, cells, at, e, unsigned(width));
+        }
+        let slot = self.own_in(alloc, cells, at, e)?;
+        read(alloc, cells, slot, false, width as u8)
+    }
+
+    /// Compiles an expression that is read for itself, behind so many bits more that are 0: a cast gives the same bits.
+    #[cycle(expression)]
+    #[tactic(auto, using(crate::proofs::Walking::walking))]
+    fn wide_in(
+        &self,
+        alloc: Global,
+        cells: &mut CellList,
+        at: &At,
+        e: &Expr,
+        more: u8,
+    ) -> Result<u32, AllocError>
+        requires functions { Compilers (names_of self.now) self.now.depth (F.pre self.now.compile_body) (F.post self.now.compile_body) }
+        requires expression { IsSoundExp (names_of self.now) (exp_of e.now) }
+        requires narrow { (w.form (names_of self.now) (exp_of e.now)).width + more ≤ 128 }
+        requires fits { Fits (names_of self.now) (list_of cells.old) (env_of at.now) }
+        ensures grows { Grows (list_of cells.old) (list_of cells.new) }
+        ensures gives { IfOk result (λ r. (files : List File) → Holds (names_of self.now) (first_count (body_of self.now) more (exp_of e.now))
+            (env_of at.now) (list_of cells.old) (list_of cells.new) r ((w.form (names_of self.now) (exp_of e.now)).width + more)
+            (λ x. v.value (scope_of self.now files) x (exp_of e.now) (w.form (names_of self.now) (exp_of e.now)))) }
+    {
+        match &e.node {
+            ExprNode::Cast(_, a) => self.wide_in(alloc, cells, at, a, more),
+            _ => self.extended_in(alloc, cells, at, e, more),
+        }
+    }
+
+    /// Compiles the parts of a concatenation side by side, behind so many bits more that are 0.
     #[cycle(expression)]
     #[tactic(auto, using(crate::proofs::Walking::walking))]
     fn parts_in(
@@ -276,20 +370,21 @@ impl<F: Fn(&mut CellList, &mut At, u32) -> Result<(), AllocError>> Context<'_, F
         cells: &mut CellList,
         at: &At,
         parts: &[Expr],
+        more: u8,
     ) -> Result<u32, AllocError>
         requires functions { Compilers (names_of self.now) self.now.depth (F.pre self.now.compile_body) (F.post self.now.compile_body) }
         requires sound { AreSound (names_of self.now) (exps_of parts.now) }
         requires some { 1 ≤ w.total_width (names_of self.now) (exps_of parts.now) }
-        requires narrow { w.total_width (names_of self.now) (exps_of parts.now) ≤ 128 }
+        requires narrow { w.total_width (names_of self.now) (exps_of parts.now) + more ≤ 128 }
         requires fits { Fits (names_of self.now) (list_of cells.old) (env_of at.now) }
         ensures grows { Grows (list_of cells.old) (list_of cells.new) }
-        ensures gives { IfOk result (λ r. (files : List File) → Holds (names_of self.now) (exps_count (body_of self.now) (exps_of parts.now))
-            (env_of at.now) (list_of cells.old) (list_of cells.new) r (w.total_width (names_of self.now) (exps_of parts.now))
+        ensures gives { IfOk result (λ r. (files : List File) → Holds (names_of self.now) (all_count (body_of self.now) more (exps_of parts.now))
+            (env_of at.now) (list_of cells.old) (list_of cells.new) r (w.total_width (names_of self.now) (exps_of parts.now) + more)
             (λ x. v.side_by_side (scope_of self.now files) x (exps_of parts.now))) }
     {
         let mut all = None;
         for part in parts {
-            let next = self.own_in(alloc, cells, at, part)?;
+            let next = self.wide_in(alloc, cells, at, part, bits_before(all, more))?;
             let slot = joined(alloc, cells, all, next)?;
             all = Some(slot);
         }
@@ -317,10 +412,10 @@ impl<F: Fn(&mut CellList, &mut At, u32) -> Result<(), AllocError>> Context<'_, F
         requires context { IsWidth c.width }
         requires fits { Fits (names_of self.now) (list_of cells.old) (env_of at.now) }
         ensures grows { Grows (list_of cells.old) (list_of cells.new) }
-        ensures gives { IfOk result (λ r. (files : List File) → Compiles (names_of self.now) (scope_of self.now files) (exp_count (body_of self.now) (y.Cat (exps_of parts.now)))
+        ensures gives { IfOk result (λ r. (files : List File) → Compiles (names_of self.now) (scope_of self.now files) (in_count (names_of self.now) (body_of self.now) c.width (y.Cat (exps_of parts.now)))
             (y.Cat (exps_of parts.now)) c (env_of at.now) (list_of cells.old) (list_of cells.new) r) }
     {
-        let all = self.parts_in(alloc, cells, at, parts)?;
+        let all = self.parts_in(alloc, cells, at, parts, 0)?;
         read(alloc, cells, all, false, c.width as u8)
     }
 
@@ -343,11 +438,16 @@ impl<F: Fn(&mut CellList, &mut At, u32) -> Result<(), AllocError>> Context<'_, F
         requires context { IsWidth c.width }
         requires fits { Fits (names_of self.now) (list_of cells.old) (env_of at.now) }
         ensures grows { Grows (list_of cells.old) (list_of cells.new) }
-        ensures gives { IfOk result (λ r. (files : List File) → Compiles (names_of self.now) (scope_of self.now files) (exp_count (body_of self.now) (y.Rep count (exps_of parts.now)))
+        ensures gives { IfOk result (λ r. (files : List File) → Compiles (names_of self.now) (scope_of self.now files) (in_count (names_of self.now) (body_of self.now) c.width (y.Rep count (exps_of parts.now)))
             (y.Rep count (exps_of parts.now)) c (env_of at.now) (list_of cells.old) (list_of cells.new) r) }
     {
-        let all = self.parts_in(alloc, cells, at, parts)?;
-        repeat(alloc, cells, count, all, false, c.width as u8)
+        let own = parts_width(&self.room, parts);
+        if count <= 2 || own == 1 {
+            let all = self.parts_in(alloc, cells, at, parts, 0)?;
+            return repeat(alloc, cells, count, all, false, c.width as u8);
+        }
+        let all = self.parts_in(alloc, cells, at, parts, c.width as u8 - own)?;
+        multiply(alloc, cells, count, own, all)
     }
 
     /// Compiles a cast in a context: either sign gives the same bits (clause 5.5).
@@ -366,7 +466,7 @@ impl<F: Fn(&mut CellList, &mut At, u32) -> Result<(), AllocError>> Context<'_, F
         requires context { IsWidth c.width }
         requires fits { Fits (names_of self.now) (list_of cells.old) (env_of at.now) }
         ensures grows { Grows (list_of cells.old) (list_of cells.new) }
-        ensures gives { IfOk result (λ r. (files : List File) (signed : Bool) → Compiles (names_of self.now) (scope_of self.now files) (exp_count (body_of self.now) (y.Cast signed (exp_of a.now)))
+        ensures gives { IfOk result (λ r. (files : List File) (signed : Bool) → Compiles (names_of self.now) (scope_of self.now files) (in_count (names_of self.now) (body_of self.now) c.width (y.Cast signed (exp_of a.now)))
             (y.Cast signed (exp_of a.now)) c (env_of at.now) (list_of cells.old) (list_of cells.new) r) }
     {
         let a = self.own_in(alloc, cells, at, a)?;
@@ -458,7 +558,7 @@ impl<F: Fn(&mut CellList, &mut At, u32) -> Result<(), AllocError>> Context<'_, F
         requires context { IsWidth c.width }
         requires fits { Fits (names_of self.now) (list_of cells.old) (env_of at.now) }
         ensures grows { Grows (list_of cells.old) (list_of cells.new) }
-        ensures gives { IfOk result (λ r. (files : List File) → Compiles (names_of self.now) (scope_of self.now files) (exp_count (body_of self.now) (y.Call function (exps_of arguments.now)))
+        ensures gives { IfOk result (λ r. (files : List File) → Compiles (names_of self.now) (scope_of self.now files) (in_count (names_of self.now) (body_of self.now) c.width (y.Call function (exps_of arguments.now)))
             (y.Call function (exps_of arguments.now)) c (env_of at.now) (list_of cells.old) (list_of cells.new) r) }
     {
         if self.depth == 0 {
@@ -495,7 +595,7 @@ impl<F: Fn(&mut CellList, &mut At, u32) -> Result<(), AllocError>> Context<'_, F
         requires narrow { c.width ≤ 128 }
         requires fits { Fits (names_of self.now) (list_of cells.old) (env_of at.now) }
         ensures grows { Grows (list_of cells.old) (list_of cells.new) }
-        ensures gives { IfOk result (λ r. (files : List File) → Compiles (names_of self.now) (scope_of self.now files) (exp_count (body_of self.now) (exp_of e.now))
+        ensures gives { IfOk result (λ r. (files : List File) → Compiles (names_of self.now) (scope_of self.now files) (in_count (names_of self.now) (body_of self.now) c.width (exp_of e.now))
             (exp_of e.now) c (env_of at.now) (list_of cells.old) (list_of cells.new) r) }
     {
         match &e.node {

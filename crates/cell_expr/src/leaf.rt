@@ -1,6 +1,6 @@
 //! Names and words as cells (IEEE 1364-2005, clause 5.2).
 
-ghost use Rattle.std.specs.Prelude.{◌≡◌, ◌≤◌, ◌%◌, ◌^◌, ◌-ℤ◌, IfOk};
+ghost use Rattle.std.specs.Prelude.{◌≡◌, ◌+◌, ◌≤◌, ◌%◌, ◌^◌, ◌-ℤ◌, IfOk};
 ghost use Rattle.vl_base.specs.Value.{resized, reading};
 ghost use Rattle.vl_design.specs.Sound.{IsMemory, IsSignal, IsWidth};
 ghost use Rattle.vl_design.specs.Trees.{lower_of};
@@ -9,6 +9,7 @@ ghost use Rattle.vl_eval.specs.Rooms as rooms;
 ghost use Rattle.cell_form.specs.Views.{list_of};
 ghost use Rattle.cell_steps.specs.Slots.{held, width_at, IsIn, Grows, Gives, Nothing};
 ghost use Rattle.cell_paths.specs.Envs.{env_of, entry, held_or, Fits, IsThere};
+ghost use Rattle.cell_nodes.specs.Counts.{resizes};
 ghost use Rattle.cell_expr.specs.Words.{word_read, lowest_in};
 
 use crate::context::entry_of;
@@ -67,7 +68,7 @@ pub fn read_word(
     requires address { IsIn (list_of cells.old) address }
     requires width { IsWidth c.width }
     ensures grows { Grows (list_of cells.old) (list_of cells.new) }
-    ensures gives { IfOk result (λ r. Gives (λ s. IsThere s (entry (env_of at.now) memory)) 2 (list_of cells.old) (list_of cells.new) r c.width
+    ensures gives { IfOk result (λ r. Gives (λ s. IsThere s (entry (env_of at.now) memory)) (1 + resizes (w.signal_form (rooms.names_of room.now).rows memory).width c.width) (list_of cells.old) (list_of cells.new) r c.width
         (λ b. resized c.signed (w.signal_form (rooms.names_of room.now).rows memory).width c.width
         (word_read b (entry (env_of at.now) memory) (reading signed (width_at (list_of cells.old) address) (held b (list_of cells.old) address) -ℤ lowest_in (rooms.names_of room.now).rows memory) % 2 ^ (w.signal_form (rooms.names_of room.now).rows memory).width))) }
 {

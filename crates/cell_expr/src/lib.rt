@@ -8,6 +8,7 @@ mod case;
 pub mod compile;
 mod context;
 mod expression;
+pub mod laws;
 mod leaf;
 mod spot;
 mod statement;

@@ -1,6 +1,6 @@
 //! The spots that assignments write (IEEE 1364-2005, clauses 9.2 and 5.1.14).
 
-ghost use Rattle.std.specs.Prelude.{◌≡◌, ◌≤◌, ◌<◌, ℕ, ◌*◌, ◌%◌, ◌/◌, ◌^◌, ◌++◌, [], ◌∷◌, length, map, All, IfOk, OnOk};
+ghost use Rattle.std.specs.Prelude.{◌≡◌, ◌≤◌, ◌<◌, ℕ, ◌-◌, ◌*◌, ◌%◌, ◌/◌, ◌^◌, ◌++◌, [], ◌∷◌, true, false, length, map, All, IfOk, OnOk};
 ghost use Rattle.vl_design.specs.Sound.{IsSoundTarget, IsWidth};
 ghost use Rattle.vl_design.specs.Targets as targets;
 ghost use Rattle.vl_eval.specs.Rooms as rooms;
@@ -117,7 +117,7 @@ pub fn assign_all(
     requires narrow { width_at (list_of cells.old) value ≤ 128 }
     requires off { IsSlot (list_of cells.old) off 1 }
     ensures grows { Grows (list_of cells.old) (list_of cells.new) }
-    ensures updates { OnOk result (Updates (rooms.names_of room.now) (sp.cells_of spots.now)
+    ensures updates { OnOk result (Updates (rooms.names_of room.now) (sp.cells_of false spots.now)
         (λ b. targets.updates_at (map (sp.spot_in (rooms.names_of room.now).rows b (list_of cells.old)) spots.now) (held b (list_of cells.old) value))
         off (env_of at.old) (env_of at.new) (list_of cells.old) (list_of cells.new)) }
 {
@@ -150,7 +150,7 @@ fn delay_one(
     requires part { IsSlot (list_of cells.old) part spot.width }
     requires off { IsSlot (list_of cells.old) off 1 }
     ensures grows { Grows (list_of cells.old) (list_of cells.new) }
-    ensures delays { OnOk result (Delays (rooms.names_of room.now) (sp.later_cells spot.word)
+    ensures delays { OnOk result (Delays (rooms.names_of room.now) (sp.spot_cells true spot - 1)
         (λ b. sp.update_of (rooms.names_of room.now).rows b (list_of cells.old) spot part ∷ [])
         off (slots_of pending.old) (slots_of pending.new) (list_of cells.old) (list_of cells.new)) }
     ensures sites { OnOk result (memories_of pending.new.sites.items ≡ memories_of pending.old.sites.items ++ sp.memory_at spot.signal spot.word) }
@@ -207,7 +207,7 @@ pub fn delay_all(
     requires narrow { width_at (list_of cells.old) value ≤ 128 }
     requires off { IsSlot (list_of cells.old) off 1 }
     ensures grows { Grows (list_of cells.old) (list_of cells.new) }
-    ensures delays { OnOk result (Delays (rooms.names_of room.now) (2 * sp.cells_of spots.now)
+    ensures delays { OnOk result (Delays (rooms.names_of room.now) (sp.cells_of true spots.now)
         (λ b. targets.updates_at (map (sp.spot_in (rooms.names_of room.now).rows b (list_of cells.old)) spots.now) (held b (list_of cells.old) value))
         off (slots_of pending.old) (slots_of pending.new) (list_of cells.old) (list_of cells.new)) }
     ensures sites { OnOk result (memories_of pending.new.sites.items ≡ memories_of pending.old.sites.items ++ sp.stored_by spots.now) }

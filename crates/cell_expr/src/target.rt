@@ -13,7 +13,7 @@ ghost use Rattle.cell_steps.specs.Slots.{Grows};
 ghost use Rattle.cell_paths.specs.Envs.{env_of, Fits};
 ghost use Rattle.cell_paths.specs.declared.place.Place.TheVariants as place;
 ghost use Rattle.cell_expr.specs.Contexts.{names_of, scope_of, body_of};
-ghost use Rattle.cell_expr.specs.Counts.{exp_count, indices_count, all_indices_count, parts_count, all_parts_count};
+ghost use Rattle.cell_expr.specs.Counts.{own_count, indices_count, all_indices_count, parts_count, all_parts_count};
 ghost use Rattle.cell_expr.specs.Callers.{Compilers};
 ghost use Rattle.cell_expr.specs.Spots.{Based, Spotted};
 ghost use Rattle.cell_expr.specs.Stored.{target_stored, targets_stored};
@@ -133,7 +133,7 @@ impl<F: Fn(&mut CellList, &mut At, u32) -> Result<(), AllocError>> Context<'_, F
         requires fits { Fits (names_of self.now) (list_of cells.old) (env_of at.now) }
         ensures grows { Grows (list_of cells.old) (list_of cells.new) }
         ensures spotted { OnOk result ((files : List File) → Spotted (names_of self.now) (indices_count (body_of self.now) (target_of base.now)) (env_of at.now) (list_of cells.old) (list_of cells.new)
-            spots.old.items spots.new.items width (parts_count (target_of base.now)) (target_stored (target_of base.now)) (λ x. targets.spots (scope_of self.now files) x (y.SliceAt (target_of base.now) low width))) }
+            spots.old.items spots.new.items width (parts_count (y.SliceAt (target_of base.now) low width)) (target_stored (target_of base.now)) (λ x. targets.spots (scope_of self.now files) x (y.SliceAt (target_of base.now) low width))) }
     {
         let base = self.base_in(alloc, cells, at, base)?;
         add_spot(spots, base, bit_at(low), width)
@@ -157,8 +157,8 @@ impl<F: Fn(&mut CellList, &mut At, u32) -> Result<(), AllocError>> Context<'_, F
         requires apart { target_writes (λ k. nat_lt k at.now.first) (y.PickAt (target_of base.now) (exp_of index.now) from width) ≡ false }
         requires fits { Fits (names_of self.now) (list_of cells.old) (env_of at.now) }
         ensures grows { Grows (list_of cells.old) (list_of cells.new) }
-        ensures spotted { OnOk result ((files : List File) → Spotted (names_of self.now) (indices_count (body_of self.now) (target_of base.now) + exp_count (body_of self.now) (exp_of index.now)) (env_of at.now) (list_of cells.old) (list_of cells.new)
-            spots.old.items spots.new.items width (parts_count (target_of base.now)) (target_stored (target_of base.now)) (λ x. targets.spots (scope_of self.now files) x (y.PickAt (target_of base.now) (exp_of index.now) from width))) }
+        ensures spotted { OnOk result ((files : List File) → Spotted (names_of self.now) (indices_count (body_of self.now) (target_of base.now) + own_count (body_of self.now) (exp_of index.now)) (env_of at.now) (list_of cells.old) (list_of cells.new)
+            spots.old.items spots.new.items width (parts_count (y.PickAt (target_of base.now) (exp_of index.now) from width)) (target_stored (target_of base.now)) (λ x. targets.spots (scope_of self.now files) x (y.PickAt (target_of base.now) (exp_of index.now) from width))) }
     {
         let base = self.base_in(alloc, cells, at, base)?;
         let signed = form_of(&self.room, index).signed;

@@ -160,7 +160,7 @@ module _ (names : Names) (p : PendingSlots) (m w : ℕ) (x : Site) (l0 l3 : List
   }
 
 -- a part that is placed in a word of zeros
-word-of : (b : BankData) (s : Shape) (w here part r : ℕ) (low : Low) (z : ℤ) (width value : ℕ) (l1 l2 l3 : ListData) → Gives Nothing 4 l1 l2 r w (λ x. written_in x l1 w None low part here) → Grows l2 l3 → AreSound s l1 →
+word-of : (b : BankData) (s : Shape) (w here part r : ℕ) (low : Low) (z : ℤ) (width value : ℕ) (l1 l2 l3 : ListData) → Gives Nothing 3 l1 l2 r w (λ x. written_in x l1 w None low part here) → Grows l2 l3 → AreSound s l1 →
     held b l1 here ≡ 0 → low_in b l1 low ≡ z → width_at l1 part ≡ width → held b l1 part ≡ value → held b l3 r ≡ placed w 0 z width value
 word-of b s w here part r low z width value l1 l2 l3 gives g sound zeroth el ew ep =
     held-stays b l2 l3 r g gives.there ∙ gives.value s b sound
@@ -170,13 +170,13 @@ word-of b s w here part r low z width value l1 l2 l3 gives g sound zeroth el ew 
 -- an update of a part of a word, whose site gets the part and ones in words of zeros
 pub delays-word : (names : Names) (p : PendingSlots) (m w here enable word : ℕ) (low : Low) (part set rv rm : ℕ) (l0 l1 l2 l3 : ListData) → IsStorable names l0 p m w → IsLow l0 low → IsIn l0 part → IsIn l0 here → Always l0 here 0 →
     IsSlot l0 enable 1 → IsSlot l0 word 32 → Gives Nothing 1 l0 l1 set (width_at l0 part) (λ b. 2 ^ width_at l0 part - 1) →
-    Gives Nothing 4 l1 l2 rv w (λ b. written_in b l1 w None low part here) → Gives Nothing 4 l2 l3 rm w (λ b. written_in b l2 w None low set here) →
-    Delays names 9 (λ b. stored_in b l0 m enable word low part) here p (with_site p (record { memory = m; enable = enable; word = word; value = rv; mask = rm })) l0 l3
+    Gives Nothing 3 l1 l2 rv w (λ b. written_in b l1 w None low part here) → Gives Nothing 3 l2 l3 rm w (λ b. written_in b l2 w None low set here) →
+    Delays names 7 (λ b. stored_in b l0 m enable word low part) here p (with_site p (record { memory = m; enable = enable; word = word; value = rv; mask = rm })) l0 l3
 delays-word names p m w here enable word low part set rv rm l0 l1 l2 l3 can hl hp hh zeroth ke kw gs gu gm =
     let x : Site = record { memory = m; enable = enable; word = word; value = rv; mask = rm } in
     let g01 = longer-grows Nothing 1 l0 l1 gs.longer in
-    let g12 = longer-grows Nothing 4 l1 l2 gu.longer in
-    let g23 = longer-grows Nothing 4 l2 l3 gm.longer in
+    let g12 = longer-grows Nothing 3 l1 l2 gu.longer in
+    let g23 = longer-grows Nothing 3 l2 l3 gm.longer in
     let g02 = grows-then l0 l1 l2 g01 g12 in
     let g03 = grows-then l0 l2 l3 g02 g23 in
     let slot-v : IsSlot l3 rv w = is-slot-stays l2 l3 rv w g23 (record { there = gu.there; width = gu.width }) in
@@ -189,7 +189,7 @@ delays-word names p m w here enable word low part set rv rm l0 l1 l2 l3 can hl h
       mask = record { there = slot-m.there; width = slot-m.width ∙ sym can.width };
     } in
     record {
-      longer = longer-then Nothing 5 4 l0 l2 l3 (longer-then Nothing 1 4 l0 l1 l2 gs.longer gu.longer) gm.longer;
+      longer = longer-then Nothing 4 3 l0 l2 l3 (longer-then Nothing 1 3 l0 l1 l2 gs.longer gu.longer) gm.longer;
       pending = pending-site names p m w x l0 l3 g03 can refl site;
       many = refl;
       later = λ s b later sound pends.

@@ -9,7 +9,7 @@ use Rattle.cell_form.specs.Data.{ListData, BankData}
 use Rattle.cell_form.specs.Sound.{Shape}
 use Rattle.cell_steps.specs.Slots.{held, width_at, AreSound, Longer, Nothing}
 use Rattle.cell_paths.specs.Envs.{Env, HasOneWord, Stands}
-use Rattle.cell_paths.specs.Paths.{on, Low, low_in}
+use Rattle.cell_paths.specs.Paths.{on, Low, Constant, By, low_in}
 use Rattle.cell_paths.specs.Cases.{Went}
 use Rattle.cell_later.specs.Pendings.{PendingSlots, ArePending, Pends}
 
@@ -31,6 +31,11 @@ pub record Delays (names : Names) (n : ℕ) (us : BankData → List Update) (off
   pub pending : ArePending names new p'
   pub many : length p'.update ≡ length p.update
   pub later : (s : Shape) (b : BankData) (later : List Update) → AreSound s old → Pends names b old p later → Pends names b new p' (with_later (held b old off) later (us b))
+
+-- how many cells make an update from a bit on pending: an index that names it has more
+abbrev pub delay_count : Low → ℕ
+delay_count (Constant low) = 4
+delay_count (By index signed from) = 6
 
 -- a memory of words of so many bits
 pub record IsStorable (names : Names) (l : ListData) (p : PendingSlots) (memory wide : ℕ) : Type 0 where

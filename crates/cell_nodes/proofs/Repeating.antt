@@ -1,16 +1,18 @@
 -- Copies side by side.
 use Rattle.std.proofs.Common.{◌≡◌, ℕ, zero, suc, ◌+◌, ◌*◌, ◌-◌, ◌^◌, ◌%◌, ◌<◌, ◌≤◌, refl, sym, ap, ◌∙◌, arith, subst}
-use Rattle.std.specs.Prelude.{true, false}
+use Rattle.std.specs.Prelude.{true, false, nat_le}
 use Rattle.std.proofs.Math.Pow.{pow_pos, pow_mono}
 use Rattle.std.proofs.Math.Nat.{mod-eq_of_lt, mul_assoc, mul-add, add-mul, mul-one}
 use Rattle.std.proofs.lemmas.Nat.{mul-mod, pow-add}
 use Rattle.vl_base.specs.Value.{resized}
 use Rattle.vl_base.proofs.Parts.{joined-below}
 use Rattle.vl_design.specs.Value.{repeated}
+use Rattle.vl_base.specs.Selects.{appended}
 use Rattle.cell_form.specs.Data.{ListData, BankData}
-use Rattle.cell_steps.specs.Slots.{held, width_at, IsIn, Gives, Nothing}
-use Rattle.cell_steps.proofs.Frames.{met-nothing, held-fits, longer-same, longer-then, longer-held, longer-width, gives-held, gives-weaken, gives-as, gives-behind}
-use Rattle.cell_nodes.specs.Counts.{resizes}
+use Rattle.cell_form.specs.Sound.{Shape}
+use Rattle.cell_steps.specs.Slots.{held, width_at, IsIn, AreSound, Gives, Nothing}
+use Rattle.cell_steps.proofs.Frames.{met-nothing, held-fits, held-stays, width-stays, longer-grows, longer-same, gives-held, gives-weaken, gives-as, gives-behind}
+use Rattle.cell_nodes.specs.Counts.{resizes, copied}
 
 -- ---- numbers
 
@@ -82,50 +84,81 @@ bit-copies n (suc (suc v)) h = absurd (omega arith)
 
 -- ---- cells
 
-pub one-copy : (l : ListData) (count part : ℕ) → IsIn l part → count ≡ 1 → Gives Nothing 3 l l part (count * width_at l part) (λ b. repeated count (width_at l part) (held b l part))
+pub one-copy : (l : ListData) (count part : ℕ) → IsIn l part → count ≡ 1 → Gives Nothing (copied count) l l part (count * width_at l part) (λ b. repeated count (width_at l part) (held b l part))
 one-copy l count part there e =
-    let F : ℕ → Type 0 = λ n. Gives Nothing 3 l l part (n * width_at l part) (λ b. repeated n (width_at l part) (held b l part)) in
+    let F : ℕ → Type 0 = λ n. Gives Nothing (copied n) l l part (n * width_at l part) (λ b. repeated n (width_at l part) (held b l part)) in
     subst F (sym e)
-    (gives-as Nothing 3 l l part (width_at l part) (1 * width_at l part) (λ b. held b l part) (λ b. repeated 1 (width_at l part) (held b l part)) (omega arith) (λ s b sound. omega arith)
-    (gives-weaken Nothing Nothing 0 3 l l part (width_at l part) (λ b. held b l part) (λ s has. has) (omega arith) (gives-held Nothing 0 l l part (longer-same Nothing l) there)))
+    (gives-as Nothing 0 l l part (width_at l part) (1 * width_at l part) (λ b. held b l part) (λ b. repeated 1 (width_at l part) (held b l part)) (omega arith) (λ s b sound. omega arith)
+    (gives-held Nothing 0 l l part (longer-same Nothing l) there))
 
 few-resizes : (own width : ℕ) → resizes own width ≤ 1
 few-resizes own width = grind arith
 
-pub copied-bit : (old new : ListData) (r count part : ℕ) → IsIn old part → width_at old part ≡ 1 →
+several-copied : (n : ℕ) → (n ≡ 1 → ⊥) → 1 ≤ n → copied n ≡ 1
+several-copied zero h k = absurd (omega arith)
+several-copied (suc zero) h k = absurd (h refl)
+several-copied (suc (suc n)) h k = let q : nat_le (suc (suc n)) 1 ≡ false = grind arith in rw q refl
+
+pub some-copies : (n w : ℕ) → 1 ≤ n * w → 1 ≤ n
+some-copies zero w h = absurd (omega arith)
+some-copies (suc n) w h = omega arith
+
+pub two-copies : (n w : ℕ) → (n ≡ 1 → ⊥) → 1 ≤ n * w → (3 ≤ n → w ≡ 1) → (w ≡ 1 → ⊥) → n ≡ 2
+two-copies zero w h k l m = absurd (omega arith)
+two-copies (suc zero) w h k l m = absurd (h refl)
+two-copies (suc (suc zero)) w h k l m = refl
+two-copies (suc (suc (suc n))) w h k l m = absurd (m (l (omega arith)))
+
+pub copied-bit : (old new : ListData) (r count part : ℕ) → IsIn old part → width_at old part ≡ 1 → (count ≡ 1 → ⊥) → 1 ≤ count →
     Gives Nothing (resizes (width_at old part) count) old new r count (λ b. resized true (width_at old part) count (held b old part)) →
-    Gives Nothing 3 old new r (count * width_at old part) (λ b. repeated count (width_at old part) (held b old part))
-copied-bit old new r count part there e g =
+    Gives Nothing (copied count) old new r (count * width_at old part) (λ b. repeated count (width_at old part) (held b old part))
+copied-bit old new r count part there e several some g =
     let few = few-resizes (width_at old part) count in
-    gives-as Nothing 3 old new r count (count * width_at old part) (λ b. resized true (width_at old part) count (held b old part)) (λ b. repeated count (width_at old part) (held b old part))
+    let one = several-copied count several some in
+    gives-as Nothing (copied count) old new r count (count * width_at old part) (λ b. resized true (width_at old part) count (held b old part)) (λ b. repeated count (width_at old part) (held b old part))
     (sym (mul-one count) ∙ ap (λ w. count * w) (sym e))
     (λ s b sound.
     let fits = held-fits s b old part sound there in
     let F : ℕ → Type 0 = λ w. held b old part < 2 ^ w in
     ap (λ w. resized true w count (held b old part)) e ∙ bit-copies count (held b old part) (subst F e fits) ∙ ap (λ w. repeated count w (held b old part)) (sym e))
-    (gives-weaken Nothing Nothing (resizes (width_at old part) count) 3 old new r count (λ b. resized true (width_at old part) count (held b old part)) (λ s has. has) (omega arith) g)
+    (gives-weaken Nothing Nothing (resizes (width_at old part) count) (copied count) old new r count (λ b. resized true (width_at old part) count (held b old part)) (λ s has. has) (omega arith) g)
 
-product-of : (m v n w : ℕ) → v < 2 ^ w → m ≡ n * w → (v % 2 ^ m) * (repeated n w 1 % 2 ^ m) % 2 ^ m ≡ repeated n w v
-product-of m v n w h e =
-    let F : ℕ → Type 0 = λ k. repeated n w v < 2 ^ k in
-    sym (mul-mod v (repeated n w 1) (2 ^ m)) ∙ ap (λ x. x % 2 ^ m) (sym (repeated-product n w v)) ∙ mod-eq_of_lt (subst F (sym e) (repeated-below n w v h))
+-- two copies
+pub copied-twice : (old new : ListData) (r count part : ℕ) → count ≡ 2 → Gives Nothing 1 old new r (width_at old part + width_at old part) (λ b. appended (held b old part) (width_at old part) (held b old part)) →
+    Gives Nothing (copied count) old new r (count * width_at old part) (λ b. repeated count (width_at old part) (held b old part))
+copied-twice old new r count part e g =
+    let F : ℕ → Type 0 = λ n. Gives Nothing (copied n) old new r (n * width_at old part) (λ b. repeated n (width_at old part) (held b old part)) in
+    subst F (sym e)
+    (gives-as Nothing 1 old new r (width_at old part + width_at old part) (2 * width_at old part) (λ b. appended (held b old part) (width_at old part) (held b old part)) (λ b. repeated 2 (width_at old part) (held b old part))
+    (omega arith) (λ s b sound. omega arith) g)
 
-pub copied : (a b c d : ListData) (count part all ones i j r : ℕ) → IsIn a part → all ≡ count * width_at a part → ones ≡ repeated count (width_at a part) 1 →
-    Gives Nothing (resizes (width_at a part) all) a b i all (λ x. resized false (width_at a part) all (held x a part)) →
-    Gives Nothing 1 b c j all (λ x. ones % 2 ^ all) →
-    Gives Nothing 1 c d r (width_at c i) (λ x. held x c i * held x c j % 2 ^ width_at c i) →
-    Gives Nothing 3 a d r all (λ x. repeated count (width_at a part) (held x a part))
-copied a b c d count part all ones i j r there e is g h k =
-    let n = resizes (width_at a part) all in
-    let few = few-resizes (width_at a part) all in
-    let f : BankData → ℕ = λ x. held x c i * held x c j % 2 ^ width_at c i in
-    let same : width_at c i ≡ all = longer-width Nothing 1 b c i h.longer g.there ∙ g.width in
-    gives-as Nothing 3 a d r (width_at c i) all f (λ x. repeated count (width_at a part) (held x a part)) same
+-- a factor that is cut to the width of a product
+cut-factor : (m v n w : ℕ) → 1 ≤ w → n * w ≤ m → v * (repeated n w 1 % 2 ^ m) % 2 ^ m ≡ v * repeated n w 1 % 2 ^ m
+cut-factor m v n w wide le =
+    let up : 2 ^ (n * w) ≤ 2 ^ m = pow_mono {i = n * w} {j = m} le in
+    let ones : repeated n w 1 < 2 ^ (n * w) = repeated-below n w 1 (one-below w wide) in
+    ap (λ z. v * z % 2 ^ m) (mod-eq_of_lt (omega (arith, up, ones)))
+
+-- the product of what has w bits
+pub product-wide : (m v n w : ℕ) → v < 2 ^ w → n * w ≤ m → v * repeated n w 1 % 2 ^ m ≡ repeated n w v
+product-wide m v n w h le =
+    let up : 2 ^ (n * w) ≤ 2 ^ m = pow_mono {i = n * w} {j = m} le in
+    let all : repeated n w v < 2 ^ (n * w) = repeated-below n w v h in
+    ap (λ z. z % 2 ^ m) (sym (repeated-product n w v)) ∙ mod-eq_of_lt (omega (arith, up, all))
+
+pub multiplied : (b c d : ListData) (count own part ones j r : ℕ) → IsIn b part → ones ≡ repeated count own 1 → 1 ≤ own → count * own ≤ width_at b part →
+    Gives Nothing 1 b c j (width_at b part) (λ x. ones % 2 ^ width_at b part) →
+    Gives Nothing 1 c d r (width_at c part) (λ x. held x c part * held x c j % 2 ^ width_at c part) →
+    Gives Nothing 2 b d r (width_at b part) (λ x. held x b part * repeated count own 1 % 2 ^ width_at b part)
+multiplied b c d count own part ones j r there is wide fits h k =
+    let f : BankData → ℕ = λ x. held x c part * held x c j % 2 ^ width_at c part in
+    let g = longer-grows Nothing 1 b c h.longer in
+    let same : width_at c part ≡ width_at b part = width-stays b c part g there in
+    gives-as Nothing 2 b d r (width_at c part) (width_at b part) f (λ x. held x b part * repeated count own 1 % 2 ^ width_at b part) same
     (λ s x sound.
-    let v = held x a part in
-    let first : held x c i ≡ v % 2 ^ all = longer-held Nothing 1 x b c i h.longer g.there ∙ g.value s x sound in
-    let second : held x c j ≡ repeated count (width_at a part) 1 % 2 ^ all = h.value s x (g.longer.sound s tt sound) ∙ ap (λ y. y % 2 ^ all) is in
-    ap (λ w. held x c i * held x c j % 2 ^ w) same ∙ ap (λ y. y * held x c j % 2 ^ all) first ∙ ap (λ y. (v % 2 ^ all) * y % 2 ^ all) second
-    ∙ product-of all v count (width_at a part) (held-fits s x a part sound there) e)
-    (gives-weaken Nothing Nothing (n + 1 + 1) 3 a d r (width_at c i) f (λ s has. has) (omega arith)
-    (gives-behind Nothing (n + 1) 1 a c d r (width_at c i) f met-nothing (longer-then Nothing n 1 a b c g.longer h.longer) k))
+    let w = width_at b part in
+    let first : held x c part ≡ held x b part = held-stays x b c part g there in
+    let second : held x c j ≡ repeated count own 1 % 2 ^ w = h.value s x sound ∙ ap (λ y. y % 2 ^ w) is in
+    ap (λ z. held x c part * held x c j % 2 ^ z) same ∙ ap (λ y. y * held x c j % 2 ^ w) first ∙ ap (λ y. held x b part * y % 2 ^ w) second
+    ∙ cut-factor w (held x b part) count own wide fits)
+    (gives-behind Nothing 1 1 b c d r (width_at c part) f met-nothing h.longer k)

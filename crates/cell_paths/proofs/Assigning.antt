@@ -227,7 +227,7 @@ assigns-with names n k w low part off r at old new writable gives =
 -- ---- the cells of an assignment
 
 -- a part as wide as the value, from bit 0 on
-placed-whole : (w x p : ℕ) → p < 2 ^ w → placed w x (pos 0) w p ≡ p
+pub placed-whole : (w x p : ℕ) → p < 2 ^ w → placed w x (pos 0) w p ≡ p
 placed-whole w x p h =
     let above = x / 2 ^ (0 + w) in
     let m : min 0 w ≡ 0 = omega arith in
@@ -309,13 +309,13 @@ gives-partly wide e low part off before after r l0 l1 l2 l3 kp kl ko gb ga g =
 
 -- a part that is all of the signal
 pub gives-assigned : (wide : ℕ) (e : Option ℕ) (low : Low) (part off r : ℕ) (l0 l1 : ListData) → low ≡ Constant (pos 0) → width_at l0 part ≡ wide → IsIn l0 part →
-    Gives Nothing 2 l0 l1 r wide (λ b. if held b l0 off == 0 then held b l0 part else held_or b l0 e) → Gives Nothing 4 l0 l1 r wide (λ b. written_in b l0 wide e low part off)
+    Gives Nothing 2 l0 l1 r wide (λ b. if held b l0 off == 0 then held b l0 part else held_or b l0 e) → Gives Nothing 3 l0 l1 r wide (λ b. written_in b l0 wide e low part off)
 gives-assigned wide e low part off r l0 l1 el ew k g =
-    gives-as Nothing 4 l0 l1 r wide wide (λ b. if held b l0 off == 0 then held b l0 part else held_or b l0 e) (λ b. written_in b l0 wide e low part off) refl
+    gives-as Nothing 3 l0 l1 r wide wide (λ b. if held b l0 off == 0 then held b l0 part else held_or b l0 e) (λ b. written_in b l0 wide e low part off) refl
     (λ s b sound.
     let x = held_or b l0 e in
     let p = held b l0 part in
     let small : p < 2 ^ wide = subst (λ n. p < 2 ^ n) ew (held-fits s b l0 part sound k) in
     ap (λ z. if held b l0 off == 0 then z else x)
     (sym (placed-whole wide x p small) ∙ same-placed wide wide x x (pos 0) (low_in b l0 low) wide (width_at l0 part) p p refl refl (sym (ap (low_in b l0) el)) (sym ew) refl))
-    (gives-weaken Nothing Nothing 2 4 l0 l1 r wide (λ b. if held b l0 off == 0 then held b l0 part else held_or b l0 e) (λ s h. h) (omega arith) g)
+    (gives-weaken Nothing Nothing 2 3 l0 l1 r wide (λ b. if held b l0 off == 0 then held b l0 part else held_or b l0 e) (λ s h. h) (omega arith) g)

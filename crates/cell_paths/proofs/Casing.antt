@@ -14,7 +14,7 @@ use Rattle.cell_form.specs.Data.{ListData, BankData}
 use Rattle.cell_form.specs.Sound.{Shape}
 use Rattle.cell_steps.specs.Slots.{held, width_at, IsIn, AreSound, Grows, Longer, Gives, Nothing}
 use Rattle.cell_steps.proofs.Frames.{held-fits, held-stays, longer-grows, longer-same, longer-then, longer-weaken, met-nothing, gives-as, gives-behind}
-use Rattle.cell_paths.specs.Differs.{differing}
+use Rattle.cell_paths.specs.Differs.{differing, differing_count}
 use Rattle.cell_paths.specs.Envs.{Env, IsSlot, HasMemories, Fits, Stands}
 use Rattle.cell_paths.specs.Paths.{on, Does}
 use Rattle.cell_paths.specs.Cases.{Compares, Went, Missed, Hit, Away, Tries}
@@ -66,11 +66,12 @@ gives-cared all bits mask r w l0 l1 l2 slot gm ga =
 
 pub gives-differing : (subject label bits all r w : ℕ) (care : Option ℕ) (l0 l1 l2 : ListData) → care ≡ Some bits → w ≡ width_at l0 subject →
     Gives Nothing 1 l0 l1 all (width_at l0 subject) (λ b. bit_xor (held b l0 subject) (held b l0 label)) → Gives Nothing 2 l1 l2 r w (λ b. bit_and (held b l1 all) bits) →
-    Gives Nothing 3 l0 l2 r (width_at l0 subject) (λ b. differing care (held b l0 subject) (held b l0 label))
+    Gives Nothing (differing_count care) l0 l2 r (width_at l0 subject) (λ b. differing care (held b l0 subject) (held b l0 label))
 gives-differing subject label bits all r w care l0 l1 l2 e ew ga gr =
-    gives-as Nothing 3 l0 l2 r w (width_at l0 subject) (λ b. bit_and (held b l1 all) bits) (λ b. differing care (held b l0 subject) (held b l0 label)) ew
+    subst (λ n. Gives Nothing n l0 l2 r (width_at l0 subject) (λ b. differing care (held b l0 subject) (held b l0 label))) (sym (ap differing_count e))
+    (gives-as Nothing 3 l0 l2 r w (width_at l0 subject) (λ b. bit_and (held b l1 all) bits) (λ b. differing care (held b l0 subject) (held b l0 label)) ew
     (λ s b sound. ap (λ v. bit_and v bits) (ga.value s b sound) ∙ ap (λ c. differing c (held b l0 subject) (held b l0 label)) (sym e))
-    (gives-behind Nothing 1 2 l0 l1 l2 r w (λ b. bit_and (held b l1 all) bits) met-nothing ga.longer gr)
+    (gives-behind Nothing 1 2 l0 l1 l2 r w (λ b. bit_and (held b l1 all) bits) met-nothing ga.longer gr))
 
 -- a label that is compiled and compared matches where no bit differs
 pub compares-label : (names : Names) (scope : Scope) (c : Form) (n subject label differs w : ℕ) (care : Option ℕ) (e : Exp) (at : Env) (l0 l1 l2 : ListData) → IsIn l0 subject → Longer (HasMemories names at) n l0 l1 →

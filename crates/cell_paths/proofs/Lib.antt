@@ -3,3 +3,5 @@ pub mod Walking
 pub mod Testing
 pub mod Casing
 pub mod Assigning
+pub mod Placing
+pub mod Below

@@ -65,6 +65,21 @@ update_in b l signal low part = record { signal = signal; word = 0; low = low_in
 abbrev pub written_in : BankData → ListData → ℕ → Option ℕ → Low → ℕ → ℕ → ℕ
 written_in b l w e low part off = if held b l off == 0 then placed w (held_or b l e) (low_in b l low) (width_at l part) (held b l part) else held_or b l e
 
+-- the same of a value of so many bits
+abbrev pub on_path : BankData → ListData → ℕ → ℕ → ℕ → ℤ → ℕ → ℕ → ℕ
+on_path b l off w before low width value = if held b l off == 0 then placed w before low width value else before
+
+-- ---- the index of a path: 0 where it is taken, else beyond each bit
+
+abbrev pub IsAway : ℕ → Type 0
+IsAway n = (n ≡ 0 → ⊥) → 256 ≤ n
+
+-- with at most n cells more, a slot holds it
+pub record Distant (n : ℕ) (old new : ListData) (r off : ℕ) : Type 0 where
+  pub longer : Longer Nothing n old new
+  pub there : IsIn new r
+  pub value : (s : Shape) (b : BankData) → AreSound s old → held b new r ≡ (if held b old off == 0 then 0 else 511)
+
 -- a signal of so many bits that may have an entry
 pub record IsWritable (names : Names) (l : ListData) (at : Env) (signal wide : ℕ) : Type 0 where
   pub one : HasOneWord names.rows

@@ -4,7 +4,7 @@ ghost use Rattle.std.specs.Prelude.{◌≡◌, ◌≤◌, ◌==◌, if◌then◌
 ghost use Rattle.cell_form.specs.Views.{list_of};
 ghost use Rattle.cell_steps.specs.Slots.{held, width_at, IsIn, Grows, Gives, Nothing};
 ghost use Rattle.cell_paths.specs.Envs.{IsSlot, Always};
-ghost use Rattle.cell_paths.specs.Differs.{differing};
+ghost use Rattle.cell_paths.specs.Differs.{differing, differing_count};
 
 use crate::at::At;
 use cell_form::cell::CellList;
@@ -74,7 +74,7 @@ pub fn branches(
     Ok((first, second))
 }
 
-/// In which bits the subject of a case differs from a label of its width: at most three cells. Where a label compares only some
+/// In which bits the subject of a case differs from a label of its width: one cell, or three. Where a label compares only some
 /// bits, as a label of a `casez` with `?`, these are given as a mask (clause 9.5.1).
 pub fn differs(
     alloc: Global,
@@ -89,7 +89,7 @@ pub fn differs(
     requires wide { 1 ≤ width_at (list_of cells.old) subject }
     requires narrow { width_at (list_of cells.old) subject ≤ 128 }
     ensures grows { Grows (list_of cells.old) (list_of cells.new) }
-    ensures gives { IfOk result (λ r. Gives Nothing 3 (list_of cells.old) (list_of cells.new) r (width_at (list_of cells.old) subject)
+    ensures gives { IfOk result (λ r. Gives Nothing (differing_count care) (list_of cells.old) (list_of cells.new) r (width_at (list_of cells.old) subject)
         (λ b. differing care (held b (list_of cells.old) subject) (held b (list_of cells.old) label))) }
 {
     let width = steps::width_of(&*cells, subject);

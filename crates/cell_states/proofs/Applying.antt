@@ -1,16 +1,16 @@
 -- The cells and writes of an update's state.
-use Rattle.std.proofs.Common.{◌≡◌, ◌≢◌, ℕ, ◌+◌, ◌*◌, ◌<◌, ◌≤◌, Bool, List, [], ◌∷◌, ◌++◌, length, length-append, Some, refl, sym, ap, ◌∙◌, arith, subst}
-use Rattle.std.specs.Prelude.{slice_get, slice_index, slice_index_or, All}
+use Rattle.std.proofs.Common.{◌≡◌, ◌≢◌, ℕ, ◌+◌, ◌*◌, ◌<◌, ◌≤◌, true, Bool, List, [], ◌∷◌, ◌++◌, length, length-append, Some, refl, sym, ap, ◌∙◌, arith, subst, inl, inr}
+use Rattle.std.specs.Prelude.{◌⊎◌, slice_get, slice_index, slice_index_or, All}
 use Rattle.std.specs.List.{AllByRecursion}
 use Rattle.std.proofs.lemmas.List.Elements.{recursion_from_All}
 use Rattle.std.proofs.lemmas.Option.{slice_get_within}
 use Rattle.vl_base.specs.declared.files.File.{File}
 use Rattle.vl_design.specs.Queue.{with_updates}
 use Rattle.vl_design.specs.Sound.{IsMem, IsMemory}
-use Rattle.vl_design.specs.State.{State, counted, sample}
+use Rattle.vl_design.specs.State.{State, counted}
 use Rattle.vl_design.specs.Syntax.{Flat}
 use Rattle.vl_design.specs.Value.{words_of}
-use Rattle.vl_design.specs.Width.{names_of}
+use Rattle.vl_design.specs.Width.{names_of, signal_form}
 use Rattle.cell_begin.proofs.Joining.{memory-kept}
 use Rattle.cell_form.proofs.Fitting.{all-push}
 use Rattle.cell_form.specs.Cycle.{written}
@@ -18,26 +18,21 @@ use Rattle.cell_form.specs.Data.{ListData, BankData}
 use Rattle.cell_form.specs.Sound.{Shape, IsWrite, shape_of}
 use Rattle.cell_form.specs.declared.cell.Write.{Write}
 use Rattle.cell_form.specs.declared.cell.Write.TheVariants as w
-use Rattle.cell_later.specs.Pendings.{PendingSlots}
 use Rattle.cell_later.specs.declared.pending.Site.{Site}
-use Rattle.cell_paths.proofs.Staying.{stands-stays}
-use Rattle.cell_paths.specs.Envs.{Env, Stands}
 use Rattle.cell_reads.proofs.Samples.{named}
 use Rattle.cell_steps.proofs.Frames.{held-stays, in-stays, grows-then, longer-grows}
-use Rattle.cell_steps.specs.Slots.{held, IsIn, AreSound, Grows, Gives, Nothing}
-use Rattle.cell_stores.proofs.Listing.{all-from, all-with, each-from}
+use Rattle.cell_steps.specs.Slots.{held, width_at, IsIn, AreSound, Grows, Gives, Nothing}
+use Rattle.cell_stores.proofs.Listing.{all-both, all-from, all-with, each-from}
 use Rattle.cell_stores.proofs.Reading.{read-stays, reads-sites}
 use Rattle.cell_stores.proofs.Updating.{update-memories, update-empty, update-idle, update-others}
 use Rattle.cell_stores.specs.Applying.{apply_writes, IsUpdate, behind_update}
 use Rattle.cell_stores.specs.Applying as words
 use Rattle.cell_stores.specs.Keeping.{each_written, IsLeft}
 use Rattle.cell_stores.specs.Reading.{EachHas, HasStore, IsRead, Reads}
-use Rattle.cell_waves.proofs.Beginning.{settles-stay}
 use Rattle.cell_waves.proofs.Ending.{signal-below}
 use Rattle.cell_waves.proofs.Lasting.{last-here, last-other, register-behind}
 use Rattle.cell_waves.specs.Applies.{Applies, IsUpdated, SameWrites}
-use Rattle.cell_waves.specs.Begins.{Begins, SettlesSignals}
-use Rattle.cell_waves.specs.Copies.{marked_one}
+use Rattle.cell_waves.specs.Copies.{HasSignals, is_written, count_to, marked_one}
 use Rattle.cell_waves.specs.Lasts.{held_after, IsRegister}
 use Rattle.sub_nodes.specs.Cycles.{Stage, settled}
 use Rattle.sub_nodes.specs.Nodes.{Node, Apply}
@@ -53,7 +48,13 @@ use Rattle.ten_stores.specs.declared.store.Store.{Store}
 use Rattle.cell_states.specs.Designs.{ComputesAlone}
 use Rattle.cell_states.specs.Mades.{IsMade}
 use Rattle.cell_states.specs.Marks.{AreDelayed}
+use Rattle.cell_states.specs.Widths.{register_width}
 use Rattle.cell_states.proofs.Alone.{pass-keeps}
+use Rattle.cell_states.proofs.Finishing.{signal-of}
+use Rattle.cell_states.proofs.Narrowing.{one-bit, signal-width, stores-widths, apply-within}
+use Rattle.cell_trim.specs.Widths.{IsWithin as SetsWithin}
+use Rattle.cell_paths.specs.Envs.{IsSlot}
+use Rattle.cell_paths.proofs.Staying.{is-slot-stays}
 
 -- ---- writes
 
@@ -101,20 +102,20 @@ module _ (d : Flat) where
 
   -- ---- an update
 
-  module _ (order : List ℕ) (l0 l1 l2 l3 : ListData) (at : Env) (p : PendingSlots) (marks : List Bool) (to next : ℕ) (sites : List Site) (sets : List Write)
-      (begins : Begins d order (record { first = 0; cells = []; sets = [] }) l0 at p) (memories : AllByRecursion (λ (x : Store). IsMemory (names_of d) x.memory) (stores_in d)) (reads : Reads d.rows (stores_in d) l0 l1 [] sites)
-      (delayed : AreDelayed d marks) (applies : Applies d (marked_one marks) at p l1 l2 [] sets) (gives : Gives Nothing 1 l2 l3 next 32 (λ b. to)) (alone : ComputesAlone d) where
+  module _ (order : List ℕ) (old l0 l1 l2 l3 : ListData) (here : ℕ) (marks : List Bool) (to next : ℕ) (sites : List Site) (sets : List Write)
+      (starts : (z : Shape) → AreSound z old) (zeros : Gives Nothing 1 old l0 here 1 (λ b. 0)) (memories : AllByRecursion (λ (x : Store). IsMemory (names_of d) x.memory) (stores_in d)) (reads : Reads d.rows (stores_in d) l0 l1 [] sites)
+      (delayed : AreDelayed d marks) (applies : Applies d (marked_one marks) here l1 l2 [] sets) (gives : Gives Nothing 1 l2 l3 next 32 (λ b. to)) (alone : ComputesAlone d) where
     abbrev before : List Write
     before = sets ++ w.Reg state_register next ∷ []
 
     abbrev all : List Write
-    all = before ++ each_written (apply_writes at.here) (stores_in d) sites
+    all = before ++ each_written (apply_writes here) (stores_in d) sites
 
     g01 : Grows l0 l1
     g01 = longer-grows (λ z. AllByRecursion (HasStore z) (stores_in d)) (4 * length (stores_in d)) l0 l1 reads.longer
 
     g12 : Grows l1 l2
-    g12 = longer-grows Nothing (6 * length d.rows) l1 l2 applies.longer
+    g12 = longer-grows (HasSignals (length d.rows)) (6 * count_to (marked_one marks) (length d.rows)) l1 l2 applies.longer
 
     g23 : Grows l2 l3
     g23 = longer-grows Nothing 1 l2 l3 gives.longer
@@ -126,13 +127,13 @@ module _ (d : Flat) where
     g03 = grows-then l0 l1 l3 g01 g13
 
     sound0 : (z : Shape) → IsFor d 0 z → AreSound z l0
-    sound0 z h = begins.sound z h tt
+    sound0 z h = zeros.longer.sound z tt (starts z)
 
     sound1 : (z : Shape) → IsFor d 0 z → AreSound z l1
     sound1 z h = reads.longer.sound z (stores-there z memories h) (sound0 z h)
 
     sound2 : (z : Shape) → IsFor d 0 z → AreSound z l2
-    sound2 z h = applies.longer.sound z tt (sound1 z h)
+    sound2 z h = (let regs = h.regs in applies.longer.sound z (omega (arith, regs)) (sound1 z h))
 
     sound3 : (z : Shape) → IsFor d 0 z → AreSound z l3
     sound3 z h = gives.longer.sound z tt (sound2 z h)
@@ -149,17 +150,33 @@ module _ (d : Flat) where
     first-same : l3.first ≡ l2.first
     first-same = ap (λ (l : ListData). l.first) g23.is
 
-    here-in : IsIn l3 at.here
-    here-in = in-stays l0 l3 at.here g03 begins.fits.here.there
+    here-in : IsIn l3 here
+    here-in = in-stays l0 l3 here g03 zeros.there
 
-    zero : (z : Shape) (b : BankData) → IsFor d 0 z → held b l3 at.here ≡ 0
-    zero z b h = held-stays b l0 l3 at.here g03 begins.fits.here.there ∙ begins.fits.is_here z b (sound0 z h)
+    zero : (z : Shape) (b : BankData) → IsFor d 0 z → held b l3 here ≡ 0
+    zero z b h = held-stays b l0 l3 here g03 zeros.there ∙ zeros.value z b (starts z)
 
     before-writes : (z : Shape) → IsFor d 0 z → AllByRecursion (IsWrite z l3.first (length l3.cells)) before
     before-writes z h =
         all-push (IsWrite z l3.first (length l3.cells)) sets (w.Reg state_register next)
         (subst (λ f. AllByRecursion (IsWrite z f (length l3.cells)) sets) (sym first-same) (writes-more z l2.first (length l2.cells) (length l3.cells) sets many (applies.sound z h tt)))
         (let r = h.regs in (omega (arith, r), gives.there))
+
+    here-slot : IsSlot l3 here 1
+    here-slot = is-slot-stays l0 l3 here 1 g03 (record { there = zeros.there; width = zeros.width })
+
+    slot-narrow : (copy k s : ℕ) → 3 ≤ copy → copy ≤ 6 → is_written copy (slice_get d.rows k) ≡ true → (s ≡ here) ⊎ IsSlot l2 s (signal_form d.rows k).width → width_at l3 s ≤ register_width d (4 * k + copy)
+    slot-narrow copy k s low high i side = subst (λ n. width_at l3 s ≤ n) (sym (signal-width d copy k low high i)) (of side)
+      where
+        of : (s ≡ here) ⊎ IsSlot l2 s (signal_form d.rows k).width → width_at l3 s ≤ (signal_form d.rows k).width
+        of (inl e) = let one = ap (width_at l3) e ∙ here-slot.width in let wide = one-bit d.rows k (signal-of (names_of d) copy k i) in omega (arith, one, wide)
+        of (inr h) = let e = (is-slot-stays l2 l3 s (signal_form d.rows k).width g23 h).width in omega (arith, e)
+
+    narrow : AllByRecursion (SetsWithin (register_width d) l3) all
+    narrow =
+        all-both (SetsWithin (register_width d) l3) before (each_written (apply_writes here) (stores_in d) sites)
+        (all-push (SetsWithin (register_width d) l3) sets (w.Reg state_register next) (applies.within (register_width d) l3 slot-narrow tt) (let e = gives.width in let le : width_at l3 next ≤ 32 = omega (arith, e) in le))
+        (apply-within d l3 here (stores_in d) sites here-slot.width (stores-widths d))
 
     registers : AllByRecursion IsRegister before
     registers = all-push IsRegister sets (w.Reg state_register next) (applies.registers tt) tt
@@ -182,7 +199,7 @@ module _ (d : Flat) where
       abbrev done : State
       done = settled d files (nets_of d files order) (counted (with_updates d.rows i.state))
 
-      is-update : IsUpdate d b l3 (stores_in d) sites at.here before i.state.values i.state.later
+      is-update : IsUpdate d b l3 (stores_in d) sites here before i.state.values i.state.later
       is-update = record {
         shape = shape_of b;
         sound = sound3 (shape_of b) may.shape;
@@ -201,36 +218,31 @@ module _ (d : Flat) where
 
       node : slice_index after.regs state_register ≡ to
       node =
-          update-others d b l3 (stores_in d) sites at.here before i.state.values i.state.later is-update state_register (none-among state_register (omega arith))
+          update-others d b l3 (stores_in d) sites here before i.state.values i.state.later is-update state_register (none-among state_register (omega arith))
           ∙ register-behind (held b l3) before b state_register (let r = may.shape.regs in omega (arith, r))
           ∙ ap (λ o. held_after (held b l3) o (slice_index b.regs state_register)) (last-here sets state_register next) ∙ gives.value (shape_of b) b (sound2 (shape_of b) may.shape)
 
-      stands : Stands (names_of d) b l1 at (sample i.state)
-      stands = stands-stays (names_of d) b l0 l1 at (sample i.state) g01 begins.fits (begins.stands files (shape_of b) b i.state i.committed tt may.alive may.tidy may.stage.holds)
-
-      settles : SettlesSignals d b l1 p i.state.later
-      settles = settles-stay d b l0 l1 p i.state.later g01 begins.pending (begins.pends (shape_of b) b i.state i.committed tt may.stage.holds.signals)
-
       signals : (same : SameWrites d sets all) → HoldsSignals d after done done.values
       signals same =
-          applies.holds (shape_of b) b i.state done i.committed l3 all (sound1 (shape_of b) may.shape) may.shape (λ r low high. refl) may.stage.holds.signals stands settles g23 same (updated files i.state)
+          applies.holds b i.state done i.committed l3 all (sound1 (shape_of b) may.shape) may.shape (λ r low high. refl) may.stage.holds.signals may.tidy.fine g23 same (updated files i.state)
           (λ k j m. may.due.later k (sym (delayed.each k (signal-below (names_of d) k j)) ∙ m)) (may.due.committed to refl)
 
       words-hold : (m : ℕ) → IsMemory (names_of d) m → slice_index_or after.mems m [] ≡ words_of done.values m
       words-hold m k =
-          update-memories d b l3 (stores_in d) sites at.here before i.state.values i.state.later is-update m k
+          update-memories d b l3 (stores_in d) sites here before i.state.values i.state.later is-update m k
           ∙ sym (pass-keeps d files (counted (with_updates d.rows i.state)) m alone (memory-kept (names_of d) m k) order (with_updates d.rows i.state).values)
 
       holds : (same : SameWrites d sets all) → HoldsState d after done done.values
-      holds same = record { signals = signals same; memories = words-hold; words = update-empty d b l3 (stores_in d) sites at.here before i.state.values i.state.later is-update }
+      holds same = record { signals = signals same; memories = words-hold; words = update-empty d b l3 (stores_in d) sites here before i.state.values i.state.later is-update }
 
       idle : (x : Node) → slice_get (cell_nodes d) to ≡ Some x → AllByRecursion (IsIdle after) (stores_before d (idle_before to x))
-      idle x e = all-fewer (IsIdle after) first (cell_nodes d) (idle_before to x) (update-idle d b l3 (stores_in d) sites at.here before i.state.values i.state.later is-update)
+      idle x e = all-fewer (IsIdle after) first (cell_nodes d) (idle_before to x) (update-idle d b l3 (stores_in d) sites here before i.state.values i.state.later is-update)
 
-    pub update-made : words.Applies (stores_in d) sites at.here before all → (number : ℕ) → IsMade d order number (Apply to) l3 all
+    pub update-made : words.Applies (stores_in d) sites here before all → (number : ℕ) → IsMade d order number (Apply to) l3 all
     update-made writes number = record {
       sound = sound3;
       writes = λ z h. writes.sound (names_of d) z l3 (stores-there z memories h) (reads-sites d l3 (stores_in d) sites memories read3) here-in (before-writes z h);
+      narrow = narrow;
       does = λ files b i may. record {
         node = node number files b i may;
         holds = holds number files b i may
@@ -240,21 +252,21 @@ module _ (d : Flat) where
     }
 
 -- the same of what is equal to the stores, the sites and the writes
-pub update-of : (d : Flat) (order : List ℕ) (l0 l1 l2 l3 : ListData) (at : Env) (p : PendingSlots) (marks : List Bool) (to next : ℕ) (stores : List Store) (sites read : List Site) (sets before after : List Write) → stores ≡ stores_in d → read ≡ sites →
-    before ≡ sets ++ w.Reg state_register next ∷ [] → after ≡ before ++ each_written (apply_writes at.here) stores read → words.Applies stores read at.here before after →
-    Begins d order (record { first = 0; cells = []; sets = [] }) l0 at p → All (λ (x : Store). IsMemory (names_of d) x.memory) stores → Reads d.rows stores l0 l1 [] sites → AreDelayed d marks →
-    Applies d (marked_one marks) at p l1 l2 [] sets → Gives Nothing 1 l2 l3 next 32 (λ b. to) → ComputesAlone d → (number : ℕ) → IsMade d order number (Apply to) l3 after
-update-of d order l0 l1 l2 l3 at p marks to next stores sites read sets before after same-stores same-sites same-before is writes begins memories reads delayed applies gives alone number =
+pub update-of : (d : Flat) (order : List ℕ) (old l0 l1 l2 l3 : ListData) (here : ℕ) (marks : List Bool) (to next : ℕ) (stores : List Store) (sites read : List Site) (sets before after : List Write) → stores ≡ stores_in d → read ≡ sites →
+    before ≡ sets ++ w.Reg state_register next ∷ [] → after ≡ before ++ each_written (apply_writes here) stores read → words.Applies stores read here before after →
+    ((z : Shape) → AreSound z old) → Gives Nothing 1 old l0 here 1 (λ b. 0) → All (λ (x : Store). IsMemory (names_of d) x.memory) stores → Reads d.rows stores l0 l1 [] sites → AreDelayed d marks →
+    Applies d (marked_one marks) here l1 l2 [] sets → Gives Nothing 1 l2 l3 next 32 (λ b. to) → ComputesAlone d → (number : ℕ) → IsMade d order number (Apply to) l3 after
+update-of d order old l0 l1 l2 l3 here marks to next stores sites read sets before after same-stores same-sites same-before is writes starts zeros memories reads delayed applies gives alone number =
     let Memories : List Store → Type 0 = λ xs. AllByRecursion (λ (x : Store). IsMemory (names_of d) x.memory) xs in
-    let all : List Write = (sets ++ w.Reg state_register next ∷ []) ++ each_written (apply_writes at.here) (stores_in d) sites in
+    let all : List Write = (sets ++ w.Reg state_register next ∷ []) ++ each_written (apply_writes here) (stores_in d) sites in
     let same-all : after ≡ all =
-    is ∙ ap (λ xs. xs ++ each_written (apply_writes at.here) stores read) same-before
-    ∙ ap (λ xs. (sets ++ w.Reg state_register next ∷ []) ++ each_written (apply_writes at.here) xs read) same-stores
-    ∙ ap (λ ss. (sets ++ w.Reg state_register next ∷ []) ++ each_written (apply_writes at.here) (stores_in d) ss) same-sites in
-    let w0 = subst (λ xs. words.Applies xs read at.here before after) same-stores writes in
-    let w1 = subst (λ ss. words.Applies (stores_in d) ss at.here before after) same-sites w0 in
-    let w2 = subst (λ xs. words.Applies (stores_in d) sites at.here xs after) same-before w1 in
-    let w3 = subst (λ xs. words.Applies (stores_in d) sites at.here (sets ++ w.Reg state_register next ∷ []) xs) same-all w2 in
+    is ∙ ap (λ xs. xs ++ each_written (apply_writes here) stores read) same-before
+    ∙ ap (λ xs. (sets ++ w.Reg state_register next ∷ []) ++ each_written (apply_writes here) xs read) same-stores
+    ∙ ap (λ ss. (sets ++ w.Reg state_register next ∷ []) ++ each_written (apply_writes here) (stores_in d) ss) same-sites in
+    let w0 = subst (λ xs. words.Applies xs read here before after) same-stores writes in
+    let w1 = subst (λ ss. words.Applies (stores_in d) ss here before after) same-sites w0 in
+    let w2 = subst (λ xs. words.Applies (stores_in d) sites here xs after) same-before w1 in
+    let w3 = subst (λ xs. words.Applies (stores_in d) sites here (sets ++ w.Reg state_register next ∷ []) xs) same-all w2 in
     let known : Memories (stores_in d) = subst Memories same-stores (recursion_from_All (λ (x : Store). IsMemory (names_of d) x.memory) stores memories) in
     subst (IsMade d order number (Apply to) l3) (sym same-all)
-    (update-made d order l0 l1 l2 l3 at p marks to next sites sets begins known (subst (λ xs. Reads d.rows xs l0 l1 [] sites) same-stores reads) delayed applies gives alone w3 number)
+    (update-made d order old l0 l1 l2 l3 here marks to next sites sets starts zeros known (subst (λ xs. Reads d.rows xs l0 l1 [] sites) same-stores reads) delayed applies gives alone w3 number)

@@ -9,11 +9,13 @@ use Rattle.vl_design.specs.declared.design.SigKind.TheVariants.{Net, Var, Comb, 
 use Rattle.vl_design.specs.Rows.{has_width}
 use Rattle.vl_design.specs.Sound.{HasValue, IsOf, IsWidth, IsSignal}
 use Rattle.vl_design.specs.Syntax.{Row, Flat}
-use Rattle.vl_design.specs.Width.{Names, names_of}
+use Rattle.vl_design.specs.Width.{Names, names_of, signal_form}
 use Rattle.cell_form.specs.declared.cell.Write.{Write}
 use Rattle.cell_form.specs.declared.cell.Write.TheVariants as w
 use Rattle.cell_form.specs.Data.{ListData}
 use Rattle.cell_form.specs.Sound.{Shape, IsWrite}
+use Rattle.cell_steps.specs.Slots.{width_at}
+use Rattle.cell_trim.specs.Widths.{IsWithin}
 use Rattle.cell_paths.specs.Envs.{Env, entry, IsSlot, IsEntry, Fits}
 use Rattle.cell_later.specs.Pendings.{PendingSlots, ArePending, slot_of}
 use Rattle.ten_form.specs.Registers.{state_register, ticks_register, register_count}
@@ -23,6 +25,8 @@ use Rattle.cell_waves.specs.Ends.{Ends}
 use Rattle.cell_waves.specs.Lasts.{last_write, IsRegister}
 use Rattle.cell_states.specs.Ended.{AreChanges, Commits, with_ticks, IsEnd}
 use Rattle.cell_states.specs.Segments.{IsTicks}
+use Rattle.cell_states.specs.Widths.{register_width}
+use Rattle.cell_states.proofs.Narrowing.{entry-width, one-bit, signal-width}
 use Rattle.cell_waves.proofs.Ending.{entry-slot, starts-none, ends-segment, ends-wave, ends-beside}
 use Rattle.cell_waves.proofs.Lasting.{last-here, last-other}
 
@@ -46,7 +50,7 @@ value-of copy Mem h = absurd (true≢false (sym h))
 value-of copy Clock h = tt
 
 -- a signal that is written is one
-signal-of : (names : Names) (copy k : ℕ) → is_written copy (slice_get names.rows k) ≡ true → IsSignal names k
+pub signal-of : (names : Names) (copy k : ℕ) → is_written copy (slice_get names.rows k) ≡ true → IsSignal names k
 signal-of names copy k = of (slice_get names.rows k)
   where
     of : (o : Option Row) → is_written copy o ≡ true → IsOf HasValue o
@@ -121,14 +125,23 @@ module _ (d : Flat) (commits : Bool) (at0 at1 : Env) (p0 p1 : PendingSlots) (tic
       ticks-in None t = sets
       ticks-in (Some r) t = all-push (IsWrite z l.first (length l.cells)) s4 (w.Reg ticks_register r) sets (let q = h.regs in (omega (arith, q), t.there))
 
+  all-narrow : (l : ListData) → AllByRecursion (IsWithin (register_width d) l) s4 → IsTicks l ticks → IsSlot l next 32 → AllByRecursion (IsWithin (register_width d) l) all
+  all-narrow l sets t n = all-push (IsWithin (register_width d) l) (with_ticks ticks s4) (w.Reg state_register next) (ticks-in ticks t) (let e = n.width in let le : width_at l next ≤ 32 = omega (arith, e) in le)
+    where
+      ticks-in : (o : Option ℕ) → IsTicks l o → AllByRecursion (IsWithin (register_width d) l) (with_ticks o s4)
+      ticks-in None t = sets
+      ticks-in (Some r) t = all-push (IsWithin (register_width d) l) s4 (w.Reg ticks_register r) sets (let e = t.width in let le : width_at l r ≤ 32 = omega (arith, e) in le)
+
   finish : Ends d.rows commits at0 at1 p0 p1 at1.here s4 → last_write s4 ticks_register ≡ None → ((r : ℕ) → register_count (length d.rows) ≤ r → last_write s4 r ≡ None) →
+      ((l : ListData) → Fits names l at1 → at1.first ≡ 0 → ArePending names l p1 → AllByRecursion (IsWithin (register_width d) l) s4) →
       ((z : Shape) (l : ListData) → IsFor d 0 z → Fits names l at1 → at1.first ≡ 0 → ArePending names l p1 → AllByRecursion (IsWrite z l.first (length l.cells)) s4) → IsEnd d commits at0 at1 p0 p1 ticks next all
-  finish e none past sound = record {
+  finish e none past narrow sound = record {
     ends = ends-beside d.rows commits at0 at1 p0 p1 at1.here s4 all e (all-push IsRegister (with_ticks ticks s4) (w.Reg state_register next) (registers-ticks ticks e.registers) tt)
         (λ r h k lt. last-other (with_ticks ticks s4) state_register r next h ∙ other-ticks ticks r k);
     node = last-here (with_ticks ticks s4) state_register next;
     counts = last-other (with_ticks ticks s4) state_register ticks_register next (λ z. omega (arith, z)) ∙ last-ticks ticks none;
     beside = λ r le. last-other (with_ticks ticks s4) state_register r next (λ z. omega (arith, z, le)) ∙ (other-ticks ticks r (λ z. omega (arith, z, le)) ∙ past r le);
+    narrow = λ l fits first pending t n. all-narrow l (narrow l fits first pending) t n;
     sound = λ z l h fits first pending t n. all-in z l h (sound z l h fits first pending) t n;
   }
 
@@ -145,6 +158,20 @@ module _ (d : Flat) (commits : Bool) (at0 at1 : Env) (p0 p1 : PendingSlots) (tic
       (b.sound z l signals fits.here.there (λ k i. held-entry l _ (slot_of p1.update k) (pending.update k (signal-of names 5 k i)))
       (a.sound z l signals fits.here.there (slots-held l 4 fits first) tt))
 
+  entry-narrow : (l : ListData) (copy k : ℕ) (e : Option ℕ) → 3 ≤ copy → copy ≤ 6 → Fits names l at1 → is_written copy (slice_get d.rows k) ≡ true → IsEntry l (signal_form d.rows k).width e → width_at l (slot_or at1.here e) ≤ register_width d (4 * k + copy)
+  entry-narrow l copy k e low high fits i h =
+      subst (λ n. width_at l (slot_or at1.here e) ≤ n) (sym (signal-width d copy k low high i)) (entry-width l at1.here (signal_form d.rows k).width e fits.here.width (one-bit d.rows k (signal-of names copy k i)) h)
+
+  slots-narrow : (l : ListData) (copy : ℕ) → 3 ≤ copy → copy ≤ 6 → Fits names l at1 → at1.first ≡ 0 → (k : ℕ) → is_written copy (slice_get d.rows k) ≡ true → width_at l (slot_or at1.here (slot_of at1.slots k)) ≤ register_width d (4 * k + copy)
+  slots-narrow l copy low high fits first k i =
+      entry-narrow l copy k (slot_of at1.slots k) low high fits i (subst (IsEntry l (signal_form d.rows k).width) (entry-slot at1 k first) (fits.signals k (signal-of names copy k i)))
+
+  narrow3 : (l : ListData) → Fits names l at1 → at1.first ≡ 0 → ArePending names l p1 → AllByRecursion (IsWithin (register_width d) l) s3
+  narrow3 l fits first pending =
+      c.within (register_width d) l (λ k i. entry-narrow l 6 k (slot_of p1.mask k) (omega arith) (omega arith) fits i (pending.mask k (signal-of names 6 k i)))
+      (b.within (register_width d) l (λ k i. entry-narrow l 5 k (slot_of p1.update k) (omega arith) (omega arith) fits i (pending.update k (signal-of names 5 k i)))
+      (a.within (register_width d) l (slots-narrow l 4 (omega arith) (omega arith) fits first) tt))
+
   no-ticks3 : last_write s3 ticks_register ≡ None
   no-ticks3 = c.others 2 (λ k z. omega (arith, z)) ∙ b.others 2 (λ k z. omega (arith, z)) ∙ a.others 2 (λ k z. omega (arith, z))
 
@@ -159,6 +186,7 @@ module _ (d : Flat) (commits : Bool) (at0 at1 : Env) (p0 p1 : PendingSlots) (tic
       let ends = ends-segment d.rows at0 at1 p0 p1 at1.here [] s1 s2 s3 (starts-none (length d.rows)) a b c in
       finish (subst (λ q. Ends d.rows q at0 at1 p0 p1 at1.here s4) (sym e) (subst (Ends d.rows false at0 at1 p0 p1 at1.here) (sym same) ends))
       (ap (λ xs. last_write xs ticks_register) same ∙ no-ticks3) (λ r le. ap (λ xs. last_write xs r) same ∙ past3 r le)
+      (λ l fits first pending. subst (AllByRecursion (IsWithin (register_width d) l)) (sym same) (narrow3 l fits first pending))
       (λ z l h fits first pending. subst (AllByRecursion (IsWrite z l.first (length l.cells))) (sym same) (sound3 z l h fits first pending))
 
   -- at the end of a wave
@@ -167,6 +195,7 @@ module _ (d : Flat) (commits : Bool) (at0 at1 : Env) (p0 p1 : PendingSlots) (tic
       let ends = ends-wave d.rows at0 at1 p0 p1 at1.here [] s1 s2 s3 (starts-none (length d.rows)) a b c s4 v in
       finish (subst (λ q. Ends d.rows q at0 at1 p0 p1 at1.here s4) (sym e) ends) (v.others 2 (λ k z. omega (arith, z)) ∙ no-ticks3)
       (λ r le. sets-past d.rows 3 each_one at1.slots at1.here s3 s4 v (omega arith) r le ∙ past3 r le)
+      (λ l fits first pending. v.within (register_width d) l (slots-narrow l 3 (omega arith) (omega arith) fits first) (narrow3 l fits first pending))
       (λ z l h fits first pending. v.sound z l (signals-held z l h) fits.here.there (slots-held l 3 fits first) (sound3 z l h fits first pending))
 
 -- the writes of a state

@@ -6,9 +6,12 @@ mod Making
 mod Trimming
 mod Applying
 mod Counting
+mod Narrowing
 mod Finishing
 mod Tabling
 mod Asking
 mod Noding
 mod Wording
 pub mod Marking
+pub mod Lengths
+pub mod Counts

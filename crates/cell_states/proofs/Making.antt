@@ -42,15 +42,19 @@ use Rattle.ten_form.specs.Banks.{cell_nodes, stores_in, stores_before, stores_af
 use Rattle.ten_calls.specs.Asked.{asked}
 use Rattle.ten_image.specs.States.{idle_before, behind, MayCycle, HoldsStage}
 use Rattle.cell_stores.specs.Reading.{EachHas, HasStore, IsRead, Reads}
-use Rattle.cell_stores.specs.Keeping.{IsLeft, Keeps, IsSegment}
+use Rattle.cell_stores.specs.Keeping.{each_written, keep_writes, IsLeft, Keeps, IsSegment}
+use Rattle.cell_stores.proofs.Listing.{all-both}
+use Rattle.cell_trim.specs.Widths.{IsWithin}
 use Rattle.cell_stores.proofs.Leaving.{idle-yet, holds-more, holds-fewer}
 use Rattle.cell_stores.proofs.Reading.{reads-memories, reads-words}
 use Rattle.cell_states.specs.Designs.{ComputesAlone}
 use Rattle.cell_states.specs.Ended.{IsEnd}
 use Rattle.cell_states.specs.Mades.{is_end, IsMade, Starts, AsksBehind}
 use Rattle.cell_states.specs.Segments.{HoldsTicks, IsTicks, DoesSegment}
+use Rattle.cell_states.specs.Widths.{register_width}
+use Rattle.cell_states.proofs.Narrowing.{HasWidths, stores-widths, keep-within}
 use Rattle.cell_states.proofs.Alone.{pass-keeps}
-use Rattle.cell_states.proofs.Storing.{memory-plain, own-memories, of-sites, from, mid, kept-cut, after-disjoint, signals-beside, before-beside, before-within, has-in, has-after}
+use Rattle.cell_states.proofs.Storing.{all-front, memory-plain, own-memories, of-sites, from, mid, kept-cut, after-disjoint, signals-beside, before-beside, before-within, has-in, has-after}
 use Rattle.cell_states.proofs.Stretching.{segment-ticks}
 use Rattle.cell_states.proofs.Waving.{idle-next}
 
@@ -339,6 +343,13 @@ module _ (d : Flat) (order : List ℕ) (n : ℕ) (g : Segment) (on : WayOn) (l0 
     sound = sound3;
     writes = λ z h.
         keeps.sound names z l3 (has-after d n z h kept-memories) pending3.sites (end.sound z l3 h fits3 (seg.first ∙ begins.first) pending3 (ticks-stay ticks seg.slot) (goes []).slot);
+    narrow =
+        let Narrow : List Write → Type 0 = λ ws. AllByRecursion (IsWithin (register_width d) l3) ws in
+        let kept = all-front (HasWidths d) (stores_after d n) (stores_before d n) (subst (AllByRecursion (HasWidths d)) (kept-cut d n) (stores-widths d)) in
+        subst Narrow (sym keeps.are)
+        (all-both (IsWithin (register_width d) l3) ends (each_written keep_writes (stores_after d n) p1.sites)
+        (end.narrow l3 fits3 (seg.first ∙ begins.first) pending3 (ticks-stay ticks seg.slot) (goes []).slot)
+        (keep-within d l3 (stores_after d n) p1.sites kept same (recursion_from_All (IsSite names l3) p1.sites pending3.sites)));
     does = stage-held;
   }
     where

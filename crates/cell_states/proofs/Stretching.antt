@@ -10,19 +10,22 @@ use Rattle.vl_design.specs.Syntax.{Stm, Flat}
 use Rattle.vl_design.specs.Width.{Names, Scope, names_of}
 use Rattle.cell_form.specs.Data.{ListData, BankData}
 use Rattle.cell_form.specs.Sound.{Shape}
-use Rattle.cell_steps.specs.Slots.{held, AreSound, Nothing}
+use Rattle.cell_steps.specs.Slots.{held, AreSound, Longer, Nothing}
 use Rattle.cell_steps.proofs.Frames.{held-stays, longer-grows, longer-same, longer-then, longer-weaken, grows-then}
 use Rattle.cell_paths.specs.Envs.{Env, entry, Fits, HasMemories, Stands}
 use Rattle.cell_paths.specs.Paths.{on, Does}
 use Rattle.cell_paths.proofs.Staying.{keeps-same, keeps-then, memories-kept, sound-behind, is-slot-stays}
 use Rattle.cell_later.specs.Pendings.{PendingSlots, memories_of, ArePending, Pends}
+use Rattle.cell_expr.specs.Counts.{stm_count, body_cells}
 use Rattle.cell_expr.specs.Stored.{stored_words}
 use Rattle.ten_stores.specs.Stores.{all_stored}
 use Rattle.cell_later.specs.Delays.{Leaves}
 use Rattle.cell_later.proofs.Keeping.{pending-stays, pends-stays}
 use Rattle.sub_nodes.specs.Nodes.{Segment}
 use Rattle.sub_nodes.specs.Cycles.{execs, segment_done, ticked}
+use Rattle.cell_waves.proofs.Lengths.{longer-few}
 use Rattle.cell_waves.specs.Rises.{Rises}
+use Rattle.cell_states.specs.Cells.{stms_count}
 use Rattle.cell_states.specs.Segments.{DoesAll, RisesWhere, DoesSegment}
 
 execs-more : (scope : Scope) (xs ys : List Stm) (s : State) → execs scope (xs ++ ys) s ≡ execs scope ys (execs scope xs s)
@@ -37,9 +40,12 @@ module _ (d : Flat) where
   abbrev names : Names
   names = names_of d
 
+  count-more : (xs ys : List Stm) → stms_count d (xs ++ ys) ≡ stms_count d xs + stms_count d ys
+  count-more [] ys = omega arith
+  count-more (a ∷ xs) ys = (let e = count-more xs ys in omega (arith, e))
+
   pub all-none : (at : Env) (p : PendingSlots) (l : ListData) → Fits names l at → ArePending names l p → DoesAll d [] at at p p l l
   all-none at p l fits pending = record {
-    count = 0;
     longer = longer-same (HasMemories names at) l;
     fits = fits;
     keeps = keeps-same names at;
@@ -52,12 +58,11 @@ module _ (d : Flat) where
   }
 
   -- a statement on the path that is always taken
-  pub all-one : (a : Stm) (n off : ℕ) (at at' : Env) (p p' : PendingSlots) (old new : ListData) → off ≡ at.here → Fits names old at →
-      ((files : List File) → Does names n (exec (scope_of d files) a) off at at' old new) → ((files : List File) → Leaves names (exec (scope_of d files) a) off at p p' old new) →
+  pub all-one : (a : Stm) (off : ℕ) (at at' : Env) (p p' : PendingSlots) (old new : ListData) → off ≡ at.here → Fits names old at →
+      ((files : List File) → Does names (stm_count (body_cells d) a) (exec (scope_of d files) a) off at at' old new) → ((files : List File) → Leaves names (exec (scope_of d files) a) off at p p' old new) →
       memories_of p'.sites ≡ memories_of p.sites ++ stored_words a → DoesAll d (a ∷ []) at at' p p' old new
-  all-one a n off at at' p p' old new here fits does leaves sites = record {
-    count = n;
-    longer = (does []).longer;
+  all-one a off at at' p p' old new here fits does leaves sites = record {
+    longer = longer-weaken (HasMemories names at) (HasMemories names at) (stm_count (body_cells d) a) (stm_count (body_cells d) a + 0) old new (λ s h. h) (omega arith) (does []).longer;
     fits = (does []).fits;
     keeps = (does []).keeps;
     pending = (leaves []).pending;
@@ -75,8 +80,8 @@ module _ (d : Flat) where
   all-then xs ys at0 at1 at2 p0 p1 p2 l0 l1 l2 f g =
       let H = HasMemories names at0 in
       record {
-        count = f.count + g.count;
-        longer = longer-then H f.count g.count l0 l1 l2 f.longer (longer-weaken (HasMemories names at1) H g.count g.count l1 l2 (λ s h. memories-kept names at0 at1 s f.keeps h) (omega arith) g.longer);
+        longer = subst (λ n. Longer H n l0 l2) (sym (count-more xs ys))
+            (longer-then H (stms_count d xs) (stms_count d ys) l0 l1 l2 f.longer (longer-weaken (HasMemories names at1) H (stms_count d ys) (stms_count d ys) l1 l2 (λ s h. memories-kept names at0 at1 s f.keeps h) (omega arith) g.longer));
         fits = g.fits;
         keeps = keeps-then names at0 at1 at2 f.keeps g.keeps;
         pending = g.pending;
@@ -85,11 +90,11 @@ module _ (d : Flat) where
             ∙ (append_assoc (memories_of p0.sites) (all_stored xs) (all_stored ys) ∙ ap (λ (ms : List ℕ). memories_of p0.sites ++ ms) (sym (stored-more xs ys))));
         alive = λ files t h. subst (λ (s : State). s.finished ≡ false) (sym (execs-more (scope_of d files) xs ys t)) (g.alive files (execs (scope_of d files) xs t) (f.alive files t h));
         does = λ files z b t sound alive st.
-            let behind = sound-behind names at0 f.count z l0 l1 f.longer sound in
+            let behind = sound-behind names at0 (stms_count d xs) z l0 l1 f.longer sound in
             let t1 = execs (scope_of d files) xs t in
             subst (λ (s : State). Stands names b l2 at2 (sample s)) (sym (execs-more (scope_of d files) xs ys t)) (g.does files behind.shape b t1 behind.sound (f.alive files t alive) (f.does files z b t sound alive st));
         later = λ files z b t sound alive st ps.
-            let behind = sound-behind names at0 f.count z l0 l1 f.longer sound in
+            let behind = sound-behind names at0 (stms_count d xs) z l0 l1 f.longer sound in
             let t1 = execs (scope_of d files) xs t in
             subst (λ (s : State). Pends names b l2 p2 s.later) (sym (execs-more (scope_of d files) xs ys t))
             (g.later files behind.shape b t1 behind.sound (f.alive files t alive) (f.does files z b t sound alive st) (f.later files z b t sound alive st ps));
@@ -98,7 +103,8 @@ module _ (d : Flat) where
   -- a segment before which the clock doesn't rise
   pub segment-still : (as' : List Stm) (at0 at1 : Env) (p0 p1 : PendingSlots) (l0 l1 : ListData) → DoesAll d as' at0 at1 p0 p1 l0 l1 → DoesSegment d (record { rises = false; statements = as' }) at0 at1 p0 p1 l0 l1 None
   segment-still as' at0 at1 p0 p1 l0 l1 f = record {
-    grows = longer-grows (HasMemories names at0) f.count l0 l1 f.longer;
+    grows = longer-grows (HasMemories names at0) (stms_count d as') l0 l1 f.longer;
+    few = (let few = longer-few (HasMemories names at0) (stms_count d as') l0 l1 f.longer in omega (arith, few));
     sound = f.longer.sound;
     first = f.keeps.first;
     here = f.keeps.here;
@@ -119,10 +125,11 @@ module _ (d : Flat) where
       DoesSegment d (record { rises = true; statements = as' }) at0 at2 p0 p1 l0 l2 (Some ticks)
   segment-rising as' ticks at0 at1 at2 p0 p1 l0 l1 l2 fits pending r f =
       let g01 = longer-grows Nothing 4 l0 l1 r.longer in
-      let g12 = longer-grows (HasMemories names at1) f.count l1 l2 f.longer in
+      let g12 = longer-grows (HasMemories names at1) (stms_count d as') l1 l2 f.longer in
       let kept : (F : Env → Type 0) → F (record at0 { time = at1.time }) → F at1 = λ F h. subst F (sym r.kept) h in
       record {
         grows = grows-then l0 l1 l2 g01 g12;
+        few = (let a = longer-few Nothing 4 l0 l1 r.longer in let b = longer-few (HasMemories names at1) (stms_count d as') l1 l2 f.longer in omega (arith, a, b));
         sound = λ z h sound. f.longer.sound z (kept (λ a. HasMemories names a z) h) (r.longer.sound z tt sound);
         first = f.keeps.first ∙ ap (λ (a : Env). a.first) r.kept;
         here = f.keeps.here ∙ ap (λ (a : Env). a.here) r.kept;

@@ -1,19 +1,23 @@
 -- One more state, or two.
 use Rattle.std.proofs.Common.{◌≡◌, ◌≢◌, ℕ, zero, suc, ◌+◌, ◌≤◌, false, List, [], ◌∷◌, ◌++◌, length, length-append, drop, Some, None, inl, inr, refl, sym, ap, ◌∙◌, arith, subst}
 use Rattle.std.specs.Prelude.{slice_get, ◌⊎◌}
+use Rattle.std.specs.List.{AllByRecursion}
 use Rattle.std.proofs.lemmas.Bool.{true≢false}
 use Rattle.std.proofs.lemmas.List.{drop_all}
 use Rattle.std.proofs.lemmas.Option.{slice_get_within, slice_get_cases, none-some, same_Some}
 use Rattle.vl_design.specs.Syntax.{Task, Flat}
-use Rattle.cell_form.specs.Data.{StateData}
+use Rattle.cell_form.specs.Data.{CellData, StateData}
 use Rattle.sub_nodes.specs.Nodes.{Segment, WayOn, Go, Branch, Switch, Commit, Node, Run, Trap, Apply}
 use Rattle.sub_nodes.specs.Cycles.{is_trap}
 use Rattle.sub_facts.specs.Pairs.{ArePaired}
 use Rattle.ten_calls.specs.Traps.{IsTrapOf}
 use Rattle.ten_form.specs.Banks.{stores_after}
 use Rattle.ten_image.specs.States.{slots_in, Does, HasTrap, IsStateOf, AreStates}
+use Rattle.cell_states.specs.Cells.{node_count, AreCounted}
 use Rattle.cell_states.specs.Trims.{Calls}
 use Rattle.cell_states.specs.Tables.{go_of, AreFirst}
+use Rattle.cell_states.specs.Widths.{register_width, IsNarrow}
+use Rattle.cell_trim.specs.Widths.{IsWithin}
 
 -- ---- lists
 
@@ -123,9 +127,9 @@ module _ (d : Flat) (order : List ℕ) (nodes : List Node) where
   -- ---- one state more, and two
 
   module _ (states : List StateData) (n m stores : ℕ) (h : AreFirst d order nodes states n stores) (le : n ≤ m) where
-    pub one-more : (x : Node) (s : StateData) (left : ℕ) → slice_get nodes (length states) ≡ Some x → is_trap (Some x) ≡ false → ((g : Segment) (k : ℕ) → x ≢ Run g (Go k)) → slots_in s.cells ≤ m →
+    pub one-more : (x : Node) (s : StateData) (left : ℕ) → slice_get nodes (length states) ≡ Some x → is_trap (Some x) ≡ false → ((g : Segment) (k : ℕ) → x ≢ Run g (Go k)) → slots_in s.cells ≤ m → length s.cells.cells ≤ node_count d order nodes x → IsNarrow d s →
         left ≡ length (stores_after d (length states + 1)) → IsStateOf d order (length states) m nodes (states ++ s ∷ []) x s → AreFirst d order nodes (states ++ s ∷ []) m left
-    one-more x s left there free apart fits less is =
+    one-more x s left there free apart fits few narrow less is =
         let long = length-append states (s ∷ []) in
         let lt = slice_get_within nodes (length states) x there in
         record {
@@ -139,12 +143,18 @@ module _ (d : Flat) (order : List ℕ) (nodes : List Node) where
           ];
           rest = subst (λ k. ArePaired k (drop k nodes)) (sym long) (rest-plain (length states) x there free apart h.rest);
           left = less ∙ ap (λ k. length (stores_after d k)) (sym long);
+          few = λ k y z e f. elim (get-one states s z k f) [
+            | inl i ↦ h.few k y z e i
+            | inr i ↦ subst (λ (u : StateData). length u.cells.cells ≤ node_count d order nodes y) i.1
+                (subst (λ v. length s.cells.cells ≤ node_count d order nodes v) (same_Some x y (sym there ∙ ap (slice_get nodes) (sym i.0) ∙ e)) few)
+          ];
+          narrow = λ k z f. elim (get-one states s z k f) [ inl i ↦ h.narrow k z i | inr i ↦ subst (IsNarrow d) i.1 narrow ];
         }
 
     -- the state of a segment that comes to a call, and that of the call
-    pub two-more : (g : Segment) (k : ℕ) (s u : StateData) (left : ℕ) → slice_get nodes (length states) ≡ Some (Run g (Go k)) → (c : Comes (length states) k) → slots_in s.cells ≤ m → slots_in u.cells ≤ m →
+    pub two-more : (g : Segment) (k : ℕ) (s u : StateData) (left : ℕ) → slice_get nodes (length states) ≡ Some (Run g (Go k)) → (c : Comes (length states) k) → slots_in s.cells ≤ m → slots_in u.cells ≤ m → length s.cells.cells ≤ node_count d order nodes (Run g (Go k)) → IsNarrow d s →
         left ≡ length (stores_after d (length states + 2)) → Calls d order (length states) g k c.task c.to s u → AreFirst d order nodes ((states ++ s ∷ []) ++ u ∷ []) m left
-    two-more g k s u left there c fits fits2 less calls =
+    two-more g k s u left there c fits fits2 few narrow less calls =
         let long = length-append states (s ∷ []) in
         let long2 = length-append (states ++ s ∷ []) (u ∷ []) in
         let lt = slice_get_within nodes (length states + 1) (Trap c.task c.to) c.node in
@@ -182,6 +192,19 @@ module _ (d : Flat) (order : List ℕ) (nodes : List Node) where
           ];
           rest = subst (λ q. ArePaired q (drop q nodes)) two c.rest;
           left = less ∙ ap (λ q. length (stores_after d q)) two;
+          few = λ j y z e f. elim (get-one (states ++ s ∷ []) u z j f) [
+            | inl i ↦ elim (get-one states s z j i) [
+              | inl a ↦ h.few j y z e a
+              | inr a ↦ subst (λ (v : StateData). length v.cells.cells ≤ node_count d order nodes y) a.1
+                  (subst (λ v. length s.cells.cells ≤ node_count d order nodes v) (same_Some (Run g (Go k)) y (sym there ∙ ap (slice_get nodes) (sym a.0) ∙ e)) few)
+            ]
+            | inr i ↦ subst (λ (v : StateData). length v.cells.cells ≤ node_count d order nodes y) i.1
+                (let none = ap (λ (cs : List CellData). length cs) calls.no_cells in omega (arith, none))
+          ];
+          narrow = λ j z f. elim (get-one (states ++ s ∷ []) u z j f) [
+            | inl i ↦ elim (get-one states s z j i) [ inl a ↦ h.narrow j z a | inr a ↦ subst (IsNarrow d) a.1 narrow ]
+            | inr i ↦ subst (IsNarrow d) i.1 (subst (AllByRecursion (IsWithin (register_width d) u.cells)) (sym calls.no_writes) tt)
+          ];
         }
 
 -- all of them
@@ -190,4 +213,4 @@ all-made d order nodes states n stores h le = record { many = (let m = h.many in
 
 -- none yet
 pub none-made : (d : Flat) (order : List ℕ) (nodes : List Node) (stores : ℕ) → ArePaired 0 nodes → stores ≡ length (stores_after d 0) → AreFirst d order nodes [] 0 stores
-none-made d order nodes stores h left = record { many = omega arith; fits = λ n s e. absurd (none-some s e); each = λ n x s e f. absurd (none-some s f); rest = h; left = left }
+none-made d order nodes stores h left = record { many = omega arith; fits = λ n s e. absurd (none-some s e); each = λ n x s e f. absurd (none-some s f); rest = h; left = left; few = λ n x s e f. absurd (none-some s f); narrow = λ n s f. absurd (none-some s f) }

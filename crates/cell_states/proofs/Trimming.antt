@@ -1,7 +1,8 @@
 -- States of the cells that are needed.
 use Rattle.std.proofs.Common.{◌≡◌, ℕ, zero, suc, ◌+◌, ◌-◌, ◌<◌, ◌≤◌, List, [], ◌∷◌, length, map, Some, None, refl, sym, ap, ◌∙◌, arith, subst}
-use Rattle.std.specs.Prelude.{slice_index, slice_index_or, slice_set, if◌then◌else◌, ◌==◌, Bool, true, false, All}
+use Rattle.std.specs.Prelude.{slice_index, slice_index_or, slice_set, if◌then◌else◌, ◌==◌, Bool, true, false, All, Result, Ok, Err, IfOk}
 use Rattle.std.specs.List.{AllByRecursion}
+use Rattle.std.proofs.lemmas.List.{length-map}
 use Rattle.vl_base.specs.declared.files.File.{File}
 use Rattle.vl_design.specs.State.{State}
 use Rattle.vl_design.specs.Syntax.{Task, Print, Finish, Save, Fopen, Fread, Fgetc, Feof, Fclose, ReadHex, Flat}
@@ -11,9 +12,12 @@ use Rattle.cell_form.specs.declared.table.Trap.{Trap as TrapOf}
 use Rattle.cell_form.specs.Cycle.{with_word, wrote, written, filled, value_at, cycled}
 use Rattle.cell_form.specs.Data.{ListData, BankData}
 use Rattle.cell_form.specs.Values.{Slot, slots_of}
-use Rattle.cell_form.specs.Sound.{Shape, IsList, shape_of}
+use Rattle.cell_form.specs.Sound.{Shape, IsList, IsWrite, shape_of}
+use Rattle.cell_form.specs.Views.{cell_of, list_of}
 use Rattle.cell_form.proofs.Cycling.{slot-held}
-use Rattle.cell_steps.specs.Slots.{slot, held, IsIn}
+use Rattle.cell_steps.specs.Slots.{slot, held, IsIn, AreSound}
+use Rattle.cell_trim.specs.declared.trim.Trimmed.{Trimmed}
+use Rattle.cell_trim.specs.Widths.{IsWithin}
 use Rattle.sub_nodes.specs.Nodes.{Segment, Go, Node, Run}
 use Rattle.sub_nodes.specs.Cycles.{Stage}
 use Rattle.ten_stores.specs.declared.store.Store.{Store}
@@ -215,3 +219,24 @@ calls-trimmed d order n g m to task l sets t first new behind slots nexts waits 
   next = next;
   call = λ n le. record { call = with-args d task t slots call.call; answer = call.answer; args = below-all new n slots le (trim.there asks.there) };
 }
+
+-- ---- what is left of a list
+
+pub is-trimmed : {E : Type 0} (r : Result Trimmed E) (l : ListData) (n : ℕ) (given sets : List Write) (wanted : List ℕ) (first : ℕ) → n ≡ length l.cells → given ≡ sets → IfOk r (λ t. t.cells.first ≡ first) →
+    IfOk r (λ t. AllByRecursion (IsIn l) wanted → AllByRecursion (IsIn (list_of t.cells)) t.slots.items) →
+    IfOk r (λ t. (s : Shape) → AreSound s l → AllByRecursion (IsWrite s l.first n) given → first + length t.cells.cells ≤ s.slots → IsList s (list_of t.cells)) →
+    IfOk r (λ t. (most : ℕ → ℕ) → AllByRecursion (IsWithin most l) given → AllByRecursion (IsWithin most (list_of t.cells)) (list_of t.cells).sets) →
+    IfOk r (λ t. (b : BankData) → map (slot b (list_of t.cells)) t.slots.items ≡ map (slot b l) wanted) →
+    IfOk r (λ t. (b c : BankData) → written (value_at first (slots_of first b.regs b.mems (list_of t.cells).cells)) (list_of t.cells).sets c ≡ written (value_at l.first (slots_of l.first b.regs b.mems l.cells)) given c) →
+    IfOk r (λ t. IsTrimmed l sets wanted first (list_of t.cells) t.slots.items)
+is-trimmed (Ok t) l n given sets wanted first long same a b c e f g = record {
+  first_is = a;
+  there = b;
+  sound = λ s k h le.
+      let W : ℕ → List Write → Type 0 = λ m ws. AllByRecursion (IsWrite s l.first m) ws in
+      c s k (subst (λ m. W m given) (sym long) (subst (W (length l.cells)) (sym same) h)) (omega (arith, le, length-map t.cells.cells cell_of));
+  widths = λ most h. e most (subst (AllByRecursion (IsWithin most l)) (sym same) h);
+  values = f;
+  writes = λ x y. g x y ∙ ap (λ ws. written (value_at l.first (slots_of l.first x.regs x.mems l.cells)) ws y) same;
+}
+is-trimmed (Err x) l n given sets wanted first long same a b c e f g = tt

@@ -16,6 +16,8 @@ use Rattle.cell_waves.specs.Copies.{changed, each_one, Sets}
 use Rattle.cell_waves.specs.Lasts.{last_write}
 use Rattle.cell_waves.specs.Ends.{Ends}
 use Rattle.cell_stores.specs.Keeping.{Keeps}
+use Rattle.cell_trim.specs.Widths.{IsWithin}
+use Rattle.cell_states.specs.Widths.{register_width}
 use Rattle.cell_states.specs.Segments.{IsTicks}
 
 -- writes of the registers of signals that changed: work copies, and what is pending
@@ -43,6 +45,8 @@ pub record IsEnd (d : Flat) (commits : Bool) (at at' : Env) (p p' : PendingSlots
   pub counts : last_write sets ticks_register ≡ ticks
   -- and no register of a store
   pub beside : (r : ℕ) → register_count (length d.rows) ≤ r → last_write sets r ≡ None
+  -- they set registers from slots that are at most as wide
+  pub narrow : (l : ListData) → Fits (names_of d) l at' → at'.first ≡ 0 → ArePending (names_of d) l p' → IsTicks l ticks → IsSlot l next 32 → AllByRecursion (IsWithin (register_width d) l) sets
   pub sound : (z : Shape) (l : ListData) → IsFor d 0 z → Fits (names_of d) l at' → at'.first ≡ 0 → ArePending (names_of d) l p' → IsTicks l ticks → IsSlot l next 32 →
       AllByRecursion (IsWrite z l.first (length l.cells)) sets
 

@@ -1,4 +1,6 @@
 pub mod Designs
+pub mod Cells
+pub mod Widths
 pub mod Segments
 pub mod Pieces
 pub mod Mades

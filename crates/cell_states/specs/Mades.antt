@@ -1,5 +1,5 @@
 -- That cells and writes do what a node does, before the cells that aren't needed are left out (own).
-use Rattle.std.specs.Prelude.{◌≡◌, ℕ, ◌+◌, Bool, true, false, List, [], length, map, slice_get, Option, Some}
+use Rattle.std.specs.Prelude.{◌≡◌, ◌≤◌, ℕ, ◌+◌, Bool, true, false, List, [], length, map, slice_get, Option, Some}
 use Rattle.std.specs.List.{AllByRecursion}
 use Rattle.vl_base.specs.declared.files.File.{File}
 use Rattle.vl_design.specs.Functions.{scope_of}
@@ -21,6 +21,9 @@ use Rattle.ten_form.specs.Banks.{cell_nodes, stores_after, IsFor}
 use Rattle.ten_calls.specs.Asked.{asked}
 use Rattle.ten_image.specs.States.{behind, MayCycle, HoldsStage}
 use Rattle.cell_states.specs.declared.run.Kept.{Kept}
+use Rattle.cell_trim.specs.Widths.{IsWithin}
+use Rattle.cell_states.specs.Cells.{segment_count}
+use Rattle.cell_states.specs.Widths.{register_width}
 use Rattle.cell_states.specs.Segments.{DoesSegment}
 
 -- the wave ends there
@@ -32,6 +35,7 @@ is_end on = false
 pub record IsMade (d : Flat) (order : List ℕ) (n : ℕ) (x : Node) (l : ListData) (sets : List Write) : Type 0 where
   pub sound : (z : Shape) → IsFor d 0 z → AreSound z l
   pub writes : (z : Shape) → IsFor d 0 z → AllByRecursion (IsWrite z l.first (length l.cells)) sets
+  pub narrow : AllByRecursion (IsWithin (register_width d) l) sets
   pub does : (files : List File) (b : BankData) (i : Stage) → MayCycle d order files n x 0 b i → HoldsStage d (written (held b l) sets b) (behind d order files x i)
 
 -- cells from slot 0 on do what a state begins with, read what is pending in the stores of the nodes from this number on, and then do a
@@ -43,6 +47,7 @@ pub record Starts (d : Flat) (order : List ℕ) (n : ℕ) (g : Segment) (l : Lis
   pub begins : Begins d order (record { first = 0; cells = []; sets = [] }) first at p
   pub reads : Reads d.rows (stores_after d n) first second [] sites
   pub does : DoesSegment d g at at' (record p { sites = sites }) p' second l ticks
+  pub few : length l.cells ≤ segment_count d order (length (stores_after d n)) g
 
 -- slots of a list hold what a call is given behind a segment
 pub record AsksBehind (d : Flat) (order : List ℕ) (n : ℕ) (g : Segment) (x : Node) (l : ListData) (task : Task) (args : List ℕ) : Type 0 where

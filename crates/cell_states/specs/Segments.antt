@@ -1,5 +1,5 @@
 -- That cells do the statements of a segment (IEEE 1364-2005, clauses 9.2 and 11.3; own).
-use Rattle.std.specs.Prelude.{◌≡◌, ℕ, ◌+◌, ◌<◌, ◌^◌, Bool, true, false, List, ◌++◌, length, Option, Some, None, ⊤}
+use Rattle.std.specs.Prelude.{◌≡◌, ℕ, ◌+◌, ◌<◌, ◌≤◌, ◌^◌, Bool, true, false, List, ◌++◌, length, Option, Some, None, ⊤}
 use Rattle.vl_base.specs.declared.files.File.{File}
 use Rattle.vl_design.specs.Functions.{scope_of}
 use Rattle.vl_design.specs.Sound.{IsMemory}
@@ -16,11 +16,11 @@ use Rattle.cell_waves.specs.Rises.{Rises}
 use Rattle.sub_nodes.specs.Nodes.{Segment}
 use Rattle.sub_nodes.specs.Cycles.{execs, segment_done}
 use Rattle.ten_stores.specs.Stores.{all_stored}
+use Rattle.cell_states.specs.Cells.{stms_count}
 
 -- cells do statements one after another: what is read, and what is pending
 pub record DoesAll (d : Flat) (as' : List Stm) (at at' : Env) (p p' : PendingSlots) (old new : ListData) : Type 0 where
-  pub count : ℕ
-  pub longer : Longer (HasMemories (names_of d) at) count old new
+  pub longer : Longer (HasMemories (names_of d) at) (stms_count d as') old new
   pub fits : Fits (names_of d) new at'
   pub keeps : Keeps (names_of d) at at'
   pub pending : ArePending (names_of d) new p'
@@ -53,6 +53,7 @@ IsTicks l (Some r) = IsSlot l r 32
 -- cells do a segment: first the clock rises, where it does
 pub record DoesSegment (d : Flat) (g : Segment) (at at' : Env) (p p' : PendingSlots) (old new : ListData) (ticks : Option ℕ) : Type 0 where
   pub grows : Grows old new
+  pub few : length new.cells ≤ length old.cells + (4 + stms_count d g.statements)
   pub sound : (z : Shape) → HasMemories (names_of d) at z → AreSound z old → AreSound z new
   pub first : at'.first ≡ at.first
   pub here : at'.here ≡ at.here

@@ -6,7 +6,9 @@ use Rattle.sub_nodes.specs.Nodes.{Segment, WayOn, Go, Node}
 use Rattle.sub_facts.specs.Pairs.{ArePaired}
 use Rattle.ten_form.specs.Banks.{stores_after}
 use Rattle.ten_image.specs.States.{slots_in, Does, IsStateOf}
+use Rattle.cell_states.specs.Cells.{AreCounted}
 use Rattle.cell_states.specs.Trims.{Calls}
+use Rattle.cell_states.specs.Widths.{IsNarrow, AreNarrow}
 
 -- the node to which a segment goes whatever is read, if it is a call's
 abbrev pub go_of : WayOn → Option ℕ
@@ -21,17 +23,21 @@ pub record AreFirst (d : Flat) (order : List ℕ) (nodes : List Node) (states : 
   pub each : (n : ℕ) (x : Node) (s : StateData) → slice_get nodes n ≡ Some x → slice_get states n ≡ Some s → IsStateOf d order n slots nodes states x s
   pub rest : ArePaired (length states) (drop (length states) nodes)
   pub left : stores ≡ length (stores_after d (length states))
+  pub few : AreCounted d order nodes states
+  pub narrow : AreNarrow d states
 
--- one state more, which does the node of a number, and its slots
-pub record HasOneMore (d : Flat) (order : List ℕ) (n : ℕ) (x : Node) (old : List StateData) (before : ℕ) (new : List StateData) (after : ℕ) : Type 0 where
+-- one state more, which does the node of a number, has at most so many cells, sets no register from too wide a slot, and its slots
+pub record HasOneMore (d : Flat) (order : List ℕ) (n : ℕ) (x : Node) (most : ℕ) (old : List StateData) (before : ℕ) (new : List StateData) (after : ℕ) : Type 0 where
   pub state : StateData
   pub is : new ≡ old ++ state ∷ []
   pub grows : before ≤ after
   pub slots : slots_in state.cells ≡ after
   pub does : Does d order n x state
+  pub few : length state.cells.cells ≤ most
+  pub narrow : IsNarrow d state
 
--- two more, of a segment of that number that comes to a call, and of the call
-pub record HasTwoMore (d : Flat) (order : List ℕ) (n : ℕ) (g : Segment) (trap : ℕ) (task : Task) (to : ℕ) (old : List StateData) (before : ℕ) (new : List StateData) (after : ℕ) : Type 0 where
+-- two more, of a segment of that number that comes to a call, with at most so many cells, and of the call
+pub record HasTwoMore (d : Flat) (order : List ℕ) (n : ℕ) (g : Segment) (trap : ℕ) (task : Task) (to most : ℕ) (old : List StateData) (before : ℕ) (new : List StateData) (after : ℕ) : Type 0 where
   pub run : StateData
   pub wait : StateData
   pub is : new ≡ (old ++ run ∷ []) ++ wait ∷ []
@@ -39,3 +45,5 @@ pub record HasTwoMore (d : Flat) (order : List ℕ) (n : ℕ) (g : Segment) (tra
   pub slots : slots_in run.cells ≡ after
   pub slots_behind : slots_in wait.cells ≡ after
   pub calls : Calls d order n g trap task to run wait
+  pub few : length run.cells.cells ≤ most
+  pub narrow : IsNarrow d run

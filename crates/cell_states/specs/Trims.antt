@@ -12,12 +12,14 @@ use Rattle.cell_steps.specs.Slots.{slot, IsIn, AreSound}
 use Rattle.sub_nodes.specs.Nodes.{Segment, Go, Run}
 use Rattle.ten_calls.specs.Traps.{IsTrapOf}
 use Rattle.ten_image.specs.States.{slots_in, Does, AsksFor}
+use Rattle.cell_trim.specs.Widths.{IsWithin}
 
 -- of these cells, with these writes and wanted slots, a list has what is needed
 pub record IsTrimmed (l : ListData) (sets : List Write) (wanted : List ℕ) (first : ℕ) (new : ListData) (slots : List ℕ) : Type 0 where
   pub first_is : new.first ≡ first
   pub there : AllByRecursion (IsIn l) wanted → AllByRecursion (IsIn new) slots
   pub sound : (s : Shape) → AreSound s l → AllByRecursion (IsWrite s l.first (length l.cells)) sets → first + length new.cells ≤ s.slots → IsList s new
+  pub widths : (most : ℕ → ℕ) → AllByRecursion (IsWithin most l) sets → AllByRecursion (IsWithin most new) new.sets
   pub values : (b : BankData) → map (slot b new) slots ≡ map (slot b l) wanted
   pub writes : (b c : BankData) → written (value_at first (slots_of first b.regs b.mems new.cells)) new.sets c ≡ written (value_at l.first (slots_of l.first b.regs b.mems l.cells)) sets c
 

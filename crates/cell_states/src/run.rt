@@ -1,6 +1,6 @@
 //! States of segments: what they begin with, their statements, the node that is next, and the writes.
 
-ghost use Rattle.std.specs.Prelude.{◌≡◌, ℕ, ◌+◌, ◌<◌, ◌^◌, List, All, IfOk};
+ghost use Rattle.std.specs.Prelude.{◌≡◌, ◌≤◌, ℕ, ◌+◌, ◌<◌, ◌^◌, List, All, IfOk, length};
 ghost use Rattle.vl_base.specs.declared.files.File.{File};
 ghost use Rattle.vl_design.specs.Functions.{scope_of};
 ghost use Rattle.vl_design.specs.Sound.{IsMemory, IsSound, IsSoundTask};
@@ -14,7 +14,10 @@ ghost use Rattle.cell_expr.specs.Bodies.{IsCellFun};
 ghost use Rattle.cell_expr.specs.Compiled.{Holds};
 ghost use Rattle.sub_nodes.specs.Nodes as n;
 ghost use Rattle.sub_split.specs.Views.{call_view, segment_view, way_on_view};
-ghost use Rattle.cell_next.specs.Next.{next_node};
+ghost use Rattle.cell_calls.specs.Counts.{asked_count};
+ghost use Rattle.cell_expr.specs.Counts.{body_cells};
+ghost use Rattle.cell_next.specs.Next.{next_count, next_node};
+ghost use Rattle.cell_states.specs.Cells.{segment_count};
 ghost use Rattle.ten_stores.specs.Holding.{mask_register};
 ghost use Rattle.ten_form.specs.Banks.{stores_after};
 ghost use Rattle.ten_calls.specs.Traps.{IsTrapOf};
@@ -76,8 +79,8 @@ fn next_in(
     requires fits { Fits (names_of (flat_of design.now)) (list_of cells.old) (env_of at.now) }
     requires first { at.now.first ≡ 0 }
     ensures grows { Grows (list_of cells.old) (list_of cells.new) }
-    ensures holds { IfOk result (λ r. (n : ℕ) × ((files : List File) → Holds (names_of (flat_of design.now)) n (env_of at.now) (list_of cells.old) (list_of cells.new) r 32
-        (λ x. next_node (scope_of (flat_of design.now) files) x (way_on_view on.now)))) }
+    ensures holds { IfOk result (λ r. (files : List File) → Holds (names_of (flat_of design.now)) (next_count (body_cells (flat_of design.now)) (way_on_view on.now)) (env_of at.now) (list_of cells.old) (list_of cells.new) r 32
+        (λ x. next_node (scope_of (flat_of design.now) files) x (way_on_view on.now))) }
 {
     match on {
         WayOn::Go(to) => number(alloc, cells, *to),
@@ -147,8 +150,10 @@ pub fn made(
     requires few { All (λ x. mask_register x < 2 ^ 32) kept.all.now }
     requires pieces { All (IsCellPiece (names_of (flat_of design.now))) segment.now.statements.items }
     requires way { IsCellWay (names_of (flat_of design.now)) on.now }
-    ensures { IfOk result (λ m. (number : ℕ) → IsKept (flat_of design.now) number kept.entry (n.Run (segment_view segment.now) (way_on_view on.now)) →
+    ensures made { IfOk result (λ m. (number : ℕ) → IsKept (flat_of design.now) number kept.entry (n.Run (segment_view segment.now) (way_on_view on.now)) →
         IsMade (flat_of design.now) order.now number (n.Run (segment_view segment.now) (way_on_view on.now)) (list_of m.cells) m.sets.items) }
+    ensures few { IfOk result (λ m. (number : ℕ) → IsKept (flat_of design.now) number kept.entry (n.Run (segment_view segment.now) (way_on_view on.now)) →
+        length (list_of m.cells).cells ≤ segment_count (flat_of design.now) order.now (length kept.entry.above.now) (segment_view segment.now) + next_count (body_cells (flat_of design.now)) (way_on_view on.now)) }
 {
     let Started {
         mut cells,
@@ -190,6 +195,8 @@ pub fn made_call(
     requires task { IsSoundTask (names_of (flat_of design.now)) (call_view path.now call.now) }
     ensures made { IfOk result (λ m. (number : ℕ) → IsKept (flat_of design.now) number kept.entry (n.Run (segment_view segment.now) (n.Go trap)) →
         IsMade (flat_of design.now) order.now number (n.Run (segment_view segment.now) (n.Go trap)) (list_of m.0.cells) m.0.sets.items) }
+    ensures few { IfOk result (λ m. (number : ℕ) → IsKept (flat_of design.now) number kept.entry (n.Run (segment_view segment.now) (n.Go trap)) →
+        length (list_of m.0.cells).cells ≤ segment_count (flat_of design.now) order.now (length kept.entry.above.now) (segment_view segment.now) + (1 + asked_count (body_cells (flat_of design.now)) (call_view path.now call.now))) }
     ensures call { IfOk result (λ m. IsTrapOf (flat_of design.now) (call_view path.now call.now) (slots_in (list_of m.0.cells)) m.1) }
     ensures asks { IfOk result (λ m. (number : ℕ) → IsKept (flat_of design.now) number kept.entry (n.Run (segment_view segment.now) (n.Go trap)) →
         AsksBehind (flat_of design.now) order.now number (segment_view segment.now) (n.Run (segment_view segment.now) (n.Go trap)) (list_of m.0.cells) (call_view path.now call.now) m.1.args) }

@@ -1,6 +1,6 @@
 //! States of the cells that are needed.
 
-ghost use Rattle.std.specs.Prelude.{◌≡◌, ◌∷◌, [], ℕ, Bool, List, IfOk};
+ghost use Rattle.std.specs.Prelude.{◌≡◌, ◌≤◌, ◌∷◌, [], ℕ, Bool, List, IfOk, length};
 ghost use Rattle.vl_design.specs.Syntax as y;
 ghost use Rattle.cell_form.specs.Views.{list_of, state_of};
 ghost use Rattle.sub_nodes.specs.Nodes as n;
@@ -8,6 +8,7 @@ ghost use Rattle.ten_calls.specs.Traps.{IsTrapOf};
 ghost use Rattle.ten_image.specs.States.{slots_in, Does};
 ghost use Rattle.cell_states.specs.Mades.{IsMade, AsksBehind};
 ghost use Rattle.cell_states.specs.Trims.{IsTrimmed, Calls};
+ghost use Rattle.cell_states.specs.Widths.{IsNarrow};
 
 use crate::base::no_cells;
 use crate::made::Made;
@@ -19,8 +20,10 @@ use vl_base::items::Nums;
 
 /// The cells of a state that its writes and the wanted slots need, with slots from `first` on. A number of a slot that would be too long
 /// is want of memory.
+#[tactic(auto, using(crate::proofs::Lengths::lengths))]
 fn trimmed(alloc: Global, made: &Made, wanted: &[u32], first: u32) -> Result<Trimmed, AllocError>
-    ensures { IfOk result (λ t. IsTrimmed (list_of made.now.cells) made.now.sets.items wanted.now first (list_of t.cells) t.slots.items) }
+    ensures trimmed { IfOk result (λ t. IsTrimmed (list_of made.now.cells) made.now.sets.items wanted.now first (list_of t.cells) t.slots.items) }
+    ensures few { IfOk result (λ t. length (list_of t.cells).cells ≤ length (list_of made.now.cells).cells) }
 {
     let count = made.cells.cells.as_slice().len();
     if count >= (u32::MAX - first) as usize {
@@ -32,6 +35,8 @@ fn trimmed(alloc: Global, made: &Made, wanted: &[u32], first: u32) -> Result<Tri
 /// The state of cells that come to no call, with slots from `first` on, and the states that it leads to.
 pub fn plain_state(alloc: Global, made: &Made, nexts: Nums, first: u32) -> Result<State, AllocError>
     ensures first { IfOk result (λ s. s.cells.first ≡ first) }
+    ensures few { IfOk result (λ s. length (list_of s.cells).cells ≤ length (list_of made.now.cells).cells) }
+    ensures narrow { IfOk result (λ s. (d : y.Flat) (order : List ℕ) (k : ℕ) (x : n.Node) → IsMade d order k x (list_of made.now.cells) made.now.sets.items → IsNarrow d (state_of s)) }
     ensures does { IfOk result (λ s. (d : y.Flat) (order : List ℕ) (k : ℕ) (x : n.Node) → IsMade d order k x (list_of made.now.cells) made.now.sets.items → Does d order k x (state_of s)) }
 {
     let trimmed = trimmed(alloc, made, &[], first)?;
@@ -75,6 +80,8 @@ pub fn call_states(
     first: u32,
 ) -> Result<(State, State), AllocError>
     ensures first { IfOk result (λ s. s.0.cells.first ≡ first) }
+    ensures few { IfOk result (λ s. length (list_of s.0.cells).cells ≤ length (list_of made.now.cells).cells) }
+    ensures narrow { IfOk result (λ s. (d : y.Flat) (order : List ℕ) (k : ℕ) (x : n.Node) → IsMade d order k x (list_of made.now.cells) made.now.sets.items → IsNarrow d (state_of s.0)) }
     ensures behind { IfOk result (λ s. slots_in (list_of s.1.cells) ≡ slots_in (list_of s.0.cells)) }
     ensures calls { IfOk result (λ s. (d : y.Flat) (order : List ℕ) (k : ℕ) (g : n.Segment) (task : y.Task) → IsMade d order k (n.Run g (n.Go number)) (list_of made.now.cells) made.now.sets.items →
         IsTrapOf d task (slots_in (list_of made.now.cells)) call → AsksBehind d order k g (n.Run g (n.Go number)) (list_of made.now.cells) task call.args →

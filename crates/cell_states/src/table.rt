@@ -1,6 +1,6 @@
 //! The states of a design's table of nodes.
 
-ghost use Rattle.std.specs.Prelude.{◌≡◌, ◌<◌, ◌≤◌, ◌+◌, ◌-◌, ◌^◌, ◌++◌, ◌∷◌, [], ℕ, All, length, map, take, slice_get, Some, IfOk, OnOk};
+ghost use Rattle.std.specs.Prelude.{◌≡◌, ◌<◌, ◌≤◌, ◌+◌, ◌-◌, ◌^◌, ◌++◌, ◌∷◌, [], ℕ, List, All, length, map, take, slice_get, Some, IfOk, OnOk};
 ghost use Rattle.vl_design.specs.Sound.{IsMemory, IsSoundTask};
 ghost use Rattle.vl_design.specs.Trees.{flat_of};
 ghost use Rattle.vl_design.specs.Width.{names_of};
@@ -15,11 +15,16 @@ ghost use Rattle.ten_form.specs.Registers.{state_register};
 ghost use Rattle.ten_image.specs.States.{slots_in, AreStates};
 ghost use Rattle.ten_stores.specs.Holding.{mask_register};
 ghost use Rattle.ten_stores.specs.Stores.{node_words};
-ghost use Rattle.cell_states.specs.Designs.{IsCellDesign};
+ghost use Rattle.cell_calls.specs.Counts.{asked_count};
+ghost use Rattle.cell_expr.specs.Counts.{body_cells};
+ghost use Rattle.cell_next.specs.Next.{next_count};
+ghost use Rattle.cell_states.specs.Cells.{segment_count, update_count, AreCounted};
+ghost use Rattle.cell_states.specs.Designs.{ComputesAlone, IsCellDesign};
 ghost use Rattle.cell_states.specs.Mades.{IsKept};
 ghost use Rattle.cell_states.specs.Marks.{AreDelayed};
 ghost use Rattle.cell_states.specs.Pieces.{IsCellNode, IsCellPiece, IsCellWay};
 ghost use Rattle.cell_states.specs.Tables as s;
+ghost use Rattle.cell_states.specs.Widths.{AreNarrow};
 
 use crate::delays::delayed;
 use crate::made::States;
@@ -137,7 +142,8 @@ fn add_run(
     requires pieces { All (IsCellPiece (names_of (flat_of design.now))) segment.now.statements.items }
     requires way { IsCellWay (names_of (flat_of design.now)) on.now }
     ensures more { OnOk result ((number : ℕ) → IsKept (flat_of design.now) number kept.entry (n.Run (segment_view segment.now) (way_on_view on.now)) →
-        s.HasOneMore (flat_of design.now) order.now number (n.Run (segment_view segment.now) (way_on_view on.now)) (map state_of built.old.states) built.old.slots (map state_of built.new.states) built.new.slots) }
+        s.HasOneMore (flat_of design.now) order.now number (n.Run (segment_view segment.now) (way_on_view on.now))
+        (segment_count (flat_of design.now) order.now (length kept.entry.above.now) (segment_view segment.now) + next_count (body_cells (flat_of design.now)) (way_on_view on.now)) (map state_of built.old.states) built.old.slots (map state_of built.new.states) built.new.slots) }
     ensures left { OnOk result (built.new.left ≡ length kept.entry.above.now) }
 {
     let made = made(alloc, design, order, kept, segment, on)?;
@@ -150,21 +156,21 @@ fn add_run(
 fn add_update(
     alloc: Global,
     design: &Design,
-    order: &[u32],
     stores: &[Store],
     delayed: &[bool],
     to: u32,
     built: &mut Built,
 ) -> Result<(), AllocError>
-    requires design { IsCellDesign (flat_of design.now) order.now }
+    requires alone { ComputesAlone (flat_of design.now) }
+    requires signals { length (flat_of design.now).rows ≤ 268435456 }
     requires stores { stores.now ≡ stores_in (flat_of design.now) }
     requires memories { All (λ x. IsMemory (names_of (flat_of design.now)) x.memory) stores.now }
     requires few { All (λ x. mask_register x < 2 ^ 32) stores.now }
     requires delayed { AreDelayed (flat_of design.now) delayed.now }
-    ensures more { OnOk result ((number : ℕ) → s.HasOneMore (flat_of design.now) order.now number (n.Apply to) (map state_of built.old.states) built.old.slots (map state_of built.new.states) built.new.slots) }
+    ensures more { OnOk result ((order : List ℕ) (number : ℕ) → s.HasOneMore (flat_of design.now) order number (n.Apply to) (update_count (flat_of design.now)) (map state_of built.old.states) built.old.slots (map state_of built.new.states) built.new.slots) }
     ensures left { OnOk result (built.new.left ≡ built.old.left) }
 {
-    let made = made_update(alloc, design, order, stores, delayed, to)?;
+    let made = made_update(alloc, design, stores, delayed, to)?;
     let nexts = one(alloc, to)?;
     let state = plain_state(alloc, &made, nexts, built.slots)?;
     let left = built.left;
@@ -192,7 +198,8 @@ fn add_call(
     requires pieces { All (IsCellPiece (names_of (flat_of design.now))) segment.now.statements.items }
     requires task { IsSoundTask (names_of (flat_of design.now)) (call_view path.now call.now) }
     ensures more { OnOk result ((number : ℕ) → IsKept (flat_of design.now) number kept.entry (n.Run (segment_view segment.now) (n.Go trap)) →
-        s.HasTwoMore (flat_of design.now) order.now number (segment_view segment.now) trap (call_view path.now call.now) to (map state_of built.old.states) built.old.slots (map state_of built.new.states) built.new.slots) }
+        s.HasTwoMore (flat_of design.now) order.now number (segment_view segment.now) trap (call_view path.now call.now) to
+        (segment_count (flat_of design.now) order.now (length kept.entry.above.now) (segment_view segment.now) + (1 + asked_count (body_cells (flat_of design.now)) (call_view path.now call.now))) (map state_of built.old.states) built.old.slots (map state_of built.new.states) built.new.slots) }
     ensures left { OnOk result (built.new.left ≡ length kept.entry.above.now) }
 {
     let (made, asked) = made_call(alloc, design, order, kept, segment, trap, path, call)?;
@@ -239,7 +246,7 @@ fn add_node(
                 },
             }
         }
-        Node::Apply(to) => add_update(alloc, design, order, stores, delayed, *to, built),
+        Node::Apply(to) => add_update(alloc, design, stores, delayed, *to, built),
         Node::Trap(_, _, _) => unreachable!(),
     }
 }
@@ -258,7 +265,9 @@ fn all_built(
     requires stores { stores.now ≡ stores_in (flat_of design.now) }
     requires few { All (λ x. mask_register x < 2 ^ 32) stores.now }
     requires paired { ArePaired 0 (cell_nodes (flat_of design.now)) }
-    ensures { IfOk result (λ r. AreStates (flat_of design.now) order.now r.slots (cell_nodes (flat_of design.now)) (map state_of r.states)) }
+    ensures states { IfOk result (λ r. AreStates (flat_of design.now) order.now r.slots (cell_nodes (flat_of design.now)) (map state_of r.states)) }
+    ensures few { IfOk result (λ r. AreCounted (flat_of design.now) order.now (cell_nodes (flat_of design.now)) (map state_of r.states)) }
+    ensures narrow { IfOk result (λ r. AreNarrow (flat_of design.now) (map state_of r.states)) }
 {
     let delayed = delayed(alloc, design)?;
     let mut built = Built {
@@ -306,6 +315,8 @@ pub fn states(
     requires paired { ArePaired 0 (cell_nodes (flat_of design.now)) }
     ensures state { IfOk result (λ r. r.table.state ≡ state_register) }
     ensures states { IfOk result (λ r. AreStates (flat_of design.now) order.now r.slots (cell_nodes (flat_of design.now)) (map state_of r.table.states)) }
+    ensures few { IfOk result (λ r. AreCounted (flat_of design.now) order.now (cell_nodes (flat_of design.now)) (map state_of r.table.states)) }
+    ensures narrow { IfOk result (λ r. AreNarrow (flat_of design.now) (map state_of r.table.states)) }
     ensures stores { IfOk result (λ r. r.stores ≡ length (stores_in (flat_of design.now))) }
 {
     let nodes = table.nodes.as_slice();

@@ -1,6 +1,6 @@
 //! States of updates (IEEE 1364-2005, clause 11.4).
 
-ghost use Rattle.std.specs.Prelude.{◌≡◌, ◌<◌, ◌^◌, ℕ, All, IfOk};
+ghost use Rattle.std.specs.Prelude.{◌≡◌, ◌<◌, ◌≤◌, ◌^◌, ℕ, List, All, IfOk, length};
 ghost use Rattle.vl_design.specs.Sound.{IsMemory};
 ghost use Rattle.vl_design.specs.Trees.{flat_of};
 ghost use Rattle.vl_design.specs.Width.{names_of};
@@ -8,14 +8,16 @@ ghost use Rattle.cell_form.specs.Views.{list_of};
 ghost use Rattle.sub_nodes.specs.Nodes as n;
 ghost use Rattle.ten_form.specs.Banks.{stores_in};
 ghost use Rattle.ten_stores.specs.Holding.{mask_register};
-ghost use Rattle.cell_states.specs.Designs.{IsCellDesign};
+ghost use Rattle.cell_states.specs.Cells.{update_count};
+ghost use Rattle.cell_states.specs.Designs.{ComputesAlone};
 ghost use Rattle.cell_states.specs.Mades.{IsMade};
 ghost use Rattle.cell_states.specs.Marks.{AreDelayed};
 
-use crate::base::{begin_in, no_cells};
+use crate::base::no_cells;
 use crate::made::Made;
 use cell_form::cell::Write;
 use cell_next::next::number;
+use cell_steps::steps;
 use cell_stores::apply::apply;
 use cell_stores::read::read;
 use cell_waves::update::applied;
@@ -29,20 +31,21 @@ use vl_design::design::Design;
 pub fn made_update(
     alloc: Global,
     design: &Design,
-    order: &[u32],
     stores: &[Store],
     delayed: &[bool],
     to: u32,
 ) -> Result<Made, AllocError>
-    requires design { IsCellDesign (flat_of design.now) order.now }
+    requires alone { ComputesAlone (flat_of design.now) }
+    requires signals { length (flat_of design.now).rows ≤ 268435456 }
     requires stores { stores.now ≡ stores_in (flat_of design.now) }
     requires memories { All (λ x. IsMemory (names_of (flat_of design.now)) x.memory) stores.now }
     requires few { All (λ x. mask_register x < 2 ^ 32) stores.now }
     requires delayed { AreDelayed (flat_of design.now) delayed.now }
-    ensures { IfOk result (λ m. (number : ℕ) → IsMade (flat_of design.now) order.now number (n.Apply to) (list_of m.cells) m.sets.items) }
+    ensures made { IfOk result (λ m. (order : List ℕ) (number : ℕ) → IsMade (flat_of design.now) order number (n.Apply to) (list_of m.cells) m.sets.items) }
+    ensures few { IfOk result (λ m. length (list_of m.cells).cells ≤ update_count (flat_of design.now)) }
 {
     let mut cells = no_cells(alloc, 0);
-    let begun = begin_in(alloc, &mut cells, design, order)?;
+    let here = steps::constant(alloc, &mut cells, 0, 1)?;
     let mut sites = Vec::new(alloc);
     read(
         alloc,
@@ -52,9 +55,9 @@ pub fn made_update(
         &mut sites,
     )?;
     let mut sets = Vec::new(alloc);
-    applied(alloc, &mut cells, design, &begun, delayed, &mut sets)?;
+    applied(alloc, &mut cells, design, here, delayed, &mut sets)?;
     let next = number(alloc, &mut cells, to)?;
     sets.push(Write::Reg(STATE, next))?;
-    apply(stores, sites.as_slice(), begun.at.here, &mut sets)?;
+    apply(stores, sites.as_slice(), here, &mut sets)?;
     Ok(Made { cells, sets })
 }

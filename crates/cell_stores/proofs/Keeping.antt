@@ -155,6 +155,7 @@ pub keeps : (stores : List Store) (sites : List Site) (old new : List Write) →
 keeps stores sites old new e is =
     let sets = each_written keep_writes stores sites in
     record {
+      are = is;
       each = λ h. each-from (IsKept sets) (IsKept new) (λ x s k. rw is (kept-behind old sets x s k)) stores sites (each-kept stores sites e h);
       others = λ r h. ap (λ ws. last_write ws r) is ∙ last-more old sets r ∙ ap (later_of (last_write old r)) (all-beside stores sites r h);
       registers = λ h. rw is (all-both IsRegister old sets h (all-registers stores sites));

@@ -53,6 +53,7 @@ IsLeft sets x = (r : ℕ) → x.first ≤ r → r ≤ mask_register x → last_w
 
 -- writes with those of the registers of stores behind them, from the slots of their sites
 pub record Keeps (stores : List Store) (sites : List Site) (old new : List Write) : Type 0 where
+  pub are : new ≡ old ++ each_written keep_writes stores sites
   pub each : AreDisjoint stores → EachHas (IsKept new) stores sites
   pub others : (r : ℕ) → AllByRecursion (IsBeside r) stores → last_write new r ≡ last_write old r
   pub registers : AllByRecursion IsRegister old → AllByRecursion IsRegister new

@@ -1,6 +1,6 @@
 -- What the cells that are left hold and do.
 use Rattle.std.proofs.Common.{◌≡◌, inl, inr, ℕ, ◌+◌, ◌-◌, ◌<◌, ◌≤◌, ◌==◌, Bool, true, List, [], ◌∷◌, length, map, set, get_or, refl, sym, ap, ◌∙◌, arith, subst}
-use Rattle.std.specs.Prelude.{Contains, if◌then◌else◌}
+use Rattle.std.specs.Prelude.{Contains, slice_index, if◌then◌else◌}
 use Rattle.std.specs.List.{AllByRecursion, flat_map}
 use Rattle.std.proofs.lemmas.List.{length-map}
 use Rattle.cell_form.specs.declared.cell.Cell.{Cell}
@@ -11,11 +11,13 @@ use Rattle.cell_form.specs.Values.{Slot, slot_at, slots_of}
 use Rattle.cell_form.specs.Cycle.{with_word, wrote, written, value_at}
 use Rattle.cell_form.specs.Sound.{Shape, IsAmong, AreCells, IsWrite, IsList}
 use Rattle.cell_form.specs.Views.{cell_of}
-use Rattle.cell_steps.specs.Slots.{slot, IsIn}
+use Rattle.cell_form.proofs.Slots.{slots-widths, width-at}
+use Rattle.cell_steps.specs.Slots.{slot, width_at, IsIn}
 use Rattle.cell_trim.specs.Needs.{sources, roots, IsNeeded}
 use Rattle.cell_trim.specs.Marks.{on, AreMarked}
 use Rattle.cell_trim.specs.Moves.{number_of, moved_write, AreMoved}
 use Rattle.cell_trim.specs.Copies.{Shows, AreOwed}
+use Rattle.cell_trim.specs.Widths.{IsWithin}
 use Rattle.cell_trim.proofs.Marking.{names-past}
 use Rattle.cell_trim.proofs.Copying.{Ready, ready-from, all-left, all-right, slot-same, operands-same, among, all-among}
 use Rattle.cell_trim.proofs.Owing.{renamed}
@@ -156,6 +158,32 @@ module _ (old next : ℕ) (cells : List CellData) (sets : List Write) (wanted : 
   trims-sound s h k le =
       so (λ l xs. next + length l.cells ≤ s.slots → IsList s l)
       (λ fits. record { cells = t.shows.sound s h; sets = left-writes s sets ready-sets k; slots = fits }) le
+
+  -- a slot by its new number is as wide
+  same-width : (l : ListData) → l.first ≡ old → l.cells ≡ cells → (a : ℕ) → (a - old < length cells → on t.marks (a - old) ≡ true) →
+      width_at left (number_of old t.numbers (next + length t.kept) a) ≡ width_at l a
+  same-width l e k a h =
+      let was = slots_of old [] [] cells in
+      let is = slots_of next [] [] t.kept in
+      let b = number_of old t.numbers (next + length t.kept) a in
+      ap (λ ws. slice_index ws (b - next)) (sym (slots-widths next [] [] t.kept))
+      ∙ sym (width-at is (b - next))
+      ∙ ap (λ (x : Slot). x.width) (slot-same old next t.marks cells t.numbers t.kept t.shows [] [] a h)
+      ∙ width-at was (a - old)
+      ∙ ap (λ ws. slice_index ws (a - old)) (slots-widths old [] [] cells)
+      ∙ ap (λ (cs : List CellData). slice_index (map (λ (c : CellData). c.width) cs) (a - old)) (sym k)
+      ∙ ap (λ z. slice_index (map (λ (c : CellData). c.width) l.cells) (a - z)) (sym e)
+
+  left-widths : (most : ℕ → ℕ) (l : ListData) → l.first ≡ old → l.cells ≡ cells → (xs : List Write) → Ready old t.marks (length cells) (flat_map sources xs) →
+      AllByRecursion (IsWithin most l) xs → AllByRecursion (IsWithin most left) (map (moved_write (number_of old t.numbers (next + length t.kept))) xs)
+  left-widths most l e k [] r h = tt
+  left-widths most l e k (w.Reg q a ∷ xs) r h =
+      (subst (λ n. n ≤ most q) (sym (same-width l e k a r.0)) h.0, left-widths most l e k xs r.1 h.1)
+  left-widths most l e k (w.Mem m enable word value mask ∷ xs) r h = (tt, left-widths most l e k xs r.1.1.1.1 h.1)
+
+  pub trims-widths : (most : ℕ → ℕ) (l : ListData) → l.first ≡ old → l.cells ≡ cells → AllByRecursion (IsWithin most l) sets →
+      AllByRecursion (IsWithin most new) new.sets
+  trims-widths most l e k h = so (λ m xs. AllByRecursion (IsWithin most m) m.sets) (left-widths most l e k sets ready-sets h)
 
   pub trims-needed : (i : ℕ) → i < length new.cells → IsNeeded new slots i
   trims-needed =

@@ -2,3 +2,4 @@ pub mod Copies
 pub mod Marks
 pub mod Moves
 pub mod Needs
+pub mod Widths

@@ -10,6 +10,7 @@ ghost use Rattle.cell_form.specs.Views.{list_of, cell_of};
 ghost use Rattle.cell_steps.specs.Slots.{slot, IsIn, AreSound};
 ghost use Rattle.cell_trim.specs.Moves.{number_of, AreMoved};
 ghost use Rattle.cell_trim.specs.Needs.{IsNeeded};
+ghost use Rattle.cell_trim.specs.Widths.{IsWithin};
 
 use crate::copies::{Copied, copy_marked};
 use crate::marks::marks;
@@ -74,6 +75,7 @@ pub fn trim(
     ensures writes { IfOk result (λ t. (b c : BankData) →
         written (value_at first (slots_of first b.regs b.mems (list_of t.cells).cells)) t.cells.sets c
         ≡ written (value_at cells.now.first (slots_of cells.now.first b.regs b.mems (list_of cells.now).cells)) sets.now c) }
+    ensures widths { IfOk result (λ t. (most : ℕ → ℕ) → AllByRecursion (IsWithin most (list_of cells.now)) sets.now → AllByRecursion (IsWithin most (list_of t.cells)) t.cells.sets) }
     ensures needed { IfOk result (λ t. (k : ℕ) → k < length t.cells.cells → IsNeeded (list_of t.cells) t.slots.items k) }
 {
     let list = cells.cells.as_slice();

@@ -10,3 +10,4 @@ pub mod Setting
 pub mod Starting
 pub mod Updating
 pub mod Written
+pub mod Lengths

@@ -10,6 +10,7 @@ use Rattle.cell_form.specs.Data.{ListData}
 use Rattle.cell_form.specs.Sound.{IsWrite}
 use Rattle.cell_form.proofs.Fitting.{all-push}
 use Rattle.cell_steps.specs.Slots.{IsIn}
+use Rattle.cell_trim.specs.Widths.{IsWithin}
 use Rattle.cell_later.specs.Pendings.{slot_of}
 use Rattle.cell_waves.specs.Lasts.{last_write, IsRegister}
 use Rattle.cell_waves.specs.Copies.{is_written, slot_or, wanted, with_write, or_before, IsHeld, Sets}
@@ -50,6 +51,7 @@ module _ (rows : List Row) (copy : ℕ) (after : List (Option ℕ)) (here : ℕ)
       each = λ k. sym (ap (λ e. or_before e (last_write old (4 * k + copy))) (wanted-left (below 0 chosen) k (ap (λ t. t && chosen k) (le-ltb k 0 (omega arith)))));
       others = λ r n. refl;
       registers = λ h. h;
+      within = λ most l f h. h;
       sound = λ z l s i e h. h;
     }
 
@@ -59,6 +61,7 @@ module _ (rows : List Row) (copy : ℕ) (after : List (Option ℕ)) (here : ℕ)
       each = λ k. h.each k ∙ ap (λ e. or_before e (last_write old (4 * k + copy))) (same k (nat_lt k n) refl);
       others = h.others;
       registers = h.registers;
+      within = h.within;
       sound = h.sound;
     }
       where
@@ -87,7 +90,7 @@ module _ (rows : List Row) (copy : ℕ) (after : List (Option ℕ)) (here : ℕ)
       Is new k = last_write new (4 * k + copy) ≡ or_before (wanted rows copy (below (n + 1) chosen) after here k) (last_write old (4 * k + copy))
 
       left : (is_written copy (slice_get rows n) && chosen n) ≡ false → Sets rows copy (below (n + 1) chosen) after here old mid
-      left e = record { each = λ k. of k (cases_eq k n); others = h.others; registers = h.registers; sound = h.sound }
+      left e = record { each = λ k. of k (cases_eq k n); others = h.others; registers = h.registers; within = h.within; sound = h.sound }
         where
           none : wanted rows copy (below (n + 1) chosen) after here n ≡ None
           none = wanted-same (below (n + 1) chosen) chosen n (here-less n) ∙ ap (λ t. if t then Some (slot_or here (slot_of after n)) else None) e
@@ -102,6 +105,7 @@ module _ (rows : List Row) (copy : ℕ) (after : List (Option ℕ)) (here : ℕ)
         each = λ k. of k (cases_eq k n);
         others = λ r apart. last-other mid (4 * n + copy) r s (apart n) ∙ h.others r apart;
         registers = λ k. all-push IsRegister mid (w.Reg (4 * n + copy) s) (h.registers k) tt;
+        within = λ most l f k. all-push (IsWithin most l) mid (w.Reg (4 * n + copy) s) (h.within most l f k) (f n (both-true (is_written copy (slice_get rows n)) (chosen n) e).0);
         sound = λ z l size is each k. all-push (IsWrite z l.first (length l.cells)) mid (w.Reg (4 * n + copy) s) (h.sound z l size is each k)
             (omega (arith, size, small, lt), slot-there l here (slot_of after n) is (each n (both-true (is_written copy (slice_get rows n)) (chosen n) e).0));
       }

@@ -1,5 +1,5 @@
 -- What a state begins with.
-use Rattle.std.proofs.Common.{◌≡◌, ℕ, List, [], length, sym, ap, ◌∙◌, arith, subst}
+use Rattle.std.proofs.Common.{◌≡◌, ◌≤◌, ◌+◌, ℕ, List, [], length, sym, ap, ◌∙◌, arith, subst}
 use Rattle.std.specs.Prelude.{All, false, slice_index}
 use Rattle.vl_base.specs.declared.files.File.{File}
 use Rattle.vl_design.specs.Syntax.{Flat}
@@ -25,8 +25,9 @@ use Rattle.ten_form.specs.Registers.{places, value_register, work_register, upda
 use Rattle.ten_form.specs.Nets.{cleared, IsTidy}
 use Rattle.ten_form.specs.Banks.{HoldsSignals, HoldsState}
 use Rattle.cell_waves.specs.Copies.{HasSignals, AreCopies}
-use Rattle.cell_waves.specs.Begins.{IsPendingRead, SettlesSignals, Begins}
+use Rattle.cell_waves.specs.Begins.{IsPendingRead, SettlesSignals, begin_count, Begins}
 use Rattle.cell_waves.proofs.Beginning.{copy-entry, copy-held, copy-of, for-room, roomy, roomy-has, roomy-sound, works-read, values-read, memory-cleared}
+use Rattle.cell_waves.proofs.Lengths.{longer-few}
 use Rattle.cell_waves.proofs.Ending.{value-kept}
 use Rattle.cell_waves.proofs.Placing.{HasRoom, room-places}
 
@@ -34,7 +35,7 @@ module _ (d : Flat) (order : List ℕ) (old l1 l2 : ListData) (at : Env) (n m mo
     (g : Longer (HasSignals n) more l1 l2) (u : AreCopies d.rows 5 l2 p.update) (v : AreCopies d.rows 6 l2 p.mask) (vs ws : List ℕ) (is-vs : vs ≡ places value_register d.rows) (is-ws : ws ≡ places work_register d.rows)
     (longer : Longer (HasCopies (names_of d) vs ws 2 1) m old l1) (memories : (z : Shape) → HasCopies (names_of d) vs ws 2 1 z → HasMemories (names_of d) at z)
     (stands : (files : List File) (z : Shape) (b : BankData) (t : State) (w x : List (List ℕ)) → AreSound z old → t.finished ≡ false → IsRead (names_of d) b vs 2 1 (sample t) →
-    IsRead (names_of d) b ws 2 1 (sample (record t { values = w })) → Mixes (names_of d) (pass (run d files t) order t.values) w x → Stands (names_of d) b l1 at (sample (record t { values = x }))) where
+    IsRead (names_of d) b ws 2 1 (sample (record t { values = w })) → Mixes (names_of d) (pass (run d files t) order t.values) w x → Stands (names_of d) b l1 at (sample (record t { values = x }))) (enough : m + more ≤ begin_count d order) where
   grows : Grows l1 l2
   grows = longer-grows (HasSignals n) more l1 l2 g
 
@@ -97,6 +98,7 @@ module _ (d : Flat) (order : List ℕ) (old l1 l2 : ListData) (at : Env) (n m mo
     pending = pending;
     many = u.many;
     sites = none;
+    few = (let a = longer-few (HasCopies (names_of d) vs ws 2 1) m old l1 longer in let b = longer-few (HasSignals n) more l1 l2 g in omega (arith, a, b, enough));
     sound = λ z f h. sound z (for-room d z f) h;
     memories = λ z f. memories z (has z (for-room d z f));
     stands = state-stands;

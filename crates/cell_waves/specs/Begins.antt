@@ -1,5 +1,5 @@
 -- What a state begins with, in slots (IEEE 1364-2005, clauses 6.1, 9.2.2 and 11.3; own).
-use Rattle.std.specs.Prelude.{◌≡◌, ℕ, false, List, [], length, slice_index}
+use Rattle.std.specs.Prelude.{◌≡◌, ◌≤◌, ℕ, ◌+◌, ◌*◌, false, List, [], length, slice_index}
 use Rattle.vl_base.specs.declared.files.File.{File}
 use Rattle.vl_design.specs.Syntax.{Flat}
 use Rattle.vl_design.specs.Width.{names_of}
@@ -11,6 +11,7 @@ use Rattle.cell_form.specs.Data.{ListData, BankData}
 use Rattle.cell_form.specs.Sound.{Shape}
 use Rattle.cell_steps.specs.Slots.{AreSound}
 use Rattle.cell_paths.specs.Envs.{Env, held_or, Fits, HasMemories, Stands}
+use Rattle.cell_nets.specs.Passes.{pass_count}
 use Rattle.cell_later.specs.Pendings.{PendingSlots, slot_of, settled, ArePending}
 use Rattle.ten_form.specs.Registers.{update_register, mask_register}
 use Rattle.ten_form.specs.Nets.{IsTidy}
@@ -26,6 +27,10 @@ abbrev pub SettlesSignals : Flat → BankData → ListData → PendingSlots → 
 SettlesSignals d b l p later = (base : List (List ℕ)) (k : ℕ) → IsFine d.rows base → IsSignal (names_of d) k →
     value_of (all_updated d.rows base later) k ≡ settled b l p k (value_of base k)
 
+-- at most how many cells a state begins with: each signal is read four times, and four cells twice beside; and one pass over processes
+abbrev pub begin_count : Flat → List ℕ → ℕ
+begin_count d order = 4 * length d.rows + 8 + pass_count d order
+
 -- a state begins with these cells; the sites of memory words are for others to add
 pub record Begins (d : Flat) (order : List ℕ) (old new : ListData) (at : Env) (p : PendingSlots) : Type 0 where
   pub first : at.first ≡ 0
@@ -33,6 +38,7 @@ pub record Begins (d : Flat) (order : List ℕ) (old new : ListData) (at : Env) 
   pub pending : ArePending (names_of d) new p
   pub many : length p.update ≡ length d.rows
   pub sites : p.sites ≡ []
+  pub few : length new.cells ≤ length old.cells + begin_count d order
   -- the cells are well-formed on a bank for the design
   pub sound : (z : Shape) → IsFor d 0 z → AreSound z old → AreSound z new
   pub memories : (z : Shape) → IsFor d 0 z → HasMemories (names_of d) at z

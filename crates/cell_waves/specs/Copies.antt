@@ -1,5 +1,5 @@
 -- The registers of signals in slots, and writes to them (own).
-use Rattle.std.specs.Prelude.{◌≡◌, ◌≢◌, ℕ, ◌+◌, ◌*◌, ◌==◌, ◌≤◌, nat_lt, Bool, true, false, not, ◌&&◌, ◌||◌, if◌then◌else◌, List, [], ◌∷◌, ◌++◌, length, slice_get, slice_index_or, Option, Some, None, unwrap_or, ⊤}
+use Rattle.std.specs.Prelude.{◌≡◌, ◌≢◌, ℕ, zero, suc, ◌+◌, ◌*◌, ◌==◌, ◌≤◌, nat_lt, Bool, true, false, not, ◌&&◌, ◌||◌, if◌then◌else◌, List, [], ◌∷◌, ◌++◌, length, slice_get, slice_index_or, Option, Some, None, unwrap_or, ⊤}
 use Rattle.std.specs.List.{AllByRecursion}
 use Rattle.vl_design.specs.declared.design.SigKind.{SigKind}
 use Rattle.vl_design.specs.declared.design.SigKind.TheVariants.{Mem}
@@ -11,7 +11,8 @@ use Rattle.cell_form.specs.declared.cell.Write.{Write}
 use Rattle.cell_form.specs.declared.cell.Write.TheVariants as w
 use Rattle.cell_form.specs.Data.{ListData}
 use Rattle.cell_form.specs.Sound.{Shape, IsWrite}
-use Rattle.cell_steps.specs.Slots.{IsIn}
+use Rattle.cell_steps.specs.Slots.{width_at, IsIn}
+use Rattle.cell_trim.specs.Widths.{IsWithin}
 use Rattle.cell_later.specs.Pendings.{slot_of}
 use Rattle.cell_reads.specs.Entries.{HasCopy}
 use Rattle.ten_form.specs.Registers.{register_count}
@@ -57,6 +58,11 @@ each_one k = true
 abbrev pub marked_one : List Bool → ℕ → Bool
 marked_one marks k = slice_index_or marks k false
 
+-- how many of the first n numbers pass
+abbrev pub count_to : (ℕ → Bool) → ℕ → ℕ
+count_to p zero = 0
+count_to p (suc n) = count_to p n + (if p n then 1 else 0)
+
 -- the slot of an entry; one that holds 0 where it has none
 abbrev pub slot_or : ℕ → Option ℕ → ℕ
 slot_or here e = unwrap_or e here
@@ -85,6 +91,9 @@ pub record Sets (rows : List Row) (copy : ℕ) (chosen : ℕ → Bool) (after : 
   pub each : (k : ℕ) → last_write new (4 * k + copy) ≡ or_before (wanted rows copy chosen after here k) (last_write old (4 * k + copy))
   pub others : (r : ℕ) → ((k : ℕ) → r ≢ 4 * k + copy) → last_write new r ≡ last_write old r
   pub registers : AllByRecursion IsRegister old → AllByRecursion IsRegister new
+  -- they set registers from slots that have at most so many bits, where these slots have
+  pub within : (most : ℕ → ℕ) (l : ListData) → ((k : ℕ) → is_written copy (slice_get rows k) ≡ true → width_at l (slot_or here (slot_of after k)) ≤ most (4 * k + copy)) →
+      AllByRecursion (IsWithin most l) old → AllByRecursion (IsWithin most l) new
   -- they may be done on a bank for the design, where the slots are there
   pub sound : (z : Shape) (l : ListData) → HasSignals (length rows) z → IsIn l here →
       ((k : ℕ) → is_written copy (slice_get rows k) ≡ true → IsHeld l (slot_of after k)) →

@@ -9,7 +9,7 @@ use Rattle.vl_design.specs.Alone.{first_tick}
 use Rattle.fab_lock.specs.declared.entry.Entry.{Entry}
 use Rattle.fab_lock.specs.declared.entry.Kind.TheVariants.{Line}
 use Rattle.ten_parcel.specs.declared.parcel.Parcel.{Parcel}
-use Rattle.ten_parcel.specs.Parcels.{number_of, run_of, ticks_of}
+use Rattle.ten_parcel.specs.Parcels.{is_moved, number_of, run_of, ticks_of}
 use Rattle.fab_points.specs.Points.{ended, is_there, run_in, tick_of, Point}
 use Rattle.fab_points.specs.Fabrics.{arrived, within, Fabric}
 use Rattle.fab_core.specs.Standing.{IsFabric, IsPointOf}
@@ -36,6 +36,7 @@ pub record IsNew (b : Berth) (t : Transit) : Type 0 where
   pub since : b.since ≡ ticks_of t.parcel
   pub noted : b.noted ≡ ticks_of t.parcel
   pub line : b.line.value ≡ t
+  pub by_move : b.by_move ≡ is_moved t.parcel
   pub stays : b.stays.items ≡ t.stays.items
   pub room : vec_len b.stays < vec_capacity b.stays
 
@@ -55,6 +56,7 @@ new_waiter n b t p w few at none =
         few = subst (λ (k : ℕ). k < n) (sym w.tenant) few;
         origin = ap (λ (d : Deed). d.origin) deed ∙ tell.origin;
         free = ap (λ (d : Deed). d.free) deed ∙ tell.free;
+        by_move = w.by_move ∙ sym (ap (λ (d : Deed). d.moved) deed);
         lives = lives_if p none;
         order = (omega (arith, since, noted), omega (arith, noted, tick));
         end = subst (λ (k : ℕ). EndsNotBefore (run_in p) k) tell.ticks (subst (λ (o : alone.Origin). EndsNotBefore o (ticks_of t.parcel)) run t.before_end);

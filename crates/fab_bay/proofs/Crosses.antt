@@ -222,7 +222,7 @@ pub Note-send : IsSend Note.the_row
 Note-send = declared_send Note.the_type (entry.the_send, (known_send, tt))
 
 Berth-send : IsSend Berth.the_row
-Berth-send = declared_send Berth.the_type (u32_send, (u64_send, (u64_send, (stays_send, (snapshot_send, tt)))))
+Berth-send = declared_send Berth.the_type (u32_send, (u64_send, (u64_send, (bool_send, (stays_send, (snapshot_send, tt))))))
 
 Resident-send : IsSend Resident.the_row
 Resident-send = declared_send Resident.the_type (Tenant-send, (u32_send, tt))

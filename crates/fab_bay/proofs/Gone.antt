@@ -23,7 +23,7 @@ use Rattle.fab_notes.specs.Ends.{EndsNotBefore}
 use Rattle.fab_notes.specs.Stays.{chains}
 use Rattle.fab_bay.specs.declared.berth.Berth.{Berth}
 use Rattle.fab_bay.specs.declared.noted.NotedCore.{NotedCore}
-use Rattle.fab_bay.specs.Berths.{AreBerths, IsBerth, IsWaiter}
+use Rattle.fab_bay.specs.Berths.{deed_at, AreBerths, IsBerth, IsWaiter}
 use Rattle.fab_bay.specs.Standing.{CanSettle, HasRoomFor, IsNoted, IsSame}
 use Rattle.fab_bay.specs.Ways.{tokens, AreOut, Goes}
 use Rattle.fab_bay.proofs.Kept.{goes_by, noted_by, out-snoc, told_of, tokens-snoc, written_of, written_then, IsWritten}
@@ -111,7 +111,7 @@ module _ (k tenant place : ℕ) (x y z : NotedCore) (b : Berth) (t : Transit) (n
     pub berths : z.berths.items ≡ remove y.berths.items place
     pub waiting : z.waiting.items ≡ y.waiting.items
     pub note : IsOutNote k t n
-    pub stays : t.stays.items ≡ b.stays.items ++ record { fabric = y.label.fabric; from = b.since; to = ticks_of t.parcel } ∷ []
+    pub stays : t.stays.items ≡ b.stays.items ++ record { fabric = y.label.fabric; from = b.since; to = ticks_of t.parcel; by_move = b.by_move } ∷ []
 
   module _ (o : IsOut) where
     pub out_number : (f : Fabric) (w : Why) (d : Point) → IsNoted x f → IsLeaver w (get_or f.residents place d) t.parcel → number_of t.parcel ≡ tenant
@@ -128,8 +128,9 @@ module _ (k tenant place : ℕ) (x y z : NotedCore) (b : Berth) (t : Transit) (n
         let now = ran_noted tenant place x y b o.ran f h d in
         let ticks = leaver_ticks y.label.tenants b p w t.parcel berth now l in
         let note = o.note in
-        let stays : t.stays.items ≡ b.stays.items ++ record { fabric = y.label.fabric; from = b.since; to = b.noted } ∷ [] =
-        o.stays ∙ ap (λ (k : ℕ). b.stays.items ++ record { fabric = y.label.fabric; from = b.since; to = k } ∷ []) ticks in
+        let stays : t.stays.items ≡ b.stays.items ++ record { fabric = y.label.fabric; from = b.since; to = b.noted; by_move = (deed_at b).moved } ∷ [] =
+        o.stays ∙ (ap (λ (k : ℕ). b.stays.items ++ record { fabric = y.label.fabric; from = b.since; to = k; by_move = b.by_move } ∷ []) ticks
+        ∙ ap (λ (m : Bool). b.stays.items ++ record { fabric = y.label.fabric; from = b.since; to = b.noted; by_move = m } ∷ []) berth.by_move) in
         let may = may_leave y.label.tenants b p w t.parcel berth now l y.label.fabric true t n.entry (deed_in n) refl stays (ap (λ e. e.from) note.entry) note.deed in
         noted_by z y.label (y.notes.items ++ n ∷ []) (remove y.berths.items place) y.waiting.items (left tenant f) o.label o.notes o.berths o.waiting core v.capacity
         (subst (λ (ps : List Point). AreBerths y.label.tenants (remove y.berths.items place) ps) (sym (ran_first tenant place x y b o.ran f h).out) (berths_remove y.label.tenants y.berths.items f.residents place v.residents))

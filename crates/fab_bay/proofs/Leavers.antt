@@ -1,6 +1,6 @@
 -- A tenant that comes out.
 use Rattle.std.proofs.Common.{◌≡◌, ℕ, suc, ◌<◌, ◌≤◌, Bool, true, false, Option, Some, None, List, [], ◌∷◌, ◌++◌, length, get_or, take, drop, map, refl, sym, ap, ap₂, ◌∙◌, subst, append_assoc, arith, eq-eqb}
-use Rattle.std.specs.Prelude.{◌&&◌, ◌==◌, is_some, nat_le, if◌then◌else◌}
+use Rattle.std.specs.Prelude.{◌&&◌, ◌||◌, ◌==◌, is_some, nat_le, if◌then◌else◌}
 use Rattle.std.specs.List.{remove}
 use Rattle.std.proofs.lemmas.Bool.{eqb-true, le-leb}
 use Rattle.std.proofs.lemmas.List.{map-append}
@@ -28,9 +28,11 @@ use Rattle.fab_notes.specs.Deeds.{deed_in, deed_of, Deed}
 use Rattle.fab_notes.specs.Ends.{EndsNotBefore}
 use Rattle.fab_notes.specs.Histories as histories
 use Rattle.fab_notes.specs.Histories.{is_done, place_of, replay, stay_now, Inside, May, MayLeave, Place, Seat}
-use Rattle.fab_notes.specs.Stays.{chains}
+use Rattle.fab_notes.specs.Stays.{chains, is_idle}
 use Rattle.fab_notes.specs.Tokens.{out_at, put_at, told}
 use Rattle.fab_bay.specs.declared.berth.Berth.{Berth}
+use Rattle.fab_bay.specs.declared.leaving.Leaving.{Leaving}
+use Rattle.fab_bay.specs.Ways.{is_move, IsLast}
 use Rattle.fab_bay.specs.declared.noted.Label.{Label}
 use Rattle.fab_bay.specs.declared.noted.NotedCore.{NotedCore}
 use Rattle.fab_bay.specs.Berths.{begun, deed_at, seat, seats, IsBerth}
@@ -98,6 +100,18 @@ due_moves p k r e =
     why_moves (end_in (run_in p).plan p.stopped p.stage.state) (move_at (begun p) (run_in p).plan.errands) p.moved k
     (sym (ap (λ (b : Bool). if b then why_in (run_in p).plan p.stopped p.moved p.stage.state else None) r) ∙ e)
 
+why_unmoved : (e : Option End) (to : Option ℕ) (moved : Bool) (k : ℕ) → why_of e to moved ≡ Some (why.Move k) → moved ≡ false
+why_unmoved (Some end) to moved k h = let z : ⊥ = cc in absurd z
+why_unmoved None (Some f) true k h = let z : ⊥ = cc in absurd z
+why_unmoved None (Some f) false k h = refl
+why_unmoved None None moved k h = let z : ⊥ = cc in absurd z
+
+-- whoever leaves for a move hasn't done it yet
+due_unmoved : (p : Point) (k : ℕ) → rests p ≡ true → due p ≡ Some (why.Move k) → p.moved ≡ false
+due_unmoved p k r e =
+    why_unmoved (end_in (run_in p).plan p.stopped p.stage.state) (move_at (begun p) (run_in p).plan.errands) p.moved k
+    (sym (ap (λ (b : Bool). if b then why_in (run_in p).plan p.stopped p.moved p.stage.state else None) r) ∙ e)
+
 -- a move was done before, or it stands there
 moved_by : (w : Why) (p : Point) (A : Type 0) → rests p ≡ true → ((to : ℕ) → w ≡ why.Move to → due p ≡ Some w) → (departed w p).moved ≡ true
     → (p.moved ≡ true → A) → (is_some (move_at (begun p) (run_in p).plan.errands) ≡ true → A) → A
@@ -140,8 +154,46 @@ module _ (n : ℕ) (b : Berth) (p : Point) (w : Why) (q : Parcel) (h : IsBerth n
       let tick = tick_there p l.rests in
       let z : ⊥ = omega (arith, e, late, tick, now) in absurd z
 
+  -- its last stay
+  abbrev here : ℕ → Stay
+  here g = record { fabric = g; from = b.since; to = ticks_of q; by_move = b.by_move }
+
+  -- it came by the move of the tick at which it leaves just where that is done
+  idle_is : (g : ℕ) → is_idle (here g) ≡ p.moved
+  idle_is g = by p.moved refl
+    where
+      none : (m : Bool) → p.moved ≡ false → is_idle (here g) ≡ m → is_idle (here g) ≡ false
+      none false e i = i
+      none true e i =
+          let s = split_and (ticks_of q == b.since) b.by_move i in
+          let at : b.noted ≡ b.since = sym leaver_ticks ∙ eqb-true (ticks_of q) b.since s.0 in
+          let d : is_done b.since b.noted (deed_at b) ≡ true = both (b.noted == b.since) (deed_at b).moved (eq-eqb b.noted b.since at) (sym h.by_move ∙ s.1) in
+          let m = done_by (is_there p) refl d in
+          let z : ⊥ = cc in absurd z
+
+      by : (m : Bool) → p.moved ≡ m → is_idle (here g) ≡ m
+      by true e = let y = h.moved e in both (ticks_of q == b.since) b.by_move (eq-eqb (ticks_of q) b.since (leaver_ticks ∙ (now ∙ y.1))) (h.by_move ∙ y.2)
+      by false e = none (is_idle (here g)) e refl
+
+  flag_is : (x : Why) (g : ℕ) → w ≡ x → is_moved q ≡ (is_move x || is_idle (here g))
+  flag_is (why.Move to) g e = tell.moved ∙ ap (λ (v : Why). (departed v p).moved) e
+  flag_is (why.Ended end) g e = tell.moved ∙ (ap (λ (v : Why). (departed v p).moved) e ∙ sym (idle_is g))
+
+  busy_is : (x : Why) (g : ℕ) → w ≡ x → is_move x ≡ true → is_idle (here g) ≡ false
+  busy_is (why.Move to) g e m = idle_is g ∙ due_unmoved p to l.rests (l.move to e ∙ ap Some e)
+  busy_is (why.Ended end) g e m = let z : ⊥ = cc in absurd z
+
+  pub leaver_last : (g : ℕ) (x : Leaving) → x.transit.parcel ≡ q → x.why ≡ w → x.transit.stays.items ≡ b.stays.items ++ here g ∷ [] → IsLast x
+  leaver_last g x is for stays = record {
+    before = b.stays.items;
+    stay = here g;
+    stays = stays;
+    busy = λ m. busy_is x.why g (sym for) m;
+    flag = ap is_moved is ∙ flag_is x.why g (sym for);
+  }
+
   -- a tenant whose stays have this one may leave
-  pub may_leave : (g : ℕ) (came : Bool) (t : Transit) (e : Entry) (o : Option Deed) → t.parcel ≡ q → t.stays.items ≡ b.stays.items ++ stay_now g b.since b.noted came → e.from ≡ ticks_of t.parcel
+  pub may_leave : (g : ℕ) (came : Bool) (t : Transit) (e : Entry) (o : Option Deed) → t.parcel ≡ q → t.stays.items ≡ b.stays.items ++ stay_now g b.since b.noted came (deed_at b) → e.from ≡ ticks_of t.parcel
       → o ≡ Some (deed_of t) → MayLeave g b.since b.noted came (deed_at b) e o
   may_leave g came t e o is stays from known = record {
     from = from ∙ (ap ticks_of is ∙ leaver_ticks);
@@ -149,7 +201,7 @@ module _ (n : ℕ) (b : Berth) (p : Point) (w : Why) (q : Parcel) (h : IsBerth n
     known = known;
     origin = ap origin_in is ∙ (tell.origin ∙ (origin_same w p ∙ sym h.origin));
     free = ap free_of is ∙ (tell.free ∙ (free_same w p ∙ sym h.free));
-    stays = stays ∙ ap (λ (xs : List Stay). xs ++ stay_now g b.since b.noted came) h.stays;
+    stays = stays ∙ ap (λ (xs : List Stay). xs ++ stay_now g b.since b.noted came (deed_at b)) h.stays;
     done = λ d. ap is_moved is ∙ (tell.moved ∙ moved_stays w p (done_by (is_there p) refl d));
     moves = λ m no.
         moved_by w p (is_some (move_at b.noted (deeds.run_in (deed_at b)).plan.errands) ≡ true) l.rests l.move (sym (ap is_moved is ∙ tell.moved) ∙ m)
@@ -213,7 +265,7 @@ module _ (l : Label) (notes : List Note) (n : Note) (k : ℕ) (t : Transit) (m :
       (ap (λ (j : Kind). out_at j n) (ap (λ (e : Entry). e.kind) m.entry) ∙ token_told)
 
 -- a stay more behind those that lead to where it begins
-pub stay_more : (s g since r to : ℕ) (xs ys : List Stay) → ys ≡ xs ++ record { fabric = g; from = since; to = r } ∷ [] → r ≡ to → since ≤ to → chains s xs since ≡ true → chains s ys to ≡ true
-stay_more s g since r to xs ys is e l h =
+pub stay_more : (s g since r to : ℕ) (m : Bool) (xs ys : List Stay) → ys ≡ xs ++ record { fabric = g; from = since; to = r; by_move = m } ∷ [] → r ≡ to → since ≤ to → chains s xs since ≡ true → chains s ys to ≡ true
+stay_more s g since r to m xs ys is e l h =
     ap (λ (zs : List Stay). chains s zs to) is
-    ∙ (ap (λ (k : ℕ). chains s (xs ++ record { fabric = g; from = since; to = k } ∷ []) to) e ∙ chains-snoc s since xs (record { fabric = g; from = since; to = to }) h refl l)
+    ∙ (ap (λ (k : ℕ). chains s (xs ++ record { fabric = g; from = since; to = k; by_move = m } ∷ []) to) e ∙ chains-snoc s since xs (record { fabric = g; from = since; to = to; by_move = m }) h refl l)

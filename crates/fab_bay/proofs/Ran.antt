@@ -102,6 +102,7 @@ ran-berth n b p h lt = let o = h.order in record {
   few = h.few;
   origin = h.origin;
   free = h.free;
+  by_move = h.by_move;
   lives = h.lives;
   order = (omega (arith, o.0, lt), omega arith);
   end = h.end;

@@ -191,6 +191,7 @@ module _ (rise : RisesLaw) (same : TicksLaw) (boundary : BoundaryLaw) (one : One
         few = h.few;
         origin = h.origin;
         free = h.free;
+        by_move = h.by_move;
         lives = h.lives;
         order = (o.0, omega (arith, o.1, tick, more, low));
         end = λ j e q x.
@@ -221,6 +222,7 @@ module _ (rise : RisesLaw) (same : TicksLaw) (boundary : BoundaryLaw) (one : One
         few = h.few;
         origin = h.origin;
         free = h.free;
+        by_move = h.by_move;
         lives = h.lives;
         order = (o.0, omega (arith, o.1, tick, more, low));
         end = λ j e q x. let le = h.end j e q x in omega (arith, le, more);
@@ -270,6 +272,7 @@ saved-berth n b p h = record {
   few = h.few;
   origin = h.origin;
   free = h.free;
+  by_move = h.by_move;
   lives = h.lives;
   order = h.order;
   end = h.end;
@@ -327,6 +330,7 @@ called-berth same n b p h run trap =
       few = h.few;
       origin = h.origin;
       free = h.free;
+      by_move = h.by_move;
       lives = h.lives;
       order = (o.0, omega (arith, o.1, grows));
       end = λ j e q x. let le = h.end j e q x in omega (arith, le, more);

@@ -34,6 +34,7 @@ pub record IsBerth (tenants : ℕ) (b : Berth) (p : Point) : Type 0 where
   pub few : b.tenant < tenants
   pub origin : (deed_at b).origin ≡ p.origin
   pub free : (deed_at b).free ≡ p.free
+  pub by_move : b.by_move ≡ (deed_at b).moved
   pub lives : p.stopped ≡ false
   pub order : (b.since ≤ b.noted) × (b.noted ≤ tick_of p)
   pub end : EndsNotBefore (run_in p) (begun p)

@@ -1,15 +1,19 @@
 -- What a call does with a core and its history (own).
-use Rattle.std.specs.Prelude.{◌≡◌, ℕ, suc, ◌<◌, ◌≤◌, ◌+◌, ◌⊎◌, false, List, [], ◌∷◌, ◌++◌, map, length, Some, None, All, ⊤}
+use Rattle.std.specs.Prelude.{◌≡◌, ℕ, suc, ◌<◌, ◌≤◌, ◌+◌, ◌⊎◌, ◌||◌, Bool, true, false, List, [], ◌∷◌, ◌++◌, map, length, Some, None, All, ⊤}
 use Rattle.fab_lock.specs.declared.entry.Entry.{Entry}
 use Rattle.fab_lock.specs.declared.entry.Kind.{Kind}
 use Rattle.fab_lock.specs.declared.entry.Kind.TheVariants as kind
+use Rattle.ten_shell.specs.declared.shell.Why.{Why}
+use Rattle.ten_shell.specs.declared.shell.Why.TheVariants.{Move, Ended}
 use Rattle.fab_points.specs.Points.{departed, due, Point}
 use Rattle.fab_points.specs.Fabrics.{first_leaving, head_fits, Fabric}
 use Rattle.fab_points.specs.Worlds.{happens, run, Event, World, Load, Arrive, Cycle, Serve, Hold, Rebuild, Take, Leave}
 use Rattle.fab_core.specs.Standing.{IsPointOf}
 use Rattle.fab_notes.specs.declared.note.Note.{Note}
+use Rattle.fab_notes.specs.declared.transit.Stay.{Stay}
 use Rattle.fab_notes.specs.declared.transit.Transit.{Transit}
-use Rattle.ten_parcel.specs.Parcels.{number_of, ticks_of}
+use Rattle.fab_notes.specs.Stays.{is_idle}
+use Rattle.ten_parcel.specs.Parcels.{is_moved, number_of, ticks_of}
 use Rattle.fab_notes.specs.Deeds.{deed_in, deed_of}
 use Rattle.fab_notes.specs.Histories.{replay}
 use Rattle.fab_notes.specs.Tokens.{outs, puts, token_of, AllBear, Token}
@@ -34,9 +38,22 @@ AreOut (t ∷ ts) (p ∷ ps) = IsPointOf t.parcel p × AreOut ts ps
 abbrev pub tokens : List Transit → List Token
 tokens ts = map token_of ts
 
+abbrev pub is_move : Why → Bool
+is_move (Move fabric) = true
+is_move (Ended end) = false
+
+-- the stay with which it leaves is its last one; where it leaves for a move, it hadn't come by the one that stands there; and the move that stands
+-- where it rests is done just where it leaves for that, or had come by it
+pub record IsLast (l : Leaving) : Type 0 where
+  pub before : List Stay
+  pub stay : Stay
+  pub stays : l.transit.stays.items ≡ before ++ stay ∷ []
+  pub busy : is_move l.why ≡ true → is_idle stay ≡ false
+  pub flag : is_moved l.transit.parcel ≡ (is_move l.why || is_idle stay)
+
 -- why a tenant that came out was due to leave: it stands where one that was due so, and wasn't stopped, comes to stand
 abbrev pub LeftFor : Leaving → Type 0
-LeftFor l = (p : Point) × IsPointOf l.transit.parcel (departed l.why p) × (due p ≡ Some l.why) × (p.stopped ≡ false)
+LeftFor l = (p : Point) × IsPointOf l.transit.parcel (departed l.why p) × (due p ≡ Some l.why) × (p.stopped ≡ false) × IsLast l
 
 -- ---- events
 

@@ -12,6 +12,8 @@ pub struct Berth {
     pub since: u64,
     /// The tick of its last note.
     pub noted: u64,
+    /// It was put in line with the move done that stands at that tick.
+    pub by_move: bool,
     /// Its stays before this one.
     pub stays: Vec<Stay>,
     /// The tenant as it was put in line.

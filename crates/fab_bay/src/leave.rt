@@ -32,13 +32,14 @@ impl Berth {
         requires end { EndsNotBefore (run_of parcel) (ticks_of parcel) }
         requires room { vec_len self.stays < vec_capacity self.stays }
         ensures parcel { result.parcel ≡ parcel }
-        ensures stays { result.stays.items ≡ self.stays.items ++ record { fabric = fabric; from = self.since; to = ticks_of parcel } ∷ [] }
+        ensures stays { result.stays.items ≡ self.stays.items ++ record { fabric = fabric; from = self.since; to = ticks_of parcel; by_move = self.by_move } ∷ [] }
     {
         let mut stays = self.stays;
         stays.push_reserved(Stay {
             fabric,
             from: self.since,
             to: parcel.ticks(),
+            by_move: self.by_move,
         });
         Transit { parcel, stays }
     }

@@ -8,7 +8,7 @@ ghost use Rattle.fab_core.specs.Standing.{IsPointOf};
 ghost use Rattle.fab_notes.specs.declared.note.Note.{Note as OneNote};
 ghost use Rattle.fab_notes.specs.Deeds.{cost_of, deed_in, deed_of};
 ghost use Rattle.fab_notes.specs.Tokens.{token_of};
-ghost use Rattle.ten_parcel.specs.Parcels.{number_of, ticks_of};
+ghost use Rattle.ten_parcel.specs.Parcels.{is_moved, number_of, ticks_of};
 ghost use Rattle.fab_bay.specs.Refusals.{IsAway, IsRefusal};
 ghost use Rattle.fab_bay.specs.Standing.{IsNoted};
 ghost use Rattle.fab_bay.specs.Ways.{IsPut};
@@ -44,6 +44,7 @@ impl Berth {
         ensures since { IfOk result (λ b. b.since ≡ ticks_of transit.now.parcel) }
         ensures noted { IfOk result (λ b. b.noted ≡ ticks_of transit.now.parcel) }
         ensures line { IfOk result (λ b. b.line.value ≡ transit.now) }
+        ensures by_move { IfOk result (λ b. b.by_move ≡ is_moved transit.now.parcel) }
         ensures stays { IfOk result (λ b. b.stays.items ≡ transit.now.stays.items) }
         ensures room { IfOk result (λ b. vec_len b.stays < vec_capacity b.stays) }
     {
@@ -54,6 +55,7 @@ impl Berth {
             tenant: transit.parcel.number(),
             since: tick,
             noted: tick,
+            by_move: transit.is_moved(),
             stays,
             line: Snapshot::of(transit),
         })

@@ -56,9 +56,9 @@ pub record MayRun (since now : ℕ) (d : Deed) (e : Entry) : Type 0 where
   pub moves : HasNoMove (run_in d).plan now e.to (is_done since now d)
 
 -- the stay that ends where a resident leaves
-abbrev pub stay_now : (fabric since now : ℕ) → (came : Bool) → List Stay
-stay_now g since now true = record { fabric = g; from = since; to = now } ∷ []
-stay_now g since now false = []
+abbrev pub stay_now : (fabric since now : ℕ) → (came : Bool) → Deed → List Stay
+stay_now g since now true d = record { fabric = g; from = since; to = now; by_move = d.moved } ∷ []
+stay_now g since now false d = []
 
 -- it left from where it was, with the origin and the snapshots with which it was put in line, and its stays with this one; the move that
 -- stands there is done if it was, or if the tenant left for it
@@ -68,7 +68,7 @@ pub record MayLeave (g since now : ℕ) (came : Bool) (d : Deed) (e : Entry) (ou
   pub known : out ≡ Some deed
   pub origin : deed.origin ≡ d.origin
   pub free : deed.free ≡ d.free
-  pub stays : deed.stays ≡ d.stays ++ stay_now g since now came
+  pub stays : deed.stays ≡ d.stays ++ stay_now g since now came d
   pub done : is_done since now d ≡ true → deed.moved ≡ true
   pub moves : deed.moved ≡ true → is_done since now d ≡ false → is_some (move_at now (run_in d).plan.errands) ≡ true
 
@@ -95,7 +95,7 @@ of_tenant t notes = filter (λ n. n.entry.tenant == t) notes
 
 -- the stay that a note ends
 abbrev pub stay_at : (g : ℕ) → Kind → Place → List Stay
-stay_at g Left (Inside since now c d) = stay_now g since now c
+stay_at g Left (Inside since now c d) = stay_now g since now c d
 stay_at g k p = []
 
 -- the stays of one tenant, by its notes

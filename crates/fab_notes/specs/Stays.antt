@@ -6,3 +6,7 @@ use Rattle.fab_notes.specs.declared.transit.Stay.{Stay}
 abbrev pub chains : ℕ → List Stay → ℕ → Bool
 chains s [] k = s == k
 chains s (x ∷ xs) k = (x.from == s) && (nat_le x.from x.to && chains x.to xs k)
+
+-- it ended at the tick at which it began, by a move
+abbrev pub is_idle : Stay → Bool
+is_idle x = (x.to == x.from) && x.by_move

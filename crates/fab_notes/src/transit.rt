@@ -2,7 +2,7 @@
 
 ghost use Rattle.std.specs.Prelude.{◌≡◌, [], true, IfOk};
 ghost use Rattle.vl_design.specs.Alone.{first_tick};
-ghost use Rattle.ten_parcel.specs.Parcels.{run_of, ticks_of, IsLoaded};
+ghost use Rattle.ten_parcel.specs.Parcels.{is_moved, run_of, ticks_of, IsLoaded};
 ghost use Rattle.ten_shell.specs.Shells.{CanRunOn};
 ghost use Rattle.fab_notes.specs.Ends.{EndsNotBefore};
 ghost use Rattle.fab_notes.specs.Stays.{chains};
@@ -20,6 +20,8 @@ pub struct Stay {
     pub from: u64,
     /// The tick at which it ended.
     pub to: u64,
+    /// It came there by the move of its plan that stands at the tick at which the stay began.
+    pub by_move: bool,
 }
 
 /// A tenant at rest on no fabric, with its stays so far: the first begins where its run does, each next one where the one before it
@@ -47,6 +49,16 @@ impl Transit {
                 parcel,
                 stays: Vec::new(alloc),
             }),
+        }
+    }
+
+    /// The move of its plan that stands where it rests is done.
+    pub fn is_moved(&self) -> bool
+        ensures { result ≡ is_moved self.now.parcel }
+    {
+        match &self.parcel {
+            Parcel::Rests(tenant) => tenant.shell.moved,
+            Parcel::Over(_) => false,
         }
     }
 }

@@ -12,6 +12,7 @@ use Rattle.report_text.specs.declared.block.Status.TheVariants as status
 use Rattle.report_text.specs.declared.block.Block.TheVariants as b
 use Rattle.report_text.specs.Report.{report}
 use Rattle.host_form.specs.Origins.{Source, Accepted, Tenant, anew}
+use Rattle.host_form.proofs.Times.{each-by-lists}
 use Rattle.host_form.specs.Histories.{history_of, lines_of, visits_on}
 use Rattle.host_form.specs.Runs.{alone, RunsAsNoted, IsPutNowhere, at_once, Run, IsRun, Ran}
 use Rattle.host_form.specs.Reports.{IsReport}
@@ -43,7 +44,7 @@ greeting-runs : IsRun greeting_script.fabrics ([] ∷ []) [] 0 greeting-tenant g
 greeting-runs = record {
   origin = record { design = refl; room = refl; files = refl; plan = refl; start = anew };
   end = alone refl greeting-end.1;
-  visits = record { each = greeting-each; ordered = tt; chain = refl };
+  visits = record { each = each-by-lists ([] ∷ []) 0 [] greeting-each; ordered = tt; chain = refl };
   lines = at_once refl refl greeting-nowhere;
   noted = greeting-noted;
 }

@@ -13,6 +13,7 @@ use Rattle.report_text.specs.declared.block.Block.TheVariants as b
 use Rattle.report_text.specs.Report.{report}
 use Rattle.fab_io.specs.Outside.{Files}
 use Rattle.host_form.specs.Origins.{Source, Accepted, Tenant, IsOrigin, anew}
+use Rattle.host_form.proofs.Times.{each-by-lists}
 use Rattle.host_form.specs.Histories.{Visit, visits_on, history_of, lines_of, lines_at}
 use Rattle.host_form.specs.Orders.{Put, puts_at}
 use Rattle.host_form.specs.Runs.{alone, RunsAs, RunsAsNoted, AreLines, later, Run, IsRun, Ran}
@@ -71,7 +72,7 @@ lone-runs : IsRun lone_script.fabrics lone_histories [] 0 lone-tenant lone-run
 lone-runs = record {
   origin = lone-starts;
   end = alone refl lone-end.1;
-  visits = record { each = lone-each; ordered = (tt, tt); chain = (refl, refl) };
+  visits = record { each = each-by-lists lone_histories 0 (lone-visit ∷ []) lone-each; ordered = (tt, tt); chain = (refl, refl) };
   lines = lone-lines;
   noted = lone-noted;
 }

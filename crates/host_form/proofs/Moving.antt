@@ -14,6 +14,7 @@ use Rattle.report_text.specs.declared.block.Reply.TheVariants as reply_is
 use Rattle.report_text.specs.Report.{report}
 use Rattle.fab_io.specs.Outside.{Files}
 use Rattle.host_form.specs.Origins.{Source, Accepted, Tenant, IsOrigin, anew}
+use Rattle.host_form.proofs.Times.{each-by-lists}
 use Rattle.host_form.specs.Histories.{Visit, visits_on, history_of, lines_of, lines_at}
 use Rattle.host_form.specs.Orders.{Answered, Put, puts_at}
 use Rattle.host_form.specs.Runs.{alone, RunsAsNoted, AreLines, later, Run, IsRun, Ran}
@@ -87,7 +88,7 @@ moving-runs : IsRun moving_script.fabrics moving_histories moving-answers 0 movi
 moving-runs = record {
   origin = moving-starts;
   end = alone refl moving-end.1;
-  visits = record { each = moving-each; ordered = ((refl, (refl, tt)), ((refl, tt), (tt, tt))); chain = (refl, (refl, (refl, refl))) };
+  visits = record { each = each-by-lists moving_histories 0 moving-visits moving-each; ordered = ((refl, (refl, tt)), ((refl, tt), (tt, tt))); chain = (refl, (refl, (refl, refl))) };
   lines = moving-lines;
   noted = moving-noted;
 }

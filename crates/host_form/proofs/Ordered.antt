@@ -15,6 +15,7 @@ use Rattle.report_text.specs.declared.block.Block.TheVariants as b
 use Rattle.report_text.specs.declared.block.Reply.TheVariants as reply_is
 use Rattle.report_text.specs.Report.{report}
 use Rattle.host_form.specs.Origins.{Source, Accepted, Tenant, IsOrigin, anew}
+use Rattle.host_form.proofs.Times.{each-by-lists}
 use Rattle.host_form.specs.Histories.{Visit, visits_on, history_of, lines_of, lines_at, Leaves}
 use Rattle.host_form.specs.Orders.{Answered, Put, puts_at}
 use Rattle.host_form.specs.Runs.{alone, RunsAsNoted, AreLines, later, Run, IsRun, Ran}
@@ -90,7 +91,7 @@ ordered-runs : IsRun ordered_script.fabrics ordered_histories ordered-answers 0 
 ordered-runs = record {
   origin = ordered-starts;
   end = alone refl ordered-end.1;
-  visits = record { each = ordered-each; ordered = ((refl, (refl, tt)), ((refl, tt), (tt, tt))); chain = (refl, (refl, (refl, refl))) };
+  visits = record { each = each-by-lists ordered_histories 0 ordered-visits ordered-each; ordered = ((refl, (refl, tt)), ((refl, tt), (tt, tt))); chain = (refl, (refl, (refl, refl))) };
   lines = ordered-lines;
   noted = ordered-noted;
 }

@@ -15,6 +15,7 @@ use Rattle.report_text.specs.declared.block.Block.TheVariants as b
 use Rattle.report_text.specs.declared.block.Reply.TheVariants as reply_is
 use Rattle.report_text.specs.Report.{report}
 use Rattle.host_form.specs.Origins.{Source, Accepted, Tenant, IsOrigin, anew}
+use Rattle.host_form.proofs.Times.{each-by-lists}
 use Rattle.host_form.specs.Histories.{Visit, visits_on, history_of, lines_of, lines_at, Leaves}
 use Rattle.host_form.specs.Orders.{Answered, Put, puts_at}
 use Rattle.host_form.specs.Runs.{stopped, RunsAsNoted, AreLines, later, Run, IsRun, Ran}
@@ -75,7 +76,7 @@ stopping-runs : IsRun stopping_script.fabrics stopping_histories stopping-answer
 stopping-runs = record {
   origin = stopping-starts;
   end = stopped refl refl stopping-end.1 (λ j q l b. alone-end.1.first j q (omega (arith, l)) b);
-  visits = record { each = stopping-each; ordered = (tt, tt); chain = (refl, refl) };
+  visits = record { each = each-by-lists stopping_histories 0 (stopping-visit ∷ []) stopping-each; ordered = (tt, tt); chain = (refl, refl) };
   lines = stopping-lines;
   noted = stopping-noted;
 }

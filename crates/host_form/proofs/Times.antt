@@ -3,8 +3,7 @@ use Rattle.std.proofs.Common.{◌≡◌, ℕ, ◌<◌, ◌≤◌, Bool, true, fa
 use Rattle.std.specs.List.{AllByRecursion}
 use Rattle.std.proofs.lemmas.Bool.{eqb-true, eq-eqb}
 use Rattle.std.proofs.lemmas.Bool.Decides.{nat_tests}
-use Rattle.host_form.specs.Histories.{Note, Histories, Visit, history_of, notes_of, is_came, next_left, visit_to, visits_in, visits_on, comes_before, AreOrdered, Chain, AreVisits}
-use Rattle.host_form.specs.Laws.{is_same, times}
+use Rattle.host_form.specs.Histories.{Note, Histories, Visit, history_of, notes_of, is_came, next_left, visit_to, visits_in, visits_on, comes_before, is_same, times, AreOrdered, Chain, AreVisits}
 
 -- ---- the same
 
@@ -196,39 +195,6 @@ chain-sorted from to (v ∷ vs) h k = chain-put from to v (sorted vs) (h.0, chai
 abbrev on : ℕ → Visit → Bool
 on g v = v.fabric == g
 
-passes : (g : ℕ) (vs : List Visit) → AllByRecursion (λ v. on g v ≡ true) (filter (on g) vs)
-passes g [] = tt
-passes g (v ∷ vs) = by (on g v) refl (passes g vs)
-  where
-    by : (b : Bool) → on g v ≡ b → AllByRecursion (λ v. on g v ≡ true) (filter (on g) vs) → AllByRecursion (λ v. on g v ≡ true) (cond b (v ∷ filter (on g) vs) (filter (on g) vs))
-    by true e rest = (e, rest)
-    by false e rest = rest
-
-all-filter : (P : Visit → Type 0) (p : Visit → Bool) (vs : List Visit) → AllByRecursion P vs → AllByRecursion P (filter p vs)
-all-filter P p [] h = tt
-all-filter P p (v ∷ vs) h = by (p v) (all-filter P p vs h.1)
-  where
-    by : (b : Bool) → AllByRecursion P (filter p vs) → AllByRecursion P (cond b (v ∷ filter p vs) (filter p vs))
-    by true rest = (h.0, rest)
-    by false rest = rest
-
-ordered-filter : (p : Visit → Bool) (vs : List Visit) → AreOrdered vs → AreOrdered (filter p vs)
-ordered-filter p [] h = tt
-ordered-filter p (v ∷ vs) h = by (p v) (ordered-filter p vs h.1)
-  where
-    by : (b : Bool) → AreOrdered (filter p vs) → AreOrdered (cond b (v ∷ filter p vs) (filter p vs))
-    by true rest = (all-filter (λ w. comes_before w v ≡ false) p vs h.0, rest)
-    by false rest = rest
-
-elsewhere_ranks : (a b c d e f g : ℕ) → (a == g) ≡ false → (b == g) ≡ true → ((a == b) && (c == d) && (e == f)) ≡ false
-elsewhere_ranks a b c d e f g h k = grind (arith, nat_tests)
-
--- one of another fabric isn't there
-times-elsewhere : (g : ℕ) (x : Visit) (vs : List Visit) → on g x ≡ false → AllByRecursion (λ v. on g v ≡ true) vs → times x vs ≡ 0
-times-elsewhere g x [] e h = refl
-times-elsewhere g x (v ∷ vs) e h =
-    times-past x v vs (elsewhere_ranks x.fabric v.fabric x.from v.from x.to v.to g e h.0) ∙ times-elsewhere g x vs e h.1
-
 -- one of the fabric is there as often as among all
 times-there : (g : ℕ) (x : Visit) (vs : List Visit) → on g x ≡ true → times x (filter (on g) vs) ≡ times x vs
 times-there g x [] e = refl
@@ -241,52 +207,26 @@ times-there g x (v ∷ vs) e = by (on g v) refl (times-there g x vs e)
     by true s same = more_one (is_same x v) v (filter (is_same x) (filter (on g) vs)) (filter (is_same x) vs) same
     by false s same = same ∙ sym (times-past x v vs (other_ranks x.fabric v.fabric x.from v.from x.to v.to g e s))
 
-visit-there : (g from : ℕ) (to : Option ℕ) → AllByRecursion (λ v. on g v ≡ true) (visit_to g from to)
-visit-there g from None = tt
-visit-there g from (Some to) = (eq-eqb g g refl, tt)
-
-all-append : (P : Visit → Type 0) (vs ws : List Visit) → AllByRecursion P vs → AllByRecursion P ws → AllByRecursion P (vs ++ ws)
-all-append P [] ws h k = k
-all-append P (v ∷ vs) ws h k = (h.0, all-append P vs ws h.1 k)
-
-visits-there : (g : ℕ) (ns : List Note) → AllByRecursion (λ v. on g v ≡ true) (visits_in g ns)
-visits-there g [] = tt
-visits-there g (n ∷ ns) =
-    all-append (λ v. on g v ≡ true) (if is_came n.entry.kind then visit_to g n.entry.from (next_left ns) else []) (visits_in g ns)
-    (by (is_came n.entry.kind)) (visits-there g ns)
-  where
-    by : (b : Bool) → AllByRecursion (λ v. on g v ≡ true) (if b then visit_to g n.entry.from (next_left ns) else [])
-    by true = visit-there g n.entry.from (next_left ns)
-    by false = tt
+-- stays that are, fabric by fabric, just those of the histories
+pub each-by-lists : (histories : Histories) (tenant : ℕ) (visits : List Visit) → ((g : ℕ) → filter (λ v. v.fabric == g) visits ≡ visits_on histories tenant g)
+    → (v : Visit) → times v visits ≡ times v (visits_on histories tenant v.fabric)
+each-by-lists histories tenant visits h v = sym (times-there v.fabric v visits (eq-eqb v.fabric v.fabric refl)) ∙ ap (λ vs. times v vs) (h v.fabric)
 
 pub visits-by-times : (histories : Histories) (tenant from to : ℕ) (trail visits : List Visit)
     → Chain from trail to → AllByRecursion (λ v. v.from ≤ v.to) trail → ((v : Visit) → times v trail ≡ times v (visits_on histories tenant v.fabric))
-    → ((g : ℕ) → AreOrdered (visits_on histories tenant g)) → AreOrdered visits → ((v : Visit) → times v visits ≡ times v trail)
-    → AreVisits histories tenant from to visits
+    → AreOrdered visits → ((v : Visit) → times v visits ≡ times v trail) → AreVisits histories tenant from to visits
 unfolding Goes
-visits-by-times histories tenant from to trail visits chain goes all parts ordered same =
+visits-by-times histories tenant from to trail visits chain goes all ordered same =
     let put_in_order : sorted trail ≡ visits =
     ordered-by-times (sorted trail) visits (λ x. times-sorted x trail ∙ sym (same x)) (ordered-sorted trail) ordered in
     record {
-      each = λ g. ordered-by-times (filter (on g) visits) (visits_on histories tenant g) (λ x. by g x (on g x) refl) (ordered-filter (on g) visits ordered) (parts g);
+      each = λ v. same v ∙ all v;
       ordered = ordered;
       chain = subst (λ vs. Chain from vs to) put_in_order (chain-sorted from to trail chain goes);
     }
-  where
-    by : (g : ℕ) (x : Visit) (b : Bool) → on g x ≡ b → times x (filter (on g) visits) ≡ times x (visits_on histories tenant g)
-    by g x true e =
-        let fabric : x.fabric ≡ g = eqb-true x.fabric g e in
-        times-there g x visits e ∙ same x ∙ all x ∙ ap (λ i. times x (visits_on histories tenant i)) fabric
-    by g x false e =
-        times-elsewhere g x (filter (on g) visits) e (passes g visits)
-        ∙ sym (times-elsewhere g x (visits_on histories tenant g) e (visits-there g (notes_of tenant (history_of histories g))))
 
 -- ---- one list
 
 pub visits-once : (histories : Histories) (tenant from to start end : ℕ) (vs ws : List Visit) → AreVisits histories tenant from to vs → AreVisits histories tenant start end ws → vs ≡ ws
 visits-once histories tenant from to start end vs ws a b =
-    ordered-by-times vs ws
-    (λ x. sym (times-there x.fabric x vs (eq-eqb x.fabric x.fabric refl))
-    ∙ ap (λ zs. times x zs) (a.each x.fabric ∙ sym (b.each x.fabric))
-    ∙ times-there x.fabric x ws (eq-eqb x.fabric x.fabric refl))
-    a.ordered b.ordered
+    ordered-by-times vs ws (λ x. a.each x ∙ sym (b.each x)) a.ordered b.ordered

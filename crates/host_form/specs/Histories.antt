@@ -102,8 +102,15 @@ abbrev pub Chain : ℕ → List Visit → ℕ → Type 0
 Chain from [] to = from ≡ to
 Chain from (v ∷ vs) to = (v.from ≡ from) × Chain v.to vs to
 
--- the stays of a tenant from a tick to another: those on each fabric, all in order, and they chain
+abbrev pub is_same : Visit → Visit → Bool
+is_same v w = (v.fabric == w.fabric) && (v.from == w.from) && (v.to == w.to)
+
+-- how often a stay is in a list
+abbrev pub times : Visit → List Visit → ℕ
+times v visits = length (filter (is_same v) visits)
+
+-- the stays of a tenant from a tick to another: those on each fabric, each as often as there, all in order, and they chain
 pub record AreVisits (histories : Histories) (tenant from to : ℕ) (visits : List Visit) : Type 0 where
-  pub each : (g : ℕ) → filter (λ v. v.fabric == g) visits ≡ visits_on histories tenant g
+  pub each : (v : Visit) → times v visits ≡ times v (visits_on histories tenant v.fabric)
   pub ordered : AreOrdered visits
   pub chain : Chain from visits to

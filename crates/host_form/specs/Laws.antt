@@ -7,7 +7,6 @@ use Rattle.report_text.specs.declared.block.Block.TheVariants as b
 use Rattle.report_text.specs.Readable.{IsReadable, IsReply}
 use Rattle.script_text.specs.declared.script.Script.{Script}
 use Rattle.host_form.specs.Origins.{Source, Tenant}
-use Rattle.host_form.specs.Histories.{Visit}
 use Rattle.host_form.specs.Orders.{Answered}
 use Rattle.host_form.specs.Runs.{Outcome}
 use Rattle.host_form.specs.Reports.{blocks_of}
@@ -30,10 +29,3 @@ name_of (b.Refused a) = a.name
 pub record IsTellable (s : Script) (tenants : List Tenant) (outcomes : List Outcome) (answers : List Answered) : Type 0 where
   pub blocks : AllByRecursion IsReadable (blocks_of s tenants outcomes)
   pub replies : AllByRecursion (λ a. IsReply a.reply) answers
-
-abbrev pub is_same : Visit → Visit → Bool
-is_same v w = (v.fabric == w.fabric) && (v.from == w.from) && (v.to == w.to)
-
--- how often a stay is in a list
-abbrev pub times : Visit → List Visit → ℕ
-times v visits = length (filter (is_same v) visits)

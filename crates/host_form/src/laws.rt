@@ -10,8 +10,8 @@ ghost use Rattle.script_text.specs.declared.script.FabricLine.{FabricLine};
 ghost use Rattle.script_text.specs.declared.script.Script.{Script};
 ghost use Rattle.script_text.specs.declared.script.TenantLine.{TenantLine};
 ghost use Rattle.script_text.specs.Laws.{AreOrdered as AreSorted};
-ghost use Rattle.host_form.specs.Histories.{Histories, Visit, visits_on, AreOrdered, Chain, AreVisits};
-ghost use Rattle.host_form.specs.Laws.{AreAscending, Judges, name_of, IsTellable, times};
+ghost use Rattle.host_form.specs.Histories.{Histories, Visit, visits_on, times, AreOrdered, Chain, AreVisits};
+ghost use Rattle.host_form.specs.Laws.{AreAscending, Judges, name_of, IsTellable};
 ghost use Rattle.fab_io.specs.Outside.{Files};
 ghost use Rattle.host_form.specs.Origins.{Source, Tenant, IsRead, IsOrigin, IsRefused, is_planned, plan_of};
 ghost use Rattle.ten_plan.specs.Plans.{errand_of};
@@ -62,8 +62,7 @@ pub fn stays_are_listed_in_one_way()
 pub fn stays_are_known_by_how_often_each_is_there()
     ensures { (histories : Histories) (tenant from to : ℕ) (trail visits : List Visit) →
         Chain from trail to → AllByRecursion (λ v. v.from ≤ v.to) trail → ((v : Visit) → times v trail ≡ times v (visits_on histories tenant v.fabric)) →
-        ((g : ℕ) → AreOrdered (visits_on histories tenant g)) → AreOrdered visits → ((v : Visit) → times v visits ≡ times v trail) →
-        AreVisits histories tenant from to visits }
+        AreOrdered visits → ((v : Visit) → times v visits ≡ times v trail) → AreVisits histories tenant from to visits }
 {}
 
 /// For these files, these histories, and these replies to its free orders, a script has one report at most, and leaves one set of

@@ -24,6 +24,7 @@ use Rattle.vl_front.specs.Sources.{StandsFor, IsAcceptedOf}
 use Rattle.ten_core.specs.declared.image.Image.{Image}
 use Rattle.ten_core.specs.Tenants.{IsImage}
 use Rattle.ten_design.specs.Designs.{IsTenantDesign}
+use Rattle.ten_make.specs.Within.{IsWithinCost}
 use Rattle.ten_plan.specs.Written.{HasRows}
 use Rattle.vl_limited.specs.Limited.{IsLimited}
 use Rattle.vl_answers.specs.Answers.{AsksBehindCalls}
@@ -99,8 +100,8 @@ module _ (text : List ℕ) (a : Accepted) (is : IsAcceptedOf text a) where
     goes-on tenants =
         can-go-on (flat_of a.design) a.order.items tenants (still d a fit (asks is.of.tree d is.of.elaborated) is.stands) (own d a fit is.stands)
 
-    pub is-image : (image : Image) → IsImage (flat_of a.design) a.order.items image → IsTenantDesign (flat_of a.design) a.order.items → IsImageOf text image
-    is-image image made tenants = record {
+    pub is-image : (image : Image) → IsImage (flat_of a.design) a.order.items image → IsTenantDesign (flat_of a.design) a.order.items → IsWithinCost (flat_of a.design) image → IsImageOf text image
+    is-image image made tenants within = record {
       design = plain.flat d;
       stands = stands-for;
       runs = subst (λ (x : Flat). RunsAs x (plain.flat d)) made.design runs;
@@ -108,5 +109,6 @@ module _ (text : List ℕ) (a : Accepted) (is : IsAcceptedOf text a) where
       image_is = subst (λ (x : Flat). IsImage x a.order.items image) made.design made;
       tenant = subst (λ (x : Flat). IsTenantDesign x a.order.items) made.design tenants;
       names = subst (λ (x : Flat). HasRows x.rows) made.design names;
+      within = subst (λ (x : Flat). IsWithinCost x image) made.design within;
       goes_on = subst (λ (x : Flat). CanGoOn x a.order.items) made.design (goes-on tenants);
     }

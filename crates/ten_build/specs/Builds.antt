@@ -10,6 +10,7 @@ use Rattle.vl_front.specs.Sources.{StandsFor, IsRefusal}
 use Rattle.ten_core.specs.declared.image.Image.{Image}
 use Rattle.ten_core.specs.Tenants.{IsImage}
 use Rattle.ten_design.specs.Designs.{IsTenantDesign}
+use Rattle.ten_make.specs.Within.{IsWithinCost}
 use Rattle.ten_plan.specs.Written.{HasRows}
 use Rattle.vl_again.specs.Again.{CanGoOn}
 
@@ -18,7 +19,7 @@ pub record RunsAs (d e : Flat) : Type 0 where
   pub same : (o : Origin) → o.flat ≡ e → IsSameRun o (record o { flat = d })
   pub rows : d.rows ≡ e.rows
 
--- the image is that of a design that runs as the one that the text stands for; names of what its snapshots keep have at most 255 bytes
+-- the image is that of a design that runs as the one that the text stands for, and it keeps within that design's cost; names of what its snapshots keep have at most 255 bytes
 pub record IsImageOf (text : List ℕ) (image : Image) : Type 0 where
   pub design : Flat
   pub stands : StandsFor text design
@@ -27,6 +28,7 @@ pub record IsImageOf (text : List ℕ) (image : Image) : Type 0 where
   pub image_is : IsImage (flat_of image.design) order image
   pub tenant : IsTenantDesign (flat_of image.design) order
   pub names : HasRows (flat_of image.design).rows
+  pub within : IsWithinCost (flat_of image.design) image
   -- its runs can be resumed from their snapshots
   pub goes_on : CanGoOn (flat_of image.design) order
 

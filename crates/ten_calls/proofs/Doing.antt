@@ -39,7 +39,7 @@ use Rattle.ten_calls.specs.Asked.{shown, own_widths, asked}
 use Rattle.ten_calls.specs.Traps.{shown_text, item_widths}
 use Rattle.ten_calls.specs.Works.{works_of, HaveBytes, IsBefore, saved, DoesCall}
 use Rattle.ten_calls.proofs.Answering.{opened-small, character-small, count-small, end-small}
-use Rattle.ten_calls.proofs.Below.{value-below}
+use Rattle.cell_paths.proofs.Below.{value-below}
 use Rattle.ten_calls.proofs.Serving.{cleared-kept, holds-same, holds-answer, holds-read, holds-loaded}
 
 -- ---- what a display shows

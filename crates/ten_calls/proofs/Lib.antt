@@ -1,4 +1,3 @@
-pub mod Below
 pub mod Serving
 pub mod Answering
 pub mod Doing

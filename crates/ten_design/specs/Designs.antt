@@ -1,5 +1,5 @@
 -- Designs whose runs are done by states of cells (IEEE 1364-2005, clauses 6.1, 9.2 and 10.4; own).
-use Rattle.std.specs.Prelude.{ℕ, ◌≤◌, List, length, All}
+use Rattle.std.specs.Prelude.{ℕ, ◌≤◌, ◌==◌, List, length, count_by, All}
 use Rattle.vl_design.specs.Laws.{IsUnrolled}
 use Rattle.vl_design.specs.Sound.{IsSound}
 use Rattle.vl_design.specs.Syntax.{Flat}
@@ -11,7 +11,7 @@ use Rattle.cell_states.specs.Designs.{ComputesAlone}
 use Rattle.sub_nets.specs.Memories.{SetsNoMemories}
 use Rattle.sub_nets.specs.Nets.{WritesNoNets}
 
--- a sound design without loops that meets the rules of settling, with an order of its processes; combinational processes write
+-- a sound design without loops that meets the rules of settling, with an order of its processes, each once; combinational processes write
 -- computed signals, and no others do; clocked blocks write words of memories by nonblocking assignments alone
 pub record IsTenantDesign (d : Flat) (order : List ℕ) : Type 0 where
   pub sound : IsSound d
@@ -19,6 +19,7 @@ pub record IsTenantDesign (d : Flat) (order : List ℕ) : Type 0 where
   pub functions : All (IsCellFun (names_of d)) d.funs
   pub checked : IsChecked d
   pub ordered : IsOrder d order
+  pub once : (p : ℕ) → count_by (λ i. i == p) order ≤ 1
   pub alone : ComputesAlone d
   pub nets : WritesNoNets d
   pub words : HasOneWord d.rows

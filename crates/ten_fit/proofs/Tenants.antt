@@ -1,6 +1,6 @@
 -- An accepted design of few signals is a tenant's.
-use Rattle.std.proofs.Common.{◌≡◌, ◌≤◌, length, sym, ap, ◌∙◌, subst}
-use Rattle.std.specs.Prelude.{All}
+use Rattle.std.proofs.Common.{◌≡◌, ◌≤◌, ℕ, Bool, true, false, length, sym, ap, ◌∙◌, arith, subst}
+use Rattle.std.specs.Prelude.{All, nat_lt, if◌then◌else◌}
 use Rattle.std.proofs.lemmas.List.{length-map}
 use Rattle.vl_design.specs.Laws.{IsUnrolled}
 use Rattle.vl_design.specs.Placed as p
@@ -30,6 +30,10 @@ use Rattle.sub_nets.specs.Nets.{WritesNoNets}
 use Rattle.ten_design.specs.Designs.{IsTenantDesign}
 use Rattle.ten_fit.proofs.Writers.{alone, leave_memories}
 
+one-time : (q : Bool) (n : ℕ) → n ≡ (if q then 1 else 0) → n ≤ 1
+one-time true n e = omega (arith, e)
+one-time false n e = omega (arith, e)
+
 module _ (d : p.Design) (fit : IsFit d) (w : HasWriters d) (a : Accepted) (s : Stands d a) where
   abbrev next : Flat
   next = unrolled_flat (plain.flat d)
@@ -51,6 +55,7 @@ module _ (d : p.Design) (fit : IsFit d) (w : HasWriters d) (a : Accepted) (s : S
     functions = placed_there (λ x. All (IsCellFun (names_of (plain.flat x))) (plain.flat x).funs) functions;
     checked = placed_there (λ x. IsChecked (plain.flat x)) (checked d fit s.accepted);
     ordered = ordered (flat_of a.design) a.order.items s.order.once s.order.levelled;
+    once = λ k. one-time (nat_lt k (length (flat_of a.design).procs)) _ (s.order.once k);
     alone = there ComputesAlone (alone d fit w s.accepted);
     nets = there WritesNoNets nets;
     words = there (λ x. HasOneWord x.rows) (one-word d.signals);

@@ -1,1 +1,2 @@
 mod Imaging
+mod Keeping

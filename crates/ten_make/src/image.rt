@@ -10,7 +10,9 @@ ghost use Rattle.ten_core.specs.declared.image.Image.{Image as ImageData};
 ghost use Rattle.ten_design.specs.Designs.{IsTenantDesign};
 ghost use Rattle.ten_hold.specs.Holding.{CanBeHeld};
 ghost use Rattle.ten_hold.specs.Ports.{ports_of};
+ghost use Rattle.ten_make.specs.Within.{IsWithinCost};
 
+use cell_cost::laws::{nodes_are_within_cost, registers_are_within_cost};
 use cell_form::bank::PortMap;
 use cell_form::table::StateTable;
 use cell_states::table::states;
@@ -77,12 +79,15 @@ fn sized_ports(alloc: Global, design: &Design) -> Result<PortMap, AllocError>
 /// The states of a design, and where its ticks begin.
 fn made(alloc: Global, design: &Design, order: &[u32]) -> Result<Parts, AllocError>
     requires { IsTenantDesign (flat_of design.now) order.now }
-    ensures { IfOk result (λ m. (image : ImageData) → flat_of design.now ≡ flat_of image.design → image.order.items ≡ order.now → image.table ≡ m.table → image.rise ≡ m.rise →
+    ensures image { IfOk result (λ m. (image : ImageData) → flat_of design.now ≡ flat_of image.design → image.order.items ≡ order.now → image.table ≡ m.table → image.rise ≡ m.rise →
         image.slots ≡ m.slots → image.stores ≡ m.stores → image.ports ≡ m.ports → image.cost ≡ m.cost → IsImage (flat_of design.now) order.now image) }
+    ensures within { IfOk result (λ m. (image : ImageData) → image.table ≡ m.table → image.ports ≡ m.ports → IsWithinCost (flat_of design.now) image) }
 {
     tenants_designs_are_compiled();
     nodes_of_a_tenants_design_are_compiled();
     calls_of_a_table_stand_apart();
+    nodes_are_within_cost();
+    registers_are_within_cost();
     let nodes = few_nodes(alloc, design)?;
     let states = states(alloc, design, order, &nodes)?;
     let ports = sized_ports(alloc, design)?;
@@ -98,10 +103,11 @@ fn made(alloc: Global, design: &Design, order: &[u32]) -> Result<Parts, AllocErr
 }
 
 /// The image of a design with its order: its states do what the nodes of its table behind time zero's wave do, where nets settle in
-/// this order. An `Err` is want of memory, also where there would be more than 2 ^ 31 nodes, or 2 ^ 32 slots.
+/// this order; and it keeps within the design's cost. An `Err` is want of memory, also where there would be more than 2 ^ 31 nodes, or 2 ^ 32 slots.
 pub fn image(alloc: Global, design: Design, order: Vec<u32>) -> Result<Image, AllocError>
     requires { IsTenantDesign (flat_of design) order.items }
-    ensures { IfOk result (λ image. IsImage (flat_of design) order.items image) }
+    ensures image { IfOk result (λ image. IsImage (flat_of design) order.items image) }
+    ensures within { IfOk result (λ image. IsWithinCost (flat_of design) image) }
 {
     let made = made(alloc, &design, &order)?;
     Ok(Image {

@@ -1,4 +1,4 @@
-use Rattle.std.proofs.Common.{◌≡◌, ◌≤◌, [], drop, All, map}
+use Rattle.std.proofs.Common.{◌≡◌, ◌≤◌, [], drop, All, map, false}
 use Rattle.vl_design.specs.Targets.{updates_at}
 use Rattle.vl_eval.specs.Rooms.{names_of}
 use Rattle.cell_form.specs.Data.{ListData}
@@ -26,6 +26,6 @@ invariant-loop-spot l =
       narrow : width_at cells l.value ≤ 128;
       off : IsSlot cells l.off 1;
       left : l.left ≡ sp.bits_of rest;
-      leads : (at : Env) (new : ListData) → Updates names (sp.cells_of rest) (λ b. updates_at (map (sp.spot_in names.rows b cells) rest) (held b cells l.value)) l.off (env_of l.at) at cells new
-          → Updates names (sp.cells_of l.spots) (λ b. updates_at (map (sp.spot_in names.rows b before) l.spots) (held b before l.value)) l.off (env_of l.initial.at) at before new;
+      leads : (at : Env) (new : ListData) → Updates names (sp.cells_of false rest) (λ b. updates_at (map (sp.spot_in names.rows b cells) rest) (held b cells l.value)) l.off (env_of l.at) at cells new
+          → Updates names (sp.cells_of false l.spots) (λ b. updates_at (map (sp.spot_in names.rows b before) l.spots) (held b before l.value)) l.off (env_of l.initial.at) at before new;
     }

@@ -1,4 +1,4 @@
-use Rattle.std.proofs.Common.{◌≡◌, ◌≤◌, ◌*◌, ◌++◌, drop, All, length, map}
+use Rattle.std.proofs.Common.{◌≡◌, ◌≤◌, ◌++◌, drop, All, length, map, true}
 use Rattle.vl_design.specs.Targets.{updates_at}
 use Rattle.vl_eval.specs.Rooms.{names_of}
 use Rattle.cell_form.specs.Data.{ListData}
@@ -29,6 +29,6 @@ invariant-loop-spot l =
       off : IsSlot cells l.off 1;
       sites : memories_of l.pending.sites.items ++ sp.stored_by rest ≡ memories_of l.initial.pending.sites.items ++ sp.stored_by l.spots;
       below : l.below ≡ sp.bits_of rest;
-      leads : (p : PendingSlots) (new : ListData) → Delays names (2 * sp.cells_of rest) (λ b. updates_at (map (sp.spot_in names.rows b cells) rest) (held b cells l.value)) l.off (slots_of l.pending) p cells new
-          → Delays names (2 * sp.cells_of l.spots) (λ b. updates_at (map (sp.spot_in names.rows b before) l.spots) (held b before l.value)) l.off (slots_of l.initial.pending) p before new;
+      leads : (p : PendingSlots) (new : ListData) → Delays names (sp.cells_of true rest) (λ b. updates_at (map (sp.spot_in names.rows b cells) rest) (held b cells l.value)) l.off (slots_of l.pending) p cells new
+          → Delays names (sp.cells_of true l.spots) (λ b. updates_at (map (sp.spot_in names.rows b before) l.spots) (held b before l.value)) l.off (slots_of l.initial.pending) p before new;
     }

@@ -29,7 +29,7 @@ returns-clause-delays c names can =
     let p = slots_of c.args.pending.now in
     let done = delays-word names p c.args.memory c.args.wide c.args.here c.args.enable c.args.word (low_of c.args.low) c.args.part c.in_ok-set.set c.in_ok-value.value c.in_ok-mask.mask l0 l1 l2 l3 can
     c.requires.low c.requires.part c.requires.here.there c.requires.zero c.requires.enable c.requires.word c.in_ok-set.ensures.gives c.in_ok-value.ensures.gives c.in_ok-mask.ensures.gives in
-    subst (λ xs. Delays names 9 (λ b. stored_in b l0 c.args.memory c.args.enable c.args.word (low_of c.args.low) c.args.part) c.args.here p (record { update = p.update; mask = p.mask; sites = xs }) l0 l3)
+    subst (λ xs. Delays names 7 (λ b. stored_in b l0 c.args.memory c.args.enable c.args.word (low_of c.args.low) c.args.part) c.args.here p (record { update = p.update; mask = p.mask; sites = xs }) l0 l3)
     (sym c.in_ok-push.ensures.items) done
 
 pub returns-clause-sites : goal.returns-clause-sites

@@ -13,5 +13,5 @@ returns-clause-assigns c names writable =
     let low = low_of c.args.low in
     let read : c.index-entry.result.now ≡ entry (env_of c.args.at.now) c.args.signal =
     c.index-entry.ensures ∙ entry-read (env_of c.args.at.now) c.args.signal _ _ writable.fits.many writable.first (signal-there _ c.args.signal writable.is_signal) in
-    assigns-with names 4 c.args.signal c.args.wide low c.args.part c.args.off c.in_ok-slot.slot (env_of c.args.at.now) old new writable
-    (subst (λ e. Gives Nothing 4 old new c.in_ok-slot.slot c.args.wide (λ b. written_in b old c.args.wide e low c.args.part c.args.off)) read c.in_ok-slot.ensures.gives)
+    assigns-with names 3 c.args.signal c.args.wide low c.args.part c.args.off c.in_ok-slot.slot (env_of c.args.at.now) old new writable
+    (subst (λ e. Gives Nothing 3 old new c.in_ok-slot.slot c.args.wide (λ b. written_in b old c.args.wide e low c.args.part c.args.off)) read c.in_ok-slot.ensures.gives)

@@ -1,4 +1,4 @@
-use Rattle.std.proofs.Common.{◌<◌, ◌^◌, List, map, sym, ap, ◌∙◌, subst}
+use Rattle.std.proofs.Common.{◌<◌, ◌^◌, List, [], length, map, sym, ap, ◌∙◌, arith, subst}
 use Rattle.std.specs.Prelude.{All}
 use Rattle.std.specs.List.{AllByRecursion}
 use Rattle.std.proofs.lemmas.List.Elements.{recursion_from_All}
@@ -6,8 +6,11 @@ use Rattle.vl_design.specs.Sound.{IsMemory}
 use Rattle.vl_design.specs.Trees.{flat_of}
 use Rattle.vl_design.specs.Width.{names_of}
 use Rattle.cell_form.specs.Views.{list_of}
-use Rattle.cell_paths.specs.Envs.{env_of}
+use Rattle.cell_paths.specs.Envs.{env_of, HasMemories}
 use Rattle.cell_later.specs.Pendings.{slots_of}
+use Rattle.cell_expr.specs.Counts.{body_cells}
+use Rattle.cell_next.specs.Next.{next_count}
+use Rattle.cell_waves.proofs.Lengths.{longer-few}
 use Rattle.sub_nodes.specs.Nodes as n
 use Rattle.sub_split.specs.Views.{segment_view, way_on_view}
 use Rattle.ten_stores.specs.declared.store.Store.{Store}
@@ -43,8 +46,8 @@ writes-requires-clause-same c =
     ∙ starts-same d c.args.order.now number (segment_view c.args.segment.now) (way_on_view c.args.on.now) (list_of x.cells) (env_of x.before.at) (env_of x.after.at) (slots_of x.before.pending) (slots_of x.after.pending) x.ticks kept.there
     (c.in_ok-cells.ensures number kept.above)
 
-pub returns : goal.returns
-returns c number kept =
+pub returns-clause-made : goal.returns-clause-made
+returns-clause-made c number kept =
     let d = flat_of c.args.design.now in
     let x = c.in_ok-cells.field-0 in
     let st = c.in_ok-cells.ensures number kept.above in
@@ -54,7 +57,18 @@ returns c number kept =
     let on = way_on_view c.args.on.now in
     let sets = c.in_ok-sets.sets.items in
     let Above : List Store → Type 0 = λ xs. AllByRecursion (λ (s : Store). IsMemory (names_of d) s.memory) xs in
-    is-made d c.args.order.now number g on st.first st.second (list_of x.cells) (list_of c.next_in.new.cells) (env_of x.before.at) (env_of x.after.at) (slots_of x.before.pending) (slots_of x.after.pending) st.sites x.ticks c.in_ok-next.next h.0
-    end.before sets st.begins st.reads st.does h.1 end.end (subst (λ xs. Keeps xs (slots_of x.after.pending).sites end.before sets) kept.all end.keeps)
+    is-made d c.args.order.now number g on st.first st.second (list_of x.cells) (list_of c.next_in.new.cells) (env_of x.before.at) (env_of x.after.at) (slots_of x.before.pending) (slots_of x.after.pending) st.sites x.ticks c.in_ok-next.next (next_count (body_cells d) on)
+    end.before sets st.begins st.reads st.does h end.end (subst (λ xs. Keeps xs (slots_of x.after.pending).sites end.before sets) kept.all end.keeps)
     (starts-same d c.args.order.now number g on (list_of x.cells) (env_of x.before.at) (env_of x.after.at) (slots_of x.before.pending) (slots_of x.after.pending) x.ticks kept.there st)
     (subst Above kept.above (recursion_from_All (λ (s : Store). IsMemory (names_of d) s.memory) c.args.kept.above.now c.requires.memories)) c.requires.design.alone
+
+pub returns-clause-few : goal.returns-clause-few
+returns-clause-few c number kept =
+    let d = flat_of c.args.design.now in
+    let x = c.in_ok-cells.field-0 in
+    let st = c.in_ok-cells.ensures number kept.above in
+    let on = way_on_view c.args.on.now in
+    let few = st.few in
+    let more = longer-few (HasMemories (names_of d) (env_of x.after.at)) (next_count (body_cells d) on) (list_of x.cells) (list_of c.next_in.new.cells) (c.in_ok-next.ensures.holds []).longer in
+    let same = ap (λ (xs : List Store). length xs) kept.above in
+    omega (arith, few, more, same)

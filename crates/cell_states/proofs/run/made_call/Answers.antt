@@ -1,4 +1,4 @@
-use Rattle.std.proofs.Common.{◌+◌, ◌<◌, ◌^◌, List, map, sym, ap, ◌∙◌, subst}
+use Rattle.std.proofs.Common.{◌+◌, ◌<◌, ◌^◌, List, length, map, sym, ap, ◌∙◌, arith, subst}
 use Rattle.std.specs.Prelude.{All}
 use Rattle.std.specs.List.{AllByRecursion}
 use Rattle.std.proofs.lemmas.List.Elements.{recursion_from_All}
@@ -18,6 +18,7 @@ use Rattle.cell_expr.specs.Compiled.{Holds}
 use Rattle.cell_expr.specs.Counts.{body_cells}
 use Rattle.cell_expr.proofs.Holding.{holds-then}
 use Rattle.cell_next.specs.Next.{next_node}
+use Rattle.cell_waves.proofs.Lengths.{longer-few}
 use Rattle.cell_next.proofs.Nexting.{holds-number}
 use Rattle.sub_nodes.specs.Nodes as n
 use Rattle.sub_split.specs.Views.{call_view, segment_view}
@@ -112,3 +113,17 @@ returns-clause-asks c number kept =
     (starts-same d c.args.order.now number g on l2 (env_of x.before.at) at (slots_of x.before.pending) (slots_of x.after.pending) x.ticks kept.there st)
     (subst Above kept.above (recursion_from_All (λ (s : Store). IsMemory (names_of d) s.memory) c.args.kept.above.now c.requires.memories)) c.requires.design.alone task c.in_ok-asked.asked.args (slots-there l4 _ _ asks.slots)
     (λ files z b y sound stands. asks.values files z b y (num.longer.sound z tt sound) (stands-stays names b l2 l3 at y g23 st.does.fits stands))
+
+pub returns-clause-few : goal.returns-clause-few
+returns-clause-few c number kept =
+    let d = flat_of c.args.design.now in
+    let x = c.in_ok-cells.field-0 in
+    let st = c.in_ok-cells.ensures number kept.above in
+    let task = call_view c.args.path.now c.args.call.now in
+    let few = st.few in
+    let l2 = list_of x.cells in
+    let l3 = list_of c.number.new.cells in
+    let one = longer-few Nothing 1 l2 l3 c.in_ok-next.ensures.gives.longer in
+    let more = longer-few (HasMemories (names_of d) (env_of x.after.at)) (asked_count (body_cells d) task) l3 (list_of c.call_of.new.cells) c.in_ok-asked.ensures.traps.asks.longer in
+    let same = ap (λ (xs : List Store). length xs) kept.above in
+    omega (arith, few, one, more, same)

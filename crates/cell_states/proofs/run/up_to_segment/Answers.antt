@@ -1,4 +1,4 @@
-use Rattle.std.proofs.Common.{◌≡◌, List, [], length, sym, ap, ◌∙◌, subst}
+use Rattle.std.proofs.Common.{◌≡◌, ◌+◌, ◌*◌, List, [], length, sym, ap, ◌∙◌, arith, subst}
 use Rattle.vl_design.specs.Trees.{flat_of}
 use Rattle.vl_design.specs.Width.{names_of}
 use Rattle.cell_form.specs.Data.{ListData}
@@ -9,7 +9,10 @@ use Rattle.cell_later.specs.declared.pending.Site.{Site}
 use Rattle.cell_later.specs.Pendings.{PendingSlots, slots_of, ArePending}
 use Rattle.sub_split.specs.Views.{segment_view}
 use Rattle.ten_stores.specs.declared.store.Store.{Store}
-use Rattle.cell_stores.specs.Reading.{Reads}
+use Rattle.std.specs.List.{AllByRecursion}
+use Rattle.cell_stores.specs.Reading.{HasStore, Reads}
+use Rattle.cell_waves.proofs.Lengths.{longer-few}
+use Rattle.ten_form.specs.Banks.{stores_after}
 use Rattle.cell_waves.specs.Begins.{Begins}
 use Rattle.cell_states.specs.Segments.{DoesSegment}
 use Rattle.cell_states.proofs.Storing.{pending-read}
@@ -65,12 +68,18 @@ returns c n e =
     let at1 = env_of c.segment_in.new.begun.at in
     let p1 = slots_of c.segment_in.new.begun.pending in
     let ticks = c.in_ok-ticks.ticks in
+    let begins = subst (λ (l : ListData). Begins d order l l0 at0 p0) c.no_cells-cells.ensures c.in_ok-before.ensures.begins in
+    let all = subst (λ (xs : List Store). Reads d.rows xs l0 l1 [] sites) e (subst (λ (ss : List Site). Reads d.rows above l0 l1 ss sites) none reads) in
+    let few0 = begins.few in
+    let few1 = longer-few (λ z. AllByRecursion (HasStore z) (stores_after d (n + 1))) (4 * length (stores_after d (n + 1))) l0 l1 all.longer in
+    let few2 = c.in_ok-ticks.ensures.does.few in
     record {
       first = l0;
       second = l1;
       sites = sites;
-      begins = subst (λ (l : ListData). Begins d order l l0 at0 p0) c.no_cells-cells.ensures c.in_ok-before.ensures.begins;
-      reads = subst (λ (xs : List Store). Reads d.rows xs l0 l1 [] sites) e (subst (λ (ss : List Site). Reads d.rows above l0 l1 ss sites) none reads);
+      begins = begins;
+      reads = all;
+      few = omega (arith, few0, few1, few2);
       does = subst (λ (p : PendingSlots). DoesSegment d g at0 at1 (record p { sites = sites }) p1 l1 l2 ticks) c.in_ok-after.ensures.pending
           (subst (λ (a : Env). DoesSegment d g a at1 (record (slots_of c.in_ok-after.after.pending) { sites = sites }) p1 l1 l2 ticks) c.in_ok-after.ensures.at c.in_ok-ticks.ensures.does);
     }

@@ -4,7 +4,6 @@ use Rattle.cell_form.specs.Views.{list_of}
 use Rattle.cell_paths.specs.Envs.{env_of}
 use Rattle.cell_later.specs.Pendings.{slots_of}
 use Rattle.cell_expr.specs.Bodies.{assignment}
-use Rattle.cell_expr.specs.Counts.{stm_count, body_cells}
 use Rattle.cell_states.proofs.Stretching.{all-one, on-three}
 use Rattle.cell_states.proofs.stretch.answered.Goals as goal
 
@@ -13,5 +12,5 @@ returns-clause-does c =
     let d = flat_of c.args.design.now in
     let a = assignment c.args.later (target_of c.args.target.now) (exp_of c.args.source.now) in
     on-three c.assign.result c.assign.ensures.does c.assign.ensures.leaves c.assign.ensures.sites (λ does leaves sites.
-    all-one d a (stm_count (body_cells d) a) c.args.begun.now.at.here (env_of c.args.begun.now.at) (env_of c.assign.new.at) (slots_of c.args.begun.now.pending) (slots_of c.assign.new.pending) (list_of c.args.cells.now) (list_of c.assign.new.cells) refl c.requires.fits
+    all-one d a c.args.begun.now.at.here (env_of c.args.begun.now.at) (env_of c.assign.new.at) (slots_of c.args.begun.now.pending) (slots_of c.assign.new.pending) (list_of c.args.cells.now) (list_of c.assign.new.cells) refl c.requires.fits
     does leaves sites)

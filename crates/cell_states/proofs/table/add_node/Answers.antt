@@ -16,7 +16,7 @@ use Rattle.ten_stores.specs.declared.store.Store.{Store}
 use Rattle.cell_states.specs.Mades.{IsKept}
 use Rattle.cell_states.specs.Pieces.{IsCellNode}
 use Rattle.cell_states.proofs.Counting.{left-most, less-one, less-two, front-all, node-at, own-fits, kept-at}
-use Rattle.cell_states.proofs.Noding.{on-both, node-behind, add-run-state, add-update-state, add-call-states, call-behind, call-room, one-longer, two-longer}
+use Rattle.cell_states.proofs.Noding.{on-both, node-behind, add-run-state, add-update-state, add-call-states, call-behind, call-room, one-longer, two-longer, run-few, call-few}
 use Rattle.cell_states.proofs.Tabling.{go-is, none-waits}
 use Rattle.cell_states.proofs.Wording.{stores-memories}
 use Rattle.cell_states.proofs.table.add_node.Goals as goal
@@ -186,8 +186,9 @@ returns-in-None-clause-first c =
     let kept = kept-at d nodes built.states k x y c.requires.table same lt c.index-nodes-number.is c.in-Run.is c.in_ok-own-in-Run.own built.left c.in_ok-own-in-Run.ensures c.requires.first.left
     c.kept_of-kept.result c.args.stores.now c.requires.stores c.kept_of-kept.ensures.above c.kept_of-kept.ensures.all in
     on-both c.add_run.result c.add_run.ensures.more c.add_run.ensures.left (λ h left.
-    add-run-state d c.args.order.now (cell_nodes d) (map state_of built.states) built.slots built.left c.requires.first (segment_view c.in-Run.segment) (way_on_view c.in-Run.on) (map state_of c.add_run.new.built.states) c.add_run.new.built.slots
-    c.add_run.new.built.left (sym c.go_of.ensures ∙ c.in-None.is) (h (length (map state_of built.states)) kept) there (left ∙ ap (λ (xs : List Store). length xs) kept.above))
+    add-run-state d c.args.order.now (cell_nodes d) (map state_of built.states) built.slots built.left c.requires.first (segment_view c.in-Run.segment) (way_on_view c.in-Run.on) _ (map state_of c.add_run.new.built.states) c.add_run.new.built.slots
+    c.add_run.new.built.left (sym c.go_of.ensures ∙ c.in-None.is) (h (length (map state_of built.states)) kept)
+    (run-few d c.args.order.now (cell_nodes d) (segment_view c.in-Run.segment) (way_on_view c.in-Run.on) (length c.kept_of-kept.result.above.now) (let most = left-most d (length (map state_of built.states) + 1) in let same = ap (λ (xs : List Store). length xs) kept.above in omega (arith, most, same))) there (left ∙ ap (λ (xs : List Store). length xs) kept.above))
 
 pub returns-in-None-clause-more : goal.returns-in-None-clause-more
 returns-in-None-clause-more c =
@@ -202,7 +203,7 @@ returns-in-None-clause-more c =
     let y = v.Run c.in-Run.segment c.in-Run.on in
     let kept = kept-at d nodes built.states k x y c.requires.table same lt c.index-nodes-number.is c.in-Run.is c.in_ok-own-in-Run.own built.left c.in_ok-own-in-Run.ensures c.requires.first.left
     c.kept_of-kept.result c.args.stores.now c.requires.stores c.kept_of-kept.ensures.above c.kept_of-kept.ensures.all in
-    on_ok_weaker c.add_run.result (λ h. one-longer d c.args.order.now (length (map state_of built.states)) (node_view y) built.states c.add_run.new.built.states built.slots c.add_run.new.built.slots (h (length (map state_of built.states)) kept)) c.add_run.ensures.more
+    on_ok_weaker c.add_run.result (λ h. one-longer d c.args.order.now (length (map state_of built.states)) (node_view y) _ built.states c.add_run.new.built.states built.slots c.add_run.new.built.slots (h (length (map state_of built.states)) kept)) c.add_run.ensures.more
 
 pub returns-in-Trap-nodes-clause-first : goal.returns-in-Trap-nodes-clause-first
 returns-in-Trap-nodes-clause-first c =
@@ -229,7 +230,8 @@ returns-in-Trap-nodes-clause-first c =
     c.kept_of-kept.result c.args.stores.now c.requires.stores c.kept_of-kept.ensures.above c.kept_of-kept.ensures.all) in
     on-both c.add_call.result c.add_call.ensures.more c.add_call.ensures.left (λ h left.
     add-call-states d c.args.order.now (cell_nodes d) (map state_of built.states) built.slots built.left c.requires.first (segment_view c.in-Run.segment) (way_on_view c.in-Run.on) c.in-Some.trap c.in-Trap-nodes.to
-    (call_view c.in-Trap-nodes.path.now c.in-Trap-nodes.call.now) (map state_of c.add_call.new.built.states) c.add_call.new.built.slots c.add_call.new.built.left go (h (length (map state_of built.states)) kept) there behind
+    (call_view c.in-Trap-nodes.path.now c.in-Trap-nodes.call.now) _ (map state_of c.add_call.new.built.states) c.add_call.new.built.slots c.add_call.new.built.left go (h (length (map state_of built.states)) kept)
+    (call-few d c.args.order.now (segment_view c.in-Run.segment) (call_view c.in-Trap-nodes.path.now c.in-Trap-nodes.call.now) (length c.kept_of-kept.result.above.now) (let most = left-most d (length (map state_of built.states) + 1) in let same = ap (λ (xs : List Store). length xs) kept.above in omega (arith, most, same))) there behind
     (left ∙ ap (λ (xs : List Store). length xs) kept.above ∙ less-two d (length (map state_of built.states)) _ _ behind))
 
 pub returns-in-Trap-nodes-clause-more : goal.returns-in-Trap-nodes-clause-more
@@ -249,7 +251,7 @@ returns-in-Trap-nodes-clause-more c =
     (kept-at d nodes built.states k x y c.requires.table same lt c.index-nodes-number.is c.in-Run.is c.in_ok-own-in-Run.own built.left c.in_ok-own-in-Run.ensures c.requires.first.left
     c.kept_of-kept.result c.args.stores.now c.requires.stores c.kept_of-kept.ensures.above c.kept_of-kept.ensures.all) in
     on_ok_weaker c.add_call.result (λ h.
-    two-longer d c.args.order.now (length (map state_of built.states)) (segment_view c.in-Run.segment) c.in-Some.trap (call_view c.in-Trap-nodes.path.now c.in-Trap-nodes.call.now) c.in-Trap-nodes.to built.states
+    two-longer d c.args.order.now (length (map state_of built.states)) (segment_view c.in-Run.segment) c.in-Some.trap (call_view c.in-Trap-nodes.path.now c.in-Trap-nodes.call.now) c.in-Trap-nodes.to _ built.states
     c.add_call.new.built.states built.slots c.add_call.new.built.slots (h (length (map state_of built.states)) kept)) c.add_call.ensures.more
 
 pub returns-in-Apply-clause-first : goal.returns-in-Apply-clause-first
@@ -266,11 +268,11 @@ returns-in-Apply-clause-first c =
     let there = node-at d nodes built.states k x y c.requires.table same lt c.index-nodes-number.is c.in-Apply.is in
     on-both c.add_update.result c.add_update.ensures.more c.add_update.ensures.left (λ h left.
     add-update-state d c.args.order.now (cell_nodes d) (map state_of built.states) built.slots built.left c.requires.first c.in-Apply.to (map state_of c.add_update.new.built.states) c.add_update.new.built.slots c.add_update.new.built.left
-    (h (length (map state_of built.states))) there (left ∙ c.requires.first.left ∙ less-one d (length (map state_of built.states)) c.in-Apply.to there))
+    (h c.args.order.now (length (map state_of built.states))) there (left ∙ c.requires.first.left ∙ less-one d (length (map state_of built.states)) c.in-Apply.to there))
 
 pub returns-in-Apply-clause-more : goal.returns-in-Apply-clause-more
 returns-in-Apply-clause-more c =
     let d = flat_of c.args.design.now in
     let built = c.args.built.now in
     on_ok_weaker c.add_update.result (λ h.
-    one-longer d c.args.order.now (length (map state_of built.states)) (n.Apply c.in-Apply.to) built.states c.add_update.new.built.states built.slots c.add_update.new.built.slots (h (length (map state_of built.states)))) c.add_update.ensures.more
+    one-longer d c.args.order.now (length (map state_of built.states)) (n.Apply c.in-Apply.to) _ built.states c.add_update.new.built.states built.slots c.add_update.new.built.slots (h c.args.order.now (length (map state_of built.states)))) c.add_update.ensures.more

@@ -1,3 +1,4 @@
+use Rattle.std.proofs.Common.{arith}
 use Rattle.vl_design.specs.Trees.{flat_of}
 use Rattle.sub_nodes.specs.Nodes as n
 use Rattle.cell_states.proofs.Noding.{on-both, has-one}
@@ -7,6 +8,8 @@ pub returns-clause-more : goal.returns-clause-more
 returns-clause-more c =
     let d = flat_of c.args.design.now in
     let x = n.Apply c.args.to in
-    on-both c.add.result c.add.ensures.states c.add.ensures.slots (λ states slots number.
-    has-one d c.args.order.now number x c.args.built.now.states c.add.new.self.states c.in_ok-state.state c.args.built.now.slots c.add.new.self.slots states slots c.in_ok-state.ensures.first
-    (c.in_ok-state.ensures.does d c.args.order.now number x (c.in_ok-made.ensures number)))
+    on-both c.add.result c.add.ensures.states c.add.ensures.slots (λ states slots order number.
+    has-one d order number x _ c.args.built.now.states c.add.new.self.states c.in_ok-state.state c.args.built.now.slots c.add.new.self.slots states slots c.in_ok-state.ensures.first
+    (let a = c.in_ok-state.ensures.few in let b = c.in_ok-made.ensures.few in omega (arith, a, b))
+    (c.in_ok-state.ensures.narrow d order number x (c.in_ok-made.ensures.made order number))
+    (c.in_ok-state.ensures.does d order number x (c.in_ok-made.ensures.made order number)))

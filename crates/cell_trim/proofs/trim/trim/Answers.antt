@@ -6,7 +6,7 @@ use Rattle.cell_form.specs.Sound.{IsWrite}
 use Rattle.cell_form.specs.Views.{list_of, cell_of}
 use Rattle.cell_trim.specs.declared.trim.Trimmed.{Trimmed}
 use Rattle.cell_trim.specs.Moves.{number_of, AreMoved}
-use Rattle.cell_trim.proofs.Trimming.{Trims, trims-from, trims-first, trims-few, trims-there, trims-sound, trims-values, trims-writes, trims-needed}
+use Rattle.cell_trim.proofs.Trimming.{Trims, trims-from, trims-first, trims-few, trims-there, trims-sound, trims-values, trims-writes, trims-widths, trims-needed}
 use Rattle.cell_trim.proofs.trim.trim.Goals as goal
 
 pub returns : goal.returns
@@ -39,6 +39,8 @@ returns c =
       values = IfOk-weaker c.finish.result _ _ (λ t m. λ b. trims-values old next was sets wanted (list_of t.cells) t.slots.items (trims t m) b
           (list_of cells) refl refl) c.finish.ensures;
       writes = IfOk-weaker c.finish.result _ _ (λ t m. trims-writes old next was sets wanted (list_of t.cells) t.slots.items (trims t m)) c.finish.ensures;
+      widths = IfOk-weaker c.finish.result _ _ (λ t m. λ most h. trims-widths old next was sets wanted (list_of t.cells) t.slots.items (trims t m) most
+          (list_of cells) refl refl h) c.finish.ensures;
       needed = IfOk-weaker c.finish.result _ _
           (λ t m. λ i lt. trims-needed old next was sets wanted (list_of t.cells) t.slots.items (trims t m) i
           (omega (arith, lt, length-map t.cells.cells cell_of))) c.finish.ensures;

@@ -44,4 +44,4 @@ returns-clause-begins c =
     let is-ws = places-of xs signals c.as_slice-2.result.now 4 same (c.as_slice-2.ensures.value ∙ c.in_ok-works.ensures) in
     begins d c.args.order.now old l1 l2 (env_of c.in_ok-at.at) (length signals) _ _ (slots_of p) e.sites many c.in_ok-at.ensures.first c.in_ok-at.ensures.fits
     e.longer (copies-of xs signals 5 l2 p.update.items same e.update) (copies-of xs signals 6 l2 p.mask.items same e.mask)
-    c.as_slice.result.now c.as_slice-2.result.now is-vs is-ws c.in_ok-at.ensures.longer c.in_ok-at.ensures.memories c.in_ok-at.ensures.stands
+    c.as_slice.result.now c.as_slice-2.result.now is-vs is-ws c.in_ok-at.ensures.longer c.in_ok-at.ensures.memories c.in_ok-at.ensures.stands (omega (arith, long, size))

@@ -6,38 +6,19 @@ use Rattle.vl_design.specs.declared.design.Signal.{Signal}
 use Rattle.vl_design.specs.Trees.{flat_of, row_of}
 use Rattle.cell_form.specs.declared.cell.Write.{Write}
 use Rattle.cell_form.specs.Views.{list_of}
-use Rattle.cell_steps.specs.Slots.{Nothing}
-use Rattle.cell_steps.proofs.Frames.{longer-grows}
-use Rattle.cell_paths.specs.Envs.{env_of}
-use Rattle.cell_later.specs.Pendings.{slots_of}
 use Rattle.cell_reads.proofs.Reading.{row-at}
 use Rattle.cell_waves.specs.Applies.{HasUpdateIf}
 use Rattle.cell_waves.specs.Copies.{marked_one, Sets}
-use Rattle.cell_waves.proofs.Updating.{Updated, updated-more, updatable, updatable-stays, applies}
+use Rattle.cell_waves.proofs.Updating.{Updated, updated-more, applies}
 use Rattle.cell_waves.proofs.update.applied.Goals as goal
 
 -- the row of a signal, said of the design's list
 row-of-design : (xs signals : List Signal) (n : ℕ) (x : Signal) → signals ≡ xs → slice_get (map row_of signals) n ≡ Some (row_of x) → slice_get (map row_of xs) n ≡ Some (row_of x)
 row-of-design xs signals n x e is = subst (λ ys. slice_get (map row_of ys) n ≡ Some (row_of x)) e is
 
-pub updated_if-requires-clause-entries : goal.updated_if-requires-clause-entries
-updated_if-requires-clause-entries c =
-    let d = flat_of c.args.design.now in
-    let at = env_of c.args.begun.now.at in
-    let p = slots_of c.args.begun.now.pending in
-    let signals = c.as_slice-signals.result.now in
-    let n = c.loop-number.number in
-    let x = c.index-signals-number.result in
-    let old = list_of c.args.cells.now in
-    let mid = list_of c.loop-number.cells in
-    let is = row-of-design c.args.design.now.signals signals n x c.as_slice-signals.ensures (row-at signals n x c.loop-number-test.true c.index-signals-number.is) in
-    updatable-stays (row_of x) n old mid at.slots p (longer-grows Nothing (6 * n) old mid c.loop-number.invariant.longer) (updatable d old at p c.requires.first c.requires.fits c.requires.pending n (row_of x) is)
-
 pub loop-number-preserved : goal.loop-number-preserved
 loop-number-preserved c =
     let d = flat_of c.args.design.now in
-    let at = env_of c.args.begun.now.at in
-    let p = slots_of c.args.begun.now.pending in
     let signals = c.as_slice-signals.result.now in
     let n = c.loop-number.number in
     let x = c.index-signals-number.result in
@@ -46,10 +27,11 @@ loop-number-preserved c =
     let new = list_of c.updated_if.new.cells in
     let marks = marked_one c.args.delayed.now in
     let is = row-of-design c.args.design.now.signals signals n x c.as_slice-signals.ensures (row-at signals n x c.loop-number-test.true c.index-signals-number.is) in
-    let F : List (Option ℕ) → Type 0 = λ es. Updated d.rows marks at.slots p (n + 1) old new es in
+    let F : List (Option ℕ) → Type 0 = λ es. Updated d.rows marks (n + 1) old new es in
+    let longer = rw c.is_marked-marked.ensures at c.in_ok-slot.ensures.longer in
     subst F (sym c.in_ok-push.ensures.items)
-    (updated-more d.rows marks at.slots p n old mid new c.loop-number.values.items (row_of x) c.in_ok-slot.slot is (updatable d old at p c.requires.first c.requires.fits c.requires.pending n (row_of x) is) c.loop-number.invariant
-    c.in_ok-slot.ensures.longer (subst (λ t. HasUpdateIf t (row_of x) n at.slots p mid new c.in_ok-slot.slot) c.is_marked-marked.ensures c.in_ok-slot.ensures.updates))
+    (updated-more d.rows marks n (n + 1) old mid new c.loop-number.values.items (row_of x) c.in_ok-slot.slot refl is c.loop-number.invariant
+    longer (subst (λ t. HasUpdateIf t (row_of x) n new c.in_ok-slot.slot) c.is_marked-marked.ensures c.in_ok-slot.ensures.updates))
 
 sets-of : (xs signals : List Signal) (copy : ℕ) (marks : List Bool) (es fs : List (Option ℕ)) (here : ℕ) (s0 s1 : List Write) → signals ≡ xs → fs ≡ es → Sets (map row_of signals) copy (marked_one marks) fs here s0 s1 →
     Sets (map row_of xs) copy (marked_one marks) es here s0 s1
@@ -59,8 +41,7 @@ sets-of xs signals copy marks es fs here s0 s1 e f h =
 pub returns-clause-applies : goal.returns-clause-applies
 returns-clause-applies c =
     let d = flat_of c.args.design.now in
-    let at = env_of c.args.begun.now.at in
-    let p = slots_of c.args.begun.now.pending in
+    let here = c.args.here in
     let xs = c.args.design.now.signals in
     let signals = c.as_slice-signals.result.now in
     let same = c.as_slice-signals.ensures in
@@ -79,7 +60,7 @@ returns-clause-applies c =
     let size = ap (λ (ys : List Signal). length ys) same in
     let many : length d.rows ≡ n = omega (arith, long, over, least, size) in
     on_ok_weaker c.write_marked-3.result
-    (λ h. applies d (marked_one marks) at p old new n es s0 s1 s2 s3 c.requires.first c.requires.fits many c.loop-number.invariant
-    (sets-of xs signals 3 marks es c.as_slice.result.now at.here s0 s1 same c.as_slice.ensures.value c.in_ok-write_marked.ensures)
-    (sets-of xs signals 4 marks es c.as_slice-2.result.now at.here s1 s2 same c.as_slice-2.ensures.value c.in_ok-write_marked-2.ensures) (sets-of xs signals 6 marks [] [] at.here s2 s3 same refl h))
+    (λ h. applies d (marked_one marks) here old new n es s0 s1 s2 s3 c.requires.here c.requires.zero many c.loop-number.invariant
+    (sets-of xs signals 3 marks es c.as_slice.result.now here s0 s1 same c.as_slice.ensures.value c.in_ok-write_marked.ensures)
+    (sets-of xs signals 4 marks es c.as_slice-2.result.now here s1 s2 same c.as_slice-2.ensures.value c.in_ok-write_marked-2.ensures) (sets-of xs signals 6 marks [] [] here s2 s3 same refl h))
     c.write_marked-3.ensures

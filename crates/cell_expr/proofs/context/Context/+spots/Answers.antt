@@ -3,12 +3,12 @@ use Rattle.cell_expr.proofs.Listing.{none-right, none-left}
 use Rattle.cell_expr.proofs.Setting.{spotted-none, spotted-then}
 use Rattle.cell_expr.proofs.Sizes.{targets_size, target-part}
 use Rattle.cell_expr.specs.Contexts.{names_of, body_of}
-use Rattle.cell_expr.specs.Counts.{indices_count, all_indices_count}
+use Rattle.cell_expr.specs.Counts.{indices_count, all_indices_count, parts_count, all_parts_count}
 use Rattle.cell_form.specs.Views.{list_of}
 use Rattle.cell_paths.proofs.Staying.{fits-stays}
 use Rattle.cell_paths.specs.Envs.{env_of}
 use Rattle.cell_steps.proofs.Frames.{grows-then}
-use Rattle.std.proofs.Common.{◌+◌, drop, ◌≡◌, ◌*◌, arith, rules, w32}
+use Rattle.std.proofs.Common.{◌+◌, refl, drop, ◌≡◌, ◌*◌, arith, rules, w32}
 use Rattle.std.proofs.lemmas.Int.{to_z-of_z}
 use Rattle.std.proofs.lemmas.List.{drop_all}
 use Rattle.vl_design.specs.Trees.{target_of}
@@ -37,7 +37,7 @@ targets_in-loop-part-preserved g t c =
       sound = s.1;
       apart = none-right _ _ w;
       leads = λ files after new h. l.leads files after new (rw e (spotted-then names (indices_count body (target_of x)) (all_indices_count body (targets_of (drop (i + 1) parts))) at l0 l1 new
-          c.loop-part.spots.items c.spots_in.new.spots.items after _ _ _ _ _ _ _ _ l.fits (c.in_ok-spots_in.ensures.spotted files) h));
+          c.loop-part.spots.items c.spots_in.new.spots.items after _ _ (parts_count (target_of x)) (all_parts_count (targets_of (drop (i + 1) parts))) _ _ _ _ _ (λ later. refl) l.fits (c.in_ok-spots_in.ensures.spotted files) h));
     }
 
 pub targets_in-returns-clause-spotted : goal.targets_in-returns-clause-spotted

@@ -5,7 +5,7 @@ use Rattle.cell_expr.proofs.Sizes.{exp_size, stm_size, items_size, item-part, st
 use Rattle.cell_expr.proofs.Trying.{tried-default, tried-item, item-sound, item-segment, item-apart, others-apart, stored-default, stored-item, default-words, default-sound, default-segment, default-apart}
 use Rattle.cell_expr.specs.Bodies.{IsSegment, CanWait}
 use Rattle.cell_expr.specs.Contexts.{names_of, scope_of, body_of}
-use Rattle.cell_expr.specs.Counts.{exp_count, stm_count}
+use Rattle.cell_expr.specs.Counts.{own_count, stm_count}
 use Rattle.cell_expr.specs.Stored.{stored_words, items_stored, default_stored}
 use Rattle.cell_form.specs.Views.{list_of}
 use Rattle.cell_later.proofs.Keeping.{pending-stays}
@@ -282,7 +282,7 @@ if_in-returns-clause-does g t c =
     on_ok_weaker c.statement_in-2.result
     (λ (d : (files : List File) → Does names (stm_count body b) (exec (scope_of c.args.self.now files) b) c.in_ok-yes.no at1 at2 l3 l4) files.
     let value = c.in_ok-test.ensures.gives files in
-    does-if (scope_of c.args.self.now files) t a b (exp_count body t) (stm_count body a) (stm_count body b) c.args.off c.in_ok-test.test c.in_ok-yes.yes c.in_ok-yes.no at0 at1 at2
+    does-if (scope_of c.args.self.now files) t a b (own_count body t) (stm_count body a) (stm_count body b) c.args.off c.in_ok-test.test c.in_ok-yes.yes c.in_ok-yes.no at0 at1 at2
     (list_of c.args.cells.now) (list_of c.own_in.new.cells) (list_of c.branches.new.cells) l3 l4 c.requires.fits c.requires.off.there value.longer value.slot.there value.value
     c.in_ok-yes.ensures.first c.in_ok-yes.ensures.second (c.in_ok-statement_in.ensures.does files) (d files))
     c.statement_in-2.ensures.does
@@ -303,7 +303,7 @@ if_in-returns-clause-leaves g t c =
     on_ok_weaker c.statement_in-2.result
     (λ (d : (files : List File) → Leaves (names_of ctx) (exec (scope_of ctx files) b) c.in_ok-yes.no at1 p1 p2 l3 l4) files.
     let value = c.in_ok-test.ensures.gives files in
-    leaves-if (scope_of ctx files) t a b (exp_count body t) (stm_count body a) c.args.off c.in_ok-test.test c.in_ok-yes.yes c.in_ok-yes.no (env_of c.args.at.now) at1 p0 p1 p2
+    leaves-if (scope_of ctx files) t a b (own_count body t) (stm_count body a) c.args.off c.in_ok-test.test c.in_ok-yes.yes c.in_ok-yes.no (env_of c.args.at.now) at1 p0 p1 p2
     (list_of c.args.cells.now) (list_of c.own_in.new.cells) (list_of c.branches.new.cells) l3 l4 c.requires.fits c.requires.pending c.requires.off.there value.longer value.value
     c.in_ok-yes.ensures.first c.in_ok-yes.ensures.second (c.in_ok-statement_in.ensures.does files) (c.in_ok-statement_in.ensures.leaves files) (d files))
     c.statement_in-2.ensures.leaves

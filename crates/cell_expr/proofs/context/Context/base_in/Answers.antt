@@ -4,7 +4,7 @@ use Rattle.vl_design.specs.Trees.{exp_of}
 use Rattle.cell_form.specs.Views.{list_of}
 use Rattle.cell_paths.specs.Envs.{env_of}
 use Rattle.cell_expr.specs.Contexts.{scope_of, body_of}
-use Rattle.cell_expr.specs.Counts.{exp_count}
+use Rattle.cell_expr.specs.Counts.{own_count}
 use Rattle.cell_expr.proofs.Adding.{whole-of, word-of, based-signal, based-word}
 use Rattle.cell_expr.proofs.context.Context.base_in.Goals as goal
 
@@ -28,4 +28,4 @@ returns-in_ok-slot-in-Word-clause-based g c = λ files.
     let a = exp_of c.in-Word.address.value in
     let gives = rw c.deref-in-Word.ensures at (c.in_ok-slot-in-Word.ensures.gives files) in
     let form = rw c.deref.ensures at c.form_of-signed.ensures.value in
-    rw e (based-word (scope_of c.args.self.now files) (env_of c.args.at.now) (exp_count (body_of c.args.self.now) a) c.in-Word.memory c.in_ok-slot-in-Word.slot a c.form_of-signed.result.signed (list_of c.args.cells.now) (list_of c.own_in.new.cells) sound.0 (ap (λ (f : Form). f.signed) form) gives)
+    rw e (based-word (scope_of c.args.self.now files) (env_of c.args.at.now) (own_count (body_of c.args.self.now) a) c.in-Word.memory c.in_ok-slot-in-Word.slot a c.form_of-signed.result.signed (list_of c.args.cells.now) (list_of c.own_in.new.cells) sound.0 (ap (λ (f : Form). f.signed) form) gives)

@@ -9,9 +9,12 @@ use Rattle.cell_paths.specs.Envs.{env_of}
 use Rattle.cell_paths.proofs.Casing.{compares-none}
 use Rattle.cell_paths.proofs.Staying.{fits-stays, is-slot-stays, gives-slot}
 use Rattle.cell_expr.specs.Contexts.{names_of, scope_of, body_of}
-use Rattle.cell_expr.specs.Counts.{exp_count, labels_count}
+use Rattle.cell_expr.specs.Counts.{exp_count, labels_count, in_count}
 use Rattle.cell_expr.proofs.Labelling.{label-compares}
 use Rattle.cell_expr.proofs.context.Context.labels_in.Goals as goal
+use Rattle.cell_expr.proofs.Counting.{in-most}
+use Rattle.cell_expr.proofs.Holding.{holds-wider}
+use Rattle.vl_design.specs.Value.{value}
 
 pub differs-requires-clause-label : goal.differs-requires-clause-label
 differs-requires-clause-label g c = (c.in_ok-slot.ensures.gives []).slot.there
@@ -55,7 +58,7 @@ loop-label-preserved g c =
       sound = s.1;
       within = w.1;
       leads = λ files r new h. l.leads files r new (rw e (label-compares (scope_of c.args.self.now files) c.args.c (exp_count body (exp_of x)) (labels_count body rest) c.args.subject c.in_ok-slot.slot c.in_ok-apart.apart c.loop-label.left c.in_ok-left.left r
-          (width_at l1 c.args.subject) c.care_of-care.result (exp_of x) rest at l0 l1 l2 l3 new l.fits l.subject.there l.path.there c.care_of-care.ensures (c.in_ok-slot.ensures.gives files) c.in_ok-apart.ensures.gives c.in_ok-left.ensures.gives h));
+          (width_at l1 c.args.subject) c.care_of-care.result (exp_of x) rest at l0 l1 l2 l3 new l.fits l.subject.there l.path.there c.care_of-care.ensures (holds-wider names at (in_count names body c.args.c.width (exp_of x)) (exp_count body (exp_of x)) l0 l1 c.in_ok-slot.slot c.args.c.width (λ y. value (scope_of c.args.self.now files) y (exp_of x) c.args.c) (in-most names body (exp_of x) c.args.c.width) (c.in_ok-slot.ensures.gives files)) c.in_ok-apart.ensures.gives c.in_ok-left.ensures.gives h));
     }
 
 pub returns-clause-compares : goal.returns-clause-compares

@@ -1,4 +1,4 @@
-use Rattle.std.proofs.Common.{◌≡◌, ◌+◌, ◌*◌, ◌++◌, ◌∙◌, [], map, ap}
+use Rattle.std.proofs.Common.{◌≡◌, ◌+◌, ◌++◌, ◌∙◌, [], map, ap, true}
 use Rattle.std.proofs.lemmas.Result.{on_ok_weaker}
 use Rattle.vl_design.specs.Targets.{updates_at}
 use Rattle.vl_design.specs.Trees.{exp_of, target_of}
@@ -48,7 +48,7 @@ returns-clause-does g c =
     let slot = c.in_ok-value.value in
     let spots = c.source_in.new.spots.items in
     on_ok_weaker c.delay_all.result
-    (λ (u : Delays (names_of ctx) (2 * cells_of spots) (λ b. updates_at (map (spot_in (names_of ctx).rows b l1) spots) (held b l1 slot)) c.args.off p p' l1 l2) files.
+    (λ (u : Delays (names_of ctx) (cells_of true spots) (λ b. updates_at (map (spot_in (names_of ctx).rows b l1) spots) (held b l1 slot)) c.args.off p p' l1 l2) files.
     later-does (scope_of ctx files) target e (exp_count body e + indices_count body target) slot spots at l0 l1 l2 c.requires.fits (c.in_ok-value.ensures.assigned files) c.args.off p p' u)
     (rw c.deref.ensures.value at c.delay_all.ensures.delays)
 
@@ -67,7 +67,7 @@ returns-clause-leaves g c =
     let slot = c.in_ok-value.value in
     let spots = c.source_in.new.spots.items in
     on_ok_weaker c.delay_all.result
-    (λ (u : Delays (names_of ctx) (2 * cells_of spots) (λ b. updates_at (map (spot_in (names_of ctx).rows b l1) spots) (held b l1 slot)) c.args.off p p' l1 l2) files.
+    (λ (u : Delays (names_of ctx) (cells_of true spots) (λ b. updates_at (map (spot_in (names_of ctx).rows b l1) spots) (held b l1 slot)) c.args.off p p' l1 l2) files.
     later-leaves (scope_of ctx files) target e (exp_count body e + indices_count body target) slot spots at l0 l1 l2 c.requires.fits (c.in_ok-value.ensures.assigned files) c.args.off p p' c.requires.pending c.requires.off.there u)
     (rw c.deref.ensures.value at c.delay_all.ensures.delays)
 

@@ -7,7 +7,7 @@ use Rattle.cell_paths.specs.Envs.{env_of}
 use Rattle.cell_paths.proofs.Staying.{fits-stays}
 use Rattle.cell_expr.specs.declared.spot.Spot.{Spot}
 use Rattle.cell_expr.specs.Contexts.{names_of, scope_of, body_of}
-use Rattle.cell_expr.specs.Counts.{exp_count, indices_count}
+use Rattle.cell_expr.specs.Counts.{own_count, indices_count}
 use Rattle.cell_expr.proofs.Adding.{spotted-pick}
 use Rattle.cell_expr.proofs.context.Context.pick_target_in.Goals as goal
 
@@ -27,6 +27,6 @@ returns-clause-spotted g c =
     on_ok_weaker c.add_spot.result
     (λ (are : after ≡ before ++ p ∷ []) files.
     spotted-pick (scope_of c.args.self.now files) (env_of c.args.at.now) before after (indices_count body t) t base.signal base.word (list_of c.args.cells.now) (list_of c.base_in.new.cells)
-    (c.in_ok-base.ensures.based files) (exp_count body e) e c.args.from c.args.width c.in_ok-index.index signed (list_of c.own_in.new.cells) c.requires.fits c.requires.sound.0
+    (c.in_ok-base.ensures.based files) (own_count body e) e c.args.from c.args.width c.in_ok-index.index signed (list_of c.own_in.new.cells) c.requires.fits c.requires.sound.0
     (rw c.form_of-signed.ensures.value refl) (c.in_ok-index.ensures.gives files) are)
     c.add_spot.ensures

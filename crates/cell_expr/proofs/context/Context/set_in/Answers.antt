@@ -1,4 +1,4 @@
-use Rattle.std.proofs.Common.{◌+◌, ◌∙◌, [], map}
+use Rattle.std.proofs.Common.{◌+◌, ◌∙◌, [], map, false}
 use Rattle.std.proofs.lemmas.Result.{on_ok_weaker}
 use Rattle.vl_design.specs.Targets.{updates_at}
 use Rattle.vl_design.specs.Trees.{exp_of, target_of}
@@ -46,6 +46,6 @@ returns-clause-does g c =
     let slot = c.in_ok-value.value in
     let spots = c.source_in.new.spots.items in
     on_ok_weaker c.assign_all.result
-    (λ (u : Updates (names_of ctx) (cells_of spots) (λ b. updates_at (map (spot_in (names_of ctx).rows b l1) spots) (held b l1 slot)) c.args.off at at' l1 l2) files.
+    (λ (u : Updates (names_of ctx) (cells_of false spots) (λ b. updates_at (map (spot_in (names_of ctx).rows b l1) spots) (held b l1 slot)) c.args.off at at' l1 l2) files.
     set-does (scope_of ctx files) target e (exp_count body e + indices_count body target) slot spots at l0 l1 l2 c.requires.fits (c.in_ok-value.ensures.assigned files) c.args.off at' c.requires.off.there u)
     (rw c.deref.ensures.value at c.assign_all.ensures.updates)

@@ -8,13 +8,16 @@ use Rattle.cell_form.specs.Views.{list_of}
 use Rattle.cell_paths.specs.Envs.{env_of}
 use Rattle.cell_paths.proofs.Staying.{fits-stays}
 use Rattle.cell_expr.specs.Contexts.{names_of, scope_of, body_of}
-use Rattle.cell_expr.specs.Counts.{exp_count, indices_count, parts_count}
+use Rattle.cell_expr.specs.Counts.{exp_count, indices_count, parts_count, in_count}
 use Rattle.cell_expr.specs.Compiled.{Compiles}
 use Rattle.cell_expr.specs.Stored.{target_stored}
 use Rattle.cell_expr.proofs.Adding.{spotted-first, assigned-narrow}
 use Rattle.cell_expr.proofs.Setting.{are-assigned}
 use Rattle.cell_expr.proofs.Spotting.{target-width}
 use Rattle.cell_expr.proofs.context.Context.source_in.Goals as goal
+use Rattle.cell_expr.proofs.Counting.{in-most}
+use Rattle.cell_expr.proofs.Holding.{holds-wider}
+use Rattle.vl_design.specs.Value.{value}
 
 pub compile_in-requires-clause-narrow : goal.compile_in-requires-clause-narrow
 compile_in-requires-clause-narrow g c =
@@ -41,6 +44,7 @@ returns-clause-assigned g c = λ files.
     let n = exp_count body e in
     let m = indices_count body target in
     let scope = scope_of ctx files in
-    let value-is = subst (λ (z : Form). Compiles names scope n e z at l0 l1 slot) is (c.in_ok-value.ensures.gives files) in
+    let wider = holds-wider names at (in_count names body c.assigned-context.result.width e) n l0 l1 slot c.assigned-context.result.width (λ x. value scope x e c.assigned-context.result) (in-most names body e c.assigned-context.result.width) (c.in_ok-value.ensures.gives files) in
+    let value-is = subst (λ (z : Form). Compiles names scope n e z at l0 l1 slot) is wider in
     let spotted = spotted-first names m at l1 l2 c.args.spots.now.items c.spots_in.new.spots.items (target_width names target) (parts_count target) (target_stored target) _ c.requires.none (c.in_ok-spots_in.ensures.spotted files) in
     are-assigned scope target e n m slot c.spots_in.new.spots.items at l0 l1 l2 c.requires.target c.requires.source c.requires.fits value-is spotted

@@ -1,4 +1,4 @@
-use Rattle.std.proofs.Common.{◌≡◌, false, ◌++◌, ◌∷◌, [], ◌+◌, suc, length, List, ap, sym, ◌∙◌, subst, arith, get_or}
+use Rattle.std.proofs.Common.{refl, ◌≡◌, false, ◌++◌, ◌∷◌, [], ◌+◌, suc, length, List, ap, sym, ◌∙◌, subst, arith, get_or}
 use Rattle.std.specs.Prelude.{◌==◌, position}
 use Rattle.fab_points.specs.Points.{departed, Point}
 use Rattle.fab_points.specs.Fabrics.{left}
@@ -8,7 +8,8 @@ use Rattle.fab_core.specs.declared.cores.FabCore.{FabCore}
 use Rattle.fab_core.specs.Standing.{IsFabric, IsPointOf}
 use Rattle.fab_bay.specs.declared.berth.Berth.{Berth}
 use Rattle.fab_bay.proofs.Gone.{goes_gone_leave, gone_leave, out_written, place_first, place_some, place_there, ran_berth, ran_noted, ran_still, ready_of, rests_if, room_left, IsOut, IsRan, IsReady}
-use Rattle.fab_bay.proofs.Leavers.{IsLeaver}
+use Rattle.fab_bay.specs.Ways.{IsLast}
+use Rattle.fab_bay.proofs.Leavers.{leaver_last, IsLeaver}
 use Rattle.fab_bay.proofs.Places.{berths_many, some-equal}
 use Rattle.fab_bay.proofs.Ran.{room_less}
 use Rattle.fab_bay.proofs.noted.NotedCore.leave_with_room.Goals as goal
@@ -107,7 +108,7 @@ returns c =
       berths = ap (λ v. v.items) c.write.ensures.berths ∙ c.remove-berth.ensures.items;
       waiting = ap (λ v. v.items) c.write.ensures.waiting;
       note = record { entry = c.left-note.ensures.entry; deed = c.left-note.ensures.deed };
-      stays = c.into_leaver-transit.ensures.stays ∙ ap (λ (a : Parcel). b.stays.items ++ record { fabric = y.label.fabric; from = b.since; to = ticks_of a } ∷ []) (sym c.into_leaver-transit.ensures.parcel);
+      stays = c.into_leaver-transit.ensures.stays ∙ ap (λ (a : Parcel). b.stays.items ++ record { fabric = y.label.fabric; from = b.since; to = ticks_of a; by_move = b.by_move } ∷ []) (sym c.into_leaver-transit.ensures.parcel);
     } in
     let f = c.requires.fabric.0 in
     let h = c.requires.fabric.1 in
@@ -117,6 +118,10 @@ returns c =
     let at : IsPointOf s.parcel (departed w p) = subst (λ (a : Parcel). IsPointOf a (departed w p)) (sym c.into_leaver-transit.ensures.parcel) out.1 in
     let same : p ≡ get_or f.residents i p = some-equal p (get_or f.residents i p) (sym d.2 ∙ (place_first t i x f e h).first p) in
     let l : IsLeaver w p s.parcel = record { at = at; rests = rests_if p w out.0; move = λ to z. out.0 } in
+    let q2 = get_or f.residents i p in
+    let l2 : IsLeaver w q2 s.parcel = subst (λ (a : Point). IsLeaver w a s.parcel) same l in
+    let last : IsLast (record { transit = s; why = w }) =
+    leaver_last y.label.tenants b q2 w s.parcel (ran_berth t i x y b r f h p) (ran_noted t i x y b r f h p) l2 y.label.fabric (record { transit = s; why = w }) refl refl o.stays in
     let written = out_written k t i x y z b s n o f w p h (subst (λ (a : Point). IsLeaver w a s.parcel) same l) in
     let m = berths_many x.label.tenants x.berths.items f.residents h.residents in
     let m2 = berths_many y.label.tenants y.berths.items f.residents (r.kept f h).residents in
@@ -126,7 +131,7 @@ returns c =
           let u = c.leave-leaver.ensures.out g v.0 (c.ran_one.ensures.kept g j).core v.2 in
           gone_leave k t i x y z b s n o g j (c.requires.rest g j) w v.0 v.2 u.0 (subst (λ (a : Parcel). IsPointOf a (departed w v.0)) (sym c.into_leaver-transit.ensures.parcel) u.1)
           (subst (λ (a : FabCore). IsFabric a (left t g)) (sym c.write.ensures.core) (c.leave-leaver.ensures.fabric g (c.ran_one.ensures.kept g j).core)));
-      left = (p, at, out.0, subst (λ (a : Point). a.stopped ≡ false) (sym same) (ran_berth t i x y b r f h p).lives);
+      left = (p, at, out.0, subst (λ (a : Point). a.stopped ≡ false) (sym same) (ran_berth t i x y b r f h p).lives, last);
       why = λ g a j first. (c.leave-leaver.ensures.out g a (c.ran_one.ensures.kept g j).core first).0;
       room = room_left x y z i (ran_still t i x y b r f h) (m2 ∙ sym m) o.berths
           (c.ran_one.ensures.room (length x.berths.items + 1) (room_less (suc (length x.berths.items + 1)) (length x.berths.items + 2) x (omega arith) c.requires.room))

@@ -135,7 +135,7 @@ returns-in-Ok-arrive-clause-arrived c = λ f p h at.
     let law = c.points_tell_of_tenants.ensures in
     let z : NotedCore = record y { core = c.arrive.new.self; notes = c.push_reserved.new.self; waiting = c.push_reserved-in-Ok-arrive.new.self } in
     let cost = c.cost-cost.ensures (law.parcel t.parcel c.requires.transit.0 c.requires.transit.1).0 in
-    let new : IsNew b t = record { tenant = c.in-Ok.ensures.tenant; since = c.in-Ok.ensures.since; noted = c.in-Ok.ensures.noted; line = c.in-Ok.ensures.line; stays = c.in-Ok.ensures.stays; room = c.in-Ok.ensures.room } in
+    let new : IsNew b t = record { tenant = c.in-Ok.ensures.tenant; since = c.in-Ok.ensures.since; noted = c.in-Ok.ensures.noted; line = c.in-Ok.ensures.line; by_move = c.in-Ok.ensures.by_move; stays = c.in-Ok.ensures.stays; room = c.in-Ok.ensures.room } in
     let w : IsPutIn c.args.number x z b t n = record {
       label = e.label;
       notes = c.push_reserved.ensures.items ∙ ap (λ (zs : List Note). zs ++ n ∷ []) e.notes;

@@ -97,7 +97,7 @@ module _ (scope : Scope) (s : Sample) where
     value-below Time c h = wider _ 64 c.width (mod_below s.time (2 ^ 64) (pow_pos 64)) h
     value-below LastAnswer c h = wrapped-below c.width _
 
-    side-below : (es : Exps) → side_by_side scope s es < 2 ^ total_width scope.names es
+    pub side-below : (es : Exps) → side_by_side scope s es < 2 ^ total_width scope.names es
     side-below NoExps = pow_pos 0
     side-below (MoreExps e es) =
         joined-below (value scope s e (form scope.names e)) (side_by_side scope s es) (form scope.names e).width (total_width scope.names es)

@@ -1,0 +1,79 @@
+-- The bits of registers.
+use Rattle.std.proofs.Common.{◌≡◌, ℕ, ◌+◌, ◌-◌, ◌*◌, ◌≤◌, List, [], ◌∷◌, ◌++◌, refl, sym, ap, ◌∙◌, arith}
+use Rattle.std.specs.Prelude.{if◌then◌else◌}
+use Rattle.std.specs.List.{sum_by, flat_map}
+use Rattle.std.proofs.lemmas.List.Sums.{sum_by-cons}
+use Rattle.vl_design.specs.declared.design.SigKind.{SigKind}
+use Rattle.vl_design.specs.declared.design.SigKind.TheVariants as k
+use Rattle.vl_design.specs.Cost.{row_regs, cost}
+use Rattle.vl_design.specs.Syntax.{Row, Flat}
+use Rattle.vl_design.specs.Width.{signal_form}
+use Rattle.cell_waves.specs.Copies.{has_copy}
+use Rattle.cell_states.specs.Widths.{row_widths, store_widths, register_widths}
+use Rattle.ten_stores.specs.declared.store.Store.{Store}
+use Rattle.ten_form.specs.Banks.{stores_in}
+use Rattle.cell_cost.specs.Slack.{row_slack, store_bits, word_bits, register_slack}
+
+abbrev total : List ℕ → ℕ
+total xs = sum_by (λ w. w) xs
+
+total-cons : (x : ℕ) (xs : List ℕ) → total (x ∷ xs) ≡ x + total xs
+total-cons x xs = sum_by-cons (λ w. w) x xs
+
+total-both : (xs ys : List ℕ) → total (xs ++ ys) ≡ total xs + total ys
+total-both [] ys = (let z : total [] ≡ 0 = refl in let e : total ([] ++ ys) ≡ total ys = refl in omega (arith, z, e))
+total-both (x ∷ xs) ys = (let a = total-cons x (xs ++ ys) in let b = total-cons x xs in let r = total-both xs ys in omega (arith, a, b, r))
+
+total-four : (a b c e : ℕ) (xs : List ℕ) → total (a ∷ b ∷ c ∷ e ∷ xs) ≡ a + (b + (c + (e + total xs)))
+total-four a b c e xs = (
+    let p = total-cons a (b ∷ c ∷ e ∷ xs) in
+    let q = total-cons b (c ∷ e ∷ xs) in
+    let r = total-cons c (e ∷ xs) in
+    let s = total-cons e xs in
+    omega (arith, p, q, r, s))
+
+-- ---- signals
+
+row-bits : (kind : SigKind) (w : ℕ) →
+    (if has_copy 3 kind then w else 0) + ((if has_copy 4 kind then w else 0) + ((if has_copy 5 kind then w else 0) + (if has_copy 6 kind then w else 0))) ≤ row_regs kind w + row_slack kind w
+row-bits k.Net w = omega arith
+row-bits k.Var w = omega arith
+row-bits k.Comb w = omega arith
+row-bits k.Loop w = omega arith
+row-bits k.Mem w = omega arith
+row-bits k.Clock w = omega arith
+
+rows-bits : (rows : List Row) → total (flat_map row_widths rows) ≤ sum_by (λ (r : Row). row_regs r.kind r.width) rows + sum_by (λ (r : Row). row_slack r.kind r.width) rows
+rows-bits [] = omega arith
+rows-bits (r ∷ rs) = (
+    let t = total-four (if has_copy 3 r.kind then r.width else 0) (if has_copy 4 r.kind then r.width else 0) (if has_copy 5 r.kind then r.width else 0) (if has_copy 6 r.kind then r.width else 0) (flat_map row_widths rs) in
+    let a = sum_by-cons (λ (q : Row). row_regs q.kind q.width) r rs in
+    let b = sum_by-cons (λ (q : Row). row_slack q.kind q.width) r rs in
+    let one = row-bits r.kind r.width in
+    let more = rows-bits rs in
+    omega (arith, t, a, b, one, more))
+
+-- ---- stores
+
+stores-bits : (rows : List Row) (xs : List Store) → total (flat_map (store_widths rows) xs) ≡ sum_by (store_bits rows) xs
+stores-bits rows [] = refl
+stores-bits rows (x ∷ xs) = (
+    let w = (signal_form rows x.memory).width in
+    let t = total-four 1 32 w w (flat_map (store_widths rows) xs) in
+    let a = sum_by-cons (store_bits rows) x xs in
+    let more = stores-bits rows xs in
+    omega (arith, t, a, more))
+
+-- ---- a design
+
+pub registers-within : (d : Flat) → total (register_widths d) ≤ (cost d).regs + register_slack d
+registers-within d = (
+    let rows = flat_map row_widths d.rows in
+    let stores = flat_map (store_widths d.rows) (stores_in d) in
+    let p = total-cons 32 (32 ∷ 32 ∷ (rows ++ stores)) in
+    let q = total-cons 32 (32 ∷ (rows ++ stores)) in
+    let r = total-cons 32 (rows ++ stores) in
+    let s = total-both rows stores in
+    let a = rows-bits d.rows in
+    let b = stores-bits d.rows (stores_in d) in
+    omega (arith, p, q, r, s, a, b))

@@ -1,0 +1,5 @@
+pub mod Weights
+pub mod Lights
+pub mod Waves
+pub mod Sums
+pub mod Bits

@@ -1,0 +1,5 @@
+use Rattle.cell_cost.proofs.Bits.{registers-within}
+use Rattle.cell_cost.proofs.laws.registers_are_within_cost.Goals as goal
+
+pub returns : goal.returns
+returns c = λ d. registers-within d

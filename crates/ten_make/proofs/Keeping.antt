@@ -1,0 +1,91 @@
+-- What is made of a design keeps within its cost.
+use Rattle.std.proofs.Common.{◌≡◌, ℕ, ◌+◌, ◌*◌, ◌≤◌, Bool, true, false, List, [], ◌∷◌, length, Some, refl, sym, ap, ◌∙◌, arith, subst, inl, inr}
+use Rattle.std.specs.Prelude.{◌==◌, if◌then◌else◌, slice_get}
+use Rattle.std.specs.List.{sum_by, count_by}
+use Rattle.std.proofs.lemmas.List.Sums.{sum_by-cons}
+use Rattle.std.proofs.lemmas.Option.{slice_get_cases, slice_get_within, none-some}
+use Rattle.vl_design.specs.declared.design.SigKind.{SigKind}
+use Rattle.vl_design.specs.declared.design.SigKind.TheVariants.{Net, Var, Comb, Loop, Mem, Clock}
+use Rattle.vl_design.specs.Cost.{row_mem, cost}
+use Rattle.vl_design.specs.Sound.{IsSound}
+use Rattle.vl_design.specs.Syntax.{Row, Flat}
+use Rattle.settling.specs.Nets.{AllBelow}
+use Rattle.cell_cost.specs.Slack.{cell_slack, register_slack}
+use Rattle.cell_form.specs.Data.{StateData}
+use Rattle.cell_form.specs.declared.bank.Port.{Port}
+use Rattle.cell_form.specs.declared.bank.PortMap.{PortMap}
+use Rattle.cell_form.specs.declared.table.StateTable.{StateTable}
+use Rattle.cell_form.specs.Views as cells
+use Rattle.cell_form.specs.Views.{state_of}
+use Rattle.std.specs.Prelude.{map}
+use Rattle.cell_states.specs.Cells.{node_count, AreCounted}
+use Rattle.cell_states.specs.Widths.{register_widths, AreNarrow}
+use Rattle.cell_states.specs.declared.made.States.{States}
+use Rattle.sub_facts.specs.Pairs.{ArePaired}
+use Rattle.sub_nodes.specs.Nodes.{Node}
+use Rattle.ten_core.specs.declared.image.Image.{Image}
+use Rattle.ten_core.specs.Tenants.{states_of}
+use Rattle.ten_design.specs.Designs.{IsTenantDesign}
+use Rattle.ten_form.specs.Banks.{cell_nodes}
+use Rattle.ten_hold.specs.Ports.{port_of, ports_from, ports_of}
+use Rattle.ten_image.specs.States.{AreStates}
+use Rattle.vl_design.specs.Snapshots.{is_kept}
+use Rattle.ten_make.specs.Within.{memory_bits, IsWithinCost}
+
+-- ---- memory
+
+abbrev port_bits : Port → ℕ
+port_bits p = if p.mem then p.words * p.width else 0
+
+-- those of one signal
+row-bits : (k : ℕ) (r : Row) (x : SigKind) → r.kind ≡ x → (is_kept x ≡ true → port_bits (port_of k r) ≡ row_mem x r.words r.width) × (is_kept x ≡ false → 0 ≡ row_mem x r.words r.width)
+row-bits k r Net e = ((λ q. absurd (grind arith)), (λ q. refl))
+row-bits k r Var e = ((λ q. rw e refl), (λ q. refl))
+row-bits k r Comb e = ((λ q. rw e refl), (λ q. refl))
+row-bits k r Loop e = ((λ q. rw e refl), (λ q. refl))
+row-bits k r Mem e = ((λ q. rw e refl), (λ q. absurd (grind arith)))
+row-bits k r Clock e = ((λ q. rw e refl), (λ q. refl))
+
+ports-bits : (k : ℕ) (rows : List Row) → sum_by port_bits (ports_from k rows) ≡ sum_by (λ (r : Row). row_mem r.kind r.words r.width) rows
+ports-bits k [] = refl
+ports-bits k (r ∷ rs) = (let i = ports-bits (k + 1) rs in go i (is_kept r.kind) refl)
+  where
+    go : sum_by port_bits (ports_from (k + 1) rs) ≡ sum_by (λ (x : Row). row_mem x.kind x.words x.width) rs → (q : Bool) → is_kept r.kind ≡ q →
+        sum_by port_bits (if q then port_of k r ∷ ports_from (k + 1) rs else ports_from (k + 1) rs) ≡ sum_by (λ (x : Row). row_mem x.kind x.words x.width) (r ∷ rs)
+    go i true q =
+        let a = sum_by-cons port_bits (port_of k r) (ports_from (k + 1) rs) in
+        let b = sum_by-cons (λ (x : Row). row_mem x.kind x.words x.width) r rs in
+        let e = (row-bits k r r.kind refl).0 q in
+        omega (arith, a, b, e, i)
+    go i false q =
+        let b = sum_by-cons (λ (x : Row). row_mem x.kind x.words x.width) r rs in
+        let e = (row-bits k r r.kind refl).1 q in
+        omega (arith, b, e, i)
+
+-- ---- cells
+
+pub within : (d : Flat) (order : List ℕ) (made : States) (places : PortMap) (image : Image) → IsTenantDesign d order →
+    ((e : Flat) → sum_by (λ w. w) (register_widths e) ≤ (cost e).regs + register_slack e) →
+    ((e : Flat) (o : List ℕ) → IsSound e → AllBelow (length e.procs) o → ((j : ℕ) → count_by (λ i. i == j) o ≤ 1) → ArePaired 0 (cell_nodes e) →
+    (n : ℕ) (x : Node) → slice_get (cell_nodes e) n ≡ Some x → node_count e o (cell_nodes e) x ≤ (cost e).cells + cell_slack e) →
+    ArePaired 0 (cell_nodes d) → places.ports ≡ ports_of d.rows → AreStates d order made.slots (cell_nodes d) (map state_of made.table.states) → AreCounted d order (cell_nodes d) (map state_of made.table.states) → AreNarrow d (map state_of made.table.states) →
+    image.table ≡ made.table → image.ports ≡ places → IsWithinCost d image
+within d order made places image is bits law paired kept are counted narrow table-is ports-are = record {
+  registers = bits d;
+  widths = λ n s e. narrow n s (subst (λ (x : StateTable). slice_get (cells.table_of x).states n ≡ Some s) table-is e);
+  memory = ap (λ (x : PortMap). sum_by port_bits x.ports) ports-are ∙ ap (sum_by port_bits) kept ∙ ports-bits 0 d.rows;
+  cells = λ n s e. at n s (subst (λ (x : StateTable). slice_get (cells.table_of x).states n ≡ Some s) table-is e);
+}
+  where
+    at : (n : ℕ) (s : StateData) → slice_get (map state_of made.table.states) n ≡ Some s → length s.cells.cells ≤ (cost d).cells + cell_slack d
+    at n s e = elim ((slice_get_cases (cell_nodes d) n).1) [
+      | inl c ↦ (
+          let count = counted n c.0 s c.2 e in
+          let most = law d order is.sound is.ordered.below is.once paired n c.0 c.2 in
+          omega (arith, count, most))
+      | inr c ↦ (
+          let lt = slice_get_within (map state_of made.table.states) n s e in
+          let many = are.many in
+          let far = c.0 in
+          absurd (omega (arith, lt, many, far)))
+    ]

@@ -25,9 +25,11 @@ use Rattle.fab_bay.specs.declared.berth.Berth.{Berth}
 use Rattle.fab_bay.specs.declared.noted.NotedCore.{NotedCore}
 use Rattle.fab_bay.specs.Berths.{deed_at, AreBerths, IsBerth, IsWaiter}
 use Rattle.fab_bay.specs.Standing.{CanSettle, HasRoomFor, IsNoted, IsSame}
+use Rattle.fab_bay.specs.Taking.{KeepsFlag}
 use Rattle.fab_bay.specs.Ways.{tokens, AreOut, Goes}
+use Rattle.fab_bay.proofs.Flags.{keeps-before, keeps_resident, keeps_waiter}
 use Rattle.fab_bay.proofs.Kept.{goes_by, noted_by, out-snoc, told_of, tokens-snoc, written_of, written_then, IsWritten}
-use Rattle.fab_bay.proofs.Leavers.{leaver_chained, leaver_end, leaver_number, leaver_order, leaver_ticks, may_leave, told_left, told_withdrawn, written_out, IsLeaver, IsOutNote}
+use Rattle.fab_bay.proofs.Leavers.{leaver_chained, leaver_end, leaver_keeps, leaver_number, leaver_order, leaver_ticks, may_leave, told_left, told_withdrawn, written_out, IsLeaver, IsOutNote}
 use Rattle.fab_core.proofs.Firsts.{first-at, first-some, FirstAt}
 use Rattle.fab_bay.proofs.Places.{berth-place, berths_at, berths_many, berths_remove, removed_many, some-equal, waiters_at, waiters_berths, waiters_remove, number_at}
 use Rattle.fab_bay.proofs.Pointed.{tells}
@@ -137,6 +139,18 @@ module _ (k tenant place : ℕ) (x y z : NotedCore) (b : Berth) (t : Transit) (n
         v.line
         (told_left y.label y.notes.items n k t note y.berths.items y.waiting.items place b (ran_still tenant place x y b o.ran f h) o.ran.read (told_of y f v)
         (leaver_number y.label.tenants b p w t.parcel berth now l) ticks may)
+
+    -- the flag of one that doesn't leave for a move
+    pub out_keeps : (f : Fabric) (d : Point) (h : IsNoted x f) → IsLeaver (why.Ended end.Finished) (get_or f.residents place d) t.parcel → KeepsFlag x t
+    out_keeps f d h l =
+        let p = get_or f.residents place d in
+        let v = o.ran.kept f h in
+        let w = why.Ended end.Finished in
+        let berth = ran_berth tenant place x y b o.ran f h d in
+        let now = ran_noted tenant place x y b o.ran f h d in
+        keeps-before k 0 x y v.legal o.goes t
+        (keeps_resident y y.label y.berths.items y.waiting.items (told_of y f v) t place b (ran_still tenant place x y b o.ran f h) o.ran.read (leaver_number y.label.tenants b p w t.parcel berth now l)
+        (leaver_keeps y.label.tenants b p w t.parcel berth now l end.Finished refl))
 
     pub out_written : (f : Fabric) (w : Why) (d : Point) → IsNoted x f → IsLeaver w (get_or f.residents place d) t.parcel → IsWritten k x z (tokens (t ∷ []))
     out_written f w d h l =
@@ -286,6 +300,12 @@ module _ (k tenant place : ℕ) (x z : NotedCore) (b : Berth) (t : Transit) (n :
   withdrawn_number =
       leaver_number x.label.tenants b (get_or f.line place p) ended_why t.parcel waiter.berth waiter.noted taker_line
       ∙ (waiter.berth.number ∙ number_at tenant f.line place p (line_first tenant place x b o.none o.there o.read f h))
+
+  pub withdrawn_keeps : KeepsFlag x t
+  withdrawn_keeps =
+      let q : Point = get_or f.line place p in
+      keeps_waiter x x.label x.berths.items x.waiting.items (told_of x f h) t place b (line_there tenant place x b o.none o.there o.read f h) o.read
+      (leaver_number x.label.tenants b q ended_why t.parcel waiter.berth waiter.noted taker_line) (leaver_keeps x.label.tenants b q ended_why t.parcel waiter.berth waiter.noted taker_line end.Finished refl)
 
   pub withdrawn_written : IsWritten k x z (tokens (t ∷ []))
   withdrawn_written =

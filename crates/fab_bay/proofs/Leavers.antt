@@ -179,6 +179,10 @@ module _ (n : ℕ) (b : Berth) (p : Point) (w : Why) (q : Parcel) (h : IsBerth n
   flag_is (why.Move to) g e = tell.moved ∙ ap (λ (v : Why). (departed v p).moved) e
   flag_is (why.Ended end) g e = tell.moved ∙ (ap (λ (v : Why). (departed v p).moved) e ∙ sym (idle_is g))
 
+  -- whoever doesn't leave for a move keeps the flag with which it was put in line there
+  pub leaver_keeps : (e : End) → w ≡ why.Ended e → is_moved q ≡ is_done b.since (ticks_of q) (deed_at b)
+  leaver_keeps e i = tell.moved ∙ (ap (λ (v : Why). (departed v p).moved) i ∙ (sym (idle_is 0) ∙ ap (λ (m : Bool). (ticks_of q == b.since) && m) h.by_move))
+
   busy_is : (x : Why) (g : ℕ) → w ≡ x → is_move x ≡ true → is_idle (here g) ≡ false
   busy_is (why.Move to) g e m = idle_is g ∙ due_unmoved p to l.rests (l.move to e ∙ ap Some e)
   busy_is (why.Ended end) g e m = let z : ⊥ = cc in absurd z
@@ -222,6 +226,23 @@ pub record IsOutNote (k : ℕ) (t : Transit) (n : Note) : Type 0 where
   pub entry : n.entry ≡ entry_out k t
   pub deed : deed_in n ≡ Some (deed_of t)
 
+-- the seat of a resident is in the midst, and that of one in line
+pub seats_resident : (bs ws : List Berth) (i : ℕ) (b : Berth) → i < length bs → b ≡ get_or bs i b
+    → seats bs ws ≡ map (seat true) (take i bs) ++ seat true b ∷ (map (seat true) (drop (suc i) bs) ++ map (seat false) ws)
+seats_resident bs ws i b lt is =
+    let xs = take i bs in
+    let ys = drop (suc i) bs in
+    ap (λ (zs : List Berth). seats zs ws) (split_at bs i b lt ∙ ap (λ (z : Berth). xs ++ z ∷ ys) (sym is))
+    ∙ (ap (λ (zs : List Seat). zs ++ map (seat false) ws) (map-append (seat true) xs (b ∷ ys)) ∙ append_assoc (map (seat true) xs) (seat true b ∷ map (seat true) ys) (map (seat false) ws))
+
+pub seats_waiter : (bs ws : List Berth) (i : ℕ) (b : Berth) → i < length ws → b ≡ get_or ws i b
+    → seats bs ws ≡ (map (seat true) bs ++ map (seat false) (take i ws)) ++ seat false b ∷ map (seat false) (drop (suc i) ws)
+seats_waiter bs ws i b lt is =
+    let xs = take i ws in
+    let ys = drop (suc i) ws in
+    ap (λ (zs : List Berth). seats bs zs) (split_at ws i b lt ∙ ap (λ (z : Berth). xs ++ z ∷ ys) (sym is))
+    ∙ (ap (λ (zs : List Seat). map (seat true) bs ++ zs) (map-append (seat false) xs (b ∷ ys)) ∙ sym (append_assoc (map (seat true) bs) (map (seat false) xs) (seat false b ∷ map (seat false) ys)))
+
 module _ (l : Label) (notes : List Note) (n : Note) (k : ℕ) (t : Transit) (m : IsOutNote k t n) where
   -- the seat that is left is in the midst
   told_out : (bs ws bs' ws' : List Berth) (xs ys : List Seat) (s : Seat) → IsTold l notes bs ws → seats bs ws ≡ xs ++ s ∷ ys → seats bs' ws' ≡ xs ++ ys → n.entry.tenant ≡ s.tenant → n.entry.to ≡ s.now
@@ -238,8 +259,7 @@ module _ (l : Label) (notes : List Note) (n : Note) (k : ℕ) (t : Transit) (m :
       let xs = take i bs in
       let ys = drop (suc i) bs in
       told_out bs ws (remove bs i) ws (map (seat true) xs) (map (seat true) ys ++ map (seat false) ws) (seat true b) h
-      (ap (λ (zs : List Berth). seats zs ws) (split_at bs i b lt ∙ ap (λ (z : Berth). xs ++ z ∷ ys) (sym is))
-      ∙ (ap (λ (zs : List Seat). zs ++ map (seat false) ws) (map-append (seat true) xs (b ∷ ys)) ∙ append_assoc (map (seat true) xs) (seat true b ∷ map (seat true) ys) (map (seat false) ws)))
+      (seats_resident bs ws i b lt is)
       (ap (λ (zs : List Seat). zs ++ map (seat false) ws) (map-append (seat true) xs ys) ∙ append_assoc (map (seat true) xs) (map (seat true) ys) (map (seat false) ws))
       (ap (λ (x : Entry). x.tenant) m.entry ∙ who) (ap (λ (x : Entry). x.to) m.entry ∙ to) may
 
@@ -249,8 +269,7 @@ module _ (l : Label) (notes : List Note) (n : Note) (k : ℕ) (t : Transit) (m :
       let xs = take i ws in
       let ys = drop (suc i) ws in
       told_out bs ws bs (remove ws i) (map (seat true) bs ++ map (seat false) xs) (map (seat false) ys) (seat false b) h
-      (ap (λ (zs : List Berth). seats bs zs) (split_at ws i b lt ∙ ap (λ (z : Berth). xs ++ z ∷ ys) (sym is))
-      ∙ (ap (λ (zs : List Seat). map (seat true) bs ++ zs) (map-append (seat false) xs (b ∷ ys)) ∙ sym (append_assoc (map (seat true) bs) (map (seat false) xs) (seat false b ∷ map (seat false) ys))))
+      (seats_waiter bs ws i b lt is)
       (ap (λ (zs : List Seat). map (seat true) bs ++ zs) (map-append (seat false) xs ys) ∙ sym (append_assoc (map (seat true) bs) (map (seat false) xs) (map (seat false) ys)))
       (ap (λ (x : Entry). x.tenant) m.entry ∙ who) (ap (λ (x : Entry). x.to) m.entry ∙ to) may
 

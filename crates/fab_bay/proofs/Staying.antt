@@ -22,7 +22,7 @@ use Rattle.fab_bay.proofs.Arriving.{away_of}
 use Rattle.fab_core.proofs.Firsts.{first-some}
 use Rattle.fab_bay.proofs.Places.{berth-place, waiters_berths}
 
-known-out : (n : Note) (o : Option Deed) (d : Deed) → o ≡ Some d → told n.entry o ≡ [] → ⊥
+pub known-out : (n : Note) (o : Option Deed) (d : Deed) → o ≡ Some d → told n.entry o ≡ [] → ⊥
 known-out n None d e h = let z : ⊥ = cc in z
 known-out n (Some x) d e h = let z : ⊥ = cc in z
 
@@ -51,7 +51,7 @@ replay-there g c t ss (n ∷ ns) l o p =
     let b = front-empty (out_at n.entry.kind n) (outs ns) o in
     replay-there g c t (after n.entry.kind ss n) ns l.2 b.1 (after-there g t n.entry.kind ss n l.0 b.0 p)
 
-legal-behind : (g : ℕ) (c : Cost) (ss : List Seat) (xs ys : List Note) → IsLegalFrom g c ss (xs ++ ys) → IsLegalFrom g c (replay ss xs) ys
+pub legal-behind : (g : ℕ) (c : Cost) (ss : List Seat) (xs ys : List Note) → IsLegalFrom g c ss (xs ++ ys) → IsLegalFrom g c (replay ss xs) ys
 legal-behind g c ss [] ys l = l
 legal-behind g c ss (x ∷ xs) ys l = legal-behind g c (after x.entry.kind ss x) xs ys l.2
 

@@ -6,6 +6,7 @@ use Rattle.fab_bay.specs.declared.leaving.Found.TheVariants.{Here, Absent, Short
 use Rattle.fab_bay.specs.declared.leaving.Taken.{Taken}
 use Rattle.fab_bay.specs.declared.noted.NotedCore.{NotedCore}
 use Rattle.fab_notes.specs.declared.note.Note.{Note}
+use Rattle.fab_notes.specs.Histories.{IsLegal}
 use Rattle.fab_bay.specs.Nearness.{IsNear}
 use Rattle.fab_bay.specs.Refusals.{IsAway}
 use Rattle.fab_bay.specs.Rounds.{IsFoundReady, IsNearOn}
@@ -15,12 +16,13 @@ use Rattle.fab_bay.proofs.Calls.{whole, IsLike}
 use Rattle.std.proofs.lemmas.List.{append_cancel_left}
 use Rattle.fab_bay.proofs.Nears.{short-append}
 use Rattle.fab_bay.proofs.Rounds.{onward}
+use Rattle.fab_bay.proofs.Flags.{keeps-before, keeps-same}
 
 -- what was done before
-pub found-after : (k t n : ℕ) (x y z : NotedCore) → ((out : List Transit) → Goes k n x y out out) → (w : Found) → IsFoundReady k t y z w → IsFoundReady k t x z w
-found-after k t n x y z g (Here out) f = (f.0, n + f.1, onward k n f.1 (n + f.1) x y z [] [] (out ∷ []) (g []) f.2 refl)
-found-after k t n x y z g Absent f = absurd f
-found-after k t n x y z g Short f = (n + f.0, onward k n f.0 (n + f.0) x y z [] [] [] (g []) f.1 refl)
+pub found-after : (k t n : ℕ) (x y z : NotedCore) → ((out : List Transit) → Goes k n x y out out) → IsLegal y.label.fabric y.label.capacity y.notes.items → (w : Found) → IsFoundReady k t y z w → IsFoundReady k t x z w
+found-after k t n x y z g l (Here out) f = (f.0, n + f.1, onward k n f.1 (n + f.1) x y z [] [] (out ∷ []) (g []) f.2 refl, keeps-before k n x y l (g []) out f.3)
+found-after k t n x y z g l Absent f = absurd f
+found-after k t n x y z g l Short f = (n + f.0, onward k n f.0 (n + f.0) x y z [] [] [] (g []) f.1 refl)
 
 pub found-notes : (k t : ℕ) (x y : NotedCore) (w : Found) → IsFoundReady k t x y w → (added : List Note) × (y.notes.items ≡ x.notes.items ++ added)
 found-notes k t x y (Here out) f = (f.2.added, f.2.notes)
@@ -49,6 +51,6 @@ module _ (k t : ℕ) (x b m d e : NotedCore) (s : Taken) (begins : IsLike x b) (
       record { cycles = n; goes = way; told = way.told; short = all }
 
   pub found-by : (w : Found) → IsFoundReady k t b m w → IsFound k t x e s w
-  found-by (Here out) f = (f.0, took f.1 (out ∷ []) f.2)
+  found-by (Here out) f = (f.0, took f.1 (out ∷ []) f.2, keeps-same x b out begins.notes f.3)
   found-by Absent f = absurd f
   found-by Short f = (there, took f.0 [] f.1)

@@ -1,6 +1,9 @@
 -- What taking a tenant out does (own).
-use Rattle.std.specs.Prelude.{◌≡◌, ℕ, [], ◌∷◌}
-use Rattle.ten_parcel.specs.Parcels.{number_of}
+use Rattle.std.specs.Prelude.{◌≡◌, ℕ, Bool, [], ◌∷◌}
+use Rattle.ten_parcel.specs.Parcels.{is_moved, number_of, ticks_of}
+use Rattle.fab_notes.specs.declared.transit.Transit.{Transit}
+use Rattle.fab_notes.specs.Deeds.{Deed}
+use Rattle.fab_notes.specs.Histories.{is_done, place_of, replay, Inside}
 use Rattle.fab_bay.specs.declared.leaving.Found.{Found}
 use Rattle.fab_bay.specs.declared.leaving.Found.TheVariants.{Here, Absent, Short}
 use Rattle.fab_bay.specs.declared.leaving.Taken.{Taken}
@@ -8,9 +11,15 @@ use Rattle.fab_bay.specs.declared.noted.NotedCore.{NotedCore}
 use Rattle.fab_bay.specs.Refusals.{IsAway}
 use Rattle.fab_bay.specs.Ways.{Took}
 
+-- the move that stands where it rests is done just where the tenant was put in line there with it done
+abbrev pub KeepsFlag : NotedCore → Transit → Type 0
+KeepsFlag x out =
+    (since now : ℕ) (c : Bool) (d : Deed) → place_of (number_of out.parcel) (replay [] x.notes.items) ≡ Inside since now c d →
+    is_moved out.parcel ≡ is_done since (ticks_of out.parcel) d
+
 -- the tenant is out; or it wasn't there, and nothing was done; or memory ended the call, and it is still there
 abbrev pub IsFound : (number tenant : ℕ) (x y : NotedCore) → Taken → Found → Type 0
-IsFound number tenant x y t (Here out) = (number_of out.parcel ≡ tenant) × Took number x y t.entries.items (out ∷ [])
+IsFound number tenant x y t (Here out) = (number_of out.parcel ≡ tenant) × Took number x y t.entries.items (out ∷ []) × KeepsFlag x out
 IsFound number tenant x y t Absent = IsAway x.notes.items tenant × (y.notes.items ≡ x.notes.items) × (t.entries.items ≡ [])
 IsFound number tenant x y t Short = (IsAway x.notes.items tenant → ⊥) × Took number x y t.entries.items []
 

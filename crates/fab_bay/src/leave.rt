@@ -13,6 +13,7 @@ ghost use Rattle.fab_notes.specs.Ends.{EndsNotBefore};
 ghost use Rattle.fab_notes.specs.Stays.{chains};
 ghost use Rattle.fab_bay.specs.Nearness.{IsNear};
 ghost use Rattle.fab_bay.specs.Standing.{CanSettle, HasRoomFor, IsNoted};
+ghost use Rattle.fab_bay.specs.Taking.{KeepsFlag};
 ghost use Rattle.fab_bay.specs.Ways.{AreShort, Goes, LeftFor};
 
 use crate::berth::Berth;
@@ -114,6 +115,7 @@ impl NotedCore {
         requires room { HasRoomFor (length self.old.berths.items + 2) self.old }
         ensures goes { (out : List Out) → Goes number 0 self.old self.new out (out ++ result ∷ []) }
         ensures number { number_of result.parcel ≡ tenant }
+        ensures flag { KeepsFlag self.old result }
         ensures near { IsNear self.old → IsNear self.new }
         ensures short { IsNear self.old → (added : List OneNote) → self.new.notes.items ≡ self.old.notes.items ++ added → AreShort added }
         ensures room { CanSettle self.new }
@@ -139,6 +141,7 @@ impl NotedCore {
         requires room { HasRoomFor (length self.old.berths.items + 2) self.old }
         ensures goes { (out : List Out) → Goes number 0 self.old self.new out (out ++ result ∷ []) }
         ensures number { number_of result.parcel ≡ tenant }
+        ensures flag { KeepsFlag self.old result }
         ensures near { IsNear self.old → IsNear self.new }
         ensures short { IsNear self.old → (added : List OneNote) → self.new.notes.items ≡ self.old.notes.items ++ added → AreShort added }
         ensures room { CanSettle self.new }
@@ -161,6 +164,7 @@ impl NotedCore {
         requires room { HasRoomFor (length self.old.berths.items + 2) self.old }
         ensures goes { (out : List Out) → Goes number 0 self.old self.new out (out ++ result ∷ []) }
         ensures number { number_of result.parcel ≡ tenant }
+        ensures flag { KeepsFlag self.old result }
         ensures near { IsNear self.old → IsNear self.new }
         ensures short { IsNear self.old → (added : List OneNote) → self.new.notes.items ≡ self.old.notes.items ++ added → AreShort added }
         ensures room { CanSettle self.new }
@@ -182,6 +186,7 @@ impl NotedCore {
         requires room { CanSettle self.old }
         ensures goes { IfOk result (λ t. (out : List Out) → Goes number 0 self.old self.new out (out ++ t ∷ [])) }
         ensures number { IfOk result (λ t. number_of t.parcel ≡ tenant) }
+        ensures flag { IfOk result (λ t. KeepsFlag self.old t) }
         ensures err { OnErr result ((out : List Out) → Goes number 0 self.old self.new out out) }
         ensures near { IsNear self.old → IsNear self.new }
         ensures short { IsNear self.old → (added : List OneNote) → self.new.notes.items ≡ self.old.notes.items ++ added → AreShort added }

@@ -1,5 +1,6 @@
 use Rattle.std.proofs.Common.{List, ◌++◌, sym, ap, ◌∙◌}
 use Rattle.fab_notes.specs.declared.note.Note.{Note}
+use Rattle.fab_bay.proofs.Flags.{keeps-same}
 use Rattle.fab_bay.proofs.Gone.{room_kept, room_same}
 use Rattle.fab_bay.proofs.Kept.{still_back, still_goes, still_noted, still_of, still_then}
 use Rattle.fab_bay.proofs.Near.{near-by, short-none}
@@ -26,6 +27,7 @@ returns-in-Err c =
     record {
       goes = tt;
       number = tt;
+      flag = tt;
       err = λ out. still_goes c.args.number x y out (still_of x y s);
       near = near-by x y s.core s.berths;
       short = λ n added e. short-none x.notes.items y.notes.items added s.notes e;
@@ -42,6 +44,7 @@ returns-in-Ok c =
     record {
       goes = λ out. still_then c.args.number 0 x y z out _ (still_of x y s) (e.goes out);
       number = e.number;
+      flag = keeps-same x y c.take_with_room.result s.notes e.flag;
       err = tt;
       near = λ n. e.near (near-by x y s.core s.berths n);
       short = λ n added i. e.short (near-by x y s.core s.berths n) added (i ∙ ap (λ (ns : List Note). ns ++ added) (sym s.notes));

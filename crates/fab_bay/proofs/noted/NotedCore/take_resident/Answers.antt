@@ -7,7 +7,7 @@ use Rattle.fab_lock.specs.declared.entry.Kind.TheVariants.{Left}
 use Rattle.fab_core.specs.declared.cores.FabCore.{FabCore}
 use Rattle.fab_core.specs.Standing.{IsFabric, IsPointOf}
 use Rattle.fab_bay.proofs.Gaps.{taken-near}
-use Rattle.fab_bay.proofs.Gone.{goes_gone_take, gone_take, has_resident, out_number, out_written, place_there, ran_berth, ran_noted, ran_still, ready_of, room_left, for_none, taker_of, yes-no, IsOut, IsRan, IsReady}
+use Rattle.fab_bay.proofs.Gone.{goes_gone_take, gone_take, has_resident, out_keeps, out_number, out_written, place_there, ran_berth, ran_noted, ran_still, ready_of, room_left, for_none, taker_of, yes-no, IsOut, IsRan, IsReady}
 use Rattle.fab_bay.proofs.Near.{ran-near-short, short-one, short-then}
 use Rattle.fab_bay.proofs.Places.{berths_many}
 use Rattle.fab_bay.proofs.Ran.{room_less}
@@ -110,6 +110,7 @@ returns c =
           gone_take k t i x y z b s n o g j (c.requires.rest g j) u.0 u.1 (subst (λ (a : Parcel). IsPointOf a u.0) (sym c.into_leaver-transit.ensures.parcel) u.2)
           (subst (λ (a : FabCore). IsFabric a (taken t g)) (sym c.write.ensures.core) (c.take.ensures.fabric g (c.ran_one.ensures.kept g j).core)));
       number = out_number k t i x y z b s n o f for_none out.0 h l;
+      flag = out_keeps k t i x y z b s n o f out.0 h l;
       near = λ j.
           taken-near k t i x y z b s n o f h (c.requires.rest f h)
           (subst (λ (a : FabCore). IsFabric a (taken t f)) (sym c.write.ensures.core) (c.take.ensures.fabric f (c.ran_one.ensures.kept f h).core)) (c.ran_one.ensures.near j);

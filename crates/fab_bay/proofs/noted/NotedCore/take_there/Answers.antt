@@ -16,7 +16,7 @@ returns-clause-near c =
 pub returns-clause-found : goal.returns-clause-found
 returns-clause-found c =
     let g = c.run_to_rest.ensures.goes in
-    found-after c.args.number c.args.tenant g.0 c.args.self.now c.run_to_rest.new.self c.take_at_rest.new.self g.1 c.take_at_rest.result c.take_at_rest.ensures.found
+    found-after c.args.number c.args.tenant g.0 c.args.self.now c.run_to_rest.new.self c.take_at_rest.new.self g.1 c.run_to_rest.ensures.ready.noted.legal c.take_at_rest.result c.take_at_rest.ensures.found
 
 pub take_at_rest-requires-clause-there : goal.take_at_rest-requires-clause-there
 take_at_rest-requires-clause-there c =

@@ -1,5 +1,5 @@
 -- The bits of registers.
-use Rattle.std.proofs.Common.{◌≡◌, ℕ, ◌+◌, ◌-◌, ◌*◌, ◌≤◌, List, [], ◌∷◌, ◌++◌, refl, sym, ap, ◌∙◌, arith}
+use Rattle.std.proofs.Common.{◌≡◌, Bool, true, false, ℕ, ◌+◌, ◌-◌, ◌*◌, ◌≤◌, List, [], ◌∷◌, ◌++◌, refl, sym, ap, ◌∙◌, arith}
 use Rattle.std.specs.Prelude.{if◌then◌else◌}
 use Rattle.std.specs.List.{sum_by, flat_map}
 use Rattle.std.proofs.lemmas.List.Sums.{sum_by-cons}
@@ -9,10 +9,11 @@ use Rattle.vl_design.specs.Cost.{row_regs, cost}
 use Rattle.vl_design.specs.Syntax.{Row, Flat}
 use Rattle.vl_design.specs.Width.{signal_form}
 use Rattle.cell_waves.specs.Copies.{has_copy}
-use Rattle.cell_states.specs.Widths.{row_widths, store_widths, register_widths}
+use Rattle.cell_states.specs.Widths.{rows_widths, store_widths, register_widths}
 use Rattle.ten_stores.specs.declared.store.Store.{Store}
 use Rattle.ten_form.specs.Banks.{stores_in}
-use Rattle.cell_cost.specs.Slack.{row_slack, store_bits, word_bits, register_slack}
+use Rattle.ten_image.specs.Delays.{is_delayed}
+use Rattle.cell_cost.specs.Slack.{row_slack, rows_slack, store_bits, word_bits, register_slack}
 
 abbrev total : List ℕ → ℕ
 total xs = sum_by (λ w. w) xs
@@ -34,24 +35,34 @@ total-four a b c e xs = (
 
 -- ---- signals
 
-row-bits : (kind : SigKind) (w : ℕ) →
-    (if has_copy 3 kind then w else 0) + ((if has_copy 4 kind then w else 0) + ((if has_copy 5 kind then w else 0) + (if has_copy 6 kind then w else 0))) ≤ row_regs kind w + row_slack kind w
-row-bits k.Net w = omega arith
-row-bits k.Var w = omega arith
-row-bits k.Comb w = omega arith
-row-bits k.Loop w = omega arith
-row-bits k.Mem w = omega arith
-row-bits k.Clock w = omega arith
+-- what is pending of a signal
+abbrev pending : Bool → ℕ → SigKind → ℕ → ℕ
+pending late copy kind w = if late then (if has_copy copy kind then w else 0) else 0
 
-rows-bits : (rows : List Row) → total (flat_map row_widths rows) ≤ sum_by (λ (r : Row). row_regs r.kind r.width) rows + sum_by (λ (r : Row). row_slack r.kind r.width) rows
-rows-bits [] = omega arith
-rows-bits (r ∷ rs) = (
-    let t = total-four (if has_copy 3 r.kind then r.width else 0) (if has_copy 4 r.kind then r.width else 0) (if has_copy 5 r.kind then r.width else 0) (if has_copy 6 r.kind then r.width else 0) (flat_map row_widths rs) in
+row-bits : (late : Bool) (kind : SigKind) (w : ℕ) →
+    (if has_copy 3 kind then w else 0) + ((if has_copy 4 kind then w else 0) + (pending late 5 kind w + pending late 6 kind w)) ≤ row_regs kind w + row_slack late kind w
+row-bits true k.Net w = omega arith
+row-bits true k.Var w = omega arith
+row-bits true k.Comb w = omega arith
+row-bits true k.Loop w = omega arith
+row-bits true k.Mem w = omega arith
+row-bits true k.Clock w = omega arith
+row-bits false k.Net w = omega arith
+row-bits false k.Var w = omega arith
+row-bits false k.Comb w = omega arith
+row-bits false k.Loop w = omega arith
+row-bits false k.Mem w = omega arith
+row-bits false k.Clock w = omega arith
+
+rows-bits : (d : Flat) (n : ℕ) (rows : List Row) → total (rows_widths d n rows) ≤ sum_by (λ (r : Row). row_regs r.kind r.width) rows + rows_slack d n rows
+rows-bits d n [] = omega arith
+rows-bits d n (r ∷ rs) = (
+    let late = is_delayed d n in
+    let t = total-four (if has_copy 3 r.kind then r.width else 0) (if has_copy 4 r.kind then r.width else 0) (pending late 5 r.kind r.width) (pending late 6 r.kind r.width) (rows_widths d (n + 1) rs) in
     let a = sum_by-cons (λ (q : Row). row_regs q.kind q.width) r rs in
-    let b = sum_by-cons (λ (q : Row). row_slack q.kind q.width) r rs in
-    let one = row-bits r.kind r.width in
-    let more = rows-bits rs in
-    omega (arith, t, a, b, one, more))
+    let one = row-bits late r.kind r.width in
+    let more = rows-bits d (n + 1) rs in
+    omega (arith, t, a, one, more))
 
 -- ---- stores
 
@@ -68,12 +79,12 @@ stores-bits rows (x ∷ xs) = (
 
 pub registers-within : (d : Flat) → total (register_widths d) ≤ (cost d).regs + register_slack d
 registers-within d = (
-    let rows = flat_map row_widths d.rows in
+    let rows = rows_widths d 0 d.rows in
     let stores = flat_map (store_widths d.rows) (stores_in d) in
     let p = total-cons 32 (32 ∷ 32 ∷ (rows ++ stores)) in
     let q = total-cons 32 (32 ∷ (rows ++ stores)) in
     let r = total-cons 32 (rows ++ stores) in
     let s = total-both rows stores in
-    let a = rows-bits d.rows in
+    let a = rows-bits d 0 d.rows in
     let b = stores-bits d.rows (stores_in d) in
     omega (arith, p, q, r, s, a, b))

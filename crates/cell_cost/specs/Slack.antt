@@ -50,12 +50,18 @@ cell_slack d = sum_by (proc_slack d) d.procs + 4 * length (stores_in d) + idle_s
 
 -- ---- bits of registers
 
--- nothing is pending of a net, but its two registers for that are there; and a clock name or a loop variable costs nothing
-abbrev pub row_slack : SigKind → ℕ → ℕ
-row_slack Net w = 2 * w
-row_slack Loop w = 4 * w
-row_slack Clock w = 4 * w
-row_slack kind w = 0
+-- the value and the work copy of a clock name or a loop variable, which costs nothing; and what is pending of it, and of a net, where a
+-- nonblocking assignment names it (true): none does in a design that is accepted
+abbrev pub row_slack : Bool → SigKind → ℕ → ℕ
+row_slack late Net w = if late then 2 * w else 0
+row_slack late Loop w = 2 * w + (if late then 2 * w else 0)
+row_slack late Clock w = 2 * w + (if late then 2 * w else 0)
+row_slack late kind w = 0
+
+-- those of signals from number k on
+abbrev pub rows_slack : Flat → ℕ → List Row → ℕ
+rows_slack d k [] = 0
+rows_slack d k (r ∷ rs) = row_slack (is_delayed d k) r.kind r.width + rows_slack d (k + 1) rs
 
 -- those of a store, which has a mask beside what a nonblocking assignment to a word of a memory costs
 abbrev pub store_bits : List Row → Store → ℕ
@@ -66,4 +72,4 @@ abbrev pub word_bits : Flat → ℕ
 word_bits d = sum_by (proc_regs (scope_of d []) (fresh (zeros d.rows))) d.procs
 
 abbrev pub register_slack : Flat → ℕ
-register_slack d = sum_by (λ r. row_slack r.kind r.width) d.rows + (sum_by (store_bits d.rows) (stores_in d) - word_bits d)
+register_slack d = rows_slack d 0 d.rows + (sum_by (store_bits d.rows) (stores_in d) - word_bits d)

@@ -165,8 +165,9 @@ module _ (d : Flat) where
     here-slot : IsSlot l3 here 1
     here-slot = is-slot-stays l0 l3 here 1 g03 (record { there = zeros.there; width = zeros.width })
 
-    slot-narrow : (copy k s : ℕ) → 3 ≤ copy → copy ≤ 6 → is_written copy (slice_get d.rows k) ≡ true → (s ≡ here) ⊎ IsSlot l2 s (signal_form d.rows k).width → width_at l3 s ≤ register_width d (4 * k + copy)
-    slot-narrow copy k s low high i side = subst (λ n. width_at l3 s ≤ n) (sym (signal-width d copy k low high i)) (of side)
+    slot-narrow : (copy k s : ℕ) → 3 ≤ copy → copy ≤ 6 → is_written copy (slice_get d.rows k) ≡ true → marked_one marks k ≡ true → (s ≡ here) ⊎ IsSlot l2 s (signal_form d.rows k).width → width_at l3 s ≤ register_width d (4 * k + copy)
+    slot-narrow copy k s low high i m side =
+        subst (λ n. width_at l3 s ≤ n) (sym (signal-width d copy k low high (λ z. sym (delayed.each k (signal-below (names_of d) k (signal-of (names_of d) copy k i))) ∙ m) i)) (of side)
       where
         of : (s ≡ here) ⊎ IsSlot l2 s (signal_form d.rows k).width → width_at l3 s ≤ (signal_form d.rows k).width
         of (inl e) = let one = ap (width_at l3) e ∙ here-slot.width in let wide = one-bit d.rows k (signal-of (names_of d) copy k i) in omega (arith, one, wide)

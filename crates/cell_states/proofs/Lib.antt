@@ -6,6 +6,7 @@ mod Making
 mod Trimming
 mod Applying
 mod Counting
+pub mod Delaying
 mod Narrowing
 mod Finishing
 mod Tabling

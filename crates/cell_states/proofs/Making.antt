@@ -1,12 +1,12 @@
 -- The cells and writes of a segment's state.
 use Rattle.std.proofs.Common.{◌≡◌, ℕ, ◌+◌, ◌<◌, ◌≤◌, ◌^◌, Bool, true, false, List, [], ◌++◌, map, Option, Some, None, refl, sym, ap, ◌∙◌, arith, subst}
-use Rattle.std.specs.Prelude.{◌==◌, not, if◌then◌else◌, slice_get, slice_index, slice_index_or}
+use Rattle.std.specs.Prelude.{◌==◌, All, not, if◌then◌else◌, slice_get, slice_index, slice_index_or}
 use Rattle.std.specs.List.{AllByRecursion}
 use Rattle.std.proofs.lemmas.List.Elements.{recursion_from_All}
 use Rattle.vl_base.specs.declared.files.File.{File}
 use Rattle.vl_design.specs.Functions.{scope_of}
-use Rattle.vl_design.specs.Sound.{IsMemory}
-use Rattle.vl_design.specs.State.{State, sample, counted}
+use Rattle.vl_design.specs.Sound.{IsSignal, IsMemory}
+use Rattle.vl_design.specs.State.{State, Update, sample, counted}
 use Rattle.vl_design.specs.Syntax.{Task, Flat}
 use Rattle.vl_design.specs.Value.{Sample, own_value, words_of}
 use Rattle.vl_design.specs.Width.{Names, names_of}
@@ -24,12 +24,15 @@ use Rattle.cell_later.proofs.Keeping.{pending-stays, pends-stays}
 use Rattle.cell_expr.specs.Compiled.{Holds}
 use Rattle.cell_next.specs.Next.{next_node}
 use Rattle.cell_waves.specs.Begins.{Begins, IsPendingRead}
+use Rattle.cell_waves.specs.Copies.{marked_one}
 use Rattle.cell_waves.specs.Ends.{Ends, Leads, IsLike}
 use Rattle.cell_waves.specs.Lasts.{last_write, held_after}
 use Rattle.cell_waves.proofs.Beginning.{read-stays, settles-stay}
-use Rattle.cell_waves.proofs.Ending.{ends-beside, memories-hold, segment-writes, commit-writes}
+use Rattle.cell_waves.proofs.Ending.{signal-below, ends-beside, memories-hold, segment-writes, commit-writes}
 use Rattle.cell_waves.proofs.Lasting.{register-behind}
 use Rattle.sub_nodes.specs.Nodes.{Segment, WayOn, Go, Branch, Switch, Commit, Node, Run}
+use Rattle.sub_facts.specs.Early.{early_from}
+use Rattle.sub_nodes.specs.Code.{table_of}
 use Rattle.sub_nodes.specs.Cycles.{Stage, goes_on, segment_done, settled}
 use Rattle.ten_stores.specs.declared.store.Store.{Store}
 use Rattle.ten_stores.specs.Holding.{IsStore, IsIdle, HoldsWords}
@@ -50,13 +53,15 @@ use Rattle.cell_stores.proofs.Reading.{reads-memories, reads-words}
 use Rattle.cell_states.specs.Designs.{ComputesAlone}
 use Rattle.cell_states.specs.Ended.{IsEnd}
 use Rattle.cell_states.specs.Mades.{is_end, IsMade, Starts, AsksBehind}
+use Rattle.cell_states.specs.Marks.{AreDelayed}
 use Rattle.cell_states.specs.Segments.{HoldsTicks, IsTicks, DoesSegment}
 use Rattle.cell_states.specs.Widths.{register_width}
 use Rattle.cell_states.proofs.Narrowing.{HasWidths, stores-widths, keep-within}
 use Rattle.cell_states.proofs.Alone.{pass-keeps}
 use Rattle.cell_states.proofs.Storing.{all-front, memory-plain, own-memories, of-sites, from, mid, kept-cut, after-disjoint, signals-beside, before-beside, before-within, has-in, has-after}
 use Rattle.cell_states.proofs.Stretching.{segment-ticks}
-use Rattle.cell_states.proofs.Waving.{idle-next}
+use Rattle.cell_states.proofs.Waving.{taken, idle-next}
+use Rattle.cell_states.proofs.Delaying.{segment-late}
 
 -- ---- where a node goes on
 
@@ -123,10 +128,10 @@ starts-same d order n g on l at at' p p' ticks there st =
     own-memories d n (Run g on) there
     ∙ (ap (λ ms. ms ++ all_stored g.statements) (sym (reads-memories d.rows (stores_after d (n + 1)) st.first st.second [] st.sites st.reads)) ∙ sym st.does.sites)
 
-module _ (d : Flat) (order : List ℕ) (n : ℕ) (g : Segment) (on : WayOn) (l0 l1 l2 l3 : ListData) (at0 at1 : Env) (p0 p1 : PendingSlots) (sites : List Site) (ticks : Option ℕ) (next count : ℕ) (ends sets : List Write)
+module _ (d : Flat) (order : List ℕ) (marks : List Bool) (late : AreDelayed d marks) (n : ℕ) (g : Segment) (on : WayOn) (l0 l1 l2 l3 : ListData) (at0 at1 : Env) (p0 p1 : PendingSlots) (sites : List Site) (ticks : Option ℕ) (next count : ℕ) (ends sets : List Write)
     (begins : Begins d order (record { first = 0; cells = []; sets = [] }) l0 at0 p0) (reads : Reads d.rows (stores_after d (n + 1)) l0 l1 [] sites)
     (seg : DoesSegment d g at0 at1 (record p0 { sites = sites }) p1 l1 l2 ticks) (goes : (files : List File) → Holds (names_of d) count at1 l2 l3 next 32 (λ x. next_node (scope_of d files) x on))
-    (end : IsEnd d (is_end on) at0 at1 p0 p1 ticks next ends) (keeps : Keeps (stores_after d n) p1.sites ends sets) (same : map (λ (x : Store). x.memory) (stores_after d n) ≡ memories_of p1.sites)
+    (end : IsEnd d (is_end on) marks at0 at1 p0 p1 ticks next ends) (keeps : Keeps (stores_after d n) p1.sites ends sets) (same : map (λ (x : Store). x.memory) (stores_after d n) ≡ memories_of p1.sites)
     (above : AllByRecursion (λ x. IsMemory (names_of d) x.memory) (stores_after d (n + 1))) (alone : ComputesAlone d) where
   abbrev names : Names
   names = names_of d
@@ -173,8 +178,8 @@ module _ (d : Flat) (order : List ℕ) (n : ℕ) (g : Segment) (on : WayOn) (l0 
   signal-write : (r : ℕ) → r < from d → last_write sets r ≡ last_write ends r
   signal-write r lt = keeps.others r (signals-beside d n r lt)
 
-  all-ends : Ends d.rows (is_end on) at0 at1 p0 p1 at1.here sets
-  all-ends = ends-beside d.rows (is_end on) at0 at1 p0 p1 at1.here ends sets end.ends (keeps.registers end.ends.registers) (λ r h k lt. signal-write r lt)
+  all-ends : Ends d.rows (is_end on) marks at0 at1 p0 p1 at1.here sets
+  all-ends = ends-beside d.rows (is_end on) marks at0 at1 p0 p1 at1.here ends sets end.ends (keeps.registers end.ends.registers) (λ r h k lt. signal-write r lt)
 
   node-write : last_write sets state_register ≡ Some next
   node-write = signal-write state_register (omega arith) ∙ end.node
@@ -250,7 +255,13 @@ module _ (d : Flat) (order : List ℕ) (n : ℕ) (g : Segment) (on : WayOn) (l0 
     pends3 : Pends names b l3 p1 t.later
     pends3 = pends-stays names b l2 l3 p1 t.later g23 seg.pending (seg.later files (shape_of b) b i.state a1 may.alive few-rising stands01 pends1)
 
-    leads : Leads d b l3 i.state t i.committed at0 at1 p0 p1 at1.here
+    none-now : (k : ℕ) → IsSignal names k → marked_one marks k ≡ false → All (λ (u : Update). (u.signal == k) ≡ false) i.state.later
+    none-now k j m = may.due.later k (sym (late.each k (signal-below names k j)) ∙ m)
+
+    none-then : (k : ℕ) → IsSignal names k → marked_one marks k ≡ false → All (λ (u : Update). (u.signal == k) ≡ false) t.later
+    none-then k j m = segment-late d files n g on i.state k (taken (early_from d) (table_of d).nodes n (Run g on) may.there).1 (sym (late.each k (signal-below names k j)) ∙ m) (none-now k j m)
+
+    leads : Leads d b l3 i.state t i.committed marks at0 at1 p0 p1 at1.here
     leads = record {
       shape = shape_of b;
       sound = sound3 (shape_of b) may.shape;
@@ -266,6 +277,8 @@ module _ (d : Flat) (order : List ℕ) (n : ℕ) (g : Segment) (on : WayOn) (l0 
       zero = fits3.is_here (shape_of b) b (sound3 (shape_of b) may.shape);
       answer = sym stands3.answer ∙ ap (held b l3) seg.answer ∙ stands03.answer;
       few = few;
+      none_before = none-now;
+      none_behind = none-then;
     }
 
     ticks-held : held_after (held b l3) (last_write sets ticks_register) i.state.ticks ≡ t.ticks
@@ -288,10 +301,10 @@ module _ (d : Flat) (order : List ℕ) (n : ℕ) (g : Segment) (on : WayOn) (l0 
         ∙ (goes files).value (shape_of b) b (sample t) (sound2 (shape_of b) may.shape) stands2
 
     signals : (w : WayOn) → on ≡ w → (let j = goes_on d files (nets_of d files order) w t i.committed in HoldsSignals d end-bank j.state j.committed)
-    signals (Go to) e = segment-writes d b l3 i.state t i.committed at0 at1 p0 p1 at1.here (is_end on) sets leads all-ends (ap is_end e) ticks-held
-    signals (Branch x first second) e = holds-counted d end-bank t i.committed (segment-writes d b l3 i.state t i.committed at0 at1 p0 p1 at1.here (is_end on) sets leads all-ends (ap is_end e) ticks-held)
-    signals (Switch x ws other) e = holds-counted d end-bank t i.committed (segment-writes d b l3 i.state t i.committed at0 at1 p0 p1 at1.here (is_end on) sets leads all-ends (ap is_end e) ticks-held)
-    signals (Commit to) e = commit-writes d b l3 i.state t i.committed at0 at1 p0 p1 at1.here (is_end on) sets leads all-ends (ap is_end e) ticks-held (settled d files (nets_of d files order) (counted t)) (like-settled d order files alone t)
+    signals (Go to) e = segment-writes d b l3 i.state t i.committed marks at0 at1 p0 p1 at1.here (is_end on) sets leads all-ends (ap is_end e) ticks-held
+    signals (Branch x first second) e = holds-counted d end-bank t i.committed (segment-writes d b l3 i.state t i.committed marks at0 at1 p0 p1 at1.here (is_end on) sets leads all-ends (ap is_end e) ticks-held)
+    signals (Switch x ws other) e = holds-counted d end-bank t i.committed (segment-writes d b l3 i.state t i.committed marks at0 at1 p0 p1 at1.here (is_end on) sets leads all-ends (ap is_end e) ticks-held)
+    signals (Commit to) e = commit-writes d b l3 i.state t i.committed marks at0 at1 p0 p1 at1.here (is_end on) sets leads all-ends (ap is_end e) ticks-held (settled d files (nets_of d files order) (counted t)) (like-settled d order files alone t)
 
     memories : (m : ℕ) → IsMemory names m → slice_index_or end-bank.mems m [] ≡ words_of (goes_on d files (nets_of d files order) on t i.committed).state.values m
     memories m k =
@@ -348,7 +361,7 @@ module _ (d : Flat) (order : List ℕ) (n : ℕ) (g : Segment) (on : WayOn) (l0 
         let kept = all-front (HasWidths d) (stores_after d n) (stores_before d n) (subst (AllByRecursion (HasWidths d)) (kept-cut d n) (stores-widths d)) in
         subst Narrow (sym keeps.are)
         (all-both (IsWithin (register_width d) l3) ends (each_written keep_writes (stores_after d n) p1.sites)
-        (end.narrow l3 fits3 (seg.first ∙ begins.first) pending3 (ticks-stay ticks seg.slot) (goes []).slot)
+        (end.narrow late l3 fits3 (seg.first ∙ begins.first) pending3 (ticks-stay ticks seg.slot) (goes []).slot)
         (keep-within d l3 (stores_after d n) p1.sites kept same (recursion_from_All (IsSite names l3) p1.sites pending3.sites)));
     does = stage-held;
   }

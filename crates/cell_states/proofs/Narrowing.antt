@@ -1,6 +1,6 @@
 -- States set registers from slots that are at most as wide.
 use Rattle.std.proofs.Common.{◌≡◌, ℕ, zero, suc, ◌+◌, ◌*◌, ◌<◌, ◌≤◌, Bool, true, false, List, [], ◌∷◌, ◌++◌, length, map, Option, Some, None, refl, sym, ap, ◌∙◌, arith, subst}
-use Rattle.std.specs.Prelude.{◌&&◌, slice_get, slice_index, if◌then◌else◌}
+use Rattle.std.specs.Prelude.{◌&&◌, nat_lt, slice_get, slice_index, if◌then◌else◌}
 use Rattle.std.specs.List.{AllByRecursion, flat_map}
 use Rattle.std.proofs.lemmas.Bool.{true≢false}
 use Rattle.std.proofs.lemmas.Option.{none-some, same_Some}
@@ -20,42 +20,45 @@ use Rattle.ten_stores.specs.Holding.{enable_register, word_register, value_regis
 use Rattle.ten_stores.specs.Stores.{stores_from, words_down}
 use Rattle.ten_form.specs.Banks.{cell_nodes, stores_in}
 use Rattle.ten_form.specs.Registers.{register_count}
+use Rattle.ten_image.specs.Delays.{is_delayed}
 use Rattle.cell_waves.specs.Copies.{is_written, has_copy, slot_or}
 use Rattle.cell_stores.specs.Keeping.{each_written, keep_writes}
 use Rattle.cell_stores.specs.Applying.{apply_writes}
 use Rattle.cell_trim.specs.Widths.{IsWithin}
-use Rattle.cell_states.specs.Widths.{copy_width, row_widths, store_widths, register_widths, register_width}
+use Rattle.cell_states.specs.Widths.{copy_width, pending_width, row_widths, rows_widths, store_widths, register_widths, register_width}
 
 -- ---- lists of four for each
 
 four-on : (k c : ℕ) → 4 * suc k + c ≡ suc (suc (suc (suc (4 * k + c))))
 four-on k c = omega arith
 
--- those of a row
-row-at : (rows : List Row) (more : List ℕ) (k c : ℕ) (r : Row) → slice_get rows k ≡ Some r → c < 4 → slice_index (flat_map row_widths rows ++ more) (4 * k + c) ≡ slice_index (row_widths r) c
-row-at [] more k c r at lt = absurd (none-some r at)
-row-at (x ∷ rows) more zero zero r at lt = ap (copy_width 3) (same_Some x r at)
-row-at (x ∷ rows) more zero (suc zero) r at lt = ap (copy_width 4) (same_Some x r at)
-row-at (x ∷ rows) more zero (suc (suc zero)) r at lt = ap (copy_width 5) (same_Some x r at)
-row-at (x ∷ rows) more zero (suc (suc (suc zero))) r at lt = ap (copy_width 6) (same_Some x r at)
-row-at (x ∷ rows) more zero (suc (suc (suc (suc c)))) r at lt = absurd (omega (arith, lt))
-row-at (x ∷ rows) more (suc k) c r at lt = ap (slice_index (flat_map row_widths (x ∷ rows) ++ more)) (four-on k c) ∙ row-at rows more k c r at lt
+module _ (d : Flat) where
+  -- those of a row
+  row-at : (j n : ℕ) (rows : List Row) (more : List ℕ) (k c : ℕ) (r : Row) → slice_get rows k ≡ Some r → n ≡ j + k → c < 4 → slice_index (rows_widths d j rows ++ more) (4 * k + c) ≡ slice_index (row_widths d n r) c
+  row-at j n [] more k c r at is lt = absurd (none-some r at)
+  row-at j n (x ∷ rows) more zero zero r at is lt = ap (copy_width 3) (same_Some x r at)
+  row-at j n (x ∷ rows) more zero (suc zero) r at is lt = ap (copy_width 4) (same_Some x r at)
+  row-at j n (x ∷ rows) more zero (suc (suc zero)) r at is lt = ap (pending_width d j 5) (same_Some x r at) ∙ ap (λ i. pending_width d i 5 r) (let e : j ≡ n = omega (arith, is) in e)
+  row-at j n (x ∷ rows) more zero (suc (suc (suc zero))) r at is lt = ap (pending_width d j 6) (same_Some x r at) ∙ ap (λ i. pending_width d i 6 r) (let e : j ≡ n = omega (arith, is) in e)
+  row-at j n (x ∷ rows) more zero (suc (suc (suc (suc c)))) r at is lt = absurd (omega (arith, lt))
+  row-at j n (x ∷ rows) more (suc k) c r at is lt =
+      ap (slice_index (rows_widths d j (x ∷ rows) ++ more)) (four-on k c) ∙ row-at (j + 1) n rows more k c r at (let e : n ≡ j + 1 + k = omega (arith, is) in e) lt
 
--- those behind all rows
-rows-behind : (rows : List Row) (more : List ℕ) (j : ℕ) → slice_index (flat_map row_widths rows ++ more) (4 * length rows + j) ≡ slice_index more j
-rows-behind [] more j = ap (slice_index more) (let e : 4 * 0 + j ≡ j = omega arith in e)
-rows-behind (x ∷ rows) more j = ap (slice_index (flat_map row_widths (x ∷ rows) ++ more)) (four-on (length rows) j) ∙ rows-behind rows more j
+  -- those behind all rows
+  rows-behind : (k : ℕ) (rows : List Row) (more : List ℕ) (j : ℕ) → slice_index (rows_widths d k rows ++ more) (4 * length rows + j) ≡ slice_index more j
+  rows-behind k [] more j = ap (slice_index more) (let e : 4 * 0 + j ≡ j = omega arith in e)
+  rows-behind k (x ∷ rows) more j = ap (slice_index (rows_widths d k (x ∷ rows) ++ more)) (four-on (length rows) j) ∙ rows-behind (k + 1) rows more j
+
+  -- the width of a copy by its number; a pending one where the signal is delayed
+  copy-at : (k : ℕ) (r : Row) (c : ℕ) → c < 4 → (nat_lt 4 (suc (suc (suc c))) ≡ true → is_delayed d k ≡ true) → slice_index (row_widths d k r) c ≡ copy_width (suc (suc (suc c))) r
+  copy-at k r zero lt late = refl
+  copy-at k r (suc zero) lt late = refl
+  copy-at k r (suc (suc zero)) lt late = ap (λ t. if t then copy_width 5 r else 0) (late refl)
+  copy-at k r (suc (suc (suc zero))) lt late = ap (λ t. if t then copy_width 6 r else 0) (late refl)
+  copy-at k r (suc (suc (suc (suc c)))) lt late = absurd (omega (arith, lt))
 
 three-on : (n c : ℕ) → n + suc (suc (suc c)) ≡ suc (suc (suc (n + c)))
 three-on n c = omega arith
-
--- the width of a copy by its number
-copy-at : (r : Row) (c : ℕ) → c < 4 → slice_index (row_widths r) c ≡ copy_width (suc (suc (suc c))) r
-copy-at r zero lt = refl
-copy-at r (suc zero) lt = refl
-copy-at r (suc (suc zero)) lt = refl
-copy-at r (suc (suc (suc zero))) lt = refl
-copy-at r (suc (suc (suc (suc c)))) lt = absurd (omega (arith, lt))
 
 both-left : (a b : Bool) → (a && b) ≡ true → a ≡ true
 both-left true b h = refl
@@ -80,25 +83,21 @@ module _ (d : Flat) where
   abbrev stores : List ℕ
   stores = flat_map (store_widths d.rows) (stores_in d)
 
-  copy-is : (k c : ℕ) (r : Row) → slice_get d.rows k ≡ Some r → c < 4 → register_width d (4 * k + suc (suc (suc c))) ≡ copy_width (suc (suc (suc c))) r
-  copy-is k c r at lt = ap (slice_index (register_widths d)) (three-on (4 * k) c) ∙ (row-at d.rows stores k c r at lt ∙ copy-at r c lt)
+  copy-is : (k c : ℕ) (r : Row) → slice_get d.rows k ≡ Some r → c < 4 → (nat_lt 4 (suc (suc (suc c))) ≡ true → is_delayed d k ≡ true) → register_width d (4 * k + suc (suc (suc c))) ≡ copy_width (suc (suc (suc c))) r
+  copy-is k c r at lt late = ap (slice_index (register_widths d)) (three-on (4 * k) c) ∙ (row-at d 0 k d.rows stores k c r at (let e : k ≡ 0 + k = omega arith in e) lt ∙ copy-at d k r c lt late)
 
   -- a register of a signal that is set is as wide as the signal
-  pub signal-width : (copy k : ℕ) → 3 ≤ copy → copy ≤ 6 → is_written copy (slice_get d.rows k) ≡ true → register_width d (4 * k + copy) ≡ (signal_form d.rows k).width
-  signal-width zero k low high h = absurd (omega (arith, low))
-  signal-width (suc zero) k low high h = absurd (omega (arith, low))
-  signal-width (suc (suc zero)) k low high h = absurd (omega (arith, low))
-  signal-width (suc (suc (suc c))) k low high h = of (slice_get d.rows k) refl h
+  pub signal-width : (copy k : ℕ) → 3 ≤ copy → copy ≤ 6 → (nat_lt 4 copy ≡ true → is_delayed d k ≡ true) → is_written copy (slice_get d.rows k) ≡ true → register_width d (4 * k + copy) ≡ (signal_form d.rows k).width
+  signal-width zero k low high late h = absurd (omega (arith, low))
+  signal-width (suc zero) k low high late h = absurd (omega (arith, low))
+  signal-width (suc (suc zero)) k low high late h = absurd (omega (arith, low))
+  signal-width (suc (suc (suc c))) k low high late h = of (slice_get d.rows k) refl h
     where
       of : (o : Option Row) → slice_get d.rows k ≡ o → is_written (suc (suc (suc c))) o ≡ true → register_width d (4 * k + suc (suc (suc c))) ≡ (signal_form d.rows k).width
       of None at h = absurd (true≢false (sym h))
       of (Some r) at h =
           let b = both-left (has_copy (suc (suc (suc c))) r.kind) (has_width r.width) h in
-          copy-is k c r at (omega (arith, high)) ∙ ap (λ t. if t then r.width else 0) b ∙ sym (ap (λ o. (row_form o).width) at)
-
-  -- a write of it from a slot that is at most as wide
-  pub signal-within : (l : ListData) (copy k s : ℕ) → 3 ≤ copy → copy ≤ 6 → is_written copy (slice_get d.rows k) ≡ true → width_at l s ≤ (signal_form d.rows k).width → IsWithin (register_width d) l (w.Reg (4 * k + copy) s)
-  signal-within l copy k s low high h le = subst (λ n. width_at l s ≤ n) (sym (signal-width copy k low high h)) le
+          copy-is k c r at (omega (arith, high)) late ∙ ap (λ t. if t then r.width else 0) b ∙ sym (ap (λ o. (row_form o).width) at)
 
   -- ---- stores
 
@@ -118,7 +117,7 @@ module _ (d : Flat) where
 
   behind-signals : (j : ℕ) → register_width d (register_count (length d.rows) + j) ≡ slice_index stores j
   behind-signals j =
-      ap (slice_index (register_widths d)) (let e : register_count (length d.rows) + j ≡ suc (suc (suc (4 * length d.rows + j))) = omega arith in e) ∙ rows-behind d.rows stores j
+      ap (slice_index (register_widths d)) (let e : register_count (length d.rows) + j ≡ suc (suc (suc (4 * length d.rows + j))) = omega arith in e) ∙ rows-behind d 0 d.rows stores j
 
   pub stores-widths : AllByRecursion HasWidths (stores_in d)
   stores-widths = have-widths (words_down (cell_nodes d)) (register_count (length d.rows)) behind-signals

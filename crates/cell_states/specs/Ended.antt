@@ -12,21 +12,22 @@ use Rattle.cell_later.specs.Pendings.{PendingSlots, ArePending}
 use Rattle.ten_stores.specs.declared.store.Store.{Store}
 use Rattle.ten_form.specs.Registers.{state_register, ticks_register, register_count}
 use Rattle.ten_form.specs.Banks.{IsFor}
-use Rattle.cell_waves.specs.Copies.{changed, each_one, Sets}
+use Rattle.cell_waves.specs.Copies.{changed, marked_change, each_one, Sets}
 use Rattle.cell_waves.specs.Lasts.{last_write}
 use Rattle.cell_waves.specs.Ends.{Ends}
 use Rattle.cell_stores.specs.Keeping.{Keeps}
 use Rattle.cell_trim.specs.Widths.{IsWithin}
 use Rattle.cell_states.specs.Widths.{register_width}
+use Rattle.cell_states.specs.Marks.{AreDelayed}
 use Rattle.cell_states.specs.Segments.{IsTicks}
 
--- writes of the registers of signals that changed: work copies, and what is pending
-pub record AreChanges (rows : List Row) (at at' : Env) (p p' : PendingSlots) (sets : List Write) : Type 0 where
+-- writes of the registers of signals that changed: work copies, and what is pending of signals that are marked
+pub record AreChanges (rows : List Row) (marks : List Bool) (at at' : Env) (p p' : PendingSlots) (sets : List Write) : Type 0 where
   pub works : List Write
   pub updates : List Write
   pub first : Sets rows 4 (changed at.slots at'.slots) at'.slots at'.here [] works
-  pub second : Sets rows 5 (changed p.update p'.update) p'.update at'.here works updates
-  pub third : Sets rows 6 (changed p.mask p'.mask) p'.mask at'.here updates sets
+  pub second : Sets rows 5 (marked_change marks p.update p'.update) p'.update at'.here works updates
+  pub third : Sets rows 6 (marked_change marks p.mask p'.mask) p'.mask at'.here updates sets
 
 -- and behind them those of all values, where a wave ends
 abbrev pub Commits : List Row → Bool → Env → List Write → List Write → Type 0
@@ -39,19 +40,19 @@ with_ticks None sets = sets
 with_ticks (Some r) sets = sets ++ w.Reg ticks_register r ∷ []
 
 -- they write what changed, what is committed, the ticks where the clock rises, and the node that is next
-pub record IsEnd (d : Flat) (commits : Bool) (at at' : Env) (p p' : PendingSlots) (ticks : Option ℕ) (next : ℕ) (sets : List Write) : Type 0 where
-  pub ends : Ends d.rows commits at at' p p' at'.here sets
+pub record IsEnd (d : Flat) (commits : Bool) (marks : List Bool) (at at' : Env) (p p' : PendingSlots) (ticks : Option ℕ) (next : ℕ) (sets : List Write) : Type 0 where
+  pub ends : Ends d.rows commits marks at at' p p' at'.here sets
   pub node : last_write sets state_register ≡ Some next
   pub counts : last_write sets ticks_register ≡ ticks
   -- and no register of a store
   pub beside : (r : ℕ) → register_count (length d.rows) ≤ r → last_write sets r ≡ None
   -- they set registers from slots that are at most as wide
-  pub narrow : (l : ListData) → Fits (names_of d) l at' → at'.first ≡ 0 → ArePending (names_of d) l p' → IsTicks l ticks → IsSlot l next 32 → AllByRecursion (IsWithin (register_width d) l) sets
+  pub narrow : AreDelayed d marks → (l : ListData) → Fits (names_of d) l at' → at'.first ≡ 0 → ArePending (names_of d) l p' → IsTicks l ticks → IsSlot l next 32 → AllByRecursion (IsWithin (register_width d) l) sets
   pub sound : (z : Shape) (l : ListData) → IsFor d 0 z → Fits (names_of d) l at' → at'.first ≡ 0 → ArePending (names_of d) l p' → IsTicks l ticks → IsSlot l next 32 →
       AllByRecursion (IsWrite z l.first (length l.cells)) sets
 
 -- and behind them the registers of stores, from the slots of the sites that are pending
-pub record IsKeptEnd (d : Flat) (commits : Bool) (at at' : Env) (p p' : PendingSlots) (ticks : Option ℕ) (next : ℕ) (stores : List Store) (sets : List Write) : Type 0 where
+pub record IsKeptEnd (d : Flat) (commits : Bool) (marks : List Bool) (at at' : Env) (p p' : PendingSlots) (ticks : Option ℕ) (next : ℕ) (stores : List Store) (sets : List Write) : Type 0 where
   pub before : List Write
-  pub end : IsEnd d commits at at' p p' ticks next before
+  pub end : IsEnd d commits marks at at' p p' ticks next before
   pub keeps : Keeps stores p'.sites before sets

@@ -12,21 +12,22 @@ use cell_form::cell::Write;
 use cell_paths::at::At;
 use cell_stores::keep::keep;
 use cell_waves::begun::Begun;
-use cell_waves::writes::{write_all, write_changed};
+use cell_waves::writes::{write_all, write_changed, write_pending};
 use std::alloc::{AllocError, Global};
 use ten_form::places::{MASK, STATE, TICKS, UPDATE, VALUE, WORK};
 use ten_stores::store::Store;
 use vl_design::design::{Design, Signal};
 
-/// The writes of the registers of signals that changed.
+/// The writes of the registers of signals that changed; of what is pending those alone that nonblocking assignments name (`delayed`).
 fn changes(
     alloc: Global,
     signals: &[Signal],
+    delayed: &[bool],
     before: &Begun,
     after: &Begun,
 ) -> Result<Vec<Write>, AllocError>
     requires few { length signals.now ≤ 268435456 }
-    ensures { IfOk result (λ sets. AreChanges (map row_of signals.now) (env_of before.now.at) (env_of after.now.at) (slots_of before.now.pending) (slots_of after.now.pending) sets.items) }
+    ensures { IfOk result (λ sets. AreChanges (map row_of signals.now) delayed.now (env_of before.now.at) (env_of after.now.at) (slots_of before.now.pending) (slots_of after.now.pending) sets.items) }
 {
     let here = after.at.here;
     let mut sets = Vec::new(alloc);
@@ -38,17 +39,19 @@ fn changes(
         here,
         &mut sets,
     )?;
-    write_changed(
+    write_pending(
         signals,
         UPDATE,
+        delayed,
         &before.pending.update,
         &after.pending.update,
         here,
         &mut sets,
     )?;
-    write_changed(
+    write_pending(
         signals,
         MASK,
+        delayed,
         &before.pending.mask,
         &after.pending.mask,
         here,
@@ -91,6 +94,7 @@ fn count(ticks: Option<u32>, sets: &mut Vec<Write>) -> Result<(), AllocError>
 fn ends(
     alloc: Global,
     design: &Design,
+    delayed: &[bool],
     before: &Begun,
     after: &Begun,
     commits: bool,
@@ -98,10 +102,10 @@ fn ends(
     next: u32,
 ) -> Result<Vec<Write>, AllocError>
     requires few { length (flat_of design.now).rows ≤ 268435456 }
-    ensures { IfOk result (λ sets. IsEnd (flat_of design.now) commits (env_of before.now.at) (env_of after.now.at) (slots_of before.now.pending) (slots_of after.now.pending) ticks next sets.items) }
+    ensures { IfOk result (λ sets. IsEnd (flat_of design.now) commits delayed.now (env_of before.now.at) (env_of after.now.at) (slots_of before.now.pending) (slots_of after.now.pending) ticks next sets.items) }
 {
     let signals = design.signals.as_slice();
-    let mut sets = changes(alloc, signals, before, after)?;
+    let mut sets = changes(alloc, signals, delayed, before, after)?;
     commit(signals, &after.at, commits, &mut sets)?;
     count(ticks, &mut sets)?;
     sets.push(Write::Reg(STATE, next))?;
@@ -113,6 +117,7 @@ pub(crate) fn writes(
     alloc: Global,
     design: &Design,
     stores: &[Store],
+    delayed: &[bool],
     before: &Begun,
     after: &Begun,
     commits: bool,
@@ -122,9 +127,9 @@ pub(crate) fn writes(
     requires few { length (flat_of design.now).rows ≤ 268435456 }
     requires registers { All (λ x. mask_register x < 2 ^ 32) stores.now }
     requires same { map (λ (x : Store). x.memory) stores.now ≡ memories_of after.now.pending.sites.items }
-    ensures { IfOk result (λ sets. IsKeptEnd (flat_of design.now) commits (env_of before.now.at) (env_of after.now.at) (slots_of before.now.pending) (slots_of after.now.pending) ticks next stores.now sets.items) }
+    ensures { IfOk result (λ sets. IsKeptEnd (flat_of design.now) commits delayed.now (env_of before.now.at) (env_of after.now.at) (slots_of before.now.pending) (slots_of after.now.pending) ticks next stores.now sets.items) }
 {
-    let mut sets = ends(alloc, design, before, after, commits, ticks, next)?;
+    let mut sets = ends(alloc, design, delayed, before, after, commits, ticks, next)?;
     keep(stores, after.pending.sites.as_slice(), &mut sets)?;
     Ok(sets)
 }

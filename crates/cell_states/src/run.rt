@@ -24,6 +24,7 @@ ghost use Rattle.ten_calls.specs.Traps.{IsTrapOf};
 ghost use Rattle.ten_image.specs.States.{slots_in};
 ghost use Rattle.cell_states.specs.Mades.{is_end, IsMade, Starts, AsksBehind, IsKept};
 ghost use Rattle.cell_states.specs.Designs.{IsCellDesign};
+ghost use Rattle.cell_states.specs.Marks.{AreDelayed};
 ghost use Rattle.cell_states.specs.Pieces.{IsCellPiece, IsCellWay};
 
 use crate::base::{begin_in, copied, no_cells};
@@ -141,6 +142,7 @@ pub fn made(
     design: &Design,
     order: &[u32],
     kept: Kept<'_>,
+    delayed: &[bool],
     segment: &Segment<'_>,
     on: &WayOn<'_>,
 ) -> Result<Made, AllocError>
@@ -148,6 +150,7 @@ pub fn made(
     requires stores { (number : ℕ) × IsKept (flat_of design.now) number kept (n.Run (segment_view segment.now) (way_on_view on.now)) }
     requires memories { All (λ x. IsMemory (names_of (flat_of design.now)) x.memory) kept.above.now }
     requires few { All (λ x. mask_register x < 2 ^ 32) kept.all.now }
+    requires delayed { AreDelayed (flat_of design.now) delayed.now }
     requires pieces { All (IsCellPiece (names_of (flat_of design.now))) segment.now.statements.items }
     requires way { IsCellWay (names_of (flat_of design.now)) on.now }
     ensures made { IfOk result (λ m. (number : ℕ) → IsKept (flat_of design.now) number kept.entry (n.Run (segment_view segment.now) (way_on_view on.now)) →
@@ -166,6 +169,7 @@ pub fn made(
         alloc,
         design,
         kept.all,
+        delayed,
         &before,
         &after,
         commits(on),
@@ -182,6 +186,7 @@ pub fn made_call(
     design: &Design,
     order: &[u32],
     kept: Kept<'_>,
+    delayed: &[bool],
     segment: &Segment<'_>,
     trap: u32,
     path: &Text,
@@ -191,6 +196,7 @@ pub fn made_call(
     requires stores { (number : ℕ) × IsKept (flat_of design.now) number kept (n.Run (segment_view segment.now) (n.Go trap)) }
     requires memories { All (λ x. IsMemory (names_of (flat_of design.now)) x.memory) kept.above.now }
     requires few { All (λ x. mask_register x < 2 ^ 32) kept.all.now }
+    requires delayed { AreDelayed (flat_of design.now) delayed.now }
     requires pieces { All (IsCellPiece (names_of (flat_of design.now))) segment.now.statements.items }
     requires task { IsSoundTask (names_of (flat_of design.now)) (call_view path.now call.now) }
     ensures made { IfOk result (λ m. (number : ℕ) → IsKept (flat_of design.now) number kept.entry (n.Run (segment_view segment.now) (n.Go trap)) →
@@ -209,7 +215,9 @@ pub fn made_call(
     } = up_to_segment(alloc, design, order, kept.above, segment)?;
     let next = number(alloc, &mut cells, trap)?;
     let asked = call_of(alloc, &mut cells, design, path, &after.at, call)?;
-    let sets = writes(alloc, design, kept.all, &before, &after, false, ticks, next)?;
+    let sets = writes(
+        alloc, design, kept.all, delayed, &before, &after, false, ticks, next,
+    )?;
     let made = Made { cells, sets };
     Ok((made, asked))
 }

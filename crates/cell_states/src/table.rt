@@ -131,6 +131,7 @@ fn add_run(
     design: &Design,
     order: &[u32],
     kept: Kept<'_>,
+    delayed: &[bool],
     segment: &Segment<'_>,
     on: &WayOn<'_>,
     built: &mut Built,
@@ -139,6 +140,7 @@ fn add_run(
     requires stores { (number : ℕ) × IsKept (flat_of design.now) number kept (n.Run (segment_view segment.now) (way_on_view on.now)) }
     requires memories { All (λ x. IsMemory (names_of (flat_of design.now)) x.memory) kept.above.now }
     requires few { All (λ x. mask_register x < 2 ^ 32) kept.all.now }
+    requires delayed { AreDelayed (flat_of design.now) delayed.now }
     requires pieces { All (IsCellPiece (names_of (flat_of design.now))) segment.now.statements.items }
     requires way { IsCellWay (names_of (flat_of design.now)) on.now }
     ensures more { OnOk result ((number : ℕ) → IsKept (flat_of design.now) number kept.entry (n.Run (segment_view segment.now) (way_on_view on.now)) →
@@ -146,7 +148,7 @@ fn add_run(
         (segment_count (flat_of design.now) order.now (length kept.entry.above.now) (segment_view segment.now) + next_count (body_cells (flat_of design.now)) (way_on_view on.now)) (map state_of built.old.states) built.old.slots (map state_of built.new.states) built.new.slots) }
     ensures left { OnOk result (built.new.left ≡ length kept.entry.above.now) }
 {
-    let made = made(alloc, design, order, kept, segment, on)?;
+    let made = made(alloc, design, order, kept, delayed, segment, on)?;
     let nexts = nexts_of(alloc, on)?;
     let state = plain_state(alloc, &made, nexts, built.slots)?;
     built.add(state, kept.above.len())
@@ -184,6 +186,7 @@ fn add_call(
     design: &Design,
     order: &[u32],
     kept: Kept<'_>,
+    delayed: &[bool],
     segment: &Segment<'_>,
     trap: u32,
     path: &Text,
@@ -195,6 +198,7 @@ fn add_call(
     requires stores { (number : ℕ) × IsKept (flat_of design.now) number kept (n.Run (segment_view segment.now) (n.Go trap)) }
     requires memories { All (λ x. IsMemory (names_of (flat_of design.now)) x.memory) kept.above.now }
     requires few { All (λ x. mask_register x < 2 ^ 32) kept.all.now }
+    requires delayed { AreDelayed (flat_of design.now) delayed.now }
     requires pieces { All (IsCellPiece (names_of (flat_of design.now))) segment.now.statements.items }
     requires task { IsSoundTask (names_of (flat_of design.now)) (call_view path.now call.now) }
     ensures more { OnOk result ((number : ℕ) → IsKept (flat_of design.now) number kept.entry (n.Run (segment_view segment.now) (n.Go trap)) →
@@ -202,7 +206,9 @@ fn add_call(
         (segment_count (flat_of design.now) order.now (length kept.entry.above.now) (segment_view segment.now) + (1 + asked_count (body_cells (flat_of design.now)) (call_view path.now call.now))) (map state_of built.old.states) built.old.slots (map state_of built.new.states) built.new.slots) }
     ensures left { OnOk result (built.new.left ≡ length kept.entry.above.now) }
 {
-    let (made, asked) = made_call(alloc, design, order, kept, segment, trap, path, call)?;
+    let (made, asked) = made_call(
+        alloc, design, order, kept, delayed, segment, trap, path, call,
+    )?;
     let (run, wait) = call_states(alloc, &made, asked, trap, to, built.slots)?;
     let left = kept.above.len();
     built.add(run, left)?;
@@ -236,10 +242,10 @@ fn add_node(
             let own = own_stores(alloc, nodes, number)?;
             let kept = kept_of(stores, built.left, own);
             match go_of(on) {
-                None => add_run(alloc, design, order, kept, segment, on, built),
+                None => add_run(alloc, design, order, kept, delayed, segment, on, built),
                 Some(trap) => match &nodes[number + 1] {
                     Node::Trap(path, call, to) => add_call(
-                        alloc, design, order, kept, segment, trap, path, call, *to, built,
+                        alloc, design, order, kept, delayed, segment, trap, path, call, *to, built,
                     ),
                     Node::Run(_, _) => unreachable!(),
                     Node::Apply(_) => unreachable!(),

@@ -1,16 +1,19 @@
 -- What a bank holds behind the writes of a segment, and of a wave.
-use Rattle.std.proofs.Common.{◌≡◌, ◌≢◌, ℕ, ◌+◌, ◌*◌, ◌-◌, ◌<◌, ◌≤◌, ◌^◌, Bool, true, false, List, [], length, Option, Some, None, refl, sym, ap, ◌∙◌, arith, subst}
-use Rattle.std.specs.Prelude.{◌==◌, not, nat_lt, if◌then◌else◌, slice_get, slice_index, slice_index_or}
+use Rattle.std.proofs.Common.{◌≡◌, ◌≢◌, ℕ, ◌+◌, ◌*◌, ◌-◌, ◌<◌, ◌≤◌, ◌^◌, Bool, true, false, List, [], ◌∷◌, length, Option, Some, None, refl, sym, ap, ◌∙◌, arith, subst}
+use Rattle.std.specs.Prelude.{◌==◌, ◌&&◌, not, nat_lt, if◌then◌else◌, slice_get, slice_index, slice_index_or, All}
 use Rattle.std.specs.List.{AllByRecursion}
 use Rattle.std.proofs.Math.Pow.{pow_pos}
-use Rattle.std.proofs.lemmas.Bool.{eqb-true, le-ltb}
+use Rattle.std.proofs.lemmas.Bool.{eqb-true, le-ltb, eq-eqb}
+use Rattle.std.proofs.lemmas.List.Elements.{All-head, All-tail}
 use Rattle.std.proofs.lemmas.List.{ext_get_or}
 use Rattle.std.proofs.lemmas.Option.{slice_get_within}
 use Rattle.vl_design.specs.Syntax.{Row, Flat}
 use Rattle.vl_design.specs.Width.{Names, names_of, signal_form}
 use Rattle.vl_design.specs.Value.{words_of, value_of}
 use Rattle.vl_design.specs.Sound.{HasValue, IsSignal, IsMemory}
-use Rattle.vl_design.specs.State.{State, sample}
+use Rattle.vl_design.specs.State.{State, Update, all_updated, sample}
+use Rattle.vl_design.specs.Laws.{IsFine}
+use Rattle.vl_design.proofs.Kept.{OfUpdates, updates_keep}
 use Rattle.vl_settle.specs.Computed.{computed_at}
 use Rattle.cell_form.specs.declared.cell.Write.{Write}
 use Rattle.cell_form.specs.Data.{ListData, BankData}
@@ -25,7 +28,7 @@ use Rattle.ten_form.specs.Registers.{answer_register, ticks_register, value_regi
 use Rattle.ten_form.specs.Nets.{cleared}
 use Rattle.ten_form.specs.Banks.{HoldsPending, HoldsSignals, HoldsState}
 use Rattle.cell_waves.specs.Lasts.{last_write, held_after, IsRegister}
-use Rattle.cell_waves.specs.Copies.{is_written, differs, changed, each_one, slot_or, wanted, or_before, IsHeld, Sets}
+use Rattle.cell_waves.specs.Copies.{is_written, differs, changed, marked_one, marked_change, each_one, slot_or, wanted, or_before, IsHeld, Sets}
 use Rattle.cell_waves.specs.Ends.{Ends, Leads, IsLike}
 use Rattle.cell_waves.proofs.Clearing.{cleared-computed, cleared-kept}
 use Rattle.cell_waves.proofs.Lasting.{register-behind, memories-after}
@@ -114,10 +117,21 @@ pub memories-hold : (d : Flat) (b : BankData) (l : ListData) (at0 at1 : Env) (s 
 memories-hold d b l at0 at1 s t committed value sets m registers holds h k i e =
     ap (λ (ms : List (List ℕ)). slice_index_or ms m []) (memories-after value sets b registers) ∙ holds.memories m i ∙ sym (words-same (names_of d) b l at0 at1 s t m h k i e)
 
+-- ---- a signal of which no update is pending
+
+of-others : (p : ℕ → Bool) (us : List Update) → All (λ u. p u.signal ≡ false) us → OfUpdates p us
+of-others p [] h = tt
+of-others p (u ∷ us) h = (All-head (λ (u : Update). p u.signal ≡ false) u us h, of-others p us (All-tail (λ (u : Update). p u.signal ≡ false) u us h))
+
+-- keeps its value
+pub value-stays : (rows : List Row) (k : ℕ) (us : List Update) (values : List (List ℕ)) → All (λ u. (u.signal == k) ≡ false) us → value_of (all_updated rows values us) k ≡ value_of values k
+value-stays rows k us values h =
+    sym (ap (λ ws. slice_index ws 0) (updates_keep (λ j. j == k) k (eq-eqb k k refl) rows us (of-others (λ j. j == k) us h) values))
+
 -- ---- the writes of a segment, and of a wave
 
-module _ (d : Flat) (b : BankData) (l : ListData) (s t : State) (committed : List (List ℕ)) (at0 at1 : Env) (p0 p1 : PendingSlots) (none : ℕ) (commits : Bool) (sets : List Write)
-    (h : Leads d b l s t committed at0 at1 p0 p1 none) (e : Ends d.rows commits at0 at1 p0 p1 none sets) where
+module _ (d : Flat) (b : BankData) (l : ListData) (s t : State) (committed : List (List ℕ)) (marks : List Bool) (at0 at1 : Env) (p0 p1 : PendingSlots) (none : ℕ) (commits : Bool) (sets : List Write)
+    (h : Leads d b l s t committed marks at0 at1 p0 p1 none) (e : Ends d.rows commits marks at0 at1 p0 p1 none sets) where
   abbrev names : Names
   names = names_of d
 
@@ -149,25 +163,57 @@ module _ (d : Flat) (b : BankData) (l : ListData) (s t : State) (committed : Lis
       after (work_register k) (omega (arith, lt)) ∙ entry-written d.rows 4 (changed at0.slots at1.slots) at1.slots none k b l _ _ h.zero (written-if names 4 k false true i c refl) (e.works k (signal-below names k i)) (work-before k i c)
       ∙ work-value k i c ∙ sym (like c) ∙ sym (value-kept d u k i c)
 
-  updates-hold : (k : ℕ) → IsSignal names k → slice_index behind.regs (update_register k) ≡ held_or b l (slot_of p1.update k)
-  updates-hold k i =
+  -- a register of a signal that is marked holds what its slot does
+  updates-hold : (k : ℕ) → IsSignal names k → marked_one marks k ≡ true → slice_index behind.regs (update_register k) ≡ held_or b l (slot_of p1.update k)
+  updates-hold k i m =
       let lt = room k i in
       after (update_register k) (omega (arith, lt))
-      ∙ entry-written d.rows 5 (changed p0.update p1.update) p1.update none k b l _ _ h.zero (written-if names 5 k (computed_at d.rows k) true i refl refl) (e.updates k (signal-below names k i))
-      (λ same. sym (h.read.update k i) ∙ ap (held_or b l) (differs-not (slot_of p0.update k) (slot_of p1.update k) same))
+      ∙ entry-written d.rows 5 (marked_change marks p0.update p1.update) p1.update none k b l _ _ h.zero (written-if names 5 k (computed_at d.rows k) true i refl refl) (e.updates k (signal-below names k i))
+      (λ same. sym (h.read.update k i) ∙ ap (held_or b l) (differs-not (slot_of p0.update k) (slot_of p1.update k) (sym (ap (λ q. q && changed p0.update p1.update k) m) ∙ same)))
 
-  masks-hold : (k : ℕ) → IsSignal names k → slice_index behind.regs (mask_register k) ≡ held_or b l (slot_of p1.mask k)
-  masks-hold k i =
+  masks-hold : (k : ℕ) → IsSignal names k → marked_one marks k ≡ true → slice_index behind.regs (mask_register k) ≡ held_or b l (slot_of p1.mask k)
+  masks-hold k i m =
       after (mask_register k) (room k i)
-      ∙ entry-written d.rows 6 (changed p0.mask p1.mask) p1.mask none k b l _ _ h.zero (written-if names 6 k (computed_at d.rows k) true i refl refl) (e.masks k (signal-below names k i))
-      (λ same. sym (h.read.mask k i) ∙ ap (held_or b l) (differs-not (slot_of p0.mask k) (slot_of p1.mask k) same))
+      ∙ entry-written d.rows 6 (marked_change marks p0.mask p1.mask) p1.mask none k b l _ _ h.zero (written-if names 6 k (computed_at d.rows k) true i refl refl) (e.masks k (signal-below names k i))
+      (λ same. sym (h.read.mask k i) ∙ ap (held_or b l) (differs-not (slot_of p0.mask k) (slot_of p1.mask k) (sym (ap (λ q. q && changed p0.mask p1.mask k) m) ∙ same)))
+
+  -- that of another is as it was
+  update-kept : (k : ℕ) → IsSignal names k → marked_one marks k ≡ false → slice_index behind.regs (update_register k) ≡ slice_index b.regs (update_register k)
+  update-kept k i m =
+      let lt = room k i in
+      after (update_register k) (omega (arith, lt))
+      ∙ ap (λ x. held_after (held b l) x (slice_index b.regs (update_register k)))
+      (e.updates k (signal-below names k i) ∙ wanted-left d.rows 5 p1.update none (marked_change marks p0.update p1.update) k (ap (λ q. q && changed p0.update p1.update k) m))
+
+  mask-kept : (k : ℕ) → IsSignal names k → marked_one marks k ≡ false → slice_index behind.regs (mask_register k) ≡ slice_index b.regs (mask_register k)
+  mask-kept k i m =
+      after (mask_register k) (room k i)
+      ∙ ap (λ x. held_after (held b l) x (slice_index b.regs (mask_register k)))
+      (e.masks k (signal-below names k i) ∙ wanted-left d.rows 6 p1.mask none (marked_change marks p0.mask p1.mask) k (ap (λ q. q && changed p0.mask p1.mask k) m))
+
+  updated-hold : (base : List (List ℕ)) (k : ℕ) → IsFine d.rows base → IsSignal names k → (q : Bool) → marked_one marks k ≡ q →
+      value_of (all_updated d.rows base t.later) k ≡ masked (value_of base k) (slice_index behind.regs (update_register k)) (slice_index behind.regs (mask_register k))
+  updated-hold base k fine i true m =
+      h.pends base k fine i ∙ ap (λ x. masked (value_of base k) x (held_or b l (slot_of p1.mask k))) (sym (updates-hold k i m))
+      ∙ ap (masked (value_of base k) (slice_index behind.regs (update_register k))) (sym (masks-hold k i m))
+  updated-hold base k fine i false m =
+      value-stays d.rows k t.later base (h.none_behind k i m) ∙ sym (value-stays d.rows k s.later base (h.none_before k i m)) ∙ h.before.pending.updates base k fine i
+      ∙ ap (λ x. masked (value_of base k) x (slice_index b.regs (mask_register k))) (sym (update-kept k i m))
+      ∙ ap (masked (value_of base k) (slice_index behind.regs (update_register k))) (sym (mask-kept k i m))
+
+  update-fits : (k : ℕ) → IsSignal names k → (q : Bool) → marked_one marks k ≡ q → slice_index behind.regs (update_register k) < 2 ^ (signal_form d.rows k).width
+  update-fits k i true m = subst (λ v. v < 2 ^ (signal_form d.rows k).width) (sym (updates-hold k i m)) (entry-fits h.shape b l (signal_form d.rows k).width (slot_of p1.update k) h.sound (h.pending.update k i))
+  update-fits k i false m = subst (λ v. v < 2 ^ (signal_form d.rows k).width) (sym (update-kept k i m)) (h.before.pending.update_fits k i)
+
+  mask-fits : (k : ℕ) → IsSignal names k → (q : Bool) → marked_one marks k ≡ q → slice_index behind.regs (mask_register k) < 2 ^ (signal_form d.rows k).width
+  mask-fits k i true m = subst (λ v. v < 2 ^ (signal_form d.rows k).width) (sym (masks-hold k i m)) (entry-fits h.shape b l (signal_form d.rows k).width (slot_of p1.mask k) h.sound (h.pending.mask k i))
+  mask-fits k i false m = subst (λ v. v < 2 ^ (signal_form d.rows k).width) (sym (mask-kept k i m)) (h.before.pending.mask_fits k i)
 
   pending-hold : HoldsPending d behind t.later
   pending-hold = record {
-    updates = λ base k fine i. h.pends base k fine i ∙ ap (λ x. masked (value_of base k) x (held_or b l (slot_of p1.mask k))) (sym (updates-hold k i))
-        ∙ ap (masked (value_of base k) (slice_index behind.regs (update_register k))) (sym (masks-hold k i));
-    update_fits = λ k i. subst (λ v. v < 2 ^ (signal_form d.rows k).width) (sym (updates-hold k i)) (entry-fits h.shape b l (signal_form d.rows k).width (slot_of p1.update k) h.sound (h.pending.update k i));
-    mask_fits = λ k i. subst (λ v. v < 2 ^ (signal_form d.rows k).width) (sym (masks-hold k i)) (entry-fits h.shape b l (signal_form d.rows k).width (slot_of p1.mask k) h.sound (h.pending.mask k i));
+    updates = λ base k fine i. updated-hold base k fine i (marked_one marks k) refl;
+    update_fits = λ k i. update-fits k i (marked_one marks k) refl;
+    mask_fits = λ k i. mask-fits k i (marked_one marks k) refl;
   }
 
   ticks-hold : held_after (held b l) (last_write sets ticks_register) s.ticks ≡ t.ticks → slice_index behind.regs ticks_register ≡ t.ticks
@@ -235,18 +281,18 @@ pub or-none : (e : Option ℕ) → or_before e None ≡ e
 or-none None = refl
 or-none (Some s) = refl
 
-module _ (rows : List Row) (at0 at1 : Env) (p0 p1 : PendingSlots) (none : ℕ) (s0 s1 s2 s3 : List Write) (start : Starts (length rows) s0)
-    (a : Sets rows 4 (changed at0.slots at1.slots) at1.slots none s0 s1) (b : Sets rows 5 (changed p0.update p1.update) p1.update none s1 s2) (c : Sets rows 6 (changed p0.mask p1.mask) p1.mask none s2 s3) where
+module _ (rows : List Row) (marks : List Bool) (at0 at1 : Env) (p0 p1 : PendingSlots) (none : ℕ) (s0 s1 s2 s3 : List Write) (start : Starts (length rows) s0)
+    (a : Sets rows 4 (changed at0.slots at1.slots) at1.slots none s0 s1) (b : Sets rows 5 (marked_change marks p0.update p1.update) p1.update none s1 s2) (c : Sets rows 6 (marked_change marks p0.mask p1.mask) p1.mask none s2 s3) where
   first-work : (k : ℕ) → k < length rows → last_write s1 (4 * k + 4) ≡ wanted rows 4 (changed at0.slots at1.slots) at1.slots none k
   first-work k lt = a.each k ∙ ap (or_before (wanted rows 4 (changed at0.slots at1.slots) at1.slots none k)) (start.signals (4 * k + 4) (omega arith) (omega (arith, lt))) ∙ or-none _
 
-  first-update : (k : ℕ) → k < length rows → last_write s2 (4 * k + 5) ≡ wanted rows 5 (changed p0.update p1.update) p1.update none k
+  first-update : (k : ℕ) → k < length rows → last_write s2 (4 * k + 5) ≡ wanted rows 5 (marked_change marks p0.update p1.update) p1.update none k
   first-update k lt =
-      b.each k ∙ ap (or_before (wanted rows 5 (changed p0.update p1.update) p1.update none k)) (a.others (4 * k + 5) (λ j z. omega (arith, z)) ∙ start.signals (4 * k + 5) (omega arith) (omega (arith, lt))) ∙ or-none _
+      b.each k ∙ ap (or_before (wanted rows 5 (marked_change marks p0.update p1.update) p1.update none k)) (a.others (4 * k + 5) (λ j z. omega (arith, z)) ∙ start.signals (4 * k + 5) (omega arith) (omega (arith, lt))) ∙ or-none _
 
-  first-mask : (k : ℕ) → k < length rows → last_write s3 (4 * k + 6) ≡ wanted rows 6 (changed p0.mask p1.mask) p1.mask none k
+  first-mask : (k : ℕ) → k < length rows → last_write s3 (4 * k + 6) ≡ wanted rows 6 (marked_change marks p0.mask p1.mask) p1.mask none k
   first-mask k lt =
-      c.each k ∙ ap (or_before (wanted rows 6 (changed p0.mask p1.mask) p1.mask none k))
+      c.each k ∙ ap (or_before (wanted rows 6 (marked_change marks p0.mask p1.mask) p1.mask none k))
       (b.others (4 * k + 6) (λ j z. omega (arith, z)) ∙ a.others (4 * k + 6) (λ j z. omega (arith, z)) ∙ start.signals (4 * k + 6) (omega arith) (omega (arith, lt))) ∙ or-none _
 
   no-value : (k : ℕ) → k < length rows → last_write s3 (4 * k + 3) ≡ None
@@ -256,7 +302,7 @@ module _ (rows : List Row) (at0 at1 : Env) (p0 p1 : PendingSlots) (none : ℕ) (
   no-answer : last_write s3 1 ≡ None
   no-answer = c.others 1 (λ j z. omega (arith, z)) ∙ b.others 1 (λ j z. omega (arith, z)) ∙ a.others 1 (λ j z. omega (arith, z)) ∙ start.answer
 
-  pub ends-segment : Ends rows false at0 at1 p0 p1 none s3
+  pub ends-segment : Ends rows false marks at0 at1 p0 p1 none s3
   ends-segment = record {
     registers = c.registers (b.registers (a.registers start.registers));
     works = λ k lt. c.others (4 * k + 4) (λ j z. omega (arith, z)) ∙ b.others (4 * k + 4) (λ j z. omega (arith, z)) ∙ first-work k lt;
@@ -266,7 +312,7 @@ module _ (rows : List Row) (at0 at1 : Env) (p0 p1 : PendingSlots) (none : ℕ) (
     answer = no-answer;
   }
 
-  pub ends-wave : (s4 : List Write) → Sets rows 3 each_one at1.slots none s3 s4 → Ends rows true at0 at1 p0 p1 none s4
+  pub ends-wave : (s4 : List Write) → Sets rows 3 each_one at1.slots none s3 s4 → Ends rows true marks at0 at1 p0 p1 none s4
   ends-wave s4 v = record {
     registers = v.registers (c.registers (b.registers (a.registers start.registers)));
     works = λ k lt. v.others (4 * k + 4) (λ j z. omega (arith, z)) ∙ c.others (4 * k + 4) (λ j z. omega (arith, z)) ∙ b.others (4 * k + 4) (λ j z. omega (arith, z)) ∙ first-work k lt;
@@ -277,9 +323,9 @@ module _ (rows : List Row) (at0 at1 : Env) (p0 p1 : PendingSlots) (none : ℕ) (
   }
 
 -- writes of the next state, of the ticks, and of registers behind those of signals may come too, before or behind
-pub ends-beside : (rows : List Row) (commits : Bool) (at0 at1 : Env) (p0 p1 : PendingSlots) (none : ℕ) (sets more : List Write) → Ends rows commits at0 at1 p0 p1 none sets → AllByRecursion IsRegister more →
-    ((r : ℕ) → r ≢ 0 → r ≢ 2 → r < register_count (length rows) → last_write more r ≡ last_write sets r) → Ends rows commits at0 at1 p0 p1 none more
-ends-beside rows commits at0 at1 p0 p1 none sets more h registers same = record {
+pub ends-beside : (rows : List Row) (commits : Bool) (marks : List Bool) (at0 at1 : Env) (p0 p1 : PendingSlots) (none : ℕ) (sets more : List Write) → Ends rows commits marks at0 at1 p0 p1 none sets → AllByRecursion IsRegister more →
+    ((r : ℕ) → r ≢ 0 → r ≢ 2 → r < register_count (length rows) → last_write more r ≡ last_write sets r) → Ends rows commits marks at0 at1 p0 p1 none more
+ends-beside rows commits marks at0 at1 p0 p1 none sets more h registers same = record {
   registers = registers;
   works = λ k lt. same (4 * k + 4) (λ z. omega (arith, z)) (λ z. omega (arith, z)) (omega (arith, lt)) ∙ h.works k lt;
   updates = λ k lt. same (4 * k + 5) (λ z. omega (arith, z)) (λ z. omega (arith, z)) (omega (arith, lt)) ∙ h.updates k lt;

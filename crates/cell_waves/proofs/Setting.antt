@@ -61,7 +61,7 @@ module _ (rows : List Row) (copy : ℕ) (after : List (Option ℕ)) (here : ℕ)
       each = λ k. h.each k ∙ ap (λ e. or_before e (last_write old (4 * k + copy))) (same k (nat_lt k n) refl);
       others = h.others;
       registers = h.registers;
-      within = h.within;
+      within = λ most l f. h.within most l (λ k w c. f k w (both-true (nat_lt k n) (chosen k) c).1);
       sound = h.sound;
     }
       where
@@ -89,8 +89,15 @@ module _ (rows : List Row) (copy : ℕ) (after : List (Option ℕ)) (here : ℕ)
       abbrev Is : List Write → ℕ → Type 0
       Is new k = last_write new (4 * k + copy) ≡ or_before (wanted rows copy (below (n + 1) chosen) after here k) (last_write old (4 * k + copy))
 
+      -- a signal that was chosen is
+      still : (k : ℕ) → below n chosen k ≡ true → below (n + 1) chosen k ≡ true
+      still k t =
+          let b = both-true (nat_lt k n) (chosen k) t in
+          let lt = ltb-true k n b.0 in
+          ap (λ q. q && chosen k) (lt-ltb k (n + 1) (omega (arith, lt))) ∙ b.1
+
       left : (is_written copy (slice_get rows n) && chosen n) ≡ false → Sets rows copy (below (n + 1) chosen) after here old mid
-      left e = record { each = λ k. of k (cases_eq k n); others = h.others; registers = h.registers; within = h.within; sound = h.sound }
+      left e = record { each = λ k. of k (cases_eq k n); others = h.others; registers = h.registers; within = λ most l f. h.within most l (λ k w t. f k w (still k t)); sound = h.sound }
         where
           none : wanted rows copy (below (n + 1) chosen) after here n ≡ None
           none = wanted-same (below (n + 1) chosen) chosen n (here-less n) ∙ ap (λ t. if t then Some (slot_or here (slot_of after n)) else None) e
@@ -105,7 +112,8 @@ module _ (rows : List Row) (copy : ℕ) (after : List (Option ℕ)) (here : ℕ)
         each = λ k. of k (cases_eq k n);
         others = λ r apart. last-other mid (4 * n + copy) r s (apart n) ∙ h.others r apart;
         registers = λ k. all-push IsRegister mid (w.Reg (4 * n + copy) s) (h.registers k) tt;
-        within = λ most l f k. all-push (IsWithin most l) mid (w.Reg (4 * n + copy) s) (h.within most l f k) (f n (both-true (is_written copy (slice_get rows n)) (chosen n) e).0);
+        within = λ most l f k. all-push (IsWithin most l) mid (w.Reg (4 * n + copy) s) (h.within most l (λ j v t. f j v (still j t)) k)
+            (let t = both-true (is_written copy (slice_get rows n)) (chosen n) e in f n t.0 (here-less n ∙ t.1));
         sound = λ z l size is each k. all-push (IsWrite z l.first (length l.cells)) mid (w.Reg (4 * n + copy) s) (h.sound z l size is each k)
             (omega (arith, size, small, lt), slot-there l here (slot_of after n) is (each n (both-true (is_written copy (slice_get rows n)) (chosen n) e).0));
       }

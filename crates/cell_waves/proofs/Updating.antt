@@ -37,7 +37,7 @@ use Rattle.cell_waves.proofs.Clearing.{cleared-computed}
 use Rattle.cell_waves.proofs.Lasting.{register-behind}
 use Rattle.cell_waves.proofs.Setting.{wanted-left, sets-beyond}
 use Rattle.cell_waves.proofs.Written.{both-true, is-width, value-kind, not-computed, written-if}
-use Rattle.cell_waves.proofs.Ending.{signal-below, value-kept, entry-slot, entry-written, entry-left, or-none}
+use Rattle.cell_waves.proofs.Ending.{signal-below, value-stays, value-kept, entry-slot, entry-written, entry-left, or-none}
 
 -- ---- one signal
 
@@ -126,17 +126,6 @@ slot-if rows delayed n copy here old new es k long low h e = of (slice_get rows 
 first-small : (w : ℕ) (ws : List ℕ) → All (λ v. v < 2 ^ w) ws → slice_index ws 0 < 2 ^ w
 first-small w [] h = pow_pos w
 first-small w (x ∷ xs) h = All-head (λ v. v < 2 ^ w) x xs h
-
--- ---- a signal of which no update is pending
-
-of-others : (p : ℕ → Bool) (us : List Update) → All (λ u. p u.signal ≡ false) us → OfUpdates p us
-of-others p [] h = tt
-of-others p (u ∷ us) h = (All-head (λ (u : Update). p u.signal ≡ false) u us h, of-others p us (All-tail (λ (u : Update). p u.signal ≡ false) u us h))
-
--- keeps its value
-value-stays : (rows : List Row) (k : ℕ) (us : List Update) (values : List (List ℕ)) → All (λ u. (u.signal == k) ≡ false) us → value_of (all_updated rows values us) k ≡ value_of values k
-value-stays rows k us values h =
-    sym (ap (λ ws. slice_index ws 0) (updates_keep (λ j. j == k) k (eq-eqb k k refl) rows us (of-others (λ j. j == k) us h) values))
 
 -- ---- the whole update
 
@@ -294,9 +283,9 @@ module _ (d : Flat) (delayed : ℕ → Bool) (here : ℕ) (old new : ListData) (
     registers = λ k. e.registers (c.registers (a.registers k));
     within = λ most l f k.
         let long : length d.rows ≤ n = omega (arith, many) in
-        e.within most l (λ j w. f 6 j here (omega arith) (omega arith) w (inl refl))
-        (c.within most l (λ j w. f 4 j (slot_or here (slot_of es j)) (omega arith) (omega arith) w (slot-if d.rows delayed n 4 here old new es j long refl h w))
-        (a.within most l (λ j w. f 3 j (slot_or here (slot_of es j)) (omega arith) (omega arith) w (slot-if d.rows delayed n 3 here old new es j long refl h w)) k));
+        e.within most l (λ j w t. f 6 j here (omega arith) (omega arith) w t (inl refl))
+        (c.within most l (λ j w t. f 4 j (slot_or here (slot_of es j)) (omega arith) (omega arith) w t (slot-if d.rows delayed n 4 here old new es j long refl h w))
+        (a.within most l (λ j w t. f 3 j (slot_or here (slot_of es j)) (omega arith) (omega arith) w t (slot-if d.rows delayed n 3 here old new es j long refl h w)) k));
     others = λ r far.
         sets-beyond d.rows 6 delayed [] here s2 s3 r (omega arith) (omega arith) far e ∙ sets-beyond d.rows 4 delayed es here s1 s2 r (omega arith) (omega arith) far c
         ∙ sets-beyond d.rows 3 delayed es here s0 s1 r (omega arith) (omega arith) far a;

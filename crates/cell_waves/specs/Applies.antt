@@ -49,7 +49,7 @@ pub record Applies (d : Flat) (delayed : ℕ → Bool) (here : ℕ) (old new : L
   pub registers : AllByRecursion IsRegister before → AllByRecursion IsRegister after
   -- registers are set from `here` and from slots that are as wide as their signals
   pub within : (most : ℕ → ℕ) (l : ListData) →
-      ((copy k s : ℕ) → 3 ≤ copy → copy ≤ 6 → is_written copy (slice_get d.rows k) ≡ true → (s ≡ here) ⊎ IsSlot new s (signal_form d.rows k).width → width_at l s ≤ most (4 * k + copy)) →
+      ((copy k s : ℕ) → 3 ≤ copy → copy ≤ 6 → is_written copy (slice_get d.rows k) ≡ true → delayed k ≡ true → (s ≡ here) ⊎ IsSlot new s (signal_form d.rows k).width → width_at l s ≤ most (4 * k + copy)) →
       AllByRecursion (IsWithin most l) before → AllByRecursion (IsWithin most l) after
   -- no register behind those of signals is written
   pub others : (r : ℕ) → register_count (length d.rows) ≤ r → last_write after r ≡ last_write before r

@@ -58,6 +58,10 @@ each_one k = true
 abbrev pub marked_one : List Bool → ℕ → Bool
 marked_one marks k = slice_index_or marks k false
 
+-- it is marked, and its entry isn't what it was
+abbrev pub marked_change : List Bool → List (Option ℕ) → List (Option ℕ) → ℕ → Bool
+marked_change marks before after k = marked_one marks k && changed before after k
+
 -- how many of the first n numbers pass
 abbrev pub count_to : (ℕ → Bool) → ℕ → ℕ
 count_to p zero = 0
@@ -92,7 +96,7 @@ pub record Sets (rows : List Row) (copy : ℕ) (chosen : ℕ → Bool) (after : 
   pub others : (r : ℕ) → ((k : ℕ) → r ≢ 4 * k + copy) → last_write new r ≡ last_write old r
   pub registers : AllByRecursion IsRegister old → AllByRecursion IsRegister new
   -- they set registers from slots that have at most so many bits, where these slots have
-  pub within : (most : ℕ → ℕ) (l : ListData) → ((k : ℕ) → is_written copy (slice_get rows k) ≡ true → width_at l (slot_or here (slot_of after k)) ≤ most (4 * k + copy)) →
+  pub within : (most : ℕ → ℕ) (l : ListData) → ((k : ℕ) → is_written copy (slice_get rows k) ≡ true → chosen k ≡ true → width_at l (slot_or here (slot_of after k)) ≤ most (4 * k + copy)) →
       AllByRecursion (IsWithin most l) old → AllByRecursion (IsWithin most l) new
   -- they may be done on a bank for the design, where the slots are there
   pub sound : (z : Shape) (l : ListData) → HasSignals (length rows) z → IsIn l here →

@@ -60,6 +60,13 @@ pub(crate) fn is_marked(marks: &[bool], number: usize) -> bool
     }
 }
 
+/// Whether the signal of a number is one of those that are marked, and its entry isn't what it was.
+fn is_marked_change(marks: &[bool], number: usize, before: Option<u32>, after: Option<u32>) -> bool
+    ensures { result ≡ (s.marked_one marks.now number && s.differs before after) }
+{
+    is_marked(marks, number) && differs(before, after)
+}
+
 /// Adds the write of a signal's register of a copy from a slot, where that is wanted and the register is one that writes change.
 fn write_one(
     signal: &Signal,
@@ -96,6 +103,35 @@ pub fn write_changed(
     for (number, signal) in signals.iter().enumerate() {
         let slot = entry(after, number);
         let chosen = differs(entry(before, number), slot);
+        write_one(
+            signal,
+            number as u32,
+            copy,
+            chosen,
+            slot.unwrap_or(here),
+            sets,
+        )?;
+    }
+    Ok(())
+}
+
+/// Adds writes to the registers `copy` of the signals that are marked, whose entry isn't what it was: as `write_changed`.
+pub fn write_pending(
+    signals: &[Signal],
+    copy: u32,
+    marks: &[bool],
+    before: &[Option<u32>],
+    after: &[Option<u32>],
+    here: u32,
+    sets: &mut Vec<Write>,
+) -> Result<(), AllocError>
+    requires few { length signals.now ≤ 268435456 }
+    requires copy { copy ≤ 6 }
+    ensures { OnOk result (s.Sets (map row_of signals.now) copy (s.marked_change marks.now before.now after.now) after.now here sets.old.items sets.new.items) }
+{
+    for (number, signal) in signals.iter().enumerate() {
+        let slot = entry(after, number);
+        let chosen = is_marked_change(marks, number, entry(before, number), slot);
         write_one(
             signal,
             number as u32,

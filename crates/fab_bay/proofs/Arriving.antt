@@ -63,6 +63,7 @@ new_waiter n b t p w few at none =
         moves = λ k le lt s. let z : ⊥ = omega (arith, le, lt, noted) in absurd z;
         moved = λ e. (there, tick ∙ sym since, moved ∙ e);
         done = λ x y e. sym moved ∙ e;
+        lively = λ e. none;
         later = λ e. let z : ⊥ = cc in absurd z;
         stays = w.stays ∙ sym (ap (λ (d : Deed). d.stays) deed);
         chained =
@@ -132,11 +133,12 @@ here_of x f t h e = λ a. here_if t x.berths.items x.waiting.items e (ap (place_
 
 -- ---- what is given back
 
--- transits with one parcel and one list of stays are one
-pub same_transit : (a b : Transit) → a.parcel ≡ b.parcel → a.stays ≡ b.stays → a ≡ b
-same_transit a b p s = λ i. record {
+-- transits with one parcel and one list of stays, both of residents or neither, are one
+pub same_transit : (a b : Transit) → a.parcel ≡ b.parcel → a.stays ≡ b.stays → a.resident ≡ b.resident → a ≡ b
+same_transit a b p s r = λ i. record {
   parcel = p i;
   stays = s i;
+  resident = r i;
   chained = is_prop→PathP (λ j. chains (first_tick (run_of (p j)).resume) (s j).items (ticks_of (p j)) ≡ true) (λ j. hlevel props) a.chained b.chained i;
   before_end = is_prop→PathP (λ j. EndsNotBefore (run_of (p j)) (ticks_of (p j))) (λ j. hlevel props) a.before_end b.before_end i;
 }

@@ -210,7 +210,7 @@ stays_send : IsSend (as_row (Vec.the_field Stay.the_row Heap.the_row ghosts))
 stays_send = vec_send Stay.the_row stay.the_send
 
 pub Transit-send : IsSend Transit.the_row
-Transit-send = declared_send Transit.the_type (Parcel-send, (stays_send, tt))
+Transit-send = declared_send Transit.the_type (Parcel-send, (stays_send, (bool_send, tt)))
 
 snapshot_send : IsSend (Snapshot.the_row Transit.the_row)
 snapshot_send = search owners

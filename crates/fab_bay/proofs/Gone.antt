@@ -1,13 +1,14 @@
 -- What becomes of a core without one of its tenants.
-use Rattle.std.proofs.Common.{◌≡◌, ℕ, suc, ◌+◌, ◌<◌, ◌≤◌, Bool, true, false, Option, Some, None, List, [], ◌∷◌, ◌++◌, length, get_or, refl, sym, ap, ◌∙◌, subst, arith}
-use Rattle.std.specs.Prelude.{◌||◌, ◌==◌, is_some, if◌then◌else◌, position, slice_get, slice_set, vec_len, vec_capacity}
+use Rattle.std.proofs.Common.{◌≡◌, ℕ, suc, ◌+◌, ◌<◌, ◌≤◌, Bool, true, false, Option, Some, None, List, [], ◌∷◌, ◌++◌, length, get_or, refl, sym, ap, ◌∙◌, subst, arith, eq-eqb}
+use Rattle.std.specs.Prelude.{◌&&◌, ◌||◌, ◌==◌, is_some, if◌then◌else◌, position, slice_get, slice_set, vec_len, vec_capacity}
 use Rattle.std.specs.List.{remove}
+use Rattle.std.proofs.lemmas.Bool.{false≢true}
 use Rattle.std.proofs.lemmas.List.{append-nil, get_or-set_same}
 use Rattle.std.proofs.lemmas.Option.{slice_get-get_or}
 use Rattle.vl_design.specs.declared.design.End.TheVariants as end
 use Rattle.ten_parcel.specs.declared.parcel.Parcel.{Parcel}
 use Rattle.vl_design.specs.Alone.{first_tick}
-use Rattle.ten_parcel.specs.Parcels.{number_of, run_of, ticks_of}
+use Rattle.ten_parcel.specs.Parcels.{is_moved, number_of, run_of, ticks_of}
 use Rattle.ten_shell.specs.declared.shell.Why.{Why}
 use Rattle.ten_shell.specs.declared.shell.Why.TheVariants as why
 use Rattle.ten_shell.specs.Leaving.{why_in}
@@ -114,6 +115,7 @@ module _ (k tenant place : ℕ) (x y z : NotedCore) (b : Berth) (t : Transit) (n
     pub waiting : z.waiting.items ≡ y.waiting.items
     pub note : IsOutNote k t n
     pub stays : t.stays.items ≡ b.stays.items ++ record { fabric = y.label.fabric; from = b.since; to = ticks_of t.parcel; by_move = b.by_move } ∷ []
+    pub resident : t.resident ≡ true
 
   module _ (o : IsOut) where
     pub out_number : (f : Fabric) (w : Why) (d : Point) → IsNoted x f → IsLeaver w (get_or f.residents place d) t.parcel → number_of t.parcel ≡ tenant
@@ -133,7 +135,7 @@ module _ (k tenant place : ℕ) (x y z : NotedCore) (b : Berth) (t : Transit) (n
         let stays : t.stays.items ≡ b.stays.items ++ record { fabric = y.label.fabric; from = b.since; to = b.noted; by_move = (deed_at b).moved } ∷ [] =
         o.stays ∙ (ap (λ (k : ℕ). b.stays.items ++ record { fabric = y.label.fabric; from = b.since; to = k; by_move = b.by_move } ∷ []) ticks
         ∙ ap (λ (m : Bool). b.stays.items ++ record { fabric = y.label.fabric; from = b.since; to = b.noted; by_move = m } ∷ []) berth.by_move) in
-        let may = may_leave y.label.tenants b p w t.parcel berth now l y.label.fabric true t n.entry (deed_in n) refl stays (ap (λ e. e.from) note.entry) note.deed in
+        let may = may_leave y.label.tenants b p w t.parcel berth now l y.label.fabric true t n.entry (deed_in n) refl stays (ap (λ e. e.from) note.entry) note.deed o.resident (λ e. absurd (false≢true (sym e))) in
         noted_by z y.label (y.notes.items ++ n ∷ []) (remove y.berths.items place) y.waiting.items (left tenant f) o.label o.notes o.berths o.waiting core v.capacity
         (subst (λ (ps : List Point). AreBerths y.label.tenants (remove y.berths.items place) ps) (sym (ran_first tenant place x y b o.ran f h).out) (berths_remove y.label.tenants y.berths.items f.residents place v.residents))
         v.line
@@ -251,6 +253,7 @@ module _ (k tenant place : ℕ) (x z : NotedCore) (b : Berth) (t : Transit) (n :
     pub waiting : z.waiting.items ≡ remove x.waiting.items place
     pub note : IsOutNote k t n
     pub stays : t.stays.items ≡ b.stays.items
+    pub resident : t.resident ≡ false
 
 module _ (tenant place : ℕ) (x : NotedCore) (b : Berth) (none : position (λ c. c.tenant == tenant) x.berths.items ≡ None) (some : position (λ c. c.tenant == tenant) x.waiting.items ≡ Some place)
     (read : b ≡ get_or x.waiting.items place b) (f : Fabric) (h : IsNoted x f) where
@@ -307,6 +310,14 @@ module _ (k tenant place : ℕ) (x z : NotedCore) (b : Berth) (t : Transit) (n :
       keeps_waiter x x.label x.berths.items x.waiting.items (told_of x f h) t place b (line_there tenant place x b o.none o.there o.read f h) o.read
       (leaver_number x.label.tenants b q ended_why t.parcel waiter.berth waiter.noted taker_line) (leaver_keeps x.label.tenants b q ended_why t.parcel waiter.berth waiter.noted taker_line end.Finished refl)
 
+  -- it leaves where it was put in line, with the flag with which it was
+  same_flag : is_moved t.parcel ≡ (deed_at b).moved
+  same_flag =
+      let q : Point = get_or f.line place p in
+      let ticks = leaver_ticks x.label.tenants b q ended_why t.parcel waiter.berth waiter.noted taker_line in
+      leaver_keeps x.label.tenants b q ended_why t.parcel waiter.berth waiter.noted taker_line end.Finished refl
+      ∙ ap (λ (v : Bool). v && (deed_at b).moved) (eq-eqb (ticks_of t.parcel) b.since (ticks ∙ (waiter.noted ∙ sym waiter.since)))
+
   pub withdrawn_written : IsWritten k x z (tokens (t ∷ []))
   withdrawn_written =
       let few = subst (λ (j : ℕ). j < x.label.tenants) (sym (leaver_number x.label.tenants b (get_or f.line place p) ended_why t.parcel waiter.berth waiter.noted taker_line)) waiter.berth.few in
@@ -319,7 +330,7 @@ module _ (k tenant place : ℕ) (x z : NotedCore) (b : Berth) (t : Transit) (n :
       let ticks = leaver_ticks x.label.tenants b q ended_why t.parcel waiter.berth waiter.noted taker_line in
       let note = o.note in
       let stays : t.stays.items ≡ b.stays.items ++ [] = o.stays ∙ sym (append-nil b.stays.items) in
-      let may = may_leave x.label.tenants b q ended_why t.parcel waiter.berth waiter.noted taker_line x.label.fabric false t n.entry (deed_in n) refl stays (ap (λ y. y.from) note.entry) note.deed in
+      let may = may_leave x.label.tenants b q ended_why t.parcel waiter.berth waiter.noted taker_line x.label.fabric false t n.entry (deed_in n) refl stays (ap (λ y. y.from) note.entry) note.deed o.resident (λ e. same_flag) in
       record {
         fabric = taken tenant f;
         point = p;

@@ -1,6 +1,6 @@
 -- A tenant that comes out.
 use Rattle.std.proofs.Common.{◌≡◌, ℕ, suc, ◌<◌, ◌≤◌, Bool, true, false, Option, Some, None, List, [], ◌∷◌, ◌++◌, length, get_or, take, drop, map, refl, sym, ap, ap₂, ◌∙◌, subst, append_assoc, arith, eq-eqb}
-use Rattle.std.specs.Prelude.{◌&&◌, ◌||◌, ◌==◌, is_some, nat_le, if◌then◌else◌}
+use Rattle.std.specs.Prelude.{◌&&◌, ◌==◌, is_some, nat_le, if◌then◌else◌}
 use Rattle.std.specs.List.{remove}
 use Rattle.std.proofs.lemmas.Bool.{eqb-true, le-leb}
 use Rattle.std.proofs.lemmas.List.{map-append}
@@ -18,7 +18,7 @@ use Rattle.ten_plan.specs.Plans.{move_at}
 use Rattle.ten_shell.specs.declared.shell.Why.{Why}
 use Rattle.ten_shell.specs.declared.shell.Why.TheVariants as why
 use Rattle.ten_shell.specs.Leaving.{end_in, why_in, why_of}
-use Rattle.fab_points.specs.Points.{departed, due, is_there, rests, run_in, tick_of, Point}
+use Rattle.fab_points.specs.Points.{departed, due, ended, is_there, rests, run_in, tick_of, Point}
 use Rattle.fab_core.specs.Standing.{IsPointOf}
 use Rattle.fab_notes.specs.declared.note.Note.{Note}
 use Rattle.fab_notes.specs.declared.transit.Stay.{Stay}
@@ -112,6 +112,18 @@ due_unmoved p k r e =
     why_unmoved (end_in (run_in p).plan p.stopped p.stage.state) (move_at (begun p) (run_in p).plan.errands) p.moved k
     (sym (ap (λ (b : Bool). if b then why_in (run_in p).plan p.stopped p.moved p.stage.state else None) r) ∙ e)
 
+-- whoever leaves because its run has ended has ended
+why_ended : (e : Option End) (to : Option ℕ) (moved : Bool) (x : End) → why_of e to moved ≡ Some (why.Ended x) → e ≡ None → ⊥
+why_ended (Some end) to moved x h k = cc
+why_ended None (Some f) true x h k = cc
+why_ended None (Some f) false x h k = cc
+why_ended None None moved x h k = cc
+
+due_ended : (p : Point) (x : End) → rests p ≡ true → due p ≡ Some (why.Ended x) → ended p ≡ None → ⊥
+due_ended p x r e =
+    why_ended (ended p) (move_at (begun p) (run_in p).plan.errands) p.moved x
+    (sym (ap (λ (b : Bool). if b then why_in (run_in p).plan p.stopped p.moved p.stage.state else None) r) ∙ e)
+
 -- a move was done before, or it stands there
 moved_by : (w : Why) (p : Point) (A : Type 0) → rests p ≡ true → ((to : ℕ) → w ≡ why.Move to → due p ≡ Some w) → (departed w p).moved ≡ true
     → (p.moved ≡ true → A) → (is_some (move_at (begun p) (run_in p).plan.errands) ≡ true → A) → A
@@ -175,9 +187,17 @@ module _ (n : ℕ) (b : Berth) (p : Point) (w : Why) (q : Parcel) (h : IsBerth n
       by true e = let y = h.moved e in both (ticks_of q == b.since) b.by_move (eq-eqb (ticks_of q) b.since (leaver_ticks ∙ (now ∙ y.1))) (h.by_move ∙ y.2)
       by false e = none (is_idle (here g)) e refl
 
-  flag_is : (x : Why) (g : ℕ) → w ≡ x → is_moved q ≡ (is_move x || is_idle (here g))
-  flag_is (why.Move to) g e = tell.moved ∙ ap (λ (v : Why). (departed v p).moved) e
-  flag_is (why.Ended end) g e = tell.moved ∙ (ap (λ (v : Why). (departed v p).moved) e ∙ sym (idle_is g))
+  -- whose run has ended hasn't done the move that stands there
+  over_unmoved : (end : End) → due p ≡ Some (why.Ended end) → p.moved ≡ false
+  over_unmoved end d = by p.moved refl
+    where
+      by : (m : Bool) → p.moved ≡ m → m ≡ false
+      by true e = absurd (due_ended p end l.rests d (h.lively e))
+      by false e = refl
+
+  flag_is : (x : Why) → w ≡ x → due p ≡ Some w → is_moved q ≡ is_move x
+  flag_is (why.Move to) e d = tell.moved ∙ ap (λ (v : Why). (departed v p).moved) e
+  flag_is (why.Ended end) e d = tell.moved ∙ (ap (λ (v : Why). (departed v p).moved) e ∙ over_unmoved end (d ∙ ap Some e))
 
   -- whoever doesn't leave for a move keeps the flag with which it was put in line there
   pub leaver_keeps : (e : End) → w ≡ why.Ended e → is_moved q ≡ is_done b.since (ticks_of q) (deed_at b)
@@ -187,25 +207,27 @@ module _ (n : ℕ) (b : Berth) (p : Point) (w : Why) (q : Parcel) (h : IsBerth n
   busy_is (why.Move to) g e m = idle_is g ∙ due_unmoved p to l.rests (l.move to e ∙ ap Some e)
   busy_is (why.Ended end) g e m = let z : ⊥ = cc in absurd z
 
-  pub leaver_last : (g : ℕ) (x : Leaving) → x.transit.parcel ≡ q → x.why ≡ w → x.transit.stays.items ≡ b.stays.items ++ here g ∷ [] → IsLast x
-  leaver_last g x is for stays = record {
+  pub leaver_last : (g : ℕ) (x : Leaving) → due p ≡ Some w → x.transit.parcel ≡ q → x.why ≡ w → x.transit.stays.items ≡ b.stays.items ++ here g ∷ [] → x.transit.resident ≡ true → IsLast x
+  leaver_last g x d is for stays resident = record {
     before = b.stays.items;
     stay = here g;
     stays = stays;
+    resident = resident;
     busy = λ m. busy_is x.why g (sym for) m;
-    flag = ap is_moved is ∙ flag_is x.why g (sym for);
+    flag = ap is_moved is ∙ flag_is x.why (sym for) d;
   }
 
   -- a tenant whose stays have this one may leave
   pub may_leave : (g : ℕ) (came : Bool) (t : Transit) (e : Entry) (o : Option Deed) → t.parcel ≡ q → t.stays.items ≡ b.stays.items ++ stay_now g b.since b.noted came (deed_at b) → e.from ≡ ticks_of t.parcel
-      → o ≡ Some (deed_of t) → MayLeave g b.since b.noted came (deed_at b) e o
-  may_leave g came t e o is stays from known = record {
+      → o ≡ Some (deed_of t) → t.resident ≡ came → (came ≡ false → is_moved q ≡ (deed_at b).moved) → MayLeave g b.since b.noted came (deed_at b) e o
+  may_leave g came t e o is stays from known resident kept = record {
     from = from ∙ (ap ticks_of is ∙ leaver_ticks);
     deed = deed_of t;
     known = known;
     origin = ap origin_in is ∙ (tell.origin ∙ (origin_same w p ∙ sym h.origin));
     free = ap free_of is ∙ (tell.free ∙ (free_same w p ∙ sym h.free));
     stays = stays ∙ ap (λ (xs : List Stay). xs ++ stay_now g b.since b.noted came (deed_at b)) h.stays;
+    resident = resident;
     done = λ d. ap is_moved is ∙ (tell.moved ∙ moved_stays w p (done_by (is_there p) refl d));
     moves = λ m no.
         moved_by w p (is_some (move_at b.noted (deeds.run_in (deed_at b)).plan.errands) ≡ true) l.rests l.move (sym (ap is_moved is ∙ tell.moved) ∙ m)
@@ -214,6 +236,7 @@ module _ (n : ℕ) (b : Berth) (p : Point) (w : Why) (q : Parcel) (h : IsBerth n
         let w : ⊥ = cc in absurd w)
         (λ x. subst (λ (r : Origin). is_some (move_at b.noted (origin_of r).plan.errands) ≡ true) (sym h.origin)
         (subst (λ (k : ℕ). is_some (move_at k (run_in p).plan.errands) ≡ true) (sym (now ∙ tick_there p l.rests)) x));
+    kept = λ c. ap is_moved is ∙ kept c;
   }
 
 -- ---- what is told then

@@ -112,6 +112,7 @@ ran-berth n b p h lt = let o = h.order in record {
       let z : ⊥ = omega (arith, at, le, lt) in absurd z;
   moved = h.moved;
   done = h.done;
+  lively = h.lively;
   later = h.later;
   stays = h.stays;
   chained = h.chained;

@@ -203,6 +203,7 @@ module _ (rise : RisesLaw) (same : TicksLaw) (boundary : BoundaryLaw) (one : One
         done = λ t at m.
             let up : tick_of (cycled p) ≡ next = tick-at (cycled p).stage.state.finished (is_there (cycled p)) next t in
             let z : ⊥ = omega (arith, o.0, o.1, tick, more, at, up) in absurd z;
+        lively = λ e. let z : ⊥ = cc in absurd z;
         later = λ t. omega (arith, o.0, o.1, tick, more);
         stays = h.stays;
         chained = h.chained;
@@ -231,6 +232,7 @@ module _ (rise : RisesLaw) (same : TicksLaw) (boundary : BoundaryLaw) (one : One
         done = λ t at m.
             let up : tick_of (cycled p) ≡ next = tick-at (cycled p).stage.state.finished (is_there (cycled p)) next t in
             let z : ⊥ = omega (arith, late, more, at, up) in absurd z;
+        lively = λ e. let z : ⊥ = cc in absurd z;
         later = λ t. omega (arith, late, more);
         stays = h.stays;
         chained = h.chained;
@@ -279,6 +281,7 @@ saved-berth n b p h = record {
   moves = h.moves;
   moved = h.moved;
   done = h.done;
+  lively = h.lively;
   later = h.later;
   stays = h.stays;
   chained = h.chained;
@@ -339,6 +342,7 @@ called-berth same n b p h run trap =
       done = λ t at m.
           let up : tick_of (called p) ≡ next = tick-at (called p).stage.state.finished (is_there (called p)) next t in
           let z : ⊥ = omega (arith, late, more, at, up) in absurd z;
+      lively = λ e. let m = (h.moved e).0 in let z : ⊥ = cc in absurd z;
       later = λ t. omega (arith, late, more);
       stays = h.stays;
       chained = h.chained;

@@ -1,7 +1,7 @@
 -- What is noted of a tenant, and where it is (own).
-use Rattle.std.specs.Prelude.{◌≡◌, ℕ, ◌<◌, ◌≤◌, Bool, true, false, List, [], ◌∷◌, ◌++◌, map, vec_len, vec_capacity, ⊤}
+use Rattle.std.specs.Prelude.{◌≡◌, ℕ, ◌<◌, ◌≤◌, Bool, true, false, List, [], ◌∷◌, ◌++◌, map, None, vec_len, vec_capacity, ⊤}
 use Rattle.vl_design.specs.Alone.{first_tick}
-use Rattle.fab_points.specs.Points.{Point, is_there, run_in, tick_of}
+use Rattle.fab_points.specs.Points.{Point, ended, is_there, run_in, tick_of}
 use Rattle.fab_notes.specs.Deeds.{Deed, deed_of}
 use Rattle.fab_notes.specs.Ends.{EndsNotBefore}
 use Rattle.fab_notes.specs.Histories.{Seat, is_done, HasNoMove}
@@ -42,6 +42,8 @@ pub record IsBerth (tenants : ℕ) (b : Berth) (p : Point) : Type 0 where
   -- a move is done where it stands if it was done when the tenant was put in line there
   pub moved : p.moved ≡ true → (is_there p ≡ true) × (tick_of p ≡ b.since) × ((deed_at b).moved ≡ true)
   pub done : is_there p ≡ true → tick_of p ≡ b.since → (deed_at b).moved ≡ true → p.moved ≡ true
+  -- where the move that stands there is done, its run hasn't ended
+  pub lively : p.moved ≡ true → ended p ≡ None
   -- elsewhere than at a boundary, a tick has begun since then
   pub later : is_there p ≡ false → b.since < begun p
   -- its stays lead there, and there is room for one more

@@ -1,5 +1,5 @@
 -- What a call does with a core and its history (own).
-use Rattle.std.specs.Prelude.{◌≡◌, ℕ, suc, ◌<◌, ◌≤◌, ◌+◌, ◌⊎◌, ◌||◌, Bool, true, false, List, [], ◌∷◌, ◌++◌, map, length, Some, None, All, ⊤}
+use Rattle.std.specs.Prelude.{◌≡◌, ℕ, suc, ◌<◌, ◌≤◌, ◌+◌, ◌⊎◌, Bool, true, false, List, [], ◌∷◌, ◌++◌, map, length, Some, None, All, ⊤}
 use Rattle.fab_lock.specs.declared.entry.Entry.{Entry}
 use Rattle.fab_lock.specs.declared.entry.Kind.{Kind}
 use Rattle.fab_lock.specs.declared.entry.Kind.TheVariants as kind
@@ -42,14 +42,15 @@ abbrev pub is_move : Why → Bool
 is_move (Move fabric) = true
 is_move (Ended end) = false
 
--- the stay with which it leaves is its last one; where it leaves for a move, it hadn't come by the one that stands there; and the move that stands
--- where it rests is done just where it leaves for that, or had come by it
+-- it was a resident, and the stay with which it leaves is its last one; where it leaves for a move, it hadn't come by the one that stands there; and the move that stands
+-- where it rests is done just where it leaves for that
 pub record IsLast (l : Leaving) : Type 0 where
   pub before : List Stay
   pub stay : Stay
   pub stays : l.transit.stays.items ≡ before ++ stay ∷ []
+  pub resident : l.transit.resident ≡ true
   pub busy : is_move l.why ≡ true → is_idle stay ≡ false
-  pub flag : is_moved l.transit.parcel ≡ (is_move l.why || is_idle stay)
+  pub flag : is_moved l.transit.parcel ≡ is_move l.why
 
 -- why a tenant that came out was due to leave: it stands where one that was due so, and wasn't stopped, comes to stand
 abbrev pub LeftFor : Leaving → Type 0

@@ -1,6 +1,6 @@
 //! Tenants that come out.
 
-ghost use Rattle.std.specs.Prelude.{◌≡◌, ◌++◌, ◌∷◌, ◌<◌, ◌≤◌, ◌+◌, ◌==◌, [], position, length, None, true, List, Some, IfOk, OnErr, IfSome, IsNone, vec_len, vec_capacity};
+ghost use Rattle.std.specs.Prelude.{◌≡◌, ◌++◌, ◌∷◌, ◌<◌, ◌≤◌, ◌+◌, ◌==◌, [], position, length, None, false, true, List, Some, IfOk, OnErr, IfSome, IsNone, vec_len, vec_capacity};
 ghost use Rattle.vl_design.specs.Alone.{first_tick};
 ghost use Rattle.ten_parcel.specs.Parcels.{number_of, run_of, ticks_of};
 ghost use Rattle.ten_shell.specs.declared.shell.Why.{Why as Reason};
@@ -34,6 +34,7 @@ impl Berth {
         requires room { vec_len self.stays < vec_capacity self.stays }
         ensures parcel { result.parcel ≡ parcel }
         ensures stays { result.stays.items ≡ self.stays.items ++ record { fabric = fabric; from = self.since; to = ticks_of parcel; by_move = self.by_move } ∷ [] }
+        ensures resident { result.resident ≡ true }
     {
         let mut stays = self.stays;
         stays.push_reserved(Stay {
@@ -42,7 +43,11 @@ impl Berth {
             to: parcel.ticks(),
             by_move: self.by_move,
         });
-        Transit { parcel, stays }
+        Transit {
+            parcel,
+            stays,
+            resident: true,
+        }
     }
 
     /// A tenant as it is taken out of the line: with the stays that it has.
@@ -52,10 +57,12 @@ impl Berth {
         requires end { EndsNotBefore (run_of parcel) (ticks_of parcel) }
         ensures parcel { result.parcel ≡ parcel }
         ensures stays { result.stays.items ≡ self.stays.items }
+        ensures resident { result.resident ≡ false }
     {
         Transit {
             parcel,
             stays: self.stays,
+            resident: false,
         }
     }
 }

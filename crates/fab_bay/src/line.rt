@@ -137,13 +137,18 @@ impl NotedCore {
             });
         };
         let note = Note::line(number, &transit);
-        let Transit { parcel, stays } = transit;
+        let Transit {
+            parcel,
+            stays,
+            resident,
+        } = transit;
         match self.core.arrive(parcel) {
             Err(refused) => Err(Refused {
                 why: DeskError::Memory,
                 transit: Transit {
                     parcel: refused.parcel,
                     stays,
+                    resident,
                 },
             }),
             Ok(()) => {

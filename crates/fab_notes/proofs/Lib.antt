@@ -1,4 +1,5 @@
 pub mod Firsts
 pub mod Legality
 pub mod Owns
+pub mod Passing
 pub mod Seats

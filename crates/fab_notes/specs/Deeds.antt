@@ -17,11 +17,12 @@ pub record Deed : Type 0 where
   -- the snapshots made besides, and whether the move that stands where it rests is done
   pub free : List alone.FreeSave
   pub moved : Bool
-  -- its stays so far
+  -- its stays so far, and whether it was a resident where it was last
   pub stays : List Stay
+  pub resident : Bool
 
 abbrev pub deed_of : Transit → Deed
-deed_of t = record { origin = origin_in t.parcel; free = free_of t.parcel; moved = is_moved t.parcel; stays = t.stays.items }
+deed_of t = record { origin = origin_in t.parcel; free = free_of t.parcel; moved = is_moved t.parcel; stays = t.stays.items; resident = t.resident }
 
 -- what a note tells of its tenant, beside its entry
 abbrev pub deed_in : Note → Option Deed

@@ -61,7 +61,7 @@ stay_now g since now true d = record { fabric = g; from = since; to = now; by_mo
 stay_now g since now false d = []
 
 -- it left from where it was, with the origin and the snapshots with which it was put in line, and its stays with this one; the move that
--- stands there is done if it was, or if the tenant left for it
+-- stands there is done if it was, or if the tenant left for it; and it says whether it was a resident: one that was in line is as it came
 pub record MayLeave (g since now : ℕ) (came : Bool) (d : Deed) (e : Entry) (out : Option Deed) : Type 0 where
   pub from : e.from ≡ now
   pub deed : Deed
@@ -69,8 +69,10 @@ pub record MayLeave (g since now : ℕ) (came : Bool) (d : Deed) (e : Entry) (ou
   pub origin : deed.origin ≡ d.origin
   pub free : deed.free ≡ d.free
   pub stays : deed.stays ≡ d.stays ++ stay_now g since now came d
+  pub resident : deed.resident ≡ came
   pub done : is_done since now d ≡ true → deed.moved ≡ true
   pub moves : deed.moved ≡ true → is_done since now d ≡ false → is_some (move_at now (run_in d).plan.errands) ≡ true
+  pub kept : came ≡ false → deed.moved ≡ d.moved
 
 -- a note of its own may follow, on the fabric g
 abbrev pub May : (g : ℕ) → Kind → Place → Note → Type 0

@@ -4,3 +4,4 @@ pub mod Deeds
 pub mod Histories
 pub mod Tokens
 pub mod Origins
+pub mod Moves

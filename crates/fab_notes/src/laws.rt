@@ -1,9 +1,10 @@
 //! What holds of histories. Each function does nothing; its contract is the law.
 
-ghost use Rattle.std.specs.Prelude.{◌≡◌, ℕ, List, [], ◌∷◌, ◌++◌};
+ghost use Rattle.std.specs.Prelude.{◌≡◌, ℕ, ◌+◌, List, [], ◌∷◌, ◌++◌};
 ghost use Rattle.vl_cost.specs.declared.capacity.Cost.{Cost as Capacity};
 ghost use Rattle.fab_notes.specs.declared.note.Note.{Note as OneNote};
 ghost use Rattle.fab_notes.specs.Histories.{after, of_tenant, place_of, replay, Away, HasRoom, IsLawful, IsLegal, May};
+ghost use Rattle.fab_notes.specs.Moves.{left_for, passed, total, HaveMoveAt};
 ghost use Rattle.fab_notes.specs.Origins.{AreOwn, Origins};
 ghost use Rattle.fab_notes.specs.Tokens.{outs, puts};
 
@@ -22,4 +23,11 @@ pub fn a_history_goes_on()
 /// In a legal history whoever leaves starts from what is named for its number, where whoever is put in line does.
 pub fn who_leaves_starts_from_its_own()
     ensures { (all : Origins) (g : ℕ) (c : Capacity) (notes : List OneNote) → IsLegal g c notes → AreOwn all (puts notes) → AreOwn all (outs notes) }
+{}
+
+/// In a legal history a tenant that isn't on the fabric has left behind the move of a tick just as often as it was put in line behind it
+/// or left for it, where a move stands at that tick in its plan.
+pub fn moves_are_told_by_who_comes_and_goes()
+    ensures { (g t j : ℕ) (c : Capacity) (notes : List OneNote) → IsLegal g c notes → place_of t (replay [] notes) ≡ Away → HaveMoveAt t j (puts notes) →
+        total (passed t j) (outs notes) ≡ total (passed t j) (puts notes) + total (left_for t j) (outs notes) }
 {}

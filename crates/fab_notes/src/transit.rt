@@ -1,6 +1,6 @@
 //! Tenants between fabrics.
 
-ghost use Rattle.std.specs.Prelude.{◌≡◌, [], true, IfOk};
+ghost use Rattle.std.specs.Prelude.{◌≡◌, [], false, true, IfOk};
 ghost use Rattle.vl_design.specs.Alone.{first_tick};
 ghost use Rattle.ten_parcel.specs.Parcels.{is_moved, run_of, ticks_of, IsLoaded};
 ghost use Rattle.ten_shell.specs.Shells.{CanRunOn};
@@ -32,6 +32,8 @@ pub struct Transit {
     pub parcel: Parcel,
     /// Its stays so far.
     pub stays: Vec<Stay>,
+    /// It was a resident where it was last; a tenant that was taken out of a line, or has just been loaded, was not.
+    pub resident: bool,
     ghost chained: { chains (first_tick (run_of parcel).resume) stays.items (ticks_of parcel) ≡ true },
     ghost before_end: { EndsNotBefore (run_of parcel) (ticks_of parcel) },
 }
@@ -42,12 +44,14 @@ impl Transit {
         requires { CanRunOn origin }
         ensures loaded { IfOk result (λ t. IsLoaded number origin t.parcel) }
         ensures stays { IfOk result (λ t. t.stays.items ≡ []) }
+        ensures resident { IfOk result (λ t. t.resident ≡ false) }
     {
         match Parcel::load(alloc, number, origin) {
             Err(error) => Err(error),
             Ok(parcel) => Ok(Transit {
                 parcel,
                 stays: Vec::new(alloc),
+                resident: false,
             }),
         }
     }

@@ -1,7 +1,8 @@
 -- What is made of a design keeps within its cost.
-use Rattle.std.proofs.Common.{◌≡◌, ℕ, ◌+◌, ◌*◌, ◌≤◌, Bool, true, false, List, [], ◌∷◌, length, Some, refl, sym, ap, ◌∙◌, arith, subst, inl, inr}
-use Rattle.std.specs.Prelude.{◌==◌, if◌then◌else◌, slice_get}
-use Rattle.std.specs.List.{sum_by, count_by}
+use Rattle.std.proofs.Common.{◌≡◌, ℕ, zero, suc, ◌+◌, ◌*◌, ◌≤◌, Bool, true, false, List, [], ◌∷◌, length, Some, refl, sym, ap, ◌∙◌, arith, subst, inl, inr}
+use Rattle.std.specs.Prelude.{◌==◌, max, if◌then◌else◌, slice_get, slice_index}
+use Rattle.std.specs.List.{AllByRecursion, sum_by, count_by}
+use Rattle.std.proofs.lemmas.Bool.{eqb-true}
 use Rattle.std.proofs.lemmas.List.Sums.{sum_by-cons}
 use Rattle.std.proofs.lemmas.Option.{slice_get_cases, slice_get_within, none-some}
 use Rattle.vl_design.specs.declared.design.SigKind.{SigKind}
@@ -11,7 +12,11 @@ use Rattle.vl_design.specs.Sound.{IsSound}
 use Rattle.vl_design.specs.Syntax.{Row, Flat}
 use Rattle.settling.specs.Nets.{AllBelow}
 use Rattle.cell_cost.specs.Slack.{cell_slack, register_slack}
-use Rattle.cell_form.specs.Data.{StateData}
+use Rattle.cell_form.specs.Data.{ListData, StateData}
+use Rattle.cell_form.specs.declared.cell.Write.{Write}
+use Rattle.cell_form.specs.declared.cell.Write.TheVariants as w
+use Rattle.cell_steps.specs.Slots.{width_at}
+use Rattle.cell_trim.specs.Widths.{IsWithin}
 use Rattle.cell_form.specs.declared.bank.Port.{Port}
 use Rattle.cell_form.specs.declared.bank.PortMap.{PortMap}
 use Rattle.cell_form.specs.declared.table.StateTable.{StateTable}
@@ -19,7 +24,7 @@ use Rattle.cell_form.specs.Views as cells
 use Rattle.cell_form.specs.Views.{state_of}
 use Rattle.std.specs.Prelude.{map}
 use Rattle.cell_states.specs.Cells.{node_count, AreCounted}
-use Rattle.cell_states.specs.Widths.{register_widths, AreNarrow}
+use Rattle.cell_states.specs.Widths.{register_widths, register_width, AreNarrow}
 use Rattle.cell_states.specs.declared.made.States.{States}
 use Rattle.sub_facts.specs.Pairs.{ArePaired}
 use Rattle.sub_nodes.specs.Nodes.{Node}
@@ -30,7 +35,8 @@ use Rattle.ten_form.specs.Banks.{cell_nodes}
 use Rattle.ten_hold.specs.Ports.{port_of, ports_from, ports_of}
 use Rattle.ten_image.specs.States.{AreStates}
 use Rattle.vl_design.specs.Snapshots.{is_kept}
-use Rattle.ten_make.specs.Within.{memory_bits, IsWithinCost}
+use Rattle.ten_form.specs.Registers.{answer_register, register_count}
+use Rattle.ten_make.specs.Within.{memory_bits, widest, widest_of, bits_of, register_bits, IsWithinCost}
 
 -- ---- memory
 
@@ -62,6 +68,58 @@ ports-bits k (r ∷ rs) = (let i = ports-bits (k + 1) rs in go i (is_kept r.kind
         let e = (row-bits k r r.kind refl).1 q in
         omega (arith, b, e, i)
 
+-- ---- registers
+
+most : (a b c : ℕ) → a ≤ c → b ≤ c → max a b ≤ c
+most a b c h k = omega (arith, h, k)
+
+widest-within : (d : Flat) (l : ListData) (r : ℕ) (xs : List Write) → AllByRecursion (IsWithin (register_width d) l) xs → widest l r xs ≤ register_width d r
+widest-within d l r [] h = omega arith
+widest-within d l r (w.Reg k s ∷ xs) h = of (widest-within d l r xs h.1) (k == r) refl
+  where
+    of : widest l r xs ≤ register_width d r → (q : Bool) → (k == r) ≡ q → (if q then max (width_at l s) (widest l r xs) else widest l r xs) ≤ register_width d r
+    of more true q = most (width_at l s) (widest l r xs) (register_width d r) (subst (λ j. width_at l s ≤ register_width d j) (eqb-true k r q) h.0) more
+    of more false q = more
+widest-within d l r (w.Mem m enable word value mask ∷ xs) h = widest-within d l r xs h.1
+
+states-within : (d : Flat) (states : List StateData) (r : ℕ) → AreNarrow d states → widest_of states r ≤ register_width d r
+states-within d [] r h = omega arith
+states-within d (s ∷ ss) r h =
+    most (widest s.cells r s.cells.sets) (widest_of ss r) (register_width d r) (widest-within d s.cells r s.cells.sets (h 0 s refl))
+    (states-within d ss r (λ n t e. h (suc n) t e))
+
+-- the first n numbers of a list
+abbrev first_of : List ℕ → ℕ → ℕ
+first_of xs zero = 0
+first_of xs (suc n) = first_of xs n + slice_index xs n
+
+first-none : (n : ℕ) → first_of [] n ≡ 0
+first-none zero = refl
+first-none (suc n) = (let h = first-none n in omega (arith, h))
+
+first-next : (x : ℕ) (xs : List ℕ) (n : ℕ) → first_of (x ∷ xs) (suc n) ≡ x + first_of xs n
+first-next x xs zero = omega arith
+first-next x xs (suc n) = (let h = first-next x xs n in omega (arith, h))
+
+first-within : (xs : List ℕ) (n : ℕ) → first_of xs n ≤ sum_by (λ x. x) xs
+first-within xs zero = omega arith
+first-within [] (suc n) = (let h = first-none (suc n) in omega (arith, h))
+first-within (x ∷ xs) (suc n) = (let e = first-next x xs n in let h = first-within xs n in let s = sum_by-cons (λ (y : ℕ). y) x xs in omega (arith, e, h, s))
+
+bits-within : (d : Flat) (states : List StateData) (r : ℕ) → AreNarrow d states → bits_of states r ≤ register_width d r
+bits-within d states r h = of (r == answer_register) refl
+  where
+    of : (q : Bool) → (r == answer_register) ≡ q → (if q then 32 else widest_of states r) ≤ register_width d r
+    of true q = subst (λ j. 32 ≤ register_width d j) (sym (eqb-true r answer_register q)) (let le : 32 ≤ 32 = omega arith in le)
+    of false q = states-within d states r h
+
+all-within : (d : Flat) (states : List StateData) (n : ℕ) → AreNarrow d states → register_bits states n ≤ first_of (register_widths d) n
+all-within d states zero h = omega arith
+all-within d states (suc n) h = (let a = all-within d states n h in let b = bits-within d states n h in omega (arith, a, b))
+
+registers-within : (d : Flat) (states : List StateData) (n : ℕ) → AreNarrow d states → sum_by (λ w. w) (register_widths d) ≤ (cost d).regs + register_slack d → register_bits states n ≤ (cost d).regs + register_slack d
+registers-within d states n h bits = (let a = all-within d states n h in let b = first-within (register_widths d) n in omega (arith, a, b, bits))
+
 -- ---- cells
 
 pub within : (d : Flat) (order : List ℕ) (made : States) (places : PortMap) (image : Image) → IsTenantDesign d order →
@@ -71,8 +129,9 @@ pub within : (d : Flat) (order : List ℕ) (made : States) (places : PortMap) (i
     ArePaired 0 (cell_nodes d) → places.ports ≡ ports_of d.rows → AreStates d order made.slots (cell_nodes d) (map state_of made.table.states) → AreCounted d order (cell_nodes d) (map state_of made.table.states) → AreNarrow d (map state_of made.table.states) →
     image.table ≡ made.table → image.ports ≡ places → IsWithinCost d image
 within d order made places image is bits law paired kept are counted narrow table-is ports-are = record {
-  registers = bits d;
-  widths = λ n s e. narrow n s (subst (λ (x : StateTable). slice_get (cells.table_of x).states n ≡ Some s) table-is e);
+  registers =
+      registers-within d (states_of image) (register_count (length d.rows) + 4 * image.stores)
+      (λ n s e. narrow n s (subst (λ (x : StateTable). slice_get (cells.table_of x).states n ≡ Some s) table-is e)) (bits d);
   memory = ap (λ (x : PortMap). sum_by port_bits x.ports) ports-are ∙ ap (sum_by port_bits) kept ∙ ports-bits 0 d.rows;
   cells = λ n s e. at n s (subst (λ (x : StateTable). slice_get (cells.table_of x).states n ≡ Some s) table-is e);
 }

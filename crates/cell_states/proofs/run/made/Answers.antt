@@ -57,7 +57,7 @@ returns-clause-made c number kept =
     let on = way_on_view c.args.on.now in
     let sets = c.in_ok-sets.sets.items in
     let Above : List Store → Type 0 = λ xs. AllByRecursion (λ (s : Store). IsMemory (names_of d) s.memory) xs in
-    is-made d c.args.order.now number g on st.first st.second (list_of x.cells) (list_of c.next_in.new.cells) (env_of x.before.at) (env_of x.after.at) (slots_of x.before.pending) (slots_of x.after.pending) st.sites x.ticks c.in_ok-next.next (next_count (body_cells d) on)
+    is-made d c.args.order.now c.args.delayed.now c.requires.delayed number g on st.first st.second (list_of x.cells) (list_of c.next_in.new.cells) (env_of x.before.at) (env_of x.after.at) (slots_of x.before.pending) (slots_of x.after.pending) st.sites x.ticks c.in_ok-next.next (next_count (body_cells d) on)
     end.before sets st.begins st.reads st.does h end.end (subst (λ xs. Keeps xs (slots_of x.after.pending).sites end.before sets) kept.all end.keeps)
     (starts-same d c.args.order.now number g on (list_of x.cells) (env_of x.before.at) (env_of x.after.at) (slots_of x.before.pending) (slots_of x.after.pending) x.ticks kept.there st)
     (subst Above kept.above (recursion_from_All (λ (s : Store). IsMemory (names_of d) s.memory) c.args.kept.above.now c.requires.memories)) c.requires.design.alone

@@ -80,7 +80,7 @@ returns-clause-made c number kept =
     let on = n.Go c.args.trap in
     let sets = c.in_ok-sets.sets.items in
     let Above : List Store → Type 0 = λ xs. AllByRecursion (λ (s : Store). IsMemory (names_of d) s.memory) xs in
-    is-made d c.args.order.now number g on st.first st.second l2 l4 (env_of x.before.at) at (slots_of x.before.pending) (slots_of x.after.pending) st.sites x.ticks c.in_ok-next.next (1 + m)
+    is-made d c.args.order.now c.args.delayed.now c.requires.delayed number g on st.first st.second l2 l4 (env_of x.before.at) at (slots_of x.before.pending) (slots_of x.after.pending) st.sites x.ticks c.in_ok-next.next (1 + m)
     end.before sets st.begins st.reads st.does goes end.end (subst (λ xs. Keeps xs (slots_of x.after.pending).sites end.before sets) kept.all end.keeps)
     (starts-same d c.args.order.now number g on l2 (env_of x.before.at) at (slots_of x.before.pending) (slots_of x.after.pending) x.ticks kept.there st)
     (subst Above kept.above (recursion_from_All (λ (s : Store). IsMemory (names_of d) s.memory) c.args.kept.above.now c.requires.memories)) c.requires.design.alone
@@ -108,7 +108,7 @@ returns-clause-asks c number kept =
     let sets = c.in_ok-sets.sets.items in
     let Above : List Store → Type 0 = λ xs. AllByRecursion (λ (s : Store). IsMemory (names_of d) s.memory) xs in
     let g23 = longer-grows Nothing 1 l2 l3 num.longer in
-    asks-behind d c.args.order.now number g on st.first st.second l2 l4 (env_of x.before.at) at (slots_of x.before.pending) (slots_of x.after.pending) st.sites x.ticks c.in_ok-next.next (1 + m)
+    asks-behind d c.args.order.now c.args.delayed.now c.requires.delayed number g on st.first st.second l2 l4 (env_of x.before.at) at (slots_of x.before.pending) (slots_of x.after.pending) st.sites x.ticks c.in_ok-next.next (1 + m)
     end.before sets st.begins st.reads st.does goes end.end (subst (λ xs. Keeps xs (slots_of x.after.pending).sites end.before sets) kept.all end.keeps)
     (starts-same d c.args.order.now number g on l2 (env_of x.before.at) at (slots_of x.before.pending) (slots_of x.after.pending) x.ticks kept.there st)
     (subst Above kept.above (recursion_from_All (λ (s : Store). IsMemory (names_of d) s.memory) c.args.kept.above.now c.requires.memories)) c.requires.design.alone task c.in_ok-asked.asked.args (slots-there l4 _ _ asks.slots)

@@ -1,6 +1,6 @@
-use Rattle.std.proofs.Common.{refl, ◌≡◌, false, ◌++◌, ◌∷◌, [], ◌+◌, suc, length, List, ap, sym, ◌∙◌, subst, arith, get_or}
+use Rattle.std.proofs.Common.{Some, refl, ◌≡◌, false, ◌++◌, ◌∷◌, [], ◌+◌, suc, length, List, ap, sym, ◌∙◌, subst, arith, get_or}
 use Rattle.std.specs.Prelude.{◌==◌, position}
-use Rattle.fab_points.specs.Points.{departed, Point}
+use Rattle.fab_points.specs.Points.{departed, due, Point}
 use Rattle.fab_points.specs.Fabrics.{left}
 use Rattle.ten_parcel.specs.declared.parcel.Parcel.{Parcel}
 use Rattle.ten_parcel.specs.Parcels.{ticks_of}
@@ -109,6 +109,7 @@ returns c =
       waiting = ap (λ v. v.items) c.write.ensures.waiting;
       note = record { entry = c.left-note.ensures.entry; deed = c.left-note.ensures.deed };
       stays = c.into_leaver-transit.ensures.stays ∙ ap (λ (a : Parcel). b.stays.items ++ record { fabric = y.label.fabric; from = b.since; to = ticks_of a; by_move = b.by_move } ∷ []) (sym c.into_leaver-transit.ensures.parcel);
+      resident = c.into_leaver-transit.ensures.resident;
     } in
     let f = c.requires.fabric.0 in
     let h = c.requires.fabric.1 in
@@ -121,7 +122,7 @@ returns c =
     let q2 = get_or f.residents i p in
     let l2 : IsLeaver w q2 s.parcel = subst (λ (a : Point). IsLeaver w a s.parcel) same l in
     let last : IsLast (record { transit = s; why = w }) =
-    leaver_last y.label.tenants b q2 w s.parcel (ran_berth t i x y b r f h p) (ran_noted t i x y b r f h p) l2 y.label.fabric (record { transit = s; why = w }) refl refl o.stays in
+    leaver_last y.label.tenants b q2 w s.parcel (ran_berth t i x y b r f h p) (ran_noted t i x y b r f h p) l2 y.label.fabric (record { transit = s; why = w }) (subst (λ (a : Point). due a ≡ Some w) same out.0) refl refl o.stays o.resident in
     let written = out_written k t i x y z b s n o f w p h (subst (λ (a : Point). IsLeaver w a s.parcel) same l) in
     let m = berths_many x.label.tenants x.berths.items f.residents h.residents in
     let m2 = berths_many y.label.tenants y.berths.items f.residents (r.kept f h).residents in

@@ -159,7 +159,7 @@ pub invariant_of-result : goal.invariant_of-result
 invariant_of-result c = record { chained = back_chained c.args.transit _ c.in-Err.ensures.back; before_end = back_end c.args.transit _ c.in-Err.ensures.back }
 
 pub returns-in-Err-clause-back : goal.returns-in-Err-clause-back
-returns-in-Err-clause-back c = same_transit _ c.args.transit c.in-Err.ensures.back refl
+returns-in-Err-clause-back c = same_transit _ c.args.transit c.in-Err.ensures.back refl refl
 
 pub push_reserved-requires : goal.push_reserved-requires
 push_reserved-requires c =

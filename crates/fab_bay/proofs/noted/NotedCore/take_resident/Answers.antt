@@ -96,6 +96,7 @@ returns c =
       waiting = ap (λ v. v.items) c.write.ensures.waiting;
       note = record { entry = c.left-note.ensures.entry; deed = c.left-note.ensures.deed };
       stays = c.into_leaver-transit.ensures.stays ∙ ap (λ (a : Parcel). b.stays.items ++ record { fabric = y.label.fabric; from = b.since; to = ticks_of a; by_move = b.by_move } ∷ []) (sym c.into_leaver-transit.ensures.parcel);
+      resident = c.into_leaver-transit.ensures.resident;
     } in
     let f = c.requires.fabric.0 in
     let h = c.requires.fabric.1 in

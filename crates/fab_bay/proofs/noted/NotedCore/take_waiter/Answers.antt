@@ -80,6 +80,7 @@ returns c =
       waiting = ap (λ v. v.items) c.write.ensures.waiting ∙ c.remove-berth.ensures.items;
       note = record { entry = c.left-note.ensures.entry; deed = c.left-note.ensures.deed };
       stays = c.into_withdrawn-transit.ensures.stays;
+      resident = c.into_withdrawn-transit.ensures.resident;
     } in
     let f = c.requires.fabric.0 in
     let h = c.requires.fabric.1 in

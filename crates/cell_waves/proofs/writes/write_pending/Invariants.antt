@@ -1,0 +1,8 @@
+use Rattle.std.proofs.Common.{map}
+use Rattle.vl_design.specs.Trees.{row_of}
+use Rattle.cell_waves.specs.Copies.{marked_change, Sets}
+use Rattle.cell_waves.proofs.Setting.{below}
+use Rattle.cell_waves.proofs.writes.write_pending.Given as goal
+
+abbrev pub invariant-loop-number : goal.invariant-loop-number
+invariant-loop-number l = Sets (map row_of l.signals) l.copy (below l.number (marked_change l.marks l.before l.after)) l.after l.here l.fn.sets.items l.sets.items

@@ -1,0 +1,171 @@
+-- From one round to the next.
+use Rattle.std.proofs.Common.{◌≡◌, ℕ, ◌+◌, ◌<◌, false, List, [], ◌∷◌, length, get_or, sym, ap, ◌∙◌, subst, arith}
+use Rattle.std.specs.Prelude.{All, Vec}
+use Rattle.std.specs.declared.alloc.Global.{Global}
+use Rattle.std.specs.declared.snapshot.Snapshot.{Snapshot}
+use Rattle.std.proofs.lemmas.List.{get_or_default}
+use Rattle.std.proofs.lemmas.List.Elements.{All-nil, All-weaker}
+use Rattle.fab_lock.specs.Facts.{IsSeatOf}
+use Rattle.fab_notes.specs.declared.note.Note.{Note}
+use Rattle.fab_notes.specs.Tokens.{outs, puts, Token}
+use Rattle.fab_notes.specs.Origins.{Origins}
+use Rattle.fab_bay.specs.declared.leaving.Leaving.{Leaving}
+use Rattle.fab_bay.specs.declared.noted.Label.{Label}
+use Rattle.fab_rounds.specs.declared.ledgers.Ledger.{Ledger}
+use Rattle.fab_rounds.specs.declared.outcomes.Start.{Start}
+use Rattle.fab_rounds.specs.declared.posts.Opened.{Opened}
+use Rattle.fab_rounds.specs.declared.workers.Worker.{Worker}
+use Rattle.fab_rounds.specs.Openings.{AreSeated}
+use Rattle.fab_rounds.specs.Totals.{total}
+use Rattle.fab_rounds.specs.Starts.{NamesOrigins}
+use Rattle.fab_rounds.specs.Ledgers.{all_outs, all_puts, in_hand, pile_sum, seat_outs, seat_puts, start_sum, worker_outs, worker_piles, AreHandedOver, AreLeft, AreOut, AreWorkers, DeskSeatFacts, DeskFacts, IsAtDesk, IsBetween, IsLedger, IsLeft, IsOut, IsSameRun, IsTurned, IsWorker, KeepsSums, TakesOver}
+use Rattle.fab_rounds.proofs.Totals.{total_all, total_same, total_tied}
+use Rattle.fab_rounds.proofs.Puts.{is_own, label_at, labels_long}
+
+-- each worker sits at a desk
+pub at_desks : (desks : List DeskFacts) (ws : List Worker) → AreWorkers desks ws → All (IsAtDesk desks) ws
+at_desks desks ws a k w lt =
+    let n = a.count in
+    let l : k < length desks = omega (arith, n, lt) in
+    let f = a.fabric k w l in record {
+      there = subst (λ (j : ℕ). j < length desks) (sym f) l;
+      worker = λ d. subst (λ (j : ℕ). IsWorker (get_or desks j d) (get_or ws k w)) (sym f) (a.each k d w l);
+    }
+
+-- what came out where its origin is named
+left_out : (starts : List Start) (o : Origins) (l : Leaving) → NamesOrigins starts o → IsOut o l → IsLeft starts l
+left_out starts o l n h = record { left = h.left; own = is_own starts o l.transit.parcel n h.own }
+
+left_all : {Z : Type 0} (starts : List Start) (o : Origins) (vs : List (Vec Leaving Z)) → NamesOrigins starts o → AreOut o vs → AreLeft starts vs
+left_all starts o vs n h = All-weaker (λ v. All (IsOut o) v.items) (λ v. All (IsLeft starts) v.items) (λ v a. All-weaker (IsOut o) (IsLeft starts) (λ l. left_out starts o l n) v.items a) vs h
+
+left_at : (desks : List DeskFacts) (l : Ledger) (w : Worker) → IsLedger desks l → IsAtDesk desks w → AreLeft l.loaded.value.items w.out.items
+left_at [] l w k a = absurd (let t = a.there in omega (arith, t))
+left_at (x ∷ xs) l w k a =
+    let ds : List DeskFacts = x ∷ xs in
+    let labels = l.labels.value.items in
+    let desk : DeskFacts = get_or ds w.fabric x in
+    let t = a.there in
+    let long = labels_long ds labels k.labels in
+    let h = k.kept.labels w.fabric desk.label (omega (arith, t, long)) in
+    let same = label_at ds labels k.labels w.fabric x desk.label t in
+    left_all l.loaded.value.items desk.label.origins w.out.items (ap_names l.loaded.value.items (get_or labels w.fabric desk.label) desk.label same h.origins) (a.worker x).out
+  where
+    ap_names : (starts : List Start) (a b : Label) → a ≡ b → NamesOrigins starts a.origins → NamesOrigins starts b.origins
+    ap_names starts a b e n = subst (λ (y : Label). NamesOrigins starts y.origins) e n
+
+pub left_by : (desks : List DeskFacts) (l l' : Ledger) (ws ws' : List Worker) → IsLedger desks l → l' ≡ l → length ws' ≡ length ws → ((i : ℕ) (d : Worker) → i < length ws → IsTurned desks (get_or ws i d) (get_or ws' i d))
+    → All (λ w. AreLeft l'.loaded.value.items w.out.items) ws'
+left_by desks l l' ws ws' k same count each i d lt =
+    subst (λ (x : Ledger). AreLeft x.loaded.value.items (get_or ws' i d).out.items) (sym same) (left_at desks l (get_or ws' i d) k (each i d (omega (arith, count, lt))).at)
+
+module _ (desks : List DeskFacts) (l l1 l2 l3 : Ledger) (w0 w1 w2 : List Worker) (b : IsBetween desks l w0) (count : length w1 ≡ length w0) (each : (i : ℕ) (d : Worker) → i < length w0 → IsTurned desks (get_or w0 i d) (get_or w1 i d))
+    (same : l1 ≡ l) (takes : TakesOver l1 l2 (λ f. worker_piles f w1)) (handed : AreHandedOver w1 w2) (ledger : IsLedger desks l3) (run : IsSameRun l2 l3) (sums : KeepsSums l2 l3) (none : l3.moving.items ≡ []) where
+  turned : (i : ℕ) (w : Worker) → i < length desks → IsTurned desks (get_or w0 i w) (get_or w1 i w)
+  turned i w lt = let n = b.workers.count in each i w (omega (arith, n, lt))
+
+  fabric_at : (i : ℕ) (w : Worker) → i < length desks → (get_or w1 i w).fabric ≡ i
+  fabric_at i w lt = (turned i w lt).fabric ∙ b.workers.fabric i w lt
+
+  in_first : (i : ℕ) → i < length desks → i < length w1
+  in_first i lt = let n = b.workers.count in omega (arith, n, lt, count)
+
+  worker_at : (i : ℕ) (d : DeskFacts) (w : Worker) → i < length desks → IsWorker (get_or desks i d) (get_or w2 i w)
+  worker_at i d w lt =
+      let x = get_or w1 i w in
+      let y = get_or w2 i w in
+      let k = subst (λ (j : ℕ). IsWorker (get_or desks j d) x) (fabric_at i w lt) ((turned i w lt).at.worker d) in
+      let s : y.seat ≡ x.seat = handed.seat i w (in_first i lt) in
+      let h = handed.count in
+      let e : y.out.items ≡ [] = handed.empty i w (let m = in_first i lt in omega (arith, m, h)) in record {
+        seat = subst (IsSeatOf (get_or desks i d)) (sym s) k.seat;
+        apart = λ z. k.apart (ap (λ (c : DeskSeatFacts). c.view.low) (sym s) ∙ z);
+        out = subst (AreOut (get_or desks i d).label.origins) (sym e) (All-nil _);
+      }
+
+  workers_after : AreWorkers desks w2
+  workers_after = record {
+    count = handed.count ∙ count ∙ b.workers.count;
+    fabric = λ i w lt. handed.fabric i w (in_first i lt) ∙ fabric_at i w lt;
+    each = worker_at;
+  }
+
+  tied : (f : Token → ℕ) → worker_outs f w1 + worker_piles f w0 ≡ worker_outs f w0 + worker_piles f w1
+  tied f = total_tied (λ (w : Worker). seat_outs f w.seat) (λ (w : Worker). pile_sum f w.out.items) (λ (w : Worker). seat_outs f w.seat) (λ (w : Worker). pile_sum f w.out.items) w1 w0 count
+      (λ i d e lt. subst (λ (z : Worker). seat_outs f (get_or w1 i d).seat + pile_sum f z.out.items ≡ seat_outs f z.seat + pile_sum f (get_or w1 i d).out.items) (get_or_default w0 i d e lt) ((each i d lt).tied f))
+
+  handed_outs : (f : Token → ℕ) → worker_outs f w2 ≡ worker_outs f w1
+  handed_outs f = total_same (λ (w : Worker). seat_outs f w.seat) (λ (w : Worker). seat_outs f w.seat) w2 w1 handed.count
+      (λ i d e lt. ap (seat_outs f) (handed.seat i d lt) ∙ ap (λ (w : Worker). seat_outs f w.seat) (get_or_default w1 i d e lt))
+
+  pub between : IsBetween desks l3 w2
+  between = record {
+    ledger = ledger;
+    workers = workers_after;
+    empty = handed.empty;
+    none = none;
+    balanced = λ f. omega (
+      arith,
+      b.balanced f,
+      tied f,
+      total_all (λ (w : Worker). w.out.items ≡ []) (λ (w : Worker). pile_sum f w.out.items) (λ w q. ap (pile_sum f) q) w0 b.empty,
+      handed_outs f,
+      takes.sums f,
+      ap (in_hand f) same,
+      ap (λ (x : Vec DeskSeatFacts Global). total (seat_puts f) x.items) takes.firsts,
+      ap (λ (x : Vec DeskSeatFacts Global). total (seat_outs f) x.items) takes.firsts,
+      ap (all_puts f) same,
+      ap (all_outs f) same,
+      sums f,
+      ap (λ (s : Snapshot (Vec Start Global)). start_sum f s.value.items) run.0,
+      ap (λ (s : Snapshot (Vec Start Global)). start_sum f s.value.items) takes.same.0,
+      ap (λ (x : Ledger). start_sum f x.loaded.value.items) same,
+    );
+  }
+
+-- ---- before the first round
+
+desk_fabric : (desks : List DeskFacts) (l : Ledger) (i : ℕ) (d : DeskFacts) → IsLedger desks l → i < length desks → (get_or desks i d).label.fabric ≡ i
+desk_fabric desks l i d k lt =
+    let labels = l.labels.value.items in
+    let desk = get_or desks i d in
+    let long = labels_long desks labels k.labels in
+    ap (λ (x : Label). x.fabric) (sym (label_at desks labels k.labels i d desk.label lt)) ∙ (k.kept.labels i desk.label (omega (arith, lt, long))).fabric
+
+worker_fabric : (desks : List DeskFacts) (l : Ledger) (ws : List Worker) → IsLedger desks l → ((i : ℕ) (d : DeskFacts) (w : Worker) → i < length desks → (get_or ws i w).fabric ≡ (get_or desks i d).label.fabric)
+    → (i : ℕ) (w : Worker) → i < length desks → (get_or ws i w).fabric ≡ i
+worker_fabric [] l ws k a i w lt = absurd (omega (arith, lt))
+worker_fabric (x ∷ xs) l ws k a i w lt = a i x w lt ∙ desk_fabric (x ∷ xs) l i x k lt
+
+pub started : (desks : List DeskFacts) (o : Opened) (l l' : Ledger) (starts : List Start) → desks ≡ o.desks.items → AreSeated o → IsLedger desks l' → IsSameRun l l' → KeepsSums l l' → l'.moving.items ≡ [] → l.firsts ≡ o.firsts
+    → l.loaded.value.items ≡ starts → ((f : Token → ℕ) → in_hand f l ≡ start_sum f starts) → IsBetween desks l' o.workers.items
+started desks o l l' starts e s k run sums none firsts loaded hand =
+    let fabric = subst (λ (ds : List DeskFacts). (i : ℕ) (d : DeskFacts) (w : Worker) → i < length ds → (get_or o.workers.items i w).fabric ≡ (get_or ds i d).label.fabric) (sym e) s.fabric in
+    let fresh : All (λ (c : DeskSeatFacts). c.view.own ≡ []) l.firsts.items = subst (λ (v : Vec DeskSeatFacts Global). All (λ (c : DeskSeatFacts). c.view.own ≡ []) v.items) (sym firsts) s.fresh in record {
+      ledger = k;
+      workers = record {
+        count = s.count ∙ ap length (sym e);
+        fabric = worker_fabric desks l' o.workers.items k fabric;
+        each = subst (λ (ds : List DeskFacts). (i : ℕ) (d : DeskFacts) (w : Worker) → i < length ds → IsWorker (get_or ds i d) (get_or o.workers.items i w)) (sym e) s.each;
+      };
+      empty = s.empty;
+      none = none;
+      balanced = λ f. omega (
+        arith,
+        sums f,
+        hand f,
+        total_all (λ (w : Worker). w.seat.view.own ≡ []) (λ (w : Worker). seat_outs f w.seat) (λ w q. ap (λ (n : List Note). total f (outs n)) q) o.workers.items s.fresh_workers,
+        total_all (λ (c : DeskSeatFacts). c.view.own ≡ []) (seat_outs f) (λ c q. ap (λ (n : List Note). total f (outs n)) q) l.firsts.items fresh,
+        total_all (λ (c : DeskSeatFacts). c.view.own ≡ []) (seat_puts f) (λ c q. ap (λ (n : List Note). total f (puts n)) q) l.firsts.items fresh,
+        ap (start_sum f) loaded,
+        ap (λ (s : Snapshot (Vec Start Global)). start_sum f s.value.items) run.0,
+      );
+    }
+
+-- only first seats put tenants in line
+pub never_any : (desks : List DeskFacts) (l : Ledger) → IsLedger desks l → All (λ d. d.label.any_puts ≡ false) desks
+never_any desks l k i d lt =
+    let labels = l.labels.value.items in
+    let desk = get_or desks i d in
+    let long = labels_long desks labels k.labels in
+    ap (λ (x : Label). x.any_puts) (sym (label_at desks labels k.labels i d desk.label lt)) ∙ (k.kept.labels i desk.label (omega (arith, lt, long))).any_puts

@@ -1,0 +1,40 @@
+-- What is found where a desk is closed.
+use Rattle.std.proofs.Common.{◌≡◌, ◌≢◌, ℕ, false, List, ◌∷◌, refl, sym, ap, ◌∙◌, subst, arith}
+use Rattle.std.specs.Prelude.{All}
+use Rattle.std.proofs.lemmas.List.Elements.{All-head}
+use Rattle.fab_lock.specs.Histories.{notes_of}
+use Rattle.fab_lock.specs.Views.{after_join}
+use Rattle.fab_notes.specs.declared.note.Note.{Note}
+use Rattle.fab_notes.specs.Histories.{IsLegal}
+use Rattle.fab_notes.specs.Tokens.{outs, puts}
+use Rattle.fab_bay.specs.declared.noted.Label.{Label}
+use Rattle.fab_bay.specs.declared.noted.NotedCore.{NotedCore}
+use Rattle.fab_desk.specs.Desks.{entry_of, DeskView, Finds}
+use Rattle.fab_rounds.specs.Totals.{total}
+use Rattle.fab_rounds.specs.Ledgers.{DeskSeatFacts, IsShut}
+use Rattle.fab_rounds.proofs.Conserved.{by_others, outs_apart, puts_by_zero}
+use Rattle.fab_rounds.proofs.Taken.{all_behind}
+
+-- a pair of a seat's number and its notes
+module _ (label : Label) (first other : DeskSeatFacts) (v : DeskView) (b : NotedCore) (join : v ≡ after_join first.view other.view) (zero : first.view.low ≡ 0) (apart : other.view.low ≢ 0) (finds : Finds label v b.notes.items) (any : label.any_puts ≡ false) (is : b.label ≡ label) where
+  own : notes_of entry_of 0 b.notes.items ≡ first.view.own
+  own = ap (λ (k : ℕ). notes_of entry_of k b.notes.items) (sym (ap (λ (x : DeskView). x.low) join ∙ zero)) ∙ finds.own ∙ ap (λ (x : DeskView). x.own) join
+
+  joined : notes_of entry_of other.view.low b.notes.items ≡ other.view.own
+  joined =
+      let a = subst (λ (x : DeskView). All (λ seat. notes_of entry_of seat.0 b.notes.items ≡ seat.1) x.joined) join finds.joined in
+      All-head (λ seat. notes_of entry_of seat.0 b.notes.items ≡ seat.1) (other.view.low, other.view.own) other.view.joined
+      (all_behind (λ seat. notes_of entry_of seat.0 b.notes.items ≡ seat.1) first.view.joined ((other.view.low, other.view.own) ∷ other.view.joined) a)
+
+  pub shut : IsShut first other b
+  shut = record {
+    closed = record { label = refl; legal = subst (λ (l : Label). IsLegal l.fabric l.capacity b.notes.items) (sym is) finds.legal; lines = finds.lines any };
+    rest = outs (by_others other.view.low b.notes.items);
+    outs = λ f. omega (
+      arith,
+      outs_apart f other.view.low apart b.notes.items,
+      ap (λ (l : List Note). total f (outs l)) own,
+      ap (λ (l : List Note). total f (outs l)) joined,
+    );
+    puts = λ f. omega (arith, puts_by_zero f b.notes.items (finds.lines any), ap (λ (l : List Note). total f (puts l)) own);
+  }

@@ -1,0 +1,11 @@
+pub mod Totals
+pub mod Conserved
+pub mod Steps
+pub mod Crosses
+pub mod Lists
+pub mod Taken
+pub mod Closes
+pub mod Puts
+pub mod Opens
+pub mod Between
+pub mod Ends

@@ -1,0 +1,204 @@
+-- Tenants that the ledger takes over.
+use Rattle.std.proofs.Common.{rules, ◌≡◌, ℕ, Bool, true, false, List, [], ◌∷◌, ◌++◌, take, drop, refl, sym, ap, ◌∙◌, subst, arith, Option, Some, None}
+use Rattle.std.specs.List.{insert}
+use Rattle.std.specs.Prelude.{All, Vec, is_some, IfSome, IsNone, if◌then◌else◌, slice_get, IfOk, OnOk, Result, Ok, Err}
+use Rattle.std.specs.declared.alloc.Global.{Global}
+use Rattle.std.proofs.lemmas.List.Elements.{All-append, All-cons, All-drop, All-head, All-nil, All-tail, All-take}
+use Rattle.std.proofs.lemmas.Option.{none-some}
+use Rattle.vl_design.specs.declared.design.End.{End}
+use Rattle.vl_design.specs.declared.design.End.TheVariants.{Stopped}
+use Rattle.vl_design.specs.Alone as alone
+use Rattle.vl_design.specs.Alone.{reason_at, Boundary, Ends}
+use Rattle.vl_design.specs.Queue.{Queue}
+use Rattle.ten_core.specs.Tenants.{origin_of}
+use Rattle.ten_parcel.specs.declared.parcel.Parcel.{Parcel}
+use Rattle.ten_parcel.specs.Parcels.{is_stopped, number_of, run_of, ticks_of, IsParcel, IsTenant}
+use Rattle.ten_plan.specs.Plans.{move_at}
+use Rattle.ten_shell.specs.declared.shell.Why.{Why}
+use Rattle.ten_shell.specs.declared.shell.Why.TheVariants.{Ended, Move}
+use Rattle.ten_shell.specs.Leaving.{why_of}
+use Rattle.fab_points.specs.Points.{ended, rests, run_in, Point}
+use Rattle.fab_core.specs.Standing.{IsPointOf}
+use Rattle.fab_core.proofs.Arriving.{parcel_is}
+use Rattle.fab_core.proofs.Parcels.{moved_is, origin_is, stopped_is, ticks_is}
+use Rattle.fab_notes.specs.declared.transit.Transit.{Transit}
+use Rattle.fab_notes.specs.Tokens.{token_of}
+use Rattle.fab_bay.specs.declared.noted.Label.{Label}
+use Rattle.fab_rounds.specs.declared.ledgers.Ledger.{Ledger}
+use Rattle.fab_rounds.specs.declared.ledgers.Moving.{Moving}
+use Rattle.fab_rounds.specs.declared.outcomes.Reason.TheVariants.{First, Errand}
+use Rattle.fab_rounds.specs.declared.outcomes.Start.{Start}
+use Rattle.fab_rounds.specs.Totals.{total}
+use Rattle.fab_rounds.specs.Starts.{AreStarts, IsStart}
+use Rattle.fab_rounds.specs.Ledgers.{HasEnded, IsKept, IsLeft, IsMoving, IsOwn, TakesOver}
+use Rattle.fab_rounds.proofs.Totals.{total-insert}
+use Rattle.fab_rounds.proofs.Lists.{own_start, start_of}
+
+All-insert : {X : Type 0} (P : X → Type 0) (xs : List X) (i : ℕ) (x : X) → All P xs → P x → All P (insert xs i x)
+All-insert P xs i x h p = All-append P (take i xs) (x ∷ drop i xs) (All-take P i xs h) (All-cons P x (drop i xs) p (All-drop P i xs h))
+
+all_before : {X : Type 0} (P : X → Type 0) (xs ys : List X) → All P (xs ++ ys) → All P xs
+all_before P [] ys h = All-nil P
+all_before P (x ∷ xs) ys h = All-cons P x xs (All-head P x (xs ++ ys) h) (all_before P xs ys (All-tail P x (xs ++ ys) h))
+
+pub all_behind : {X : Type 0} (P : X → Type 0) (xs ys : List X) → All P (xs ++ ys) → All P ys
+all_behind P [] ys h = h
+all_behind P (x ∷ xs) ys h = all_behind P xs ys (All-tail P x (xs ++ ys) h)
+
+all_last : {X : Type 0} (P : X → Type 0) (xs : List X) (x : X) → All P (xs ++ x ∷ []) → P x
+all_last P xs x h = All-head P x [] (all_behind P xs (x ∷ []) h)
+
+-- what follows from what a call gives
+pub on_ok : {T E P Q : Type 0} (r : Result T E) → (P → Q) → OnOk r P → OnOk r Q
+on_ok (Ok x) f h = f h
+on_ok (Err e) f h = h
+
+pub from_ok : {T E : Type 0} (P : T → Type 0) (r : Result T E) (x : T) → r ≡ Ok x → IfOk r P → P x
+from_ok {T} {E} P r x e h = subst (λ (q : Result T E). IfOk q P) e h
+
+-- without the last
+pub all_pop : {X : Type 0} (P : X → Type 0) (ys xs : List X) (x : X) → ys ≡ xs ++ x ∷ [] → All P ys → All P xs × P x
+all_pop P ys xs x e h = let a = subst (All P) e h in (all_before P xs (x ∷ []) a, all_last P xs x a)
+
+-- ---- one more that moves, or that has ended
+
+pub takes_moving : (l : Ledger) (v : Vec Moving Global) (m : Moving) → IsKept l → IsMoving l.loaded.value.items l.labels.value.items m → ((i : ℕ) × (v.items ≡ insert l.moving.items i m))
+    → TakesOver l (record l { moving = v }) (λ f. f (token_of m.transit))
+takes_moving l v m k h at = record {
+  kept = record {
+    labels = k.labels;
+    starts = k.starts;
+    moving = subst (All (IsMoving l.loaded.value.items l.labels.value.items)) (sym at.1) (All-insert (IsMoving l.loaded.value.items l.labels.value.items) l.moving.items at.0 m k.moving h);
+    done = k.done;
+    causes = k.causes;
+    caused = k.caused;
+  };
+  same = (refl, refl);
+  firsts = refl;
+  sums = λ f. omega (arith, ap (total (λ (x : Moving). f (token_of x.transit))) at.1, total-insert (λ (x : Moving). f (token_of x.transit)) l.moving.items at.0 m);
+}
+
+pub takes_done : (l : Ledger) (v : Vec Transit Global) (t : Transit) → IsKept l → HasEnded l.loaded.value.items t → ((i : ℕ) × (v.items ≡ insert l.done.items i t))
+    → TakesOver l (record l { done = v }) (λ f. f (token_of t))
+takes_done l v t k h at = record {
+  kept = record {
+    labels = k.labels;
+    starts = k.starts;
+    moving = k.moving;
+    done = subst (All (HasEnded l.loaded.value.items)) (sym at.1) (All-insert (HasEnded l.loaded.value.items) l.done.items at.0 t k.done h);
+    causes = k.causes;
+    caused = k.caused;
+  };
+  same = (refl, refl);
+  firsts = refl;
+  sums = λ f. omega (arith, ap (total (λ (x : Transit). f (token_of x))) at.1, total-insert (λ (x : Transit). f (token_of x)) l.done.items at.0 t);
+}
+
+-- ---- one that came out
+
+moves_by : (rest : Bool) (x : Option End) (to : Option ℕ) (m : Bool) (g : ℕ) → (if rest then why_of x to m else None) ≡ Some (Move g) → (x ≡ None) × (to ≡ Some g)
+moves_by true (Some end) to m g e = let z : ⊥ = cc in absurd z
+moves_by true None (Some h) false g e = (refl, cc)
+moves_by true None (Some h) true g e = let z : ⊥ = cc in absurd z
+moves_by true None None m g e = let z : ⊥ = cc in absurd z
+moves_by false x to m g e = let z : ⊥ = cc in absurd z
+
+ends_by : (rest : Bool) (x : Option End) (to : Option ℕ) (m : Bool) (end : End) → (if rest then why_of x to m else None) ≡ Some (Ended end) → x ≡ Some end
+ends_by true (Some e) to m end h = cc
+ends_by true None (Some h') false end h = let z : ⊥ = cc in absurd z
+ends_by true None (Some h') true end h = let z : ⊥ = cc in absurd z
+ends_by true None None m end h = let z : ⊥ = cc in absurd z
+ends_by false x to m end h = let z : ⊥ = cc in absurd z
+
+-- it moves
+pub left_moves : (starts : List Start) (labels : List Label) (t : Transit) (g : ℕ) → AreStarts labels starts → IsLeft starts (record { transit = t; why = Move g }) → IsMoving starts labels (record { reason = Errand; fabric = g; transit = t })
+left_moves starts labels t g a h =
+    let p = h.left.0 in
+    let here = h.left.1 in
+    let s = moves_by (rests p) (ended p) (move_at p.stage.state.ticks (run_in p).plan.errands) p.moved g h.left.2 in
+    let q : Point = record p { moved = true } in
+    let run : run_of t.parcel ≡ run_in p = ap origin_of (origin_is t.parcel q here) in
+    let move : move_at (ticks_of t.parcel) (run_of t.parcel).plan.errands ≡ Some g =
+    ap (λ (k : ℕ). move_at k (run_of t.parcel).plan.errands) (ticks_is t.parcel q here) ∙ ap (λ (o : alone.Origin). move_at p.stage.state.ticks o.plan.errands) run ∙ s.1 in
+    record {
+      point = (q, here, s.0);
+      own = h.own;
+      place = own_start starts labels t.parcel a h.own (ticks_of t.parcel) g move;
+      reason = (moved_is t.parcel q here, move);
+    }
+
+ended_at : (starts : List Start) (t : Transit) (p : Point) (end : Option End) → IsPointOf t.parcel p → p.stopped ≡ false → IsOwn starts t.parcel → is_some end ≡ true
+    → IfSome end (λ e. is_stopped t.parcel ≡ false → (q : Queue) × Ends (run_of t.parcel) (ticks_of t.parcel) e q) → HasEnded starts t
+ended_at starts t p (Some e) here stopped own some h = let s = stopped_is t.parcel p here ∙ stopped in let x = h s in record {
+  parcel = parcel_is t.parcel p here;
+  own = own;
+  stopped = s;
+  end = e;
+  last = x.0;
+  ends = x.1;
+}
+ended_at starts t p None here stopped own some h = let z : ⊥ = cc in absurd z
+
+-- it has ended
+pub left_ended : (starts : List Start) (t : Transit) (why : Why) (end : Option End) → IsLeft starts (record { transit = t; why = why }) → is_some end ≡ true
+    → IfSome end (λ e. is_stopped t.parcel ≡ false → (q : Queue) × Ends (run_of t.parcel) (ticks_of t.parcel) e q) → HasEnded starts t
+left_ended starts t (Move g) end h some e = ended_at starts t (record (h.left.0) { moved = true }) end h.left.1 h.left.3 h.own some e
+left_ended starts t (Ended x) end h some e = ended_at starts t h.left.0 end h.left.1 h.left.3 h.own some e
+
+-- where it leaves as one that has ended, it has
+pub left_has_ended : (t : Transit) (x : End) (end : Option End) (starts : List Start) → IsLeft starts (record { transit = t; why = Ended x })
+    → ((q : Parcel) (p : Point) → IsPointOf q p → (b : Queue) × Boundary (run_of q) (ticks_of q) b × (b.state ≡ p.stage.state))
+    → ((q : Parcel) (p : Point) (b : Queue) → IsPointOf q p → Boundary (run_of q) (ticks_of q) b → ended p ≡ (if is_stopped q then Some Stopped else reason_at (run_of q).plan (ticks_of q) b))
+    → ((q : Queue) → Boundary (run_of t.parcel) (ticks_of t.parcel) q → end ≡ (if is_stopped t.parcel then Some Stopped else reason_at (run_of t.parcel).plan (ticks_of t.parcel) q))
+    → is_some end ≡ true
+left_has_ended t x end starts h boundary told reason =
+    let p = h.left.0 in
+    let b = boundary t.parcel p h.left.1 in
+    let e = ends_by (rests p) (ended p) (move_at p.stage.state.ticks (run_in p).plan.errands) p.moved x h.left.2 in
+    ap is_some (reason b.0 b.1 ∙ sym (told t.parcel p b.0 h.left.1 b.1) ∙ e)
+
+-- ---- one that is loaded
+
+none_of : (e : Option End) → is_some e ≡ false → e ≡ None
+none_of None n = refl
+none_of (Some e) n = let z : ⊥ = cc in absurd z
+
+is_none_of : (e : Option End) → is_some e ≡ false → IsNone e
+is_none_of None n = search rules
+is_none_of (Some e) n = let z : ⊥ = cc in absurd z
+
+-- it hasn't ended
+pub start_moves : (starts : List Start) (labels : List Label) (g : ℕ) (t : Transit) (end : Option End) → IsStart labels (number_of t.parcel) (record { fabric = g; transit = t }) → slice_get starts (number_of t.parcel) ≡ Some (record { fabric = g; transit = t })
+    → is_some end ≡ false
+    → ((q : Parcel) → IsParcel q → IsTenant q → (p : Point) × IsPointOf q p)
+    → ((q : Parcel) (p : Point) → IsPointOf q p → (b : Queue) × Boundary (run_of q) (ticks_of q) b × (b.state ≡ p.stage.state))
+    → ((q : Parcel) (p : Point) (b : Queue) → IsPointOf q p → Boundary (run_of q) (ticks_of q) b → ended p ≡ (if is_stopped q then Some Stopped else reason_at (run_of q).plan (ticks_of q) b))
+    → ((q : Queue) → Boundary (run_of t.parcel) (ticks_of t.parcel) q → end ≡ (if is_stopped t.parcel then Some Stopped else reason_at (run_of t.parcel).plan (ticks_of t.parcel) q))
+    → (IsNone end → IsTenant t.parcel)
+    → IsMoving starts labels (record { reason = First; fabric = g; transit = t })
+start_moves starts labels g t end s at none points boundary told reason tenant =
+    let no = none_of end none in
+    let p = points t.parcel s.parcel (tenant (is_none_of end none)) in
+    let b = boundary t.parcel p.0 p.1 in
+    record {
+      point = (p.0, p.1, told t.parcel p.0 b.0 p.1 b.1 ∙ sym (reason b.0 b.1) ∙ no);
+      own = start_of starts (record { fabric = g; transit = t }) (number_of t.parcel) at;
+      place = s.place;
+      reason = (
+        at,
+        λ e q ends. none-some e (sym no ∙ reason q ends.at ∙ ap (λ (x : Bool). if x then Some Stopped else reason_at (run_of t.parcel).plan (ticks_of t.parcel) q) s.stopped ∙ ends.why),
+      );
+    }
+
+-- it has ended
+pub start_ended : (starts : List Start) (labels : List Label) (s : Start) (end : Option End) → IsStart labels (number_of s.transit.parcel) s → slice_get starts (number_of s.transit.parcel) ≡ Some s → is_some end ≡ true
+    → IfSome end (λ e. is_stopped s.transit.parcel ≡ false → (q : Queue) × Ends (run_of s.transit.parcel) (ticks_of s.transit.parcel) e q) → HasEnded starts s.transit
+start_ended starts labels s (Some e) k at some h = let x = h k.stopped in record {
+  parcel = k.parcel;
+  own = start_of starts s (number_of s.transit.parcel) at;
+  stopped = k.stopped;
+  end = e;
+  last = x.0;
+  ends = x.1;
+}
+start_ended starts labels s None k at some h = let z : ⊥ = cc in absurd z

@@ -1,0 +1,24 @@
+use Rattle.std.proofs.Common.{◌≡◌, ◌<◌, ℕ, ◌+◌, ◌++◌, false, List, length, get_or, map}
+use Rattle.std.specs.Prelude.{All}
+use Rattle.fab_notes.specs.Tokens.{Token}
+use Rattle.fab_rounds.specs.declared.workers.Worker.{Worker}
+use Rattle.fab_rounds.specs.Totals.{total}
+use Rattle.fab_rounds.specs.Outcomes.{lines_there}
+use Rattle.fab_rounds.specs.Ledgers.{labels_of, put_there, seat_outs, worker_outs, AreFirsts, DeskFacts, IsWorker}
+use Rattle.fab_rounds.proofs.Conserved.{outs_in, IsOneClosed}
+use Rattle.fab_rounds.proofs.closing.closed.Given as goal
+
+abbrev pub invariant-loop-desk : goal.invariant-loop-desk
+invariant-loop-desk g l = record {
+  firsts : AreFirsts l.desks.items l.firsts.items;
+  count : length l.workers.items ≡ length l.desks.items;
+  workers : (i : ℕ) (d : DeskFacts) (w : Worker) → i < length l.desks.items → IsWorker (get_or l.desks.items i d) (get_or l.workers.items i w);
+  any_puts : All (λ d. d.label.any_puts ≡ false) l.desks.items;
+  labels : labels_of l.desks.items ++ map (λ b. b.label) l.bays.items ≡ l.fn.ledger.labels.value.items;
+  closed : All IsOneClosed l.bays.items;
+  there : (f : ℕ → Token → ℕ) → total (put_there f) l.firsts.items + total (lines_there f) l.bays.items ≡ total (put_there f) l.fn.ledger.firsts.items;
+  outs : (rest : List Token) × ((f : Token → ℕ) → total (seat_outs f) l.firsts.items + worker_outs f l.workers.items + total (outs_in f) l.bays.items ≡ total (seat_outs f) l.fn.ledger.firsts.items + worker_outs f l.fn.workers.items + total f rest);
+}
+
+abbrev pub decreases-loop-desk : goal.decreases-loop-desk
+decreases-loop-desk g l = length l.desks.items

@@ -1,0 +1,52 @@
+use Rattle.std.proofs.Common.{◌≡◌, List, [], ◌∷◌, ◌++◌, append-nil, append_assoc, refl, sym, ap, ◌∙◌, subst, arith}
+use Rattle.std.specs.Prelude.{All, Vec}
+use Rattle.std.specs.declared.alloc.Global.{Global}
+use Rattle.std.specs.declared.snapshot.Snapshot.{Snapshot}
+use Rattle.std.proofs.lemmas.List.Elements.{All-nil}
+use Rattle.fab_notes.specs.declared.note.Note.{Note}
+use Rattle.fab_notes.specs.Tokens.{puts, token_of}
+use Rattle.fab_rounds.specs.declared.outcomes.Start.{Start}
+use Rattle.fab_rounds.specs.Totals.{total}
+use Rattle.fab_rounds.specs.Starts.{AreLabels, AreStarts}
+use Rattle.fab_rounds.specs.Outcomes.{cause_of, IsCause}
+use Rattle.fab_rounds.specs.Ledgers.{fabric_in, moving_sum, put_there, transit_sum, DeskSeatFacts, HasEnded, IsMoving}
+use Rattle.fab_rounds.proofs.Opens.{start_at}
+use Rattle.fab_rounds.proofs.Totals.{total_all, total_pop}
+use Rattle.fab_rounds.proofs.opening.begun.Goals as goal
+
+pub loop-start-init : goal.loop-start-init
+loop-start-init c = let e = c.of.ensures in let labels = c.args.labels.value.items in let loaded = c.of.result.value.items in record {
+  kept = record {
+    labels = subst (λ (s : Vec Start Global). AreLabels s.items labels) (sym e) c.requires.labels;
+    starts = subst (λ (s : Vec Start Global). AreStarts labels s.items) (sym e) c.requires.starts;
+    moving = subst (All (IsMoving loaded labels)) (sym c.new.ensures.items) (All-nil (IsMoving loaded labels));
+    done = subst (All (HasEnded loaded)) (sym c.new-2.ensures.items) (All-nil (HasEnded loaded));
+    causes = subst (All (IsCause loaded)) (sym c.new-3.ensures.items) (All-nil (IsCause loaded));
+    caused = λ f. omega (arith, ap (total (cause_of f)) c.new-3.ensures.items, total_all (λ (s : DeskSeatFacts). s.view.own ≡ []) (put_there f) (λ s q. ap (λ (l : List Note). total (f (fabric_in s.view.label)) (puts l)) q) c.args.firsts.items c.requires.fresh);
+  };
+  firsts = refl;
+  labels = refl;
+  loaded = e;
+  front = ([], sym (append-nil c.args.starts.items));
+  sums = λ f. omega (arith, ap (moving_sum f) c.new.ensures.items, ap (transit_sum f) c.new-2.ensures.items);
+}
+
+pub take_start-requires-clause-start : goal.take_start-requires-clause-start
+take_start-requires-clause-start c = let v = c.loop-start.invariant in
+    (start_at c.loop-start.ledger.labels.value.items c.loop-start.ledger.loaded.value.items c.pop.new.self.items v.front.0 c.in-Some.start v.kept.starts
+    (ap (λ (s : Vec Start Global). s.items) v.loaded ∙ v.front.1 ∙ ap (λ (l : List Start). l ++ v.front.0) c.in-Some.ensures.items)).0
+
+pub take_start-requires-clause-loaded : goal.take_start-requires-clause-loaded
+take_start-requires-clause-loaded c = let v = c.loop-start.invariant in
+    (start_at c.loop-start.ledger.labels.value.items c.loop-start.ledger.loaded.value.items c.pop.new.self.items v.front.0 c.in-Some.start v.kept.starts
+    (ap (λ (s : Vec Start Global). s.items) v.loaded ∙ v.front.1 ∙ ap (λ (l : List Start). l ++ v.front.0) c.in-Some.ensures.items)).1
+
+pub loop-start-preserved : goal.loop-start-preserved
+loop-start-preserved c = let v = c.loop-start.invariant in let t = c.in_ok-take_start.ensures in record {
+  kept = t.kept;
+  firsts = t.firsts ∙ v.firsts;
+  labels = t.same.1 ∙ v.labels;
+  loaded = ap (λ (s : Snapshot (Vec Start Global)). s.value) t.same.0 ∙ v.loaded;
+  front = (c.in-Some.start ∷ v.front.0, v.front.1 ∙ ap (λ (l : List Start). l ++ v.front.0) c.in-Some.ensures.items ∙ append_assoc c.pop.new.self.items (c.in-Some.start ∷ []) v.front.0);
+  sums = λ f. omega (arith, v.sums f, t.sums f, total_pop (λ (s : Start). f (token_of s.transit)) c.loop-start.starts.items c.pop.new.self.items c.in-Some.start c.in-Some.ensures.items);
+}

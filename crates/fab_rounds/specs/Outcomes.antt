@@ -1,0 +1,67 @@
+-- What a run comes to (own).
+use Rattle.std.specs.Prelude.{◌≡◌, ℕ, ◌<◌, true, false, List, [], length, slice_index_or, slice_get, All, Some}
+use Rattle.vl_design.specs.declared.design.End.{End}
+use Rattle.vl_design.specs.Alone.{Ends}
+use Rattle.vl_design.specs.Queue.{Queue}
+use Rattle.ten_parcel.specs.Parcels.{free_of, is_moved, is_stopped, number_of, origin_in, run_of, ticks_of, IsParcel}
+use Rattle.ten_plan.specs.Plans.{move_at}
+use Rattle.fab_notes.specs.declared.transit.Stay.{Stay}
+use Rattle.fab_notes.specs.declared.transit.Transit.{Transit}
+use Rattle.fab_notes.specs.Histories.{stays_of, AreLinesByFirst, IsLegal}
+use Rattle.fab_notes.specs.Tokens.{puts, token_of, Token}
+use Rattle.fab_bay.specs.declared.noted.Label.{Label}
+use Rattle.fab_bay.specs.declared.noted.NotedCore.{NotedCore}
+use Rattle.fab_rounds.specs.declared.outcomes.Cause.{Cause}
+use Rattle.fab_rounds.specs.declared.outcomes.Reason.{Reason}
+use Rattle.fab_rounds.specs.declared.outcomes.Reason.TheVariants.{First, Errand}
+use Rattle.fab_rounds.specs.declared.outcomes.Outcome.{Outcome}
+use Rattle.fab_rounds.specs.declared.outcomes.Start.{Start}
+use Rattle.fab_rounds.specs.Totals.{total}
+
+-- tenant t as it has ended: its run alone ends where it rests, and no snapshot was made and no stop done besides
+pub record IsEnded (s : Start) (t : ℕ) (e : Transit) : Type 0 where
+  pub number : number_of e.parcel ≡ t
+  pub parcel : IsParcel e.parcel
+  pub origin : origin_in e.parcel ≡ origin_in s.transit.parcel
+  pub free : free_of e.parcel ≡ []
+  pub stopped : is_stopped e.parcel ≡ false
+  pub end : End
+  pub last : Queue
+  pub ends : Ends (run_of e.parcel) (ticks_of e.parcel) end last
+
+-- the bay of this label, by whose history only the first seat put tenants in line
+pub record IsClosed (l : Label) (b : NotedCore) : Type 0 where
+  pub label : b.label ≡ l
+  pub legal : IsLegal l.fabric l.capacity b.notes.items
+  pub lines : AreLinesByFirst b.notes.items
+
+-- the weights of a tenant's stays there, and of the tenants put in line there, added up
+abbrev pub stays_there : ℕ → (Stay → ℕ) → NotedCore → ℕ
+stays_there t w b = total w (stays_of b.label.fabric t b.notes.items)
+
+abbrev pub lines_there : (ℕ → Token → ℕ) → NotedCore → ℕ
+lines_there f b = total (f b.label.fabric) (puts b.notes.items)
+
+-- why it is put in line on fabric g: it is as it was loaded, begins there, and its run doesn't end where it rests; or it has left for the move that stands where it
+-- rests, which goes there
+abbrev pub IsReason : List Start → Reason → ℕ → Transit → Type 0
+IsReason starts First g t =
+    (slice_get starts (number_of t.parcel) ≡ Some (record { fabric = g; transit = t })) × ((end : End) (q : Queue) → Ends (run_of t.parcel) (ticks_of t.parcel) end q → ⊥)
+IsReason starts Errand g t = (is_moved t.parcel ≡ true) × (move_at (ticks_of t.parcel) (run_of t.parcel).plan.errands ≡ Some g)
+
+abbrev pub IsCause : List Start → Cause → Type 0
+IsCause starts c = IsReason starts c.reason c.fabric c.transit.value
+
+abbrev pub cause_of : (ℕ → Token → ℕ) → Cause → ℕ
+cause_of f c = f c.fabric (token_of c.transit.value)
+
+-- each tenant has ended, each fabric's bay has its history, a tenant's stays over all fabrics are those that it has with it, and the tenants put in line
+-- over all fabrics are just those for which there is a cause
+pub record IsOutcome (labels : List Label) (starts : List Start) (out : Outcome) : Type 0 where
+  pub all_ended : length out.ended.items ≡ length starts
+  pub ended : (t : ℕ) (d : Start) (e : Transit) → t < length starts → IsEnded (slice_index_or starts t d) t (slice_index_or out.ended.items t e)
+  pub all_bays : length out.bays.items ≡ length labels
+  pub bays : (i : ℕ) (d : Label) (b : NotedCore) → i < length labels → IsClosed (slice_index_or labels i d) (slice_index_or out.bays.items i b)
+  pub stays : (t : ℕ) (e : Transit) (w : Stay → ℕ) → t < length starts → total (stays_there t w) out.bays.items ≡ total w (slice_index_or out.ended.items t e).stays.items
+  pub lines : (f : ℕ → Token → ℕ) → total (lines_there f) out.bays.items ≡ total (cause_of f) out.causes.items
+  pub causes : All (IsCause starts) out.causes.items

@@ -1,0 +1,27 @@
+//! What the main thread has of all tenants.
+
+use crate::outcomes::{Cause, Reason, Start};
+use fab_bay::noted::Label;
+use fab_desk::desk::DeskSeat;
+use fab_notes::transit::Transit;
+use std::snapshot::Snapshot;
+
+/// A tenant that is to be put in line: why, and on which fabric.
+#[derive(Drop)]
+pub(crate) struct Moving {
+    pub(crate) reason: Reason,
+    pub(crate) fabric: u32,
+    pub(crate) transit: Transit,
+}
+
+/// The first seats, in the order of the fabrics; the tenants that move and those that have ended, each in the order of their numbers; and why each put was made.
+/// What was loaded, and the labels, have no bytes.
+#[derive(Drop)]
+pub(crate) struct Ledger {
+    pub(crate) firsts: Vec<DeskSeat>,
+    pub(crate) moving: Vec<Moving>,
+    pub(crate) done: Vec<Transit>,
+    pub(crate) causes: Vec<Cause>,
+    pub(crate) loaded: Snapshot<Vec<Start>>,
+    pub(crate) labels: Snapshot<Vec<Label>>,
+}

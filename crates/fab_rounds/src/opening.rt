@@ -1,0 +1,90 @@
+//! The desks, with the seats of the main thread and of the workers; and the ledger before anything is put in line.
+
+ghost use Rattle.std.specs.Prelude.{◌≡◌, ◌<◌, ◌≤◌, ◌∷◌, ℕ, [], length, slice_index_or, All, IfOk, OnOk};
+ghost use Rattle.fab_bay.specs.declared.noted.Label.{Label as AnyLabel};
+ghost use Rattle.fab_notes.specs.Tokens.{Token};
+ghost use Rattle.fab_rounds.specs.Starts.{AreLabels, AreStarts};
+ghost use Rattle.fab_rounds.specs.Ledgers.{in_hand, labels_of, start_sum, AreFresh, IsKept};
+ghost use Rattle.fab_rounds.specs.Openings.{AreSeated, Opens};
+
+use crate::ledgers::Ledger;
+use crate::outcomes::Start;
+use crate::posts::Opened;
+use crate::workers::Worker;
+use fab_bay::noted::Label;
+use fab_desk::desk::{Desk, DeskSeat};
+use std::alloc::{AllocError, Global};
+use std::snapshot::Snapshot;
+
+impl Opened {
+    /// One desk more, before the others. An `Err` is want of memory alone.
+    fn open(&mut self, alloc: Global, label: Label) -> Result<(), AllocError>
+        requires some { 1 ≤ label.tenants }
+        requires seated { AreSeated self.old }
+        ensures { OnOk result (Opens label self.old self.new) }
+    {
+        let fabric = label.fabric;
+        let (desk, mut first) = Desk::new(alloc, label)?;
+        let seat = desk.seat(&mut first);
+        let worker = Worker {
+            fabric,
+            seat,
+            out: Vec::new(alloc),
+            turns: 0,
+            failed: false,
+        };
+        self.desks.insert(0, desk)?;
+        self.firsts.insert(0, first)?;
+        self.workers.insert(0, worker)?;
+        Ok(())
+    }
+}
+
+/// A desk for each label. An `Err` is want of memory alone.
+pub(crate) fn open_all(alloc: Global, labels: Vec<Label>) -> Result<Opened, AllocError>
+    requires some { All (λ l. 1 ≤ l.tenants) labels.items }
+    ensures seated { IfOk result (λ o. AreSeated o) }
+    ensures labels { IfOk result (λ o. labels_of o.desks.items ≡ labels.items) }
+{
+    let mut posts = Opened {
+        desks: Vec::new(alloc),
+        firsts: Vec::new(alloc),
+        workers: Vec::new(alloc),
+    };
+    let mut labels = labels;
+    while let Some(label) = labels.pop() {
+        posts.open(alloc, label)?;
+    }
+    Ok(posts)
+}
+
+/// The ledger before anything is put in line. An `Err` is want of memory alone.
+pub(crate) fn begun(
+    alloc: Global,
+    firsts: Vec<DeskSeat>,
+    labels: Snapshot<Vec<Label>>,
+    starts: Vec<Start>,
+) -> Result<Ledger, AllocError>
+    requires labels { AreLabels starts.items labels.value.items }
+    requires starts { AreStarts labels.value.items starts.items }
+    requires fresh { AreFresh firsts.items }
+    ensures kept { IfOk result (λ l. IsKept l) }
+    ensures firsts { IfOk result (λ l. l.firsts ≡ firsts) }
+    ensures labels { IfOk result (λ l. l.labels ≡ labels) }
+    ensures loaded { IfOk result (λ l. l.loaded.value ≡ starts) }
+    ensures sums { IfOk result (λ l. (f : Token → ℕ) → in_hand f l ≡ start_sum f starts.items) }
+{
+    let mut ledger = Ledger {
+        firsts,
+        moving: Vec::new(alloc),
+        done: Vec::new(alloc),
+        causes: Vec::new(alloc),
+        loaded: Snapshot::of(&starts),
+        labels,
+    };
+    let mut starts = starts;
+    while let Some(start) = starts.pop() {
+        ledger.take_start(start)?;
+    }
+    Ok(ledger)
+}

@@ -1,0 +1,123 @@
+//! Rounds, and the call that runs tenants by them.
+
+ghost use Rattle.std.specs.Prelude.{◌≡◌, ◌<◌, ℕ, slice_index_or, vec_len, All, IfOk};
+ghost use Rattle.fab_rounds.specs.declared.workers.Worker.{Worker as AnyWorker};
+ghost use Rattle.fab_rounds.specs.Starts.{AreLabels, AreStarts};
+ghost use Rattle.fab_rounds.specs.Outcomes.{IsOutcome};
+ghost use Rattle.fab_rounds.specs.Ledgers.{AreAll, IsAtDesk, IsBetween, IsSameRun, IsTurned};
+
+use crate::closing::closed;
+use crate::ledgers::Ledger;
+use crate::opening::{begun, open_all};
+use crate::outcomes::{Outcome, Start};
+use crate::posts::Opened;
+use crate::sorting::are_all;
+use crate::workers::{Crew, Worker, turned};
+use fab_bay::noted::Label;
+use fab_desk::desk::Desk;
+use fab_io::gate::Gate;
+use std::alloc::{AllocError, Global};
+use std::snapshot::Snapshot;
+use std::sync::Wait;
+use std::thread::{Threads, join};
+
+/// What is ordered while the workers turn their desks: nothing.
+fn operated(ledger: Ledger) -> Ledger
+    ensures { result ≡ ledger }
+{
+    ledger
+}
+
+/// The workers turn their desks, while what is ordered is done.
+fn turned_beside<R: Threads + Wait + Sync, G: Gate + Sync>(
+    rt: &R,
+    alloc: Global,
+    gate: &G,
+    desks: &[Desk],
+    ledger: Ledger,
+    crew: Crew,
+) -> (Result<Crew, AllocError>, Ledger)
+    requires { All (IsAtDesk desks.now) crew.workers.items }
+    ensures count { IfOk result.0 (λ v. vec_len v.workers ≡ vec_len crew.workers) }
+    ensures each { IfOk result.0 (λ v. (i : ℕ) (d : AnyWorker) → i < vec_len crew.workers → IsTurned desks.now (slice_index_or crew.workers.items i d) (slice_index_or v.workers.items i d)) }
+    ensures ledger { result.1 ≡ ledger }
+{
+    join(
+        rt,
+        ||
+            requires { All (IsAtDesk desks.now) crew.workers.items }
+        { turned(rt, alloc, gate, desks, crew) },
+        || operated(ledger),
+    )
+}
+
+/// One round: the workers turn their desks, and then what came out is taken over, and what moves is put in line. An `Err` is want of
+/// memory alone.
+fn round<R: Threads + Wait + Sync, G: Gate + Sync>(
+    rt: &R,
+    alloc: Global,
+    gate: &G,
+    desks: &[Desk],
+    ledger: Ledger,
+    workers: Vec<Worker>,
+) -> Result<(Ledger, Vec<Worker>), AllocError>
+    requires { IsBetween desks.now ledger workers.items }
+    ensures between { IfOk result (λ r. IsBetween desks.now r.0 r.1.items) }
+    ensures same { IfOk result (λ r. IsSameRun ledger r.0) }
+{
+    let (crew, mut ledger) = turned_beside(rt, alloc, gate, desks, ledger, Crew { workers });
+    let Crew { mut workers } = crew?;
+    ledger.take_all(alloc, &mut workers)?;
+    let ledger = ledger.put_all(rt, desks)?;
+    Ok((ledger, workers))
+}
+
+/// Rounds, until all have ended. An `Err` is want of memory alone.
+fn rounds_of<R: Threads + Wait + Sync, G: Gate + Sync>(
+    rt: &R,
+    alloc: Global,
+    gate: &G,
+    desks: &[Desk],
+    ledger: Ledger,
+    workers: Vec<Worker>,
+    tenants: usize,
+) -> Result<(Ledger, Vec<Worker>), AllocError>
+    requires { IsBetween desks.now ledger workers.items }
+    ensures between { IfOk result (λ r. IsBetween desks.now r.0 r.1.items) }
+    ensures same { IfOk result (λ r. IsSameRun ledger r.0) }
+    ensures all { IfOk result (λ r. AreAll tenants r.0.done.items) }
+{
+    let (mut ledger, mut workers) = (ledger, workers);
+    for _ in rt.forever() {
+        if are_all(ledger.done.as_slice(), tenants) {
+            return Ok((ledger, workers));
+        }
+        (ledger, workers) = round(rt, alloc, gate, desks, ledger, workers)?;
+    }
+    unreachable!()
+}
+
+/// Runs tenants until each has ended. An `Err` is want of memory alone. It may wait.
+pub fn run<R: Threads + Wait + Sync, G: Gate + Sync>(
+    rt: &R,
+    alloc: Global,
+    gate: &G,
+    labels: Vec<Label>,
+    starts: Vec<Start>,
+) -> Result<Outcome, AllocError>
+    requires labels { AreLabels starts.items labels.items }
+    requires starts { AreStarts labels.items starts.items }
+    ensures { IfOk result (λ out. IsOutcome labels.items starts.items out) }
+{
+    let tenants = starts.len();
+    let named = Snapshot::of(&labels);
+    let Opened {
+        desks,
+        firsts,
+        workers,
+    } = open_all(alloc, labels)?;
+    let ledger = begun(alloc, firsts, named, starts)?;
+    let ledger = ledger.put_all(rt, &desks)?;
+    let (ledger, workers) = rounds_of(rt, alloc, gate, &desks, ledger, workers, tenants)?;
+    closed(rt, alloc, desks, ledger, workers)
+}

@@ -7,7 +7,7 @@ use Rattle.std.proofs.lemmas.List.{get_or_default}
 use Rattle.std.proofs.lemmas.List.Elements.{All-nil, All-weaker}
 use Rattle.fab_lock.specs.Facts.{IsSeatOf}
 use Rattle.fab_notes.specs.declared.note.Note.{Note}
-use Rattle.fab_notes.specs.Tokens.{outs, puts, Token}
+use Rattle.fab_notes.specs.Tokens.{outs, puts, token_of, Token}
 use Rattle.fab_notes.specs.Origins.{Origins}
 use Rattle.fab_bay.specs.declared.leaving.Leaving.{Leaving}
 use Rattle.fab_bay.specs.declared.noted.Label.{Label}
@@ -18,7 +18,7 @@ use Rattle.fab_rounds.specs.declared.workers.Worker.{Worker}
 use Rattle.fab_rounds.specs.Openings.{AreSeated}
 use Rattle.fab_rounds.specs.Totals.{total}
 use Rattle.fab_rounds.specs.Starts.{NamesOrigins}
-use Rattle.fab_rounds.specs.Ledgers.{all_outs, all_puts, in_hand, pile_sum, seat_outs, seat_puts, start_sum, worker_outs, worker_piles, AreHandedOver, AreLeft, AreOut, AreWorkers, DeskSeatFacts, DeskFacts, IsAtDesk, IsBetween, IsLedger, IsLeft, IsOut, IsSameRun, IsTurned, IsWorker, KeepsSums, TakesOver}
+use Rattle.fab_rounds.specs.Ledgers.{all_outs, all_puts, in_hand, leaving_sum, pile_sum, seat_outs, seat_puts, start_sum, worker_outs, worker_piles, AreHandedOver, AreLeft, AreOut, AreWorkers, DeskSeatFacts, DeskFacts, IsAtDesk, IsBetween, IsLedger, IsLeft, IsOut, IsSameRun, IsTurned, IsWorker, KeepsSums, TakesOver, WeighsNoLeaver}
 use Rattle.fab_rounds.proofs.Totals.{total_all, total_same, total_tied}
 use Rattle.fab_rounds.proofs.Puts.{is_own, label_at, labels_long}
 
@@ -98,6 +98,14 @@ module _ (desks : List DeskFacts) (l l1 l2 l3 : Ledger) (w0 w1 w2 : List Worker)
   handed_outs f = total_same (λ (w : Worker). seat_outs f w.seat) (λ (w : Worker). seat_outs f w.seat) w2 w1 handed.count
       (λ i d e lt. ap (seat_outs f) (handed.seat i d lt) ∙ ap (λ (w : Worker). seat_outs f w.seat) (get_or_default w1 i d e lt))
 
+  piles_none : (f : Token → ℕ) → WeighsNoLeaver f → worker_piles f w1 ≡ 0
+  piles_none f n =
+      let starts = l1.loaded.value.items in
+      total_all (λ (w : Worker). AreLeft starts w.out.items) (λ (w : Worker). pile_sum f w.out.items)
+      (λ w a. total_all (λ (v : Vec Leaving Global). All (IsLeft starts) v.items) (λ (v : Vec Leaving Global). leaving_sum f v.items)
+      (λ v h. total_all (IsLeft starts) (λ (x : Leaving). f (token_of x.transit)) (λ x q. n x q.left) v.items h) w.out.items a)
+      w1 (left_by desks l l1 w0 w1 b.ledger same count each)
+
   pub between : IsBetween desks l3 w2
   between = record {
     ledger = ledger;
@@ -116,10 +124,22 @@ module _ (desks : List DeskFacts) (l l1 l2 l3 : Ledger) (w0 w1 w2 : List Worker)
       ap (λ (x : Vec DeskSeatFacts Global). total (seat_outs f) x.items) takes.firsts,
       ap (all_puts f) same,
       ap (all_outs f) same,
-      sums f,
+      (sums f).0,
+      (sums f).1,
       ap (λ (s : Snapshot (Vec Start Global)). start_sum f s.value.items) run.0,
       ap (λ (s : Snapshot (Vec Start Global)). start_sum f s.value.items) takes.same.0,
       ap (λ (x : Ledger). start_sum f x.loaded.value.items) same,
+    );
+    outs = λ f n. omega (
+      arith,
+      b.outs f n,
+      tied f,
+      total_all (λ (w : Worker). w.out.items ≡ []) (λ (w : Worker). pile_sum f w.out.items) (λ w q. ap (pile_sum f) q) w0 b.empty,
+      piles_none f n,
+      handed_outs f,
+      ap (λ (x : Vec DeskSeatFacts Global). total (seat_outs f) x.items) takes.firsts,
+      ap (all_outs f) same,
+      (sums f).1,
     );
   }
 
@@ -152,13 +172,20 @@ started desks o l l' starts e s k run sums none firsts loaded hand =
       none = none;
       balanced = λ f. omega (
         arith,
-        sums f,
+        (sums f).0,
+        (sums f).1,
         hand f,
         total_all (λ (w : Worker). w.seat.view.own ≡ []) (λ (w : Worker). seat_outs f w.seat) (λ w q. ap (λ (n : List Note). total f (outs n)) q) o.workers.items s.fresh_workers,
         total_all (λ (c : DeskSeatFacts). c.view.own ≡ []) (seat_outs f) (λ c q. ap (λ (n : List Note). total f (outs n)) q) l.firsts.items fresh,
         total_all (λ (c : DeskSeatFacts). c.view.own ≡ []) (seat_puts f) (λ c q. ap (λ (n : List Note). total f (puts n)) q) l.firsts.items fresh,
         ap (start_sum f) loaded,
         ap (λ (s : Snapshot (Vec Start Global)). start_sum f s.value.items) run.0,
+      );
+      outs = λ f n. omega (
+        arith,
+        (sums f).1,
+        total_all (λ (w : Worker). w.seat.view.own ≡ []) (λ (w : Worker). seat_outs f w.seat) (λ w q. ap (λ (n : List Note). total f (outs n)) q) o.workers.items s.fresh_workers,
+        total_all (λ (c : DeskSeatFacts). c.view.own ≡ []) (seat_outs f) (λ c q. ap (λ (n : List Note). total f (outs n)) q) l.firsts.items fresh,
       );
     }
 

@@ -247,3 +247,17 @@ module _ (t : ℕ) (c : List FreeSave → ℕ) (w : Stay → ℕ) where
       let rest_zero = total_zero n f (λ x. worthless (eqb x.tenant t) x.deed) rest rest_none in
       let e' = balanced f in let o' = out f in let p' = in' f in
       omega arith
+
+-- then nobody of its number is in a bay any more, or came out elsewhere
+pub nobody_left : (t : ℕ) (loaded given hand placed : (Token → ℕ) → ℕ) (rest : List Token) (bs : List NotedCore) → ByRecursion IsOneClosed bs
+    → ((f : Token → ℕ) → loaded f + given f ≡ placed f + hand f)
+    → ((f : Token → ℕ) → total (outs_in f) bs ≡ given f + total f rest)
+    → ((f : Token → ℕ) → total (puts_in f) bs ≡ placed f)
+    → loaded (worth t each nothing) ≤ hand (worth t each nothing)
+    → (total (still t each nothing) bs ≡ 0) × (total (worth t each nothing) rest ≡ 0)
+nobody_left t loaded given hand placed rest bs k balanced out in' there =
+    let n = worth t each nothing in
+    let a = kept_all t each nothing bs k in
+    let e = balanced n in let o = out n in let p = in' n in
+    let z = total_none (stays_there t nothing) (no_stays t each nothing) bs in
+    (omega arith, omega arith)

@@ -8,4 +8,5 @@ pub mod Closes
 pub mod Puts
 pub mod Opens
 pub mod Between
+pub mod Counted
 pub mod Ends

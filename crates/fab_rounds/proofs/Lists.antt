@@ -13,8 +13,7 @@ use Rattle.ten_plan.specs.Plans.{move_at}
 use Rattle.fab_points.specs.Fabrics.{within}
 use Rattle.fab_bay.specs.declared.noted.Label.{Label}
 use Rattle.fab_rounds.specs.declared.outcomes.Start.{Start}
-use Rattle.fab_rounds.specs.Starts.{origins_of, AreStarts, HasPlaceFor}
-use Rattle.fab_rounds.specs.Ledgers.{IsOwn}
+use Rattle.fab_rounds.specs.Starts.{origins_of, AreStarts, HasPlaceFor, IsOwn}
 
 abbrev origin_at : Start → Origin
 origin_at s = origin_in s.transit.parcel

@@ -20,9 +20,9 @@ use Rattle.fab_rounds.specs.declared.ledgers.Moving.{Moving}
 use Rattle.fab_rounds.specs.declared.outcomes.Cause.{Cause}
 use Rattle.fab_rounds.specs.declared.outcomes.Start.{Start}
 use Rattle.fab_rounds.specs.Totals.{total}
-use Rattle.fab_rounds.specs.Starts.{IsLabel, NamesOrigins}
+use Rattle.fab_rounds.specs.Starts.{IsLabel, IsOwn, NamesOrigins}
 use Rattle.fab_rounds.specs.Outcomes.{cause_of, IsCause, IsReason}
-use Rattle.fab_rounds.specs.Ledgers.{fabric_in, labels_of, put_there, seat_outs, seat_puts, AreFirsts, DeskSeatFacts, DeskFacts, IsFirst, IsLedger, IsMoving, IsOwn, PutsOne}
+use Rattle.fab_rounds.specs.Ledgers.{fabric_in, labels_of, put_there, seat_outs, seat_puts, AreFirsts, DeskSeatFacts, DeskFacts, IsFirst, IsLedger, IsMoving, PutsOne}
 use Rattle.fab_rounds.proofs.Lists.{own_within}
 use Rattle.fab_rounds.proofs.Totals.{total-append, total-set}
 

@@ -1,10 +1,11 @@
 -- Tenants that the ledger takes over.
-use Rattle.std.proofs.Common.{rules, ◌≡◌, ℕ, Bool, true, false, List, [], ◌∷◌, ◌++◌, take, drop, refl, sym, ap, ◌∙◌, subst, arith, Option, Some, None}
+use Rattle.std.proofs.Common.{rules, ◌≡◌, ℕ, Bool, true, false, List, [], ◌∷◌, ◌++◌, length, take, drop, refl, sym, ap, ◌∙◌, subst, arith, Option, Some, None}
 use Rattle.std.specs.List.{insert}
 use Rattle.std.specs.Prelude.{All, Vec, is_some, IfSome, IsNone, if◌then◌else◌, slice_get, IfOk, OnOk, Result, Ok, Err}
 use Rattle.std.specs.declared.alloc.Global.{Global}
 use Rattle.std.proofs.lemmas.List.Elements.{All-append, All-cons, All-drop, All-head, All-nil, All-tail, All-take}
-use Rattle.std.proofs.lemmas.Option.{none-some}
+use Rattle.std.proofs.lemmas.List.{length-append}
+use Rattle.std.proofs.lemmas.Option.{get_or_from_slice_get, none-some}
 use Rattle.vl_design.specs.declared.design.End.{End}
 use Rattle.vl_design.specs.declared.design.End.TheVariants.{Stopped}
 use Rattle.vl_design.specs.Alone as alone
@@ -12,16 +13,18 @@ use Rattle.vl_design.specs.Alone.{reason_at, Boundary, Ends}
 use Rattle.vl_design.specs.Queue.{Queue}
 use Rattle.ten_core.specs.Tenants.{origin_of}
 use Rattle.ten_parcel.specs.declared.parcel.Parcel.{Parcel}
-use Rattle.ten_parcel.specs.Parcels.{is_stopped, number_of, run_of, ticks_of, IsParcel, IsTenant}
+use Rattle.ten_parcel.specs.Parcels.{is_moved, is_stopped, number_of, run_of, ticks_of, IsParcel, IsTenant}
 use Rattle.ten_plan.specs.Plans.{move_at}
-use Rattle.ten_shell.specs.declared.shell.Why.{Why}
 use Rattle.ten_shell.specs.declared.shell.Why.TheVariants.{Ended, Move}
 use Rattle.ten_shell.specs.Leaving.{why_of}
 use Rattle.fab_points.specs.Points.{ended, rests, run_in, Point}
 use Rattle.fab_core.specs.Standing.{IsPointOf}
 use Rattle.fab_core.proofs.Arriving.{parcel_is}
 use Rattle.fab_core.proofs.Parcels.{moved_is, origin_is, stopped_is, ticks_is}
+use Rattle.fab_notes.specs.declared.transit.Stay.{Stay}
 use Rattle.fab_notes.specs.declared.transit.Transit.{Transit}
+use Rattle.fab_notes.specs.Moves.{ends_idle}
+use Rattle.fab_notes.specs.Stays.{is_idle}
 use Rattle.fab_notes.specs.Tokens.{token_of}
 use Rattle.fab_bay.specs.declared.noted.Label.{Label}
 use Rattle.fab_rounds.specs.declared.ledgers.Ledger.{Ledger}
@@ -29,8 +32,8 @@ use Rattle.fab_rounds.specs.declared.ledgers.Moving.{Moving}
 use Rattle.fab_rounds.specs.declared.outcomes.Reason.TheVariants.{First, Errand}
 use Rattle.fab_rounds.specs.declared.outcomes.Start.{Start}
 use Rattle.fab_rounds.specs.Totals.{total}
-use Rattle.fab_rounds.specs.Starts.{AreStarts, IsStart}
-use Rattle.fab_rounds.specs.Ledgers.{HasEnded, IsKept, IsLeft, IsMoving, IsOwn, TakesOver}
+use Rattle.fab_rounds.specs.Starts.{AreStarts, IsOwn, IsStart}
+use Rattle.fab_rounds.specs.Ledgers.{HasEnded, IsKept, IsLeft, IsMoving, TakesOver}
 use Rattle.fab_rounds.proofs.Totals.{total-insert}
 use Rattle.fab_rounds.proofs.Lists.{own_start, start_of}
 
@@ -110,9 +113,21 @@ ends_by true None (Some h') true end h = let z : ⊥ = cc in absurd z
 ends_by true None None m end h = let z : ⊥ = cc in absurd z
 ends_by false x to m end h = let z : ⊥ = cc in absurd z
 
+-- the last of these stays decides
+last_idle : (xs : List Stay) (x : Stay) → ends_idle (xs ++ x ∷ []) ≡ is_idle x
+last_idle [] x = refl
+last_idle (y ∷ []) x = refl
+last_idle (y ∷ z ∷ zs) x = last_idle (z ∷ zs) x
+
+never_nil : (xs : List Stay) (x : Stay) → xs ++ x ∷ [] ≡ [] → ⊥
+never_nil xs x e = omega (arith, ap length e, length-append xs (x ∷ []))
+
 -- it moves
-pub left_moves : (starts : List Start) (labels : List Label) (t : Transit) (g : ℕ) → AreStarts labels starts → IsLeft starts (record { transit = t; why = Move g }) → IsMoving starts labels (record { reason = Errand; fabric = g; transit = t })
-left_moves starts labels t g a h =
+pub left_moves : (starts : List Start) (labels : List Label) (t : Transit) (g : ℕ) → AreStarts labels starts → IsLeft starts (record { transit = t; why = Move g })
+    → ((q : Parcel) (p : Point) (b : Queue) → IsPointOf q p → Boundary (run_of q) (ticks_of q) b → ended p ≡ (if is_stopped q then Some Stopped else reason_at (run_of q).plan (ticks_of q) b))
+    → IsMoving starts labels (record { reason = Errand; fabric = g; transit = t })
+left_moves starts labels t g a h told =
+    let last = h.left.4 in
     let p = h.left.0 in
     let here = h.left.1 in
     let s = moves_by (rests p) (ended p) (move_at p.stage.state.ticks (run_in p).plan.errands) p.moved g h.left.2 in
@@ -124,26 +139,35 @@ left_moves starts labels t g a h =
       point = (q, here, s.0);
       own = h.own;
       place = own_start starts labels t.parcel a h.own (ticks_of t.parcel) g move;
-      reason = (moved_is t.parcel q here, move);
+      reason = record {
+        own = h.own;
+        moved = moved_is t.parcel q here;
+        move = move;
+        unended = λ e b ends.
+            none-some e (sym s.0 ∙ told t.parcel q b here ends.at ∙ ap (λ (x : Bool). if x then Some Stopped else reason_at (run_of t.parcel).plan (ticks_of t.parcel) b) (stopped_is t.parcel q here ∙ h.left.3) ∙ ends.why);
+        resident = last.resident;
+        busy = ap ends_idle last.stays ∙ last_idle last.before last.stay ∙ last.busy refl;
+      };
     }
 
-ended_at : (starts : List Start) (t : Transit) (p : Point) (end : Option End) → IsPointOf t.parcel p → p.stopped ≡ false → IsOwn starts t.parcel → is_some end ≡ true
+ended_at : (starts : List Start) (t : Transit) (p : Point) (end : Option End) → IsPointOf t.parcel p → p.stopped ≡ false → is_moved t.parcel ≡ false → (t.stays.items ≡ [] → ⊥) → IsOwn starts t.parcel → is_some end ≡ true
     → IfSome end (λ e. is_stopped t.parcel ≡ false → (q : Queue) × Ends (run_of t.parcel) (ticks_of t.parcel) e q) → HasEnded starts t
-ended_at starts t p (Some e) here stopped own some h = let s = stopped_is t.parcel p here ∙ stopped in let x = h s in record {
+ended_at starts t p (Some e) here stopped moved stayed own some h = let s = stopped_is t.parcel p here ∙ stopped in let x = h s in record {
   parcel = parcel_is t.parcel p here;
   own = own;
   stopped = s;
+  moved = moved;
+  first = λ n d. absurd (stayed n);
   end = e;
   last = x.0;
   ends = x.1;
 }
-ended_at starts t p None here stopped own some h = let z : ⊥ = cc in absurd z
+ended_at starts t p None here stopped moved stayed own some h = let z : ⊥ = cc in absurd z
 
 -- it has ended
-pub left_ended : (starts : List Start) (t : Transit) (why : Why) (end : Option End) → IsLeft starts (record { transit = t; why = why }) → is_some end ≡ true
+pub left_ended : (starts : List Start) (t : Transit) (x : End) (end : Option End) → IsLeft starts (record { transit = t; why = Ended x }) → is_some end ≡ true
     → IfSome end (λ e. is_stopped t.parcel ≡ false → (q : Queue) × Ends (run_of t.parcel) (ticks_of t.parcel) e q) → HasEnded starts t
-left_ended starts t (Move g) end h some e = ended_at starts t (record (h.left.0) { moved = true }) end h.left.1 h.left.3 h.own some e
-left_ended starts t (Ended x) end h some e = ended_at starts t h.left.0 end h.left.1 h.left.3 h.own some e
+left_ended starts t x end h some e = ended_at starts t h.left.0 end h.left.1 h.left.3 h.left.4.flag (λ n. never_nil h.left.4.before h.left.4.stay (sym h.left.4.stays ∙ n)) h.own some e
 
 -- where it leaves as one that has ended, it has
 pub left_has_ended : (t : Transit) (x : End) (end : Option End) (starts : List Start) → IsLeft starts (record { transit = t; why = Ended x })
@@ -197,6 +221,8 @@ start_ended starts labels s (Some e) k at some h = let x = h k.stopped in record
   parcel = k.parcel;
   own = start_of starts s (number_of s.transit.parcel) at;
   stopped = k.stopped;
+  moved = k.moved;
+  first = λ n d. ap (λ (y : Start). ticks_of y.transit.parcel) (sym (get_or_from_slice_get starts (number_of s.transit.parcel) s d at));
   end = e;
   last = x.0;
   ends = x.1;

@@ -33,6 +33,28 @@ pub total_all : {X : Type 0} (P : X → Type 0) (f : X → ℕ) → ((x : X) →
 total_all P f z [] a = refl
 total_all P f z (x ∷ xs) a = omega (arith, z x (All-head P x xs a), total_all P f z xs (All-tail P x xs a))
 
+pub total_each : {X : Type 0} (f g : X → ℕ) → ((x : X) → f x ≡ g x) → (xs : List X) → total f xs ≡ total g xs
+total_each f g h [] = refl
+total_each f g h (x ∷ xs) = omega (arith, h x, total_each f g h xs)
+
+cond_sum : (b : Bool) (m n : ℕ) → cond b (m + n) 0 ≡ cond b m 0 + cond b n 0
+cond_sum true m n = refl
+cond_sum false m n = refl
+
+-- each of these weighs what it does by one weight, or by another, or by both
+pub total_split : {X : Type 0} (P : X → Type 0) (w u v : X → ℕ) (p q : Bool) → ((x : X) → P x → w x ≡ cond p (u x) 0 + cond q (v x) 0) → (xs : List X) → All P xs → total w xs ≡ cond p (total u xs) 0 + cond q (total v xs) 0
+total_split P w u v true true h [] a = refl
+total_split P w u v true false h [] a = refl
+total_split P w u v false true h [] a = refl
+total_split P w u v false false h [] a = refl
+total_split P w u v p q h (x ∷ xs) a = omega (
+  arith,
+  h x (All-head P x xs a),
+  total_split P w u v p q h xs (All-tail P x xs a),
+  cond_sum p (u x) (total u xs),
+  cond_sum q (v x) (total v xs),
+)
+
 pub total-insert : {X : Type 0} (f : X → ℕ) (xs : List X) (i : ℕ) (x : X) → total f (insert xs i x) ≡ total f xs + f x
 total-insert f xs i x = omega (
   arith,

@@ -1,10 +1,9 @@
 -- What the main thread and the workers know between calls (own).
-use Rattle.std.specs.Prelude.{◌≡◌, ◌≢◌, ℕ, ◌+◌, ◌<◌, false, List, [], map, length, slice_index_or, slice_get, All, Option, Some, None, Vec}
+use Rattle.std.specs.Prelude.{◌≡◌, ◌≢◌, ℕ, ◌+◌, ◌<◌, false, List, [], map, length, slice_index_or, All, Option, Some, None, Vec}
 use Rattle.vl_design.specs.declared.design.End.{End}
 use Rattle.vl_design.specs.Alone.{Ends}
 use Rattle.vl_design.specs.Queue.{Queue}
-use Rattle.ten_parcel.specs.declared.parcel.Parcel.{Parcel}
-use Rattle.ten_parcel.specs.Parcels.{is_stopped, number_of, origin_in, run_of, ticks_of, IsParcel}
+use Rattle.ten_parcel.specs.Parcels.{is_moved, is_stopped, number_of, origin_in, run_of, ticks_of, IsParcel}
 use Rattle.fab_points.specs.Points.{ended, Point}
 use Rattle.fab_core.specs.Standing.{IsPointOf}
 use Rattle.fab_lock.specs.Facts.{IsSeatOf, LockFacts, SeatFacts}
@@ -21,7 +20,7 @@ use Rattle.fab_rounds.specs.declared.ledgers.Ledger.{Ledger}
 use Rattle.fab_rounds.specs.declared.ledgers.Moving.{Moving}
 use Rattle.fab_rounds.specs.declared.workers.Worker.{Worker}
 use Rattle.fab_rounds.specs.Totals.{total}
-use Rattle.fab_rounds.specs.Starts.{origins_of, AreLabels, AreStarts, HasPlaceFor}
+use Rattle.fab_rounds.specs.Starts.{AreLabels, AreStarts, HasPlaceFor, IsOwn}
 use Rattle.fab_rounds.specs.Outcomes.{cause_of, IsCause, IsClosed, IsReason}
 
 abbrev pub DeskFacts : Type 0
@@ -67,10 +66,6 @@ pile_sum f vs = total (λ v. leaving_sum f v.items) vs
 
 -- ---- the ledger
 
--- a tenant starts from what it started from when it was loaded
-abbrev pub IsOwn : List Start → Parcel → Type 0
-IsOwn starts p = slice_get (origins_of starts) (number_of p) ≡ Some (origin_in p)
-
 -- one that can be put in line: it stands at a point where its run hasn't ended, and there is a place for it
 pub record IsMoving (starts : List Start) (labels : List Label) (m : Moving) : Type 0 where
   pub point : (p : Point) × IsPointOf m.transit.parcel p × (ended p ≡ None)
@@ -78,11 +73,13 @@ pub record IsMoving (starts : List Start) (labels : List Label) (m : Moving) : T
   pub place : HasPlaceFor labels m.fabric m.transit.parcel
   pub reason : IsReason starts m.reason m.fabric m.transit
 
--- one that has ended
+-- one that has ended; where it has no stays, it is where it was loaded
 pub record HasEnded (starts : List Start) (t : Transit) : Type 0 where
   pub parcel : IsParcel t.parcel
   pub own : IsOwn starts t.parcel
   pub stopped : is_stopped t.parcel ≡ false
+  pub moved : is_moved t.parcel ≡ false
+  pub first : t.stays.items ≡ [] → (d : Start) → ticks_of t.parcel ≡ ticks_of (slice_index_or starts (number_of t.parcel) d).transit.parcel
   pub end : End
   pub last : Queue
   pub ends : Ends (run_of t.parcel) (ticks_of t.parcel) end last
@@ -120,9 +117,9 @@ all_puts f l = total (seat_puts f) l.firsts.items
 abbrev pub all_outs : (Token → ℕ) → Ledger → ℕ
 all_outs f l = total (seat_outs f) l.firsts.items
 
--- a call that takes nothing over from workers: what is put in line or in hand is what was, and what came out at the first seats meanwhile
+-- a call that takes nothing over from workers: what is put in line or in hand is what was, and nothing came out at the first seats
 abbrev pub KeepsSums : Ledger → Ledger → Type 0
-KeepsSums l l' = (f : Token → ℕ) → all_puts f l' + in_hand f l' + all_outs f l ≡ all_puts f l + in_hand f l + all_outs f l'
+KeepsSums l l' = (f : Token → ℕ) → (all_puts f l' + in_hand f l' ≡ all_puts f l + in_hand f l) × (all_outs f l' ≡ all_outs f l)
 
 -- the same tenants were loaded, and the same fabrics are there
 abbrev pub IsSameRun : Ledger → Ledger → Type 0
@@ -216,13 +213,18 @@ worker_piles f ws = total (λ w. pile_sum f w.out.items) ws
 abbrev pub Balanced : Ledger → List Worker → Type 0
 Balanced l workers = (f : Token → ℕ) → start_sum f l.loaded.value.items + worker_outs f workers + all_outs f l ≡ all_puts f l + in_hand f l
 
--- between rounds: nobody moves, and each worker has handed all over
+-- nobody who was due to leave weighs anything
+abbrev pub WeighsNoLeaver : (Token → ℕ) → Type 0
+WeighsNoLeaver f = (l : Leaving) → LeftFor l → f (token_of l.transit) ≡ 0
+
+-- between rounds: nobody moves, each worker has handed all over, and only who was due to leave came out
 pub record IsBetween (desks : List DeskFacts) (l : Ledger) (ws : List Worker) : Type 0 where
   pub ledger : IsLedger desks l
   pub workers : AreWorkers desks ws
   pub empty : AreEmpty ws
   pub none : l.moving.items ≡ []
   pub balanced : Balanced l ws
+  pub outs : (f : Token → ℕ) → WeighsNoLeaver f → worker_outs f ws + all_outs f l ≡ 0
 
 -- nothing was put in line or came out yet
 abbrev pub AreFresh : List DeskSeatFacts → Type 0

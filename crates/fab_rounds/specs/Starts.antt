@@ -1,5 +1,5 @@
 -- What a run begins with (own).
-use Rattle.std.specs.Prelude.{◌≡◌, ℕ, ◌<◌, ◌≤◌, true, false, List, [], map, length, slice_index_or, Some, None}
+use Rattle.std.specs.Prelude.{◌≡◌, ℕ, ◌<◌, ◌≤◌, true, false, List, [], map, length, slice_get, slice_index_or, Some, None}
 use Rattle.ten_core.specs.declared.origin.Origin.{Origin}
 use Rattle.ten_parcel.specs.declared.parcel.Parcel.{Parcel}
 use Rattle.ten_parcel.specs.Parcels.{cost_of, free_of, is_moved, is_stopped, number_of, origin_in, run_of, IsParcel}
@@ -12,6 +12,10 @@ use Rattle.fab_rounds.specs.declared.outcomes.Start.{Start}
 -- what the tenants start from, in the order of their numbers
 abbrev pub origins_of : List Start → List Origin
 origins_of starts = map (λ s. origin_in s.transit.parcel) starts
+
+-- a tenant starts from what it started from when it was loaded
+abbrev pub IsOwn : List Start → Parcel → Type 0
+IsOwn starts p = slice_get (origins_of starts) (number_of p) ≡ Some (origin_in p)
 
 -- a label names them
 abbrev pub NamesOrigins : List Start → Origins → Type 0

@@ -106,3 +106,4 @@ returns g c = let v = c.loop-desk.invariant in let b = c.requires.between in
     v.closed
     (λ f. omega (arith, v.there f, ap (total (put_there f)) nf))
     (λ f. omega (arith, v.outs.1 f, ap (total (seat_outs f)) nf, ap (worker_outs f) nw))
+    b.outs

@@ -12,13 +12,15 @@ pub loop-next-preserved : goal.loop-next-preserved
 loop-next-preserved g c = let v = c.loop-next.invariant in let p = c.in_ok-put_one.ensures in record {
   ledger = p.ledger;
   same = (p.same.0 ∙ v.same.0, p.same.1 ∙ v.same.1);
-  sums = λ f. omega (
-    arith,
-    v.sums f,
-    p.puts f,
-    p.outs f,
-    ap (λ (x : Vec Moving Global). moving_sum f x.items) p.moving,
-    ap (λ (x : Vec Transit Global). transit_sum f x.items) p.done,
-    total_pop (λ (x : Moving). f (token_of x.transit)) c.loop-next.ledger.moving.items c.pop.new.self.items c.in-Some.next c.in-Some.ensures.items,
+  sums = λ f. let s = (v.sums f).0 in (
+    omega (
+      arith,
+      s,
+      p.puts f,
+      ap (λ (x : Vec Moving Global). moving_sum f x.items) p.moving,
+      ap (λ (x : Vec Transit Global). transit_sum f x.items) p.done,
+      total_pop (λ (x : Moving). f (token_of x.transit)) c.loop-next.ledger.moving.items c.pop.new.self.items c.in-Some.next c.in-Some.ensures.items,
+    ),
+    p.outs f ∙ (v.sums f).1,
   );
 }

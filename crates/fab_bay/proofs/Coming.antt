@@ -24,9 +24,10 @@ use Rattle.fab_bay.specs.declared.berth.Berth.{Berth}
 use Rattle.fab_bay.specs.declared.noted.Label.{Label}
 use Rattle.fab_bay.specs.declared.noted.NotedCore.{NotedCore}
 use Rattle.fab_bay.specs.Berths.{seat, seats, AreBerths, AreWaiters}
+use Rattle.fab_bay.specs.Marks.{mark_at, mark_of, Mark}
 use Rattle.fab_bay.specs.Standing.{CanSettle, HasRoomFor, IsNoted}
-use Rattle.fab_bay.specs.Ways.{tokens, AreOut, AreShort, Goes}
-use Rattle.fab_bay.proofs.Kept.{goes_by, noted_by, told_next, told_of, written_none, written_one, written_then, IsTold, IsWritten}
+use Rattle.fab_bay.specs.Ways.{tokens, AreOut, AreShort, Goes, IsWritten}
+use Rattle.fab_bay.proofs.Kept.{goes_by, noted_by, told_next, told_of, written_none, written_one, written_then, IsTold}
 use Rattle.fab_bay.proofs.Near.{short-none, short-one, short-then}
 use Rattle.fab_bay.proofs.Places.{berths_many, waiters_at, waiters_berths}
 use Rattle.fab_bay.proofs.Ran.{room_less}
@@ -111,6 +112,23 @@ waiters_drop n (suc k) (b ∷ bs) (p ∷ ps) h = waiters_drop n k bs ps h.1
 abbrev pub entry_came : ℕ → Berth → Entry
 entry_came k b = record { seat = k; kind = Came; tenant = b.tenant; from = b.noted; to = b.noted }
 
+-- that it joined
+abbrev came_at : ℕ → ℕ → Mark
+came_at t k = record { kind = Came; tenant = t; tick = k }
+
+abbrev pub mark_came : Berth → Mark
+mark_came b = came_at b.tenant b.noted
+
+-- what is told of those that join is what is called for
+marks_came : (n k : ℕ) (bs : List Berth) (ps : List Point) → AreWaiters n bs ps → map mark_came (take k bs) ≡ map (mark_of Came) (take k ps)
+marks_came n zero bs ps h = refl
+marks_came n (suc k) [] [] h = refl
+marks_came n (suc k) [] (p ∷ ps) h = absurd h
+marks_came n (suc k) (b ∷ bs) [] h = absurd h
+marks_came n (suc k) (b ∷ bs) (p ∷ ps) h =
+    ap (λ (m : Mark). m ∷ map mark_came (take k bs)) (ap (λ (t : ℕ). came_at t b.noted) h.0.berth.number ∙ ap (came_at p.number) h.0.noted)
+    ∙ ap (λ (l : List Mark). mark_of Came p ∷ l) (marks_came n k bs ps h.1)
+
 -- the head of the line joins
 pub told_came : (l : Label) (notes : List Note) (n : Note) (bs ws : List Berth) (b : Berth) (k : ℕ) → n.entry ≡ entry_came k b → IsTold l notes bs (b ∷ ws)
     → within (used (seats (bs ++ b ∷ []) ws)) l.capacity ≡ true → IsTold l (notes ++ n ∷ []) (bs ++ b ∷ []) ws
@@ -130,10 +148,11 @@ told_came l notes n bs ws b k e h fits =
     (λ o i. let z : ⊥ = cc in absurd z)
 
 pub written_came : (k : ℕ) (x y : NotedCore) (n : Note) (b : Berth) → n.entry ≡ entry_came k b → y.label ≡ x.label → y.notes.items ≡ x.notes.items ++ n ∷ [] → y.told.items ≡ x.told.items ++ n.entry ∷ []
-    → b.tenant < x.label.tenants → IsWritten k x y []
+    → b.tenant < x.label.tenants → IsWritten k x y [] (mark_came b ∷ [])
 written_came k x y n b e label ns ts few =
-    written_one k x y n [] label ns ts (ap (λ (z : Entry). z.seat) e) (subst (λ (j : ℕ). j < x.label.tenants) (sym (ap (λ (z : Entry). z.tenant) e)) few)
+    written_one k x y n [] (mark_came b ∷ []) label ns ts (ap (λ (z : Entry). z.seat) e) (subst (λ (j : ℕ). j < x.label.tenants) (sym (ap (λ (z : Entry). z.tenant) e)) few)
     (ap (λ (j : Kind). put_at j n) (ap (λ (z : Entry). z.kind) e)) (ap (λ (j : Kind). out_at j n) (ap (λ (z : Entry). z.kind) e))
+    (ap (λ (z : Entry). mark_at z.kind z) e)
 
 -- ---- how many join
 
@@ -156,7 +175,7 @@ joined_many f =
 
 -- so many have come
 pub record IsComing (k i : ℕ) (x z : NotedCore) : Type 0 where
-  pub written : IsWritten k x z []
+  pub written : IsWritten k x z [] (map mark_came (take i x.waiting.items))
   pub core : z.core ≡ x.core
   pub berths : z.berths.items ≡ x.berths.items ++ take i x.waiting.items
   pub waiting : z.waiting.items ≡ drop i x.waiting.items
@@ -234,6 +253,11 @@ module _ (k i : ℕ) (x y z : NotedCore) (f : Fabric) (b : Berth) (n : Note) (s 
       ap (λ (zs : List Berth). x.berths.items ++ zs) (take_more ws i b there ∙ ap (λ (d : Berth). take i ws ++ d ∷ []) e)
       ∙ (sym (append_assoc x.berths.items (take i ws) (b ∷ [])) ∙ ap (λ (zs : List Berth). zs ++ b ∷ []) (sym h.berths))
 
+  marked : map mark_came (take (i + 1) ws) ≡ map mark_came (take i ws) ++ mark_came b ∷ []
+  marked =
+      let e : get_or ws i b ≡ b = sym (c.read ∙ ap (λ (zs : List Berth). get_or zs 0 b) (h.waiting ∙ drop-cons ws i b there)) in
+      ap (λ (zs : List Berth). map mark_came zs) (take_more ws i b there ∙ ap (λ (d : Berth). take i ws ++ d ∷ []) e) ∙ map-append mark_came (take i ws) (b ∷ [])
+
   all : AreBerths x.label.tenants (y.berths.items ++ b ∷ []) (f.residents ++ take (i + 1) f.line)
   all =
       subst (λ (zs : List Berth). AreBerths x.label.tenants zs (f.residents ++ take (i + 1) f.line)) taken
@@ -266,7 +290,9 @@ module _ (k i : ℕ) (x y z : NotedCore) (f : Fabric) (b : Berth) (n : Note) (s 
       let more = c.free in
       let wide = c.wide in
       record {
-        written = written_then k x y z [] [] h.written (written_came k y z n b c.entry c.label c.notes c.told few);
+        written =
+            subst (λ (ms : List Mark). IsWritten k x z [] ms) (sym marked)
+            (written_then k x y z [] [] (map mark_came (take i ws)) (mark_came b ∷ []) h.written (written_came k y z n b c.entry c.label c.notes c.told few));
         core = c.core ∙ h.core;
         berths = c.berths ∙ sym taken;
         waiting = line ∙ ap (λ (j : ℕ). drop j ws) next;
@@ -300,9 +326,15 @@ module _ (k : ℕ) (w x z : NotedCore) (i : ℕ) (r : IsRebuilt w x) (h : IsComi
 
   pub rebuilt_goes : (out : List Transit) → ((f : Fabric) → IsNoted w f → is_at_rest f ≡ true) → ((f : Fabric) → IsNoted w f → i ≡ joining f) → Goes k 0 w z out out
   rebuilt_goes out rest many =
-      goes_by k 0 w z out out [] (Rebuild ∷ []) (written_then k w x z [] [] (written_none k w x r.label r.notes r.told) h.written) (sym (append-nil (tokens out))) refl
+      goes_by k 0 w z out out [] (map mark_came (take i x.waiting.items)) (Rebuild ∷ [])
+      (written_then k w x z [] [] [] (map mark_came (take i x.waiting.items)) (written_none k w x r.label r.notes r.told) h.written) (sym (append-nil (tokens out))) refl
       (λ f ps n o. subst (λ (v : World). IsNoted z v.fabric × AreOut out v.transit) (sym (rebuild_world f ps (rest f n))) (noted_rebuilt f n (many f n), o))
       (λ f ps n o. (tt, tt))
+      (λ f ps n o.
+      let called : List Mark = map (mark_of Came) (take (joining f) f.line) in
+      marks_came x.label.tenants i x.waiting.items f.line (start_of w x f r n).line
+      ∙ (ap (λ (j : ℕ). map (mark_of Came) (take j f.line)) (many f n)
+      ∙ (sym (append-nil called) ∙ sym (ap (λ (b : Bool). (if b then called else []) ++ []) (rest f n)))))
 
 pub coming_start : (k : ℕ) (w x : NotedCore) (f : Fabric) → IsRebuilt w x → IsNoted w f → HasRoomFor (length x.berths.items + length x.waiting.items + length x.waiting.items) x
     → vec_len x.berths + length x.waiting.items ≤ vec_capacity x.berths → IsComing k 0 x x

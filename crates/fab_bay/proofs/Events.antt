@@ -1,6 +1,6 @@
 -- What events do to a core with its history, where nothing is written.
-use Rattle.std.proofs.Common.{◌≡◌, ℕ, ◌+◌, ◌<◌, length, Bool, true, false, List, [], ◌∷◌, Some, None, Result, Ok, Err, refl, sym, ap, ◌∙◌, subst, arith}
-use Rattle.std.specs.Prelude.{if◌then◌else◌, slice_get, slice_index_or, ◌==◌, nat_lt, not, position, OnOk}
+use Rattle.std.proofs.Common.{◌≡◌, ℕ, ◌+◌, ◌<◌, ◌++◌, length, Bool, true, false, List, [], ◌∷◌, Option, Some, None, Result, Ok, Err, refl, sym, ap, ◌∙◌, subst, arith}
+use Rattle.std.specs.Prelude.{if◌then◌else◌, slice_get, slice_index_or, ◌==◌, ◌&&◌, nat_lt, not, position, OnOk}
 use Rattle.std.specs.List.{position_or_len}
 use Rattle.std.specs.Result.{is_err}
 use Rattle.std.proofs.lemmas.Bool.{eqb-true}
@@ -22,9 +22,12 @@ use Rattle.fab_bay.specs.declared.berth.Berth.{Berth}
 use Rattle.fab_bay.specs.declared.noted.Label.{Label}
 use Rattle.fab_bay.specs.declared.noted.NotedCore.{NotedCore}
 use Rattle.fab_bay.specs.Berths.{seats, AreBerths, AreWaiters}
+use Rattle.fab_lock.specs.declared.entry.Kind.TheVariants as kind
+use Rattle.fab_bay.specs.Marks.{mark_of, save_for, Mark}
 use Rattle.fab_bay.specs.Standing.{HasRoomFor, IsNoted, IsSame}
 use Rattle.fab_bay.specs.Ways.{Goes}
 use Rattle.fab_bay.proofs.Onward.{Changes, goes-event, goes-none}
+use Rattle.fab_bay.proofs.Places.{some-equal}
 use Rattle.fab_bay.proofs.Steps.{all-served, all-stepped, BoundaryLaw, CallTicksLaw, OneStateLaw, RisesLaw, TicksLaw}
 
 -- the core alone has changed
@@ -70,6 +73,7 @@ goes-cycle rise same boundary one k x y out c go order = goes-event k 1 x y out 
       refl,
     ))
     (λ f ps h. (order f h, tt))
+    (λ f ps h. refl)
 
 -- ---- a hold
 
@@ -81,11 +85,12 @@ goes-hold k x y out c free go = goes-event k 0 x y out Hold (changes x y c) refl
     let v : World = record { fabric = held f; transit = ps } in
     subst (λ (u : World). IsNoted y u.fabric × (u.transit ≡ ps)) (ap (λ b. if b then w else v) (sym off)) (keeps-noted x y f (held f) c h (go f h.core) refl h.residents h.line, refl))
     (λ f ps h. (tt, tt))
+    (λ f ps h. refl)
 
 -- ---- what is served
 
 pub goes-serve : CallTicksLaw → (k t : ℕ) (x y : NotedCore) (out : List Transit) → Core x y → ((f : Fabric) → IsFabric x.core f → IsFabric y.core (all_served t f))
-    → ((f : Fabric) → IsNoted x f → (p : Point) × (first_of t f.residents ≡ Some p) × (waits p ≡ true)) → Goes k 0 x y out out
+    → ((f : Fabric) → IsNoted x f → (p : Point) × (first_of t f.residents ≡ Some p) × (waits p ≡ true) × (at_trap (table_of (run_in p).flat) p.stage ≡ true)) → Goes k 0 x y out out
 goes-serve same k t x y out c go waiting = goes-event k 0 x y out (Serve t) (changes x y c) refl
     (λ f ps h.
     let p = waiting f h in
@@ -95,6 +100,13 @@ goes-serve same k t x y out c go waiting = goes-event k 0 x y out (Serve t) (cha
     subst (λ (u : World). IsNoted y u.fabric × (u.transit ≡ ps)) (sym is)
     (keeps-noted x y f (all_served t f) c h (go f h.core) refl (all-served same t x.label.tenants x.core.joined x.core.residents.items x.berths.items f.residents h.core.residents h.residents) h.line, refl))
     (λ f ps h. (tt, tt))
+    (λ f ps h.
+    let w = waiting f h in
+    let q : Point = w.0 in
+    let one : Bool → List Mark = λ b. if b then mark_of kind.Saved q ∷ [] else [] in
+    sym
+    (ap (λ (o : Option Point). save_for o ++ []) w.1
+    ∙ (ap (λ (b : Bool). one (b && not (at_trap (table_of (run_in q).flat) q.stage)) ++ []) w.2 ∙ ap (λ (b : Bool). one (not b) ++ []) w.3)))
 
 pub serve-noted : CallTicksLaw → (t : ℕ) (x y : NotedCore) (f : Fabric) → Core x y → IsFabric y.core (all_served t f) → IsNoted x f → IsNoted y (all_served t f)
 serve-noted same t x y f c go h =
@@ -106,16 +118,28 @@ served-number : (b : Bool) (p : Point) → (if b then called p else saved p).num
 served-number true p = refl
 served-number false p = refl
 
-pub first-served : (t : ℕ) (ps : List Point) (p : Point) → first_of t ps ≡ Some p → (q : Point) × (first_of t (changed t served ps) ≡ Some q)
-first-served t [] p e = let z : ⊥ = cc in absurd z
-first-served t (x ∷ ps) p e = by (is_of t x) refl e (first-served t ps p)
+-- the first of a number bears it
+pub first-number : (t : ℕ) (ps : List Point) (p : Point) → first_of t ps ≡ Some p → p.number ≡ t
+first-number t [] p e = let z : ⊥ = cc in absurd z
+first-number t (x ∷ ps) p e = by (is_of t x) refl e (first-number t ps p)
   where
-    by : (v : Bool) → is_of t x ≡ v → (if v then Some x else first_of t ps) ≡ Some p → (first_of t ps ≡ Some p → (q : Point) × (first_of t (changed t served ps) ≡ Some q))
-        → (q : Point) × (first_of t (if v then served x ∷ ps else x ∷ changed t served ps) ≡ Some q)
+    by : (v : Bool) → is_of t x ≡ v → (if v then Some x else first_of t ps) ≡ Some p → (first_of t ps ≡ Some p → p.number ≡ t) → p.number ≡ t
+    by true i e h = ap (λ (q : Point). q.number) (sym (some-equal x p e)) ∙ eqb-true x.number t i
+    by false i e h = h e
+
+pub first-is : (t : ℕ) (ps : List Point) (p : Point) → first_of t ps ≡ Some p → first_of t (changed t served ps) ≡ Some (served p)
+first-is t [] p e = let z : ⊥ = cc in absurd z
+first-is t (x ∷ ps) p e = by (is_of t x) refl e (first-is t ps p)
+  where
+    by : (v : Bool) → is_of t x ≡ v → (if v then Some x else first_of t ps) ≡ Some p → (first_of t ps ≡ Some p → first_of t (changed t served ps) ≡ Some (served p))
+        → first_of t (if v then served x ∷ ps else x ∷ changed t served ps) ≡ Some (served p)
     by true i e h =
         let same : is_of t (served x) ≡ true = ap (λ n. n == t) (served-number (at_trap (table_of (run_in x).flat) x.stage) x) ∙ i in
-        (served x, ap (λ b. if b then Some (served x) else first_of t ps) same)
-    by false i e h = let r = h e in (r.0, ap (λ b. if b then Some x else first_of t (changed t served ps)) i ∙ r.1)
+        ap (λ b. if b then Some (served x) else first_of t ps) same ∙ ap (λ (q : Point). Some (served q)) (some-equal x p e)
+    by false i e h = ap (λ b. if b then Some x else first_of t (changed t served ps)) i ∙ h e
+
+pub first-served : (t : ℕ) (ps : List Point) (p : Point) → first_of t ps ≡ Some p → (q : Point) × (first_of t (changed t served ps) ≡ Some q)
+first-served t ps p e = (served p, first-is t ps p e)
 
 -- it has a place among the berths
 in-berths : (n t : ℕ) (bs : List Berth) (ps : List Point) (p : Point) → AreBerths n bs ps → first_of t ps ≡ Some p → position_or_len (λ (b : Berth). b.tenant == t) bs < length bs

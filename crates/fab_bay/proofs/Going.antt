@@ -20,6 +20,7 @@ use Rattle.fab_bay.specs.declared.berth.Berth.{Berth}
 use Rattle.fab_bay.specs.declared.noted.Label.{Label}
 use Rattle.fab_bay.specs.declared.noted.NotedCore.{NotedCore}
 use Rattle.fab_bay.specs.Berths.{seats, AreBerths, AreWaiters}
+use Rattle.fab_bay.specs.Marks.{all_called_for, called_for, mark_at, marks, Mark}
 use Rattle.fab_bay.specs.Standing.{IsNoted, IsSame}
 use Rattle.fab_bay.specs.Ways.{cycles_in, tokens, AreBelow, AreInOrder, AreOut, Goes, IsEmpty, Way}
 
@@ -44,6 +45,10 @@ below-append n (x ∷ xs) ys a b = (a.0, below-append n xs ys a.1 b)
 pub told-append : (xs ys : List Note) → map (λ (n : Note). n.entry) (xs ++ ys) ≡ map (λ (n : Note). n.entry) xs ++ map (λ (n : Note). n.entry) ys
 told-append [] ys = refl
 told-append (x ∷ xs) ys = ap (λ (l : List Entry). x.entry ∷ l) (told-append xs ys)
+
+pub marks-append : (xs ys : List Note) → marks (xs ++ ys) ≡ marks xs ++ marks ys
+marks-append [] ys = refl
+marks-append (x ∷ xs) ys = ap (λ (l : List Mark). mark_at x.entry.kind x.entry ++ l) (marks-append xs ys) ∙ sym (append_assoc (mark_at x.entry.kind x.entry) (marks xs) (marks ys))
 
 pub replay-append : (ss : List Seat) (xs ys : List Note) → replay ss (xs ++ ys) ≡ replay (replay ss xs) ys
 replay-append ss [] ys = refl
@@ -92,6 +97,12 @@ pub order-append : (es fs : List Event) (w : World) → AreInOrder es w → AreI
 order-append [] fs w a b = b
 order-append (e ∷ es) fs w a b = (a.0, order-append es fs (happens w e) a.1 b)
 
+pub called-append : (es fs : List Event) (w : World) → all_called_for (es ++ fs) w ≡ all_called_for es w ++ all_called_for fs (run es w)
+called-append [] fs w = refl
+called-append (e ∷ es) fs w =
+    let v = happens w e in
+    ap (λ (l : List Mark). called_for e w ++ l) (called-append es fs v) ∙ sym (append_assoc (called_for e w) (all_called_for es v) (all_called_for fs (run es v)))
+
 -- ---- ways
 
 -- what stands for a fabric is told by all but what is told, and by no room
@@ -132,6 +143,7 @@ module _ (k : ℕ) where
     count = refl;
     leads = λ f ps n a. (noted-along x y f label core berths waiting notes n, a);
     ordered = λ f ps n a. tt;
+    marks_are = λ f ps n a. refl;
   }
 
   pub none : (x : NotedCore) (out : List Transit) → Goes k 0 x x out out
@@ -160,6 +172,7 @@ module _ (k : ℕ) where
       count = cycles-append g.events h.events ∙ (ap (λ (i : ℕ). i + cycles_in h.events) g.count ∙ (ap (λ (i : ℕ). m + i) h.count ∙ e));
       leads = leads;
       ordered = ordered;
+      marks_are = marks_are;
     }
       where
         leads : (f : Fabric) (ps : List Point) → IsNoted x f → AreOut a ps →
@@ -174,6 +187,14 @@ module _ (k : ℕ) where
             let w = run g.events (start f ps) in
             let mid = g.leads f ps i o in
             order-append g.events h.events (start f ps) (g.ordered f ps i o) (h.ordered w.fabric w.transit mid.0 mid.1)
+
+        marks_are : (f : Fabric) (ps : List Point) → IsNoted x f → AreOut a ps → marks (g.added ++ h.added) ≡ all_called_for (g.events ++ h.events) (start f ps)
+        marks_are f ps i o =
+            let w = run g.events (start f ps) in
+            let mid = g.leads f ps i o in
+            marks-append g.added h.added
+            ∙ (ap (λ (l : List Mark). l ++ marks h.added) (g.marks_are f ps i o)
+            ∙ (ap (λ (l : List Mark). all_called_for g.events (start f ps) ++ l) (h.marks_are w.fabric w.transit mid.0 mid.1) ∙ sym (called-append g.events h.events (start f ps))))
 
   -- where nobody is, nobody comes to be
   pub empty-on : (m : ℕ) (x y : NotedCore) (s t : List Entry) (a b : List Transit) → Way k m x y s t a b → IsEmpty x.notes.items → IsEmpty y.notes.items

@@ -25,12 +25,14 @@ use Rattle.fab_notes.specs.Stays.{chains}
 use Rattle.fab_bay.specs.declared.berth.Berth.{Berth}
 use Rattle.fab_bay.specs.declared.noted.NotedCore.{NotedCore}
 use Rattle.fab_bay.specs.Berths.{deed_at, AreBerths, IsBerth, IsWaiter}
+use Rattle.fab_lock.specs.declared.entry.Kind.TheVariants as kind
+use Rattle.fab_bay.specs.Marks.{all_called_for, leave_for, mark_of, marks, take_for, Mark}
 use Rattle.fab_bay.specs.Standing.{CanSettle, HasRoomFor, IsNoted, IsSame}
 use Rattle.fab_bay.specs.Taking.{KeepsFlag}
-use Rattle.fab_bay.specs.Ways.{tokens, AreOut, Goes}
+use Rattle.fab_bay.specs.Ways.{tokens, AreOut, Goes, IsWritten}
 use Rattle.fab_bay.proofs.Flags.{keeps-before, keeps_resident, keeps_waiter}
-use Rattle.fab_bay.proofs.Kept.{goes_by, noted_by, out-snoc, told_of, tokens-snoc, written_of, written_then, IsWritten}
-use Rattle.fab_bay.proofs.Leavers.{leaver_chained, leaver_end, leaver_keeps, leaver_number, leaver_order, leaver_ticks, may_leave, told_left, told_withdrawn, written_out, IsLeaver, IsOutNote}
+use Rattle.fab_bay.proofs.Kept.{goes_by, noted_by, out-snoc, told_of, tokens-snoc, written_of, written_then}
+use Rattle.fab_bay.proofs.Leavers.{leaver_chained, leaver_end, leaver_keeps, leaver_number, leaver_order, leaver_ticks, mark_leaver, mark_out, may_leave, told_left, told_withdrawn, written_out, IsLeaver, IsOutNote}
 use Rattle.fab_core.proofs.Firsts.{first-at, first-some, FirstAt}
 use Rattle.fab_bay.proofs.Places.{berth-place, berths_at, berths_many, berths_remove, removed_many, some-equal, waiters_at, waiters_berths, waiters_remove, number_at}
 use Rattle.fab_bay.proofs.Pointed.{tells}
@@ -56,6 +58,17 @@ module _ (t : ℕ) (f : Fabric) (ps : List Point) (p : Point) (rest : is_at_rest
 
   pub take_world : found t f ≡ Some p → happens here (Take t) ≡ record { fabric = taken t f; transit = ps ++ p ∷ [] }
   take_world is = ap (takes here t) is ∙ ap (λ (b : Bool). if b then record { fabric = taken t f; transit = ps ++ p ∷ [] } else here) rest
+
+  pub leave_calls : (w : Why) → first_of t f.residents ≡ Some p → due p ≡ Some w → all_called_for (Leave t ∷ []) here ≡ mark_of kind.Left p ∷ []
+  leave_calls w first is =
+      let one : Bool → List Mark = λ b. if b then mark_of kind.Left p ∷ [] else [] in
+      ap (λ (o : Option Point). leave_for f o ++ []) first
+      ∙ (ap (λ (o : Option Why). (if is_some o then take_for f (Some p) else []) ++ []) is ∙ ap (λ (b : Bool). one b ++ []) rest)
+
+  pub take_calls : found t f ≡ Some p → all_called_for (Take t ∷ []) here ≡ mark_of kind.Left p ∷ []
+  take_calls is =
+      let one : Bool → List Mark = λ b. if b then mark_of kind.Left p ∷ [] else [] in
+      ap (λ (o : Option Point). take_for f o ++ []) is ∙ ap (λ (b : Bool). one b ++ []) rest
 
 -- ---- a resident whose run is noted
 
@@ -108,6 +121,7 @@ module _ (k tenant place : ℕ) (x y z : NotedCore) (b : Berth) (t : Transit) (n
   pub record IsOut : Type 0 where
     pub ran : IsRan tenant place x y b
     pub goes : Goes k 0 x y [] []
+    pub runs : marks goes.added ≡ []
     pub label : z.label ≡ y.label
     pub notes : z.notes.items ≡ y.notes.items ++ n ∷ []
     pub told : z.told.items ≡ y.told.items ++ n.entry ∷ []
@@ -154,13 +168,13 @@ module _ (k tenant place : ℕ) (x y z : NotedCore) (b : Berth) (t : Transit) (n
         (keeps_resident y y.label y.berths.items y.waiting.items (told_of y f v) t place b (ran_still tenant place x y b o.ran f h) o.ran.read (leaver_number y.label.tenants b p w t.parcel berth now l)
         (leaver_keeps y.label.tenants b p w t.parcel berth now l end.Finished refl))
 
-    pub out_written : (f : Fabric) (w : Why) (d : Point) → IsNoted x f → IsLeaver w (get_or f.residents place d) t.parcel → IsWritten k x z (tokens (t ∷ []))
+    pub out_written : (f : Fabric) (w : Why) (d : Point) → IsNoted x f → IsLeaver w (get_or f.residents place d) t.parcel → IsWritten k x z (tokens (t ∷ [])) (mark_out t ∷ [])
     out_written f w d h l =
         let p = get_or f.residents place d in
         let berth = ran_berth tenant place x y b o.ran f h d in
         let now = ran_noted tenant place x y b o.ran f h d in
         let few = subst (λ (j : ℕ). j < y.label.tenants) (sym (leaver_number y.label.tenants b p w t.parcel berth now l)) berth.few in
-        written_then k x y z [] (tokens (t ∷ [])) (written_of k 0 x y o.goes) (written_out y.label y.notes.items n k t o.note y z o.label o.notes o.told few)
+        written_then k x y z [] (tokens (t ∷ [])) [] (mark_out t ∷ []) (written_of k 0 x y o.goes o.runs) (written_out y.label y.notes.items n k t o.note y z o.label o.notes o.told few)
 
 -- what is known of a fabric from which a tenant comes out
 pub record IsGone (tenant : ℕ) (e : Event) (z : NotedCore) (t : Transit) (f : Fabric) : Type 0 where
@@ -169,23 +183,26 @@ pub record IsGone (tenant : ℕ) (e : Event) (z : NotedCore) (t : Transit) (f : 
   pub noted : IsNoted z fabric
   pub at : IsPointOf t.parcel point
   pub world : (ps : List Point) → happens (record { fabric = f; transit = ps }) e ≡ record { fabric = fabric; transit = ps ++ point ∷ [] }
+  pub calls : (ps : List Point) → mark_out t ∷ [] ≡ all_called_for (e ∷ []) (record { fabric = f; transit = ps })
 
 -- the event at which a tenant comes out, of which no more is asked
-pub goes_gone_leave : (k tenant : ℕ) (x z : NotedCore) (t : Transit) (out : List Transit) → IsWritten k x z (tokens (t ∷ [])) → ((f : Fabric) → IsNoted x f → IsGone tenant (Leave tenant) z t f)
+pub goes_gone_leave : (k tenant : ℕ) (x z : NotedCore) (t : Transit) (out : List Transit) → IsWritten k x z (tokens (t ∷ [])) (mark_out t ∷ []) → ((f : Fabric) → IsNoted x f → IsGone tenant (Leave tenant) z t f)
     → Goes k 0 x z out (out ++ t ∷ [])
 goes_gone_leave k tenant x z t out w each =
-    goes_by k 0 x z out (out ++ t ∷ []) (tokens (t ∷ [])) (Leave tenant ∷ []) w (tokens-snoc out t) refl
+    goes_by k 0 x z out (out ++ t ∷ []) (tokens (t ∷ [])) (mark_out t ∷ []) (Leave tenant ∷ []) w (tokens-snoc out t) refl
     (λ f ps h o. let g = each f h in
     subst (λ (v : World). IsNoted z v.fabric × AreOut (out ++ t ∷ []) v.transit) (sym (g.world ps)) (g.noted, out-snoc out t ps g.point o (g.at, tt)))
     (λ f ps h o. (tt, tt))
+    (λ f ps h o. (each f h).calls ps)
 
-pub goes_gone_take : (k tenant : ℕ) (x z : NotedCore) (t : Transit) (out : List Transit) → IsWritten k x z (tokens (t ∷ [])) → ((f : Fabric) → IsNoted x f → IsGone tenant (Take tenant) z t f)
+pub goes_gone_take : (k tenant : ℕ) (x z : NotedCore) (t : Transit) (out : List Transit) → IsWritten k x z (tokens (t ∷ [])) (mark_out t ∷ []) → ((f : Fabric) → IsNoted x f → IsGone tenant (Take tenant) z t f)
     → Goes k 0 x z out (out ++ t ∷ [])
 goes_gone_take k tenant x z t out w each =
-    goes_by k 0 x z out (out ++ t ∷ []) (tokens (t ∷ [])) (Take tenant ∷ []) w (tokens-snoc out t) refl
+    goes_by k 0 x z out (out ++ t ∷ []) (tokens (t ∷ [])) (mark_out t ∷ []) (Take tenant ∷ []) w (tokens-snoc out t) refl
     (λ f ps h o. let g = each f h in
     subst (λ (v : World). IsNoted z v.fabric × AreOut (out ++ t ∷ []) v.transit) (sym (g.world ps)) (g.noted, out-snoc out t ps g.point o (g.at, tt)))
     (λ f ps h o. (tt, tt))
+    (λ f ps h o. (each f h).calls ps)
 
 -- ---- the three ways
 
@@ -201,6 +218,7 @@ module _ (k tenant place : ℕ) (x y z : NotedCore) (b : Berth) (t : Transit) (n
         noted = out_noted k tenant place x y z b t n o f w p h (subst (λ (q : Point). IsLeaver w q t.parcel) same l) core;
         at = at;
         world = λ ps. leave_world tenant f ps p rest w first is;
+        calls = λ ps. ap (λ (m : Mark). m ∷ []) (mark_leaver w p t at (rests_if p w is)) ∙ sym (leave_calls tenant f ps p rest w first is);
       }
 
   pub taken_here : taken tenant f ≡ left tenant f
@@ -236,6 +254,7 @@ module _ (k tenant place : ℕ) (x y z : NotedCore) (b : Berth) (t : Transit) (n
         (out_noted k tenant place x y z b t n o f no_why p h (taker p is at) (subst (λ (g : Fabric). IsFabric z.core g) taken_here core));
     at = at;
     world = λ ps. take_world tenant f ps p rest is;
+    calls = λ ps. ap (λ (m : Mark). m ∷ []) (mark_leaver no_why p t at (tells t.parcel p at).rests) ∙ sym (take_calls tenant f ps p rest is);
   }
 
 -- ---- one in line is out
@@ -318,7 +337,7 @@ module _ (k tenant place : ℕ) (x z : NotedCore) (b : Berth) (t : Transit) (n :
       leaver_keeps x.label.tenants b q ended_why t.parcel waiter.berth waiter.noted taker_line end.Finished refl
       ∙ ap (λ (v : Bool). v && (deed_at b).moved) (eq-eqb (ticks_of t.parcel) b.since (ticks ∙ (waiter.noted ∙ sym waiter.since)))
 
-  pub withdrawn_written : IsWritten k x z (tokens (t ∷ []))
+  pub withdrawn_written : IsWritten k x z (tokens (t ∷ [])) (mark_out t ∷ [])
   withdrawn_written =
       let few = subst (λ (j : ℕ). j < x.label.tenants) (sym (leaver_number x.label.tenants b (get_or f.line place p) ended_why t.parcel waiter.berth waiter.noted taker_line)) waiter.berth.few in
       written_out x.label x.notes.items n k t o.note x z o.label o.notes o.told few
@@ -342,6 +361,7 @@ module _ (k tenant place : ℕ) (x z : NotedCore) (b : Berth) (t : Transit) (n :
             (leaver_number x.label.tenants b q ended_why t.parcel waiter.berth waiter.noted taker_line) ticks may));
         at = at;
         world = λ ps. take_world tenant f ps p rest is;
+        calls = λ ps. ap (λ (m : Mark). m ∷ []) (mark_leaver ended_why p t at (tells t.parcel p at).rests) ∙ sym (take_calls tenant f ps p rest is);
       }
 
 -- ---- what the code needs

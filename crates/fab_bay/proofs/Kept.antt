@@ -11,15 +11,16 @@ use Rattle.fab_core.specs.Standing.{IsFabric}
 use Rattle.fab_notes.specs.declared.note.Note.{Note}
 use Rattle.fab_notes.specs.declared.transit.Transit.{Transit}
 use Rattle.fab_notes.specs.Histories.{after, is_line, place_of, replay, AreLinesByFirst, HasRoom, IsLegal, May}
-use Rattle.fab_notes.specs.Tokens.{out_at, outs, put_at, puts, AllBear, Token}
+use Rattle.fab_notes.specs.Tokens.{out_at, outs, put_at, puts, Token}
 use Rattle.fab_bay.specs.declared.berth.Berth.{Berth}
 use Rattle.fab_bay.specs.declared.noted.Label.{Label}
 use Rattle.fab_bay.specs.declared.noted.NotedCore.{NotedCore}
 use Rattle.fab_bay.specs.Berths.{seats, AreBerths, AreWaiters}
 use Rattle.fab_bay.specs.Standing.{IsNoted, IsSame}
-use Rattle.fab_bay.specs.Ways.{cycles_in, tokens, AreBelow, AreInOrder, AreOut, Goes}
+use Rattle.fab_bay.specs.Marks.{all_called_for, mark_at, marks, Mark}
+use Rattle.fab_bay.specs.Ways.{cycles_in, tokens, AreBelow, AreInOrder, AreOut, Goes, IsWritten}
 use Rattle.fab_notes.proofs.Legality.{kept_legal, kept_replay}
-use Rattle.fab_bay.proofs.Going.{bear-append, below-append, outs-append, puts-append, told-append}
+use Rattle.fab_bay.proofs.Going.{bear-append, below-append, marks-append, outs-append, puts-append, told-append}
 
 -- ---- a history
 
@@ -69,18 +70,7 @@ noted_by y l notes bs ws f el en eb ew core capacity residents line t = record {
 
 -- ---- what is written
 
--- notes that bear a seat's number are added, none of a tenant that is put in line, and they say that these came out
-pub record IsWritten (number : ℕ) (x y : NotedCore) (out : List Token) : Type 0 where
-  pub label : y.label ≡ x.label
-  pub added : List Note
-  pub notes : y.notes.items ≡ x.notes.items ++ added
-  pub told : y.told.items ≡ x.told.items ++ map (λ (n : Note). n.entry) added
-  pub bear : AllBear number added
-  pub few : AreBelow x.label.tenants added
-  pub puts : puts added ≡ []
-  pub outs : outs added ≡ out
-
-pub written_none : (k : ℕ) (x y : NotedCore) → y.label ≡ x.label → y.notes.items ≡ x.notes.items → y.told.items ≡ x.told.items → IsWritten k x y []
+pub written_none : (k : ℕ) (x y : NotedCore) → y.label ≡ x.label → y.notes.items ≡ x.notes.items → y.told.items ≡ x.told.items → IsWritten k x y [] []
 written_none k x y l n t = record {
   label = l;
   added = [];
@@ -90,11 +80,12 @@ written_none k x y l n t = record {
   few = tt;
   puts = refl;
   outs = refl;
+  marks_are = refl;
 }
 
-pub written_one : (k : ℕ) (x y : NotedCore) (n : Note) (out : List Token) → y.label ≡ x.label → y.notes.items ≡ x.notes.items ++ n ∷ [] → y.told.items ≡ x.told.items ++ n.entry ∷ [] → n.entry.seat ≡ k
-    → n.entry.tenant < x.label.tenants → put_at n.entry.kind n ≡ [] → out_at n.entry.kind n ≡ out → IsWritten k x y out
-written_one k x y n out l ns ts seat few p o = record {
+pub written_one : (k : ℕ) (x y : NotedCore) (n : Note) (out : List Token) (ms : List Mark) → y.label ≡ x.label → y.notes.items ≡ x.notes.items ++ n ∷ [] → y.told.items ≡ x.told.items ++ n.entry ∷ [] → n.entry.seat ≡ k
+    → n.entry.tenant < x.label.tenants → put_at n.entry.kind n ≡ [] → out_at n.entry.kind n ≡ out → mark_at n.entry.kind n.entry ≡ ms → IsWritten k x y out ms
+written_one k x y n out ms l ns ts seat few p o m = record {
   label = l;
   added = n ∷ [];
   notes = ns;
@@ -103,10 +94,11 @@ written_one k x y n out l ns ts seat few p o = record {
   few = (few, tt);
   puts = append-nil (put_at n.entry.kind n) ∙ p;
   outs = append-nil (out_at n.entry.kind n) ∙ o;
+  marks_are = append-nil (mark_at n.entry.kind n.entry) ∙ m;
 }
 
-pub written_then : (k : ℕ) (x y z : NotedCore) (a b : List Token) → IsWritten k x y a → IsWritten k y z b → IsWritten k x z (a ++ b)
-written_then k x y z a b g h = record {
+pub written_then : (k : ℕ) (x y z : NotedCore) (a b : List Token) (ms ns : List Mark) → IsWritten k x y a ms → IsWritten k y z b ns → IsWritten k x z (a ++ b) (ms ++ ns)
+written_then k x y z a b ms ns g h = record {
   label = h.label ∙ g.label;
   added = g.added ++ h.added;
   notes = h.notes ∙ (ap (λ (l : List Note). l ++ h.added) g.notes ∙ append_assoc x.notes.items g.added h.added);
@@ -118,16 +110,19 @@ written_then k x y z a b g h = record {
   few = below-append x.label.tenants g.added h.added g.few (subst (λ (l : Label). AreBelow l.tenants h.added) g.label h.few);
   puts = puts-append g.added h.added ∙ (ap (λ (l : List Token). l ++ puts h.added) g.puts ∙ h.puts);
   outs = outs-append g.added h.added ∙ (ap (λ (l : List Token). l ++ outs h.added) g.outs ∙ ap (λ (l : List Token). a ++ l) h.outs);
+  marks_are = marks-append g.added h.added ∙ (ap (λ (l : List Mark). l ++ marks h.added) g.marks_are ∙ ap (λ (l : List Mark). ms ++ l) h.marks_are);
 }
 
-pub written_of : (k m : ℕ) (x y : NotedCore) → Goes k m x y [] [] → IsWritten k x y []
-written_of k m x y g = record { label = g.label; added = g.added; notes = g.notes; told = g.told; bear = g.bear; few = g.few; puts = g.puts; outs = sym g.outs }
+-- what is known to be runs alone
+pub written_of : (k m : ℕ) (x y : NotedCore) → (g : Goes k m x y [] []) → marks g.added ≡ [] → IsWritten k x y [] []
+written_of k m x y g e = record { label = g.label; added = g.added; notes = g.notes; told = g.told; bear = g.bear; few = g.few; puts = g.puts; outs = sym g.outs; marks_are = e }
 
 -- what is written, and what happens
-pub goes_by : (k m : ℕ) (x y : NotedCore) (out out' : List Transit) (ts : List Token) (es : List Event) → IsWritten k x y ts → tokens out' ≡ tokens out ++ ts → cycles_in es ≡ m
+pub goes_by : (k m : ℕ) (x y : NotedCore) (out out' : List Transit) (ts : List Token) (ms : List Mark) (es : List Event) → IsWritten k x y ts ms → tokens out' ≡ tokens out ++ ts → cycles_in es ≡ m
     → ((f : Fabric) (ps : List Point) → IsNoted x f → AreOut out ps → IsNoted y (run es (record { fabric = f; transit = ps })).fabric × AreOut out' (run es (record { fabric = f; transit = ps })).transit)
-    → ((f : Fabric) (ps : List Point) → IsNoted x f → AreOut out ps → AreInOrder es (record { fabric = f; transit = ps })) → Goes k m x y out out'
-goes_by k m x y out out' ts es w o count leads ordered = record {
+    → ((f : Fabric) (ps : List Point) → IsNoted x f → AreOut out ps → AreInOrder es (record { fabric = f; transit = ps }))
+    → ((f : Fabric) (ps : List Point) → IsNoted x f → AreOut out ps → ms ≡ all_called_for es (record { fabric = f; transit = ps })) → Goes k m x y out out'
+goes_by k m x y out out' ts ms es w o count leads ordered calls = record {
   label = w.label;
   added = w.added;
   notes = w.notes;
@@ -140,6 +135,7 @@ goes_by k m x y out out' ts es w o count leads ordered = record {
   count = count;
   leads = leads;
   ordered = ordered;
+  marks_are = λ f ps h a. w.marks_are ∙ calls f ps h a;
 }
 
 -- ---- nothing done
@@ -180,7 +176,7 @@ still_noted x y f s h =
 
 pub still_goes : (k : ℕ) (x y : NotedCore) (out : List Transit) → IsStill x y → Goes k 0 x y out out
 still_goes k x y out s =
-    goes_by k 0 x y out out [] [] (written_none k x y s.label s.notes s.told) (sym (append-nil (tokens out))) refl (λ f ps h o. (still_noted x y f s h, o)) (λ f ps h o. tt)
+    goes_by k 0 x y out out [] [] [] (written_none k x y s.label s.notes s.told) (sym (append-nil (tokens out))) refl (λ f ps h o. (still_noted x y f s h, o)) (λ f ps h o. tt) (λ f ps h o. refl)
 
 -- one more is out
 pub out-snoc : (ts : List Transit) (t : Transit) (ps : List Point) (p : Point) → AreOut ts ps → AreOut (t ∷ []) (p ∷ []) → AreOut (ts ++ t ∷ []) (ps ++ p ∷ [])
@@ -208,4 +204,5 @@ still_then k m x y z out out' s g = record {
   count = g.count;
   leads = λ f ps h o. g.leads f ps (still_noted x y f s h) o;
   ordered = λ f ps h o. g.ordered f ps (still_noted x y f s h) o;
+  marks_are = λ f ps h o. g.marks_are f ps (still_noted x y f s h) o;
 }

@@ -36,8 +36,9 @@ use Rattle.fab_bay.specs.Ways.{is_move, IsLast}
 use Rattle.fab_bay.specs.declared.noted.Label.{Label}
 use Rattle.fab_bay.specs.declared.noted.NotedCore.{NotedCore}
 use Rattle.fab_bay.specs.Berths.{begun, deed_at, seat, seats, IsBerth}
-use Rattle.fab_bay.specs.Ways.{tokens}
-use Rattle.fab_bay.proofs.Kept.{told_next, written_one, IsTold, IsWritten}
+use Rattle.fab_bay.specs.Marks.{mark_at, mark_of, Mark}
+use Rattle.fab_bay.specs.Ways.{tokens, IsWritten}
+use Rattle.fab_bay.proofs.Kept.{told_next, written_one, IsTold}
 use Rattle.fab_bay.proofs.Places.{split_at}
 use Rattle.fab_bay.proofs.Pointed.{tells, tick_there, Tells}
 use Rattle.fab_notes.proofs.Seats.{apart_legal, place_mid, without_mid, AreApart}
@@ -244,6 +245,18 @@ module _ (n : ℕ) (b : Berth) (p : Point) (w : Why) (q : Parcel) (h : IsBerth n
 abbrev pub entry_out : ℕ → Transit → Entry
 entry_out k t = record { seat = k; kind = Left; tenant = number_of t.parcel; from = ticks_of t.parcel; to = ticks_of t.parcel }
 
+-- that it left
+abbrev left_at : ℕ → ℕ → Mark
+left_at t k = record { kind = Left; tenant = t; tick = k }
+
+abbrev pub mark_out : Transit → Mark
+mark_out t = left_at (number_of t.parcel) (ticks_of t.parcel)
+
+pub mark_leaver : (w : Why) (p : Point) (t : Transit) → IsPointOf t.parcel (departed w p) → rests p ≡ true → mark_out t ≡ mark_of Left p
+mark_leaver w p t at r =
+    let tell = tells t.parcel (departed w p) at in
+    ap (λ (n : ℕ). left_at n (ticks_of t.parcel)) (tell.number ∙ number_same w p) ∙ ap (left_at p.number) (tell.ticks ∙ (begun_same w p ∙ sym (tick_there p r)))
+
 -- the note of a tenant that comes out
 pub record IsOutNote (k : ℕ) (t : Transit) (n : Note) : Type 0 where
   pub entry : n.entry ≡ entry_out k t
@@ -300,11 +313,12 @@ module _ (l : Label) (notes : List Note) (n : Note) (k : ℕ) (t : Transit) (m :
   token_told = ap (λ (e : Entry). told e (deed_in n)) m.entry ∙ ap (told (entry_out k t)) m.deed
 
   pub written_out : (x y : NotedCore) → y.label ≡ x.label → y.notes.items ≡ x.notes.items ++ n ∷ [] → y.told.items ≡ x.told.items ++ n.entry ∷ [] → number_of t.parcel < x.label.tenants
-      → IsWritten k x y (tokens (t ∷ []))
+      → IsWritten k x y (tokens (t ∷ [])) (mark_out t ∷ [])
   written_out x y label ns ts few =
-      written_one k x y n (tokens (t ∷ [])) label ns ts (ap (λ (e : Entry). e.seat) m.entry) (subst (λ (j : ℕ). j < x.label.tenants) (sym (ap (λ (e : Entry). e.tenant) m.entry)) few)
+      written_one k x y n (tokens (t ∷ [])) (mark_out t ∷ []) label ns ts (ap (λ (e : Entry). e.seat) m.entry) (subst (λ (j : ℕ). j < x.label.tenants) (sym (ap (λ (e : Entry). e.tenant) m.entry)) few)
       (ap (λ (j : Kind). put_at j n) (ap (λ (e : Entry). e.kind) m.entry))
       (ap (λ (j : Kind). out_at j n) (ap (λ (e : Entry). e.kind) m.entry) ∙ token_told)
+      (ap (λ (e : Entry). mark_at e.kind e) m.entry)
 
 -- a stay more behind those that lead to where it begins
 pub stay_more : (s g since r to : ℕ) (m : Bool) (xs ys : List Stay) → ys ≡ xs ++ record { fabric = g; from = since; to = r; by_move = m } ∷ [] → r ≡ to → since ≤ to → chains s xs since ≡ true → chains s ys to ≡ true

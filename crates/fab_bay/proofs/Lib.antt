@@ -4,6 +4,7 @@ pub mod Onward
 pub mod Near
 pub mod Midst
 pub mod Events
+pub mod Saves
 pub mod Finding
 pub mod Flags
 pub mod Going

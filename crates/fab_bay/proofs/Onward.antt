@@ -8,6 +8,7 @@ use Rattle.fab_notes.specs.declared.note.Note.{Note}
 use Rattle.fab_notes.specs.declared.transit.Transit.{Transit}
 use Rattle.fab_notes.specs.Tokens.{outs, puts}
 use Rattle.fab_bay.specs.declared.noted.NotedCore.{NotedCore}
+use Rattle.fab_bay.specs.Marks.{all_called_for, marks}
 use Rattle.fab_bay.specs.Standing.{IsNoted}
 use Rattle.fab_bay.specs.Ways.{cycles_in, tokens, AreInOrder, AreOut, Goes}
 use Rattle.fab_bay.proofs.Going.{andThen}
@@ -38,12 +39,14 @@ goes-none k x y out h go = record {
   count = refl;
   leads = λ f ps noted ao. (go f noted, ao);
   ordered = λ f ps noted ao. tt;
+  marks_are = λ f ps noted ao. refl;
 }
 
 pub goes-event : (k c : ℕ) (x y : NotedCore) (out : List Transit) (e : Event) → Changes x y → cycles_in (e ∷ []) ≡ c
     → ((f : Fabric) (ps : List Point) → IsNoted x f → IsNoted y (happens (record { fabric = f; transit = ps }) e).fabric × ((happens (record { fabric = f; transit = ps }) e).transit ≡ ps))
-    → ((f : Fabric) (ps : List Point) → IsNoted x f → AreInOrder (e ∷ []) (record { fabric = f; transit = ps })) → Goes k c x y out out
-goes-event k c x y out e h count go may = record {
+    → ((f : Fabric) (ps : List Point) → IsNoted x f → AreInOrder (e ∷ []) (record { fabric = f; transit = ps }))
+    → ((f : Fabric) (ps : List Point) → IsNoted x f → [] ≡ all_called_for (e ∷ []) (record { fabric = f; transit = ps })) → Goes k c x y out out
+goes-event k c x y out e h count go may calls = record {
   label = h.label;
   added = [];
   notes = h.notes ∙ sym (append-nil x.notes.items);
@@ -56,12 +59,13 @@ goes-event k c x y out e h count go may = record {
   count = count;
   leads = λ f ps noted ao. let g = go f ps noted in (g.0, subst (AreOut out) (sym g.1) ao);
   ordered = λ f ps noted ao. may f ps noted;
+  marks_are = λ f ps noted ao. calls f ps noted;
 }
 
--- one note is written of a run or a snapshot, and nothing happens
+-- one note is written of a run, and nothing happens
 pub goes-note : (k : ℕ) (x y : NotedCore) (out : List Transit) (n : Note) → y.label ≡ x.label → y.notes.items ≡ x.notes.items ++ n ∷ [] → y.told.items ≡ x.told.items ++ n.entry ∷ [] → n.entry.seat ≡ k
-    → n.entry.tenant < x.label.tenants → puts (n ∷ []) ≡ [] → outs (n ∷ []) ≡ [] → ((f : Fabric) → IsNoted x f → IsNoted y f) → Goes k 0 x y out out
-goes-note k x y out n label notes told bear few puts outs go = record {
+    → n.entry.tenant < x.label.tenants → puts (n ∷ []) ≡ [] → outs (n ∷ []) ≡ [] → marks (n ∷ []) ≡ [] → ((f : Fabric) → IsNoted x f → IsNoted y f) → Goes k 0 x y out out
+goes-note k x y out n label notes told bear few puts outs marks go = record {
   label = label;
   added = n ∷ [];
   notes = notes;
@@ -74,4 +78,5 @@ goes-note k x y out n label notes told bear few puts outs go = record {
   count = refl;
   leads = λ f ps noted ao. (go f noted, ao);
   ordered = λ f ps noted ao. tt;
+  marks_are = λ f ps noted ao. marks;
 }

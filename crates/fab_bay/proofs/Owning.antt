@@ -1,8 +1,7 @@
 -- Whoever is put in line starts from what the label names.
-use Rattle.std.proofs.Common.{◌≡◌, ℕ, List, [], ◌∷◌, ◌++◌, refl, sym, ap, ◌∙◌, subst, Option, Some, None, Result, Ok, Err}
+use Rattle.std.proofs.Common.{◌≡◌, ℕ, List, [], ◌∷◌, ◌++◌, sym, ap, ◌∙◌, subst, Option, Some, Result, Ok, Err}
 use Rattle.std.specs.Prelude.{IfOk, OnErr}
 use Rattle.std.proofs.lemmas.List.{append-nil}
-use Rattle.ten_core.specs.declared.origin.Origin.{Origin}
 use Rattle.ten_parcel.specs.Parcels.{number_of, origin_in}
 use Rattle.fab_lock.specs.declared.entry.Entry.{Entry}
 use Rattle.fab_notes.specs.declared.note.Note.{Note}

@@ -2,7 +2,7 @@
 use Rattle.std.proofs.Common.{◌≡◌, ◌≢◌, ℕ, zero, suc, ◌+◌, ◌-◌, ◌<◌, ◌≤◌, ◌⊎◌, inl, inr, Bool, true, false, List, [], ◌∷◌, ◌++◌, Some, length, map, refl, sym, ap, ◌∙◌, subst, arith, eqb}
 use Rattle.std.specs.Prelude.{if◌then◌else◌, slice_get, slice_set, slice_index_or, ◌||◌}
 use Rattle.std.proofs.lemmas.Bool.{false≢true}
-use Rattle.std.proofs.lemmas.List.{length-set}
+use Rattle.std.proofs.lemmas.List.{append-nil, length-set}
 use Rattle.std.proofs.lemmas.Option.{slice_get_read}
 use Rattle.std.proofs.lemmas.Bool.Decides.{eqb_tells}
 use Rattle.std.specs.declared.alloc.Global.{Global}
@@ -25,6 +25,7 @@ use Rattle.fab_notes.specs.Histories.{after, changed, is_done, is_line, moved_to
 use Rattle.fab_bay.specs.declared.berth.Berth.{Berth}
 use Rattle.fab_bay.specs.declared.noted.NotedCore.{NotedCore}
 use Rattle.fab_bay.specs.Berths.{begun, deed_at, seat, seats, AreBerths, AreSettled, AreWaiters, IsBerth}
+use Rattle.fab_bay.specs.Marks.{mark_at, marks}
 use Rattle.fab_bay.specs.Standing.{HasRoomFor, IsNoted}
 use Rattle.fab_bay.specs.Ways.{is_short, AreShort, Goes}
 use Rattle.fab_bay.proofs.Kept.{noted_by, told_next, told_of}
@@ -292,7 +293,10 @@ module _ (number : ℕ) (x y : NotedCore) (place : ℕ) (old : Berth) (who tick 
       let v = w.writes in
       let few = (berth-at x.label.tenants x.berths.items f.residents place old t.point h.residents r.here t.stands).few in
       goes-note number x y out n v.label v.notes v.told (ap (λ (e : Entry). e.seat) w.entry) (subst (λ m. m < x.label.tenants) (sym (tenant-of f t.point h t.stands)) few)
-      (ap (λ k. put_at k n ++ []) kind-is) (ap (λ k. out_at k n ++ []) kind-is) ran-kept
+      (ap (λ k. put_at k n ++ []) kind-is) (ap (λ k. out_at k n ++ []) kind-is) (ap (λ k. mark_at k n.entry ++ []) kind-is) ran-kept
+
+  pub ran-runs : (added : List Note) → y.notes.items ≡ x.notes.items ++ added → marks added ≡ []
+  ran-runs added e = subst (λ ns. marks ns ≡ []) (cancel x.notes.items (n ∷ []) added (sym w.writes.notes ∙ e)) (ap (λ k. mark_at k n.entry ++ []) kind-is)
 
   pub ran-short : (f : Fabric) (p : Point) (b : Berth) (added : List Note) → IsFabric x.core f → slice_get f.residents place ≡ Some p → slice_get x.berths.items place ≡ Some b → tick_of p ≤ b.noted + 1
       → y.notes.items ≡ x.notes.items ++ added → AreShort added
@@ -303,6 +307,10 @@ module _ (number : ℕ) (x y : NotedCore) (place : ℕ) (old : Berth) (who tick 
       let from : n.entry.from ≡ old.noted = ap (λ (z : Entry). z.from) w.entry in
       let to : n.entry.to ≡ tick = ap (λ (z : Entry). z.to) w.entry in
       subst AreShort same (subst (λ z. is_short z n.entry) (sym kind-is) (omega (arith, le, k, noted, from, to)), tt)
+
+-- nothing is told where nothing is written
+pub none-runs : (x : NotedCore) (added : List Note) → x.notes.items ≡ x.notes.items ++ added → marks added ≡ []
+none-runs x added e = subst (λ ns. marks ns ≡ []) (cancel x.notes.items [] added (append-nil x.notes.items ∙ e)) refl
 
 -- where it isn't ahead, it is where its last note says
 pub still-set : (x : NotedCore) (f g : Fabric) (place : ℕ) (old : Berth) (who tick : ℕ) (p : Point) (b : Berth) → Read x place old who tick → IsNoted x g → tick ≤ old.noted → IsFabric x.core f

@@ -1,5 +1,6 @@
 pub mod Berths
 pub mod Standing
+pub mod Marks
 pub mod Ways
 pub mod Refusals
 pub mod Taking

@@ -21,6 +21,7 @@ use Rattle.fab_bay.specs.declared.leaving.Leaving.{Leaving}
 use Rattle.fab_bay.specs.declared.leaving.Receipt.{Receipt}
 use Rattle.fab_bay.specs.declared.leaving.Turn.{Turn}
 use Rattle.fab_bay.specs.declared.noted.NotedCore.{NotedCore}
+use Rattle.fab_bay.specs.Marks.{all_called_for, marks, Mark}
 use Rattle.fab_bay.specs.Standing.{IsNoted}
 
 -- ---- tenants that came out
@@ -79,15 +80,30 @@ abbrev pub AreInOrder : List Event → World → Type 0
 AreInOrder [] w = ⊤
 AreInOrder (e ∷ es) w = MayBe e w.fabric × AreInOrder es (happens w e)
 
--- ---- ways
+-- ---- what is written
 
 -- each is of a tenant of a number below this one
 abbrev pub AreBelow : ℕ → List Note → Type 0
 AreBelow n [] = ⊤
 AreBelow n (m ∷ ms) = (m.entry.tenant < n) × AreBelow n ms
 
+-- notes that bear a seat's number are added, none of a tenant that is put in line; they say that these came out, and tell these marks
+pub record IsWritten (number : ℕ) (x y : NotedCore) (out : List Token) (told_marks : List Mark) : Type 0 where
+  pub label : y.label ≡ x.label
+  pub added : List Note
+  pub notes : y.notes.items ≡ x.notes.items ++ added
+  pub told : y.told.items ≡ x.told.items ++ map (λ n. n.entry) added
+  pub bear : AllBear number added
+  pub few : AreBelow x.label.tenants added
+  pub puts : puts added ≡ []
+  pub outs : outs added ≡ out
+  pub marks_are : marks added ≡ told_marks
+
+-- ---- ways
+
 -- from x to y by the seat of this number, in so many cycles: notes are added that bear it, none of a tenant that is put in line, and they say who came out
--- behind those before; what they tell is behind what was told before; and events happen to every fabric for which x stands, and lead to one for which y stands
+-- behind those before; what they tell is behind what was told before; and events happen to every fabric for which x stands, and lead to one for which y stands;
+-- but for runs, the notes are just those that the events call for
 pub record Way (number cycles : ℕ) (x y : NotedCore) (said said' : List Entry) (out out' : List Transit) : Type 0 where
   pub label : y.label ≡ x.label
   pub added : List Note
@@ -102,6 +118,7 @@ pub record Way (number cycles : ℕ) (x y : NotedCore) (said said' : List Entry)
   pub leads : (f : Fabric) (ps : List Point) → IsNoted x f → AreOut out ps →
       IsNoted y (run events (record { fabric = f; transit = ps })).fabric × AreOut out' (run events (record { fabric = f; transit = ps })).transit
   pub ordered : (f : Fabric) (ps : List Point) → IsNoted x f → AreOut out ps → AreInOrder events (record { fabric = f; transit = ps })
+  pub marks_are : (f : Fabric) (ps : List Point) → IsNoted x f → AreOut out ps → marks added ≡ all_called_for events (record { fabric = f; transit = ps })
 
 -- in a call: what is told is kept beside the history
 abbrev pub Goes : (number cycles : ℕ) (x y : NotedCore) (out out' : List Transit) → Type 0

@@ -8,6 +8,7 @@ ghost use Rattle.fab_notes.specs.declared.note.Note.{Note as OneNote};
 ghost use Rattle.fab_notes.specs.declared.transit.Transit.{Transit as Out};
 ghost use Rattle.fab_bay.specs.declared.berth.Berth.{Berth as OneBerth};
 ghost use Rattle.fab_bay.specs.Berths.{AreSettled};
+ghost use Rattle.fab_bay.specs.Marks.{marks};
 ghost use Rattle.fab_bay.specs.Nearness.{IsNear};
 ghost use Rattle.fab_bay.specs.Standing.{CanSettle, HasRoomFor, IsNoted, IsSame};
 ghost use Rattle.fab_bay.specs.Ways.{AreShort, Goes};
@@ -63,6 +64,7 @@ impl NotedCore {
         ensures waiting { self.new.waiting ≡ self.old.waiting }
         ensures short { (f : Fabric) (p : Point) (b : OneBerth) (added : List OneNote) → IsFabric self.old.core f → slice_get f.residents place ≡ Some p → slice_get self.old.berths.items place ≡ Some b →
             tick_of p ≤ b.noted + 1 → self.new.notes.items ≡ self.old.notes.items ++ added → AreShort added }
+        ensures runs { (added : List OneNote) → self.new.notes.items ≡ self.old.notes.items ++ added → marks added ≡ [] }
         ensures near { IsNear self.old → IsNear self.new }
         ensures room { (n : ℕ) → HasRoomFor (suc n) self.old → HasRoomFor n self.new }
     {

@@ -1,14 +1,15 @@
 //! What residents wait for.
 
-ghost use Rattle.std.specs.Prelude.{◌≡◌, ◌++◌, ◌+◌, ◌<◌, false, true, ℕ, IfOk, List, Some, length};
-ghost use Rattle.fab_points.specs.Points.{waits, Point};
+ghost use Rattle.std.specs.Prelude.{◌≡◌, ◌++◌, ◌∷◌, ◌+◌, ◌<◌, [], false, true, ℕ, IfOk, List, Some, length};
+ghost use Rattle.fab_lock.specs.declared.entry.Kind.TheVariants as kind;
+ghost use Rattle.fab_points.specs.Points.{tick_of, waits, Point};
 ghost use Rattle.fab_points.specs.Fabrics.{first_of, Fabric};
 ghost use Rattle.fab_notes.specs.declared.note.Note.{Note as OneNote};
 ghost use Rattle.fab_notes.specs.declared.transit.Transit.{Transit as Out};
 ghost use Rattle.fab_bay.specs.Acts.{acts_to_come, saves_to_come};
 ghost use Rattle.fab_bay.specs.Nearness.{IsNear};
 ghost use Rattle.fab_bay.specs.Standing.{CanSettle, HasRoomFor, IsNoted};
-ghost use Rattle.fab_bay.specs.Ways.{AreShort, Goes};
+ghost use Rattle.fab_bay.specs.Ways.{AreShort, Goes, IsWritten};
 
 use crate::line::berth_of;
 use crate::noted::NotedCore;
@@ -21,7 +22,8 @@ impl NotedCore {
     fn saved_one(&mut self, number: u32, tenant: u32)
         requires fabric { (f : Fabric) × (p : Point) × IsNoted self.old f × (first_of tenant f.residents ≡ Some p) }
         requires room { HasRoomFor 2 self.old }
-        ensures goes { (out : List Out) → Goes number 0 self.old self.new out out }
+        ensures written { (tick : ℕ) × IsWritten number self.old self.new [] (record { kind = kind.Saved; tenant = tenant; tick = tick } ∷ []) × ((f : Fabric) (p : Point) → IsNoted self.old f → first_of tenant f.residents ≡ Some p → tick ≡ tick_of p) }
+        ensures kept { (f : Fabric) → IsNoted self.old f → IsNoted self.new f }
         ensures core { self.new.core ≡ self.old.core }
         ensures near { IsNear self.old → IsNear self.new }
         ensures short { IsNear self.old → (added : List OneNote) → self.new.notes.items ≡ self.old.notes.items ++ added → AreShort added }

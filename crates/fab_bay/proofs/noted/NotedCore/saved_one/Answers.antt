@@ -1,8 +1,8 @@
-use Rattle.std.proofs.Common.{◌≡◌, ◌<◌, ◌+◌, suc, Some, List, length, [], ◌∷◌, ◌++◌, refl, sym, ap, ◌∙◌, subst, arith}
+use Rattle.std.proofs.Common.{◌≡◌, ◌<◌, ◌+◌, suc, Some, List, length, [], ◌∷◌, refl, sym, ap, ◌∙◌, subst, arith}
 use Rattle.std.specs.Prelude.{slice_get, ◌==◌, position}
 use Rattle.std.specs.declared.alloc.Global.{Global}
 use Rattle.std.specs.declared.vec.Vec.{Vec}
-use Rattle.std.proofs.lemmas.Option.{slice_get_read}
+use Rattle.std.proofs.lemmas.Option.{slice_get-get_or, slice_get_read}
 use Rattle.fab_points.specs.Points.{tick_of}
 use Rattle.fab_lock.specs.declared.entry.Entry.{Entry}
 use Rattle.fab_lock.specs.declared.entry.Kind.TheVariants.{Saved}
@@ -10,7 +10,10 @@ use Rattle.fab_notes.specs.Tokens.{out_at, put_at}
 use Rattle.fab_bay.specs.declared.berth.Berth.{Berth}
 use Rattle.fab_bay.proofs.Events.{berthed, has-place}
 use Rattle.fab_bay.proofs.Near.{near-by, ran-near-short, short-one, short-then}
-use Rattle.fab_bay.proofs.Onward.{goes-note, goes-then}
+use Rattle.fab_bay.specs.Marks.{mark_at}
+use Rattle.fab_bay.proofs.Gone.{place_first}
+use Rattle.fab_bay.proofs.Kept.{written_of, written_one, written_then}
+use Rattle.fab_bay.proofs.Saves.{saved_at}
 use Rattle.fab_bay.proofs.Places.{some-equal}
 use Rattle.fab_bay.proofs.Ran.{behind, berth-at, noted_at, room_less, saved-noted}
 use Rattle.fab_bay.proofs.noted.NotedCore.saved_one.Goals as goal
@@ -44,8 +47,8 @@ index-requires c =
 pub write-requires : goal.write-requires
 write-requires c = let r = c.ran_one.ensures.room 1 c.requires.room in record { room = record { notes = r.notes; told = r.told } }
 
-pub returns-clause-goes : goal.returns-clause-goes
-returns-clause-goes c = λ out.
+pub returns-clause-written : goal.returns-clause-written
+returns-clause-written c =
     let x = c.args.self.now in
     let y = c.ran_one.new.self in
     let z = c.write.new.self in
@@ -53,21 +56,49 @@ returns-clause-goes c = λ out.
     let n = c.saved.result in
     let m = c.index.result.now in
     let e = c.write.ensures in
+    let k = c.args.number in
+    let t = c.args.tenant in
     let f = c.requires.fabric.0 in
-    let b = berthed c.args.tenant x i (ap (λ (bs : List Berth). position (λ b. b.tenant == c.args.tenant) bs) (sym c.deref.ensures.value) ∙ (sym c.berth_of.ensures ∙ c.in-Some.is)) in
+    let found = ap (λ (bs : List Berth). position (λ b. b.tenant == c.args.tenant) bs) (sym c.deref.ensures.value) ∙ (sym c.berth_of.ensures ∙ c.in-Some.is) in
+    let b = berthed t x i found in
     let d = behind x y f i c.requires.fabric.2 b.inside c.ran_one.ensures.noted in
     let inside : i < length y.berths.items = subst (λ k. i < k) (sym d.long) b.inside in
     let at : slice_get y.berths.items i ≡ Some m = slice_get_read y.berths.items (length y.berths.items) i m refl inside c.index.ensures in
-    let who : m.tenant ≡ c.args.tenant = ap (λ (w : Berth). w.tenant) (some-equal m (noted_at (tick_of d.point) d.old) (sym at ∙ d.here)) ∙ b.tenant d.old d.at in
+    let who : m.tenant ≡ t = ap (λ (w : Berth). w.tenant) (some-equal m (noted_at (tick_of d.point) d.old) (sym at ∙ d.here)) ∙ b.tenant d.old d.at in
     let h = c.ran_one.ensures.kept f c.requires.fabric.2 in
     let few = (berth-at y.label.tenants y.berths.items f.residents i m d.point h.residents at d.stands).few in
     let entry = c.saved.ensures.entry in
-    goes-then c.args.number 0 0 x y z out out out (c.ran_one.ensures.goes out)
-    (goes-note c.args.number y z out n e.label e.notes e.told (ap (λ (w : Entry). w.seat) entry) (subst (λ k. k < y.label.tenants) (who ∙ sym (ap (λ (w : Entry). w.tenant) entry)) few)
-    (ap (λ (w : Entry). put_at w.kind n ++ []) entry) (ap (λ (w : Entry). out_at w.kind n ++ []) entry)
-    (λ g k. saved-noted y z g i m n k at
+    let ran = c.ran_one.ensures.goes [] in (
+      m.noted,
+      written_then k x y z [] [] [] (saved_at t m.noted ∷ []) (written_of k 0 x y ran (c.ran_one.ensures.runs ran.added ran.notes))
+          (written_one k y z n [] (saved_at t m.noted ∷ []) e.label e.notes e.told (ap (λ (w : Entry). w.seat) entry)
+          (subst (λ k. k < y.label.tenants) (who ∙ sym (ap (λ (w : Entry). w.tenant) entry)) few) (ap (λ (w : Entry). put_at w.kind n) entry) (ap (λ (w : Entry). out_at w.kind n) entry)
+          (ap (λ (w : Entry). mark_at w.kind w) entry)),
+      λ g p j first.
+          let there = behind x y g i j b.inside c.ran_one.ensures.noted in
+          let spot = place_first t i x g found j in
+          let here : there.point ≡ p = some-equal there.point p (sym there.stands ∙ (slice_get-get_or g.residents i p spot.there ∙ (sym (spot.first p) ∙ first))) in
+          ap (λ (w : Berth). w.noted) (some-equal m (noted_at (tick_of there.point) there.old) (sym at ∙ there.here)) ∙ ap tick_of here,
+    )
+
+pub returns-clause-kept : goal.returns-clause-kept
+returns-clause-kept c = λ g k.
+    let x = c.args.self.now in
+    let y = c.ran_one.new.self in
+    let z = c.write.new.self in
+    let i = c.in-Some.place in
+    let n = c.saved.result in
+    let m = c.index.result.now in
+    let e = c.write.ensures in
+    let b = berthed c.args.tenant x i (ap (λ (bs : List Berth). position (λ b. b.tenant == c.args.tenant) bs) (sym c.deref.ensures.value) ∙ (sym c.berth_of.ensures ∙ c.in-Some.is)) in
+    let d = behind x y g i k b.inside c.ran_one.ensures.noted in
+    let inside : i < length y.berths.items = subst (λ j. i < j) (sym d.long) b.inside in
+    let at : slice_get y.berths.items i ≡ Some m = slice_get_read y.berths.items (length y.berths.items) i m refl inside c.index.ensures in
+    let who : m.tenant ≡ c.args.tenant = ap (λ (w : Berth). w.tenant) (some-equal m (noted_at (tick_of d.point) d.old) (sym at ∙ d.here)) ∙ b.tenant d.old d.at in
+    let entry = c.saved.ensures.entry in
+    saved-noted y z g i m n (c.ran_one.ensures.kept g k) at
     (record { kind = ap (λ (w : Entry). w.kind) entry; tenant = ap (λ (w : Entry). w.tenant) entry ∙ sym who; from_is = ap (λ (w : Entry). w.from) entry; to_is = ap (λ (w : Entry). w.to) entry })
-    (record { label = e.label; core = e.core; waiting = e.waiting; notes = e.notes; told = e.told }) e.berths))
+    (record { label = e.label; core = e.core; waiting = e.waiting; notes = e.notes; told = e.told }) e.berths
 
 pub returns-clause-long : goal.returns-clause-long
 returns-clause-long c =

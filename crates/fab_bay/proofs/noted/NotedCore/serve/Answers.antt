@@ -13,6 +13,7 @@ use Rattle.fab_bay.proofs.Acts.{call-nearer, save-along, save-fewer, still-by, t
 use Rattle.fab_bay.proofs.Events.{first-served, goes-core, goes-same, goes-serve, on-ok, room-by, same-back, same-noted, serve-noted}
 use Rattle.fab_bay.proofs.Near.{near-by, near-core, near-served, short-none}
 use Rattle.fab_bay.proofs.Onward.{goes-then}
+use Rattle.fab_bay.proofs.Saves.{goes-saved}
 use Rattle.fab_bay.proofs.noted.NotedCore.serve.Goals as goal
 
 pub returns-then-is_err-clause-goes : goal.returns-then-is_err-clause-goes
@@ -61,7 +62,9 @@ returns-else-saved-clause-goes c = λ out.
     let z = record y { core = c.serve.new.self } in
     goes-then c.args.number 0 0 x y z out out out (goes-same c.args.number x y out c.prepare.ensures.same)
     (goes-serve c.each_act_comes_nearer.ensures.call_ticks c.args.number c.args.tenant y z out (record { label = refl; berths = refl; waiting = refl; notes = refl; told = refl }) c.in-Ok.ensures.fabric
-    (λ f h. c.requires.waits f (same-noted y x f (same-back x y c.prepare.ensures.same) h)))
+    (λ f h.
+    let w = c.requires.waits f (same-noted y x f (same-back x y c.prepare.ensures.same) h) in
+    (w.0, w.1, w.2, trap-by c.in-Ok.saved (at_trap (table_of (run_in w.0).flat) w.0.stage) (c.in-Ok.ensures.which f w.0 h.core w.1) c.if-saved.false)))
 
 pub returns-then-saved-clause-goes : goal.returns-then-saved-clause-goes
 returns-then-saved-clause-goes c = λ out.
@@ -69,11 +72,13 @@ returns-then-saved-clause-goes c = λ out.
     let y = c.prepare.new.self in
     let z = record y { core = c.serve.new.self } in
     let u = c.saved_one.new.self in
-    goes-then c.args.number 0 0 x z u out out out
-    (goes-then c.args.number 0 0 x y z out out out (goes-same c.args.number x y out c.prepare.ensures.same)
-    (goes-serve c.each_act_comes_nearer.ensures.call_ticks c.args.number c.args.tenant y z out (record { label = refl; berths = refl; waiting = refl; notes = refl; told = refl }) c.in-Ok.ensures.fabric
-    (λ f h. c.requires.waits f (same-noted y x f (same-back x y c.prepare.ensures.same) h))))
-    (c.saved_one.ensures.goes out)
+    let n = c.saved_one.ensures.written in
+    goes-then c.args.number 0 0 x y u out out out (goes-same c.args.number x y out c.prepare.ensures.same)
+    (goes-saved c.each_act_comes_nearer.ensures.call_ticks c.args.number c.args.tenant n.0 y z u out (record { label = refl; berths = refl; waiting = refl; notes = refl; told = refl }) c.in-Ok.ensures.fabric
+    (λ f h.
+    let w = c.requires.waits f (same-noted y x f (same-back x y c.prepare.ensures.same) h) in
+    (w.0, w.1, w.2, still-by c.in-Ok.saved (at_trap (table_of (run_in w.0).flat) w.0.stage) (c.in-Ok.ensures.which f w.0 h.core w.1) c.if-saved.true))
+    n.1 c.saved_one.ensures.kept n.2)
 
 pub returns-then-saved-clause-room : goal.returns-then-saved-clause-room
 returns-then-saved-clause-room c =

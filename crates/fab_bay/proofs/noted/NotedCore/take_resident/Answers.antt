@@ -89,6 +89,7 @@ returns c =
     let o : IsOut k t i x y z b s n = record {
       ran = r;
       goes = c.ran_one.ensures.goes [];
+      runs = let d = c.ran_one.ensures.goes [] in c.ran_one.ensures.runs d.added d.notes;
       label = c.write.ensures.label;
       notes = c.write.ensures.notes;
       told = c.write.ensures.told;

@@ -24,9 +24,10 @@ use Rattle.fab_bay.specs.declared.berth.Berth.{Berth}
 use Rattle.fab_bay.specs.declared.noted.Label.{Label}
 use Rattle.fab_bay.specs.declared.noted.NotedCore.{NotedCore}
 use Rattle.fab_bay.specs.Berths.{seat, seats, AreBerths, AreWaiters}
-use Rattle.fab_bay.specs.Marks.{mark_at, mark_of, Mark}
+use Rattle.fab_bay.specs.Marks.{is_run, mark_at, mark_of, AreClosed, Mark}
 use Rattle.fab_bay.specs.Standing.{CanSettle, HasRoomFor, IsNoted}
 use Rattle.fab_bay.specs.Ways.{tokens, AreOut, AreShort, Goes, IsWritten}
+use Rattle.fab_bay.proofs.Going.{closed-append, closed-by, closed-none, closed-one}
 use Rattle.fab_bay.proofs.Kept.{goes_by, noted_by, told_next, told_of, written_none, written_one, written_then, IsTold}
 use Rattle.fab_bay.proofs.Near.{short-none, short-one, short-then}
 use Rattle.fab_bay.proofs.Places.{berths_many, waiters_at, waiters_berths}
@@ -182,6 +183,7 @@ pub record IsComing (k i : ℕ) (x z : NotedCore) : Type 0 where
   pub told : IsTold x.label z.notes.items z.berths.items z.waiting.items
   pub room : (m : ℕ) → m + i ≤ length x.berths.items + length x.waiting.items + length x.waiting.items → HasRoomFor m z
   pub free : vec_len z.berths + length x.waiting.items ≤ vec_capacity z.berths + i
+  pub closed : (added : List Note) → z.notes.items ≡ x.notes.items ++ added → AreClosed added
   -- nobody runs
   pub short : (added : List Note) → z.notes.items ≡ x.notes.items ++ added → AreShort added
 
@@ -302,6 +304,9 @@ module _ (k i : ℕ) (x y z : NotedCore) (f : Fabric) (b : Berth) (n : Note) (s 
             (subst (λ (bs : List Berth). IsTold x.label (y.notes.items ++ n ∷ []) (y.berths.items ++ b ∷ []) bs) (sym line) told));
         room = λ m e. c.room m (h.room (suc m) (omega (arith, e)));
         free = omega (arith, free, more, wide);
+        closed = λ added e.
+            closed-by x.notes.items y.notes.items z.notes.items h.written.added (n ∷ []) added h.written.notes c.notes e
+            (closed-append h.written.added (n ∷ []) (h.closed h.written.added h.written.notes) (closed-one n (ap (λ (a : Entry). is_run a.kind) c.entry)));
         short = λ added e.
             short-then x.notes.items y.notes.items z.notes.items h.written.added (n ∷ []) added h.written.notes c.notes e (h.short h.written.added h.written.notes)
             (short-one n Came (ap (λ (a : Entry). a.kind) c.entry) tt);
@@ -327,7 +332,8 @@ module _ (k : ℕ) (w x z : NotedCore) (i : ℕ) (r : IsRebuilt w x) (h : IsComi
   pub rebuilt_goes : (out : List Transit) → ((f : Fabric) → IsNoted w f → is_at_rest f ≡ true) → ((f : Fabric) → IsNoted w f → i ≡ joining f) → Goes k 0 w z out out
   rebuilt_goes out rest many =
       goes_by k 0 w z out out [] (map mark_came (take i x.waiting.items)) (Rebuild ∷ [])
-      (written_then k w x z [] [] [] (map mark_came (take i x.waiting.items)) (written_none k w x r.label r.notes r.told) h.written) (sym (append-nil (tokens out))) refl
+      (written_then k w x z [] [] [] (map mark_came (take i x.waiting.items)) (written_none k w x r.label r.notes r.told) h.written)
+      (λ added e. h.closed added (e ∙ ap (λ (l : List Note). l ++ added) (sym r.notes))) (sym (append-nil (tokens out))) refl
       (λ f ps n o. subst (λ (v : World). IsNoted z v.fabric × AreOut out v.transit) (sym (rebuild_world f ps (rest f n))) (noted_rebuilt f n (many f n), o))
       (λ f ps n o. (tt, tt))
       (λ f ps n o.
@@ -346,6 +352,7 @@ coming_start k w x f r n room free = record {
   told = told_start w x f r n;
   room = λ m e. room_less m (length x.berths.items + length x.waiting.items + length x.waiting.items) x (omega (arith, e)) room;
   free = omega (arith, free);
+  closed = λ added e. closed-none x.notes.items x.notes.items added refl e;
   short = λ added e. short-none x.notes.items x.notes.items added refl e;
 }
 

@@ -17,7 +17,7 @@ use Rattle.fab_bay.specs.declared.noted.Label.{Label}
 use Rattle.fab_bay.specs.declared.noted.NotedCore.{NotedCore}
 use Rattle.fab_bay.specs.Berths.{deed_at, seat, seats}
 use Rattle.fab_bay.specs.Taking.{KeepsFlag}
-use Rattle.fab_bay.specs.Ways.{Goes}
+use Rattle.fab_bay.specs.Ways.{Path}
 use Rattle.fab_bay.proofs.Going.{front-empty, replay-append}
 use Rattle.fab_bay.proofs.Kept.{IsTold}
 use Rattle.fab_bay.proofs.Leavers.{seats_resident, seats_waiter}
@@ -58,7 +58,7 @@ replay-keeps g a t ss (n ∷ ns) since now c d l o p =
     replay-keeps g a t (after n.entry.kind ss n) ns since r.0 r.1 d l.2 b.1 r.2
 
 -- the same flag by what was before
-module _ (k n : ℕ) (x y : NotedCore) (legal : IsLegal y.label.fabric y.label.capacity y.notes.items) (w : Goes k n x y [] []) where
+module _ {b : Bool} (k n : ℕ) (x y : NotedCore) (legal : IsLegal y.label.fabric y.label.capacity y.notes.items) (w : Path b k n x y x.told.items y.told.items [] []) where
   pub keeps-before : (out : Transit) → KeepsFlag y out → KeepsFlag x out
   keeps-before out h = λ since now c d p.
       let g = y.label.fabric in

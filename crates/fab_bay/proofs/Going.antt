@@ -1,6 +1,6 @@
 -- Ways one after another.
-use Rattle.std.proofs.Common.{◌≡◌, ℕ, ◌+◌, List, [], ◌∷◌, ◌++◌, map, refl, sym, ap, ◌∙◌, subst, append_assoc, arith}
-use Rattle.std.proofs.lemmas.List.{append-nil}
+use Rattle.std.proofs.Common.{◌≡◌, ℕ, ◌+◌, Bool, true, false, eq-eqb, List, [], ◌∷◌, ◌++◌, map, refl, sym, ap, ◌∙◌, subst, append_assoc, arith}
+use Rattle.std.proofs.lemmas.List.{append-nil, append_cancel_left}
 use Rattle.fab_lock.specs.declared.entry.Entry.{Entry}
 use Rattle.fab_lock.specs.declared.entry.Kind.{Kind}
 use Rattle.fab_lock.specs.declared.entry.Kind.TheVariants as kind
@@ -15,14 +15,14 @@ use Rattle.fab_notes.specs.Deeds.{Deed, deed_in}
 use Rattle.fab_notes.specs.Histories.{after, in_line, replay, AreLinesByFirst, IsLegal, Seat}
 use Rattle.fab_notes.specs.Tokens as tokens_of
 use Rattle.fab_notes.specs.Tokens.{outs, out_at, puts, put_at, AllBear, Token}
-use Rattle.std.specs.Prelude.{Option, None, Some}
+use Rattle.std.specs.Prelude.{◌==◌, if◌then◌else◌, not, Option, None, Some}
 use Rattle.fab_bay.specs.declared.berth.Berth.{Berth}
 use Rattle.fab_bay.specs.declared.noted.Label.{Label}
 use Rattle.fab_bay.specs.declared.noted.NotedCore.{NotedCore}
 use Rattle.fab_bay.specs.Berths.{seats, AreBerths, AreWaiters}
-use Rattle.fab_bay.specs.Marks.{all_called_for, called_for, mark_at, marks, Mark}
+use Rattle.fab_bay.specs.Marks.{all_called_for, called_for, is_run, runs_next, stops_next, AreClosed, AreWhole, IsRunOf, mark_at, marks, Mark}
 use Rattle.fab_bay.specs.Standing.{IsNoted, IsSame}
-use Rattle.fab_bay.specs.Ways.{cycles_in, tokens, AreBelow, AreInOrder, AreOut, Goes, IsEmpty, Way}
+use Rattle.fab_bay.specs.Ways.{cycles_in, tokens, AreBelow, AreInOrder, AreOut, Goes, IsEmpty, Path}
 
 -- ---- notes
 
@@ -49,6 +49,53 @@ told-append (x ∷ xs) ys = ap (λ (l : List Entry). x.entry ∷ l) (told-append
 pub marks-append : (xs ys : List Note) → marks (xs ++ ys) ≡ marks xs ++ marks ys
 marks-append [] ys = refl
 marks-append (x ∷ xs) ys = ap (λ (l : List Mark). mark_at x.entry.kind x.entry ++ l) (marks-append xs ys) ∙ sym (append_assoc (mark_at x.entry.kind x.entry) (marks xs) (marks ys))
+
+stops-append : (t : ℕ) (xs ys : List Note) → stops_next t xs ≡ true → stops_next t (xs ++ ys) ≡ true
+stops-append t [] ys h = let z : ⊥ = cc in absurd z
+stops-append t (x ∷ xs) ys h = by (x.entry.tenant == t) h (stops-append t xs ys)
+  where
+    by : (v : Bool) → (if v then not (is_run x.entry.kind) else stops_next t xs) ≡ true → (stops_next t xs ≡ true → stops_next t (xs ++ ys) ≡ true)
+        → (if v then not (is_run x.entry.kind) else stops_next t (xs ++ ys)) ≡ true
+    by true e r = e
+    by false e r = r e
+
+pub closed-append : (xs ys : List Note) → AreClosed xs → AreClosed ys → AreClosed (xs ++ ys)
+closed-append [] ys a b = b
+closed-append (x ∷ xs) ys a b = (λ r. stops-append x.entry.tenant xs ys (a.0 r), closed-append xs ys a.1 b)
+
+no-run : (b : Bool) → not b ≡ true → b ≡ false
+no-run true e = let z : ⊥ = cc in absurd z
+no-run false e = refl
+
+next-append : (t : ℕ) (xs ys : List Note) → stops_next t xs ≡ true → runs_next t (xs ++ ys) ≡ false
+next-append t [] ys h = let z : ⊥ = cc in absurd z
+next-append t (x ∷ xs) ys h = by (x.entry.tenant == t) h (next-append t xs ys)
+  where
+    by : (v : Bool) → (if v then not (is_run x.entry.kind) else stops_next t xs) ≡ true → (stops_next t xs ≡ true → runs_next t (xs ++ ys) ≡ false)
+        → (if v then is_run x.entry.kind else runs_next t (xs ++ ys)) ≡ false
+    by true e r = no-run (is_run x.entry.kind) e
+    by false e r = r e
+
+pub whole-append : (xs ys : List Note) → AreClosed xs → AreWhole ys → AreWhole (xs ++ ys)
+whole-append [] ys a b = b
+whole-append (x ∷ xs) ys a b = (λ r. next-append x.entry.tenant xs ys (a.0 r), whole-append xs ys a.1 b)
+
+-- a note of another kind behind a run of the same tenant
+pub closed-run : (t : ℕ) (rs : List Note) (n : Note) → IsRunOf t rs → n.entry.tenant ≡ t → is_run n.entry.kind ≡ false → AreClosed (rs ++ n ∷ [])
+closed-run t [] n h e k = (λ r. let z : ⊥ = cc in absurd z, tt)
+closed-run t (m ∷ []) n h e k =
+    (λ r. ap (λ (v : Bool). if v then not (is_run n.entry.kind) else false) (eq-eqb n.entry.tenant m.entry.tenant (e ∙ sym h.1)) ∙ ap not k, (λ r. let z : ⊥ = cc in absurd z, tt))
+closed-run t (m ∷ l ∷ rs) n h e k = absurd h
+
+pub closed-one : (n : Note) → is_run n.entry.kind ≡ false → AreClosed (n ∷ [])
+closed-one n k = (λ r. let z : ⊥ = cc in absurd z, tt)
+
+pub closed-by : (x y z a b added : List Note) → y ≡ x ++ a → z ≡ y ++ b → z ≡ x ++ added → AreClosed (a ++ b) → AreClosed added
+closed-by x y z a b added e g h c =
+    subst (λ (ns : List Note). AreClosed ns) (append_cancel_left x (a ++ b) added (sym (append_assoc x a b) ∙ (ap (λ (l : List Note). l ++ b) (sym e) ∙ (sym g ∙ h)))) c
+
+pub closed-none : (x y added : List Note) → y ≡ x → y ≡ x ++ added → AreClosed added
+closed-none x y added e h = subst (λ (ns : List Note). AreClosed ns) (append_cancel_left x [] added (append-nil x ∙ (sym e ∙ h))) tt
 
 pub replay-append : (ss : List Seat) (xs ys : List Note) → replay ss (xs ++ ys) ≡ replay (replay ss xs) ys
 replay-append ss [] ys = refl
@@ -129,7 +176,7 @@ start f ps = record { fabric = f; transit = ps }
 
 module _ (k : ℕ) where
   -- nothing is done
-  pub stays : (x y : NotedCore) (said : List Entry) (out : List Transit) → y.label ≡ x.label → y.core ≡ x.core → y.berths ≡ x.berths → y.waiting ≡ x.waiting → y.notes.items ≡ x.notes.items → Way k 0 x y said said out out
+  pub stays : {b : Bool} (x y : NotedCore) (said : List Entry) (out : List Transit) → y.label ≡ x.label → y.core ≡ x.core → y.berths ≡ x.berths → y.waiting ≡ x.waiting → y.notes.items ≡ x.notes.items → Path b k 0 x y said said out out
   stays x y said out label core berths waiting notes = record {
     label = label;
     added = [];
@@ -144,16 +191,17 @@ module _ (k : ℕ) where
     leads = λ f ps n a. (noted-along x y f label core berths waiting notes n, a);
     ordered = λ f ps n a. tt;
     marks_are = λ f ps n a. refl;
+    runs = λ h. tt;
   }
 
   pub none : (x : NotedCore) (out : List Transit) → Goes k 0 x x out out
   none x out = stays x x x.told.items out refl refl refl refl refl
 
   pub same : (x y : NotedCore) (out : List Transit) → IsSame x y → Goes k 0 x y out out
-  same x y out s = subst (λ (es : List Entry). Way k 0 x y x.told.items es out out) (sym s.told) (stays x y x.told.items out s.label s.core s.berths s.waiting s.notes)
+  same x y out s = subst (λ (es : List Entry). Path true k 0 x y x.told.items es out out) (sym s.told) (stays x y x.told.items out s.label s.core s.berths s.waiting s.notes)
 
-  module _ (m n q : ℕ) (x y z : NotedCore) (s t u : List Entry) (a b c : List Transit) (g : Way k m x y s t a b) (h : Way k n y z t u b c) (e : m + n ≡ q) where
-    pub andThen : Way k q x z s u a c
+  module _ {w : Bool} (m n q : ℕ) (x y z : NotedCore) (s t u : List Entry) (a b c : List Transit) (g : Path w k m x y s t a b) (h : Path w k n y z t u b c) (e : m + n ≡ q) where
+    pub andThen : Path w k q x z s u a c
     andThen = record {
       label = h.label ∙ g.label;
       added = g.added ++ h.added;
@@ -173,6 +221,7 @@ module _ (k : ℕ) where
       leads = leads;
       ordered = ordered;
       marks_are = marks_are;
+      runs = λ i. closed-append g.added h.added (g.runs i) (h.runs i);
     }
       where
         leads : (f : Fabric) (ps : List Point) → IsNoted x f → AreOut a ps →
@@ -196,7 +245,26 @@ module _ (k : ℕ) where
             ∙ (ap (λ (l : List Mark). l ++ marks h.added) (g.marks_are f ps i o)
             ∙ (ap (λ (l : List Mark). all_called_for g.events (start f ps) ++ l) (h.marks_are w.fabric w.transit mid.0 mid.1) ∙ sym (called-append g.events h.events (start f ps))))
 
+  -- a closed path is a path
+  pub opened : (n : ℕ) (x y : NotedCore) (s t : List Entry) (a b : List Transit) → Path true k n x y s t a b → Path false k n x y s t a b
+  opened n x y s t a b g = record {
+    label = g.label;
+    added = g.added;
+    notes = g.notes;
+    told = g.told;
+    bear = g.bear;
+    few = g.few;
+    puts = g.puts;
+    outs = g.outs;
+    events = g.events;
+    count = g.count;
+    leads = g.leads;
+    ordered = g.ordered;
+    marks_are = g.marks_are;
+    runs = λ e. let z : ⊥ = cc in absurd z;
+  }
+
   -- where nobody is, nobody comes to be
-  pub empty-on : (m : ℕ) (x y : NotedCore) (s t : List Entry) (a b : List Transit) → Way k m x y s t a b → IsEmpty x.notes.items → IsEmpty y.notes.items
+  pub empty-on : {w : Bool} (m : ℕ) (x y : NotedCore) (s t : List Entry) (a b : List Transit) → Path w k m x y s t a b → IsEmpty x.notes.items → IsEmpty y.notes.items
   empty-on m x y s t a b g e =
       ap (replay []) g.notes ∙ (replay-append [] x.notes.items g.added ∙ (ap (λ (ss : List Seat). replay ss g.added) e ∙ still-nobody g.added g.puts))

@@ -26,10 +26,12 @@ use Rattle.fab_bay.specs.declared.berth.Berth.{Berth}
 use Rattle.fab_bay.specs.declared.noted.NotedCore.{NotedCore}
 use Rattle.fab_bay.specs.Berths.{deed_at, AreBerths, IsBerth, IsWaiter}
 use Rattle.fab_lock.specs.declared.entry.Kind.TheVariants as kind
-use Rattle.fab_bay.specs.Marks.{all_called_for, leave_for, mark_of, marks, take_for, Mark}
+use Rattle.fab_bay.specs.Marks.{all_called_for, is_run, leave_for, mark_of, marks, take_for, AreClosed, IsRunOf, Mark}
 use Rattle.fab_bay.specs.Standing.{CanSettle, HasRoomFor, IsNoted, IsSame}
 use Rattle.fab_bay.specs.Taking.{KeepsFlag}
-use Rattle.fab_bay.specs.Ways.{tokens, AreOut, Goes, IsWritten}
+use Rattle.fab_bay.specs.Ways.{tokens, AreOut, Goes, IsWritten, Settles}
+use Rattle.fab_lock.specs.declared.entry.Entry.{Entry}
+use Rattle.fab_bay.proofs.Going.{closed-by, closed-one, closed-run}
 use Rattle.fab_bay.proofs.Flags.{keeps-before, keeps_resident, keeps_waiter}
 use Rattle.fab_bay.proofs.Kept.{goes_by, noted_by, out-snoc, told_of, tokens-snoc, written_of, written_then}
 use Rattle.fab_bay.proofs.Leavers.{leaver_chained, leaver_end, leaver_keeps, leaver_number, leaver_order, leaver_ticks, mark_leaver, mark_out, may_leave, told_left, told_withdrawn, written_out, IsLeaver, IsOutNote}
@@ -120,8 +122,9 @@ module _ (k tenant place : ℕ) (x y z : NotedCore) (b : Berth) (t : Transit) (n
   -- its note is written, and it is a resident no longer
   pub record IsOut : Type 0 where
     pub ran : IsRan tenant place x y b
-    pub goes : Goes k 0 x y [] []
+    pub goes : Settles k x y []
     pub runs : marks goes.added ≡ []
+    pub run : IsRunOf tenant goes.added
     pub label : z.label ≡ y.label
     pub notes : z.notes.items ≡ y.notes.items ++ n ∷ []
     pub told : z.told.items ≡ y.told.items ++ n.entry ∷ []
@@ -174,7 +177,12 @@ module _ (k tenant place : ℕ) (x y z : NotedCore) (b : Berth) (t : Transit) (n
         let berth = ran_berth tenant place x y b o.ran f h d in
         let now = ran_noted tenant place x y b o.ran f h d in
         let few = subst (λ (j : ℕ). j < y.label.tenants) (sym (leaver_number y.label.tenants b p w t.parcel berth now l)) berth.few in
-        written_then k x y z [] (tokens (t ∷ [])) [] (mark_out t ∷ []) (written_of k 0 x y o.goes o.runs) (written_out y.label y.notes.items n k t o.note y z o.label o.notes o.told few)
+        written_then k x y z [] (tokens (t ∷ [])) [] (mark_out t ∷ []) (written_of k x y o.goes o.runs) (written_out y.label y.notes.items n k t o.note y z o.label o.notes o.told few)
+
+    pub out_closed : (f : Fabric) (w : Why) (d : Point) → IsNoted x f → IsLeaver w (get_or f.residents place d) t.parcel → (added : List Note) → z.notes.items ≡ x.notes.items ++ added → AreClosed added
+    out_closed f w d h l added e =
+        closed-by x.notes.items y.notes.items z.notes.items o.goes.added (n ∷ []) added o.goes.notes o.notes e
+        (closed-run tenant o.goes.added n o.run (ap (λ (a : Entry). a.tenant) o.note.entry ∙ out_number f w d h l) (ap (λ (a : Entry). is_run a.kind) o.note.entry))
 
 -- what is known of a fabric from which a tenant comes out
 pub record IsGone (tenant : ℕ) (e : Event) (z : NotedCore) (t : Transit) (f : Fabric) : Type 0 where
@@ -186,19 +194,21 @@ pub record IsGone (tenant : ℕ) (e : Event) (z : NotedCore) (t : Transit) (f : 
   pub calls : (ps : List Point) → mark_out t ∷ [] ≡ all_called_for (e ∷ []) (record { fabric = f; transit = ps })
 
 -- the event at which a tenant comes out, of which no more is asked
-pub goes_gone_leave : (k tenant : ℕ) (x z : NotedCore) (t : Transit) (out : List Transit) → IsWritten k x z (tokens (t ∷ [])) (mark_out t ∷ []) → ((f : Fabric) → IsNoted x f → IsGone tenant (Leave tenant) z t f)
+pub goes_gone_leave : (k tenant : ℕ) (x z : NotedCore) (t : Transit) (out : List Transit) → IsWritten k x z (tokens (t ∷ [])) (mark_out t ∷ []) → ((added : List Note) → z.notes.items ≡ x.notes.items ++ added → AreClosed added)
+    → ((f : Fabric) → IsNoted x f → IsGone tenant (Leave tenant) z t f)
     → Goes k 0 x z out (out ++ t ∷ [])
-goes_gone_leave k tenant x z t out w each =
-    goes_by k 0 x z out (out ++ t ∷ []) (tokens (t ∷ [])) (mark_out t ∷ []) (Leave tenant ∷ []) w (tokens-snoc out t) refl
+goes_gone_leave k tenant x z t out w closed each =
+    goes_by k 0 x z out (out ++ t ∷ []) (tokens (t ∷ [])) (mark_out t ∷ []) (Leave tenant ∷ []) w closed (tokens-snoc out t) refl
     (λ f ps h o. let g = each f h in
     subst (λ (v : World). IsNoted z v.fabric × AreOut (out ++ t ∷ []) v.transit) (sym (g.world ps)) (g.noted, out-snoc out t ps g.point o (g.at, tt)))
     (λ f ps h o. (tt, tt))
     (λ f ps h o. (each f h).calls ps)
 
-pub goes_gone_take : (k tenant : ℕ) (x z : NotedCore) (t : Transit) (out : List Transit) → IsWritten k x z (tokens (t ∷ [])) (mark_out t ∷ []) → ((f : Fabric) → IsNoted x f → IsGone tenant (Take tenant) z t f)
+pub goes_gone_take : (k tenant : ℕ) (x z : NotedCore) (t : Transit) (out : List Transit) → IsWritten k x z (tokens (t ∷ [])) (mark_out t ∷ []) → ((added : List Note) → z.notes.items ≡ x.notes.items ++ added → AreClosed added)
+    → ((f : Fabric) → IsNoted x f → IsGone tenant (Take tenant) z t f)
     → Goes k 0 x z out (out ++ t ∷ [])
-goes_gone_take k tenant x z t out w each =
-    goes_by k 0 x z out (out ++ t ∷ []) (tokens (t ∷ [])) (mark_out t ∷ []) (Take tenant ∷ []) w (tokens-snoc out t) refl
+goes_gone_take k tenant x z t out w closed each =
+    goes_by k 0 x z out (out ++ t ∷ []) (tokens (t ∷ [])) (mark_out t ∷ []) (Take tenant ∷ []) w closed (tokens-snoc out t) refl
     (λ f ps h o. let g = each f h in
     subst (λ (v : World). IsNoted z v.fabric × AreOut (out ++ t ∷ []) v.transit) (sym (g.world ps)) (g.noted, out-snoc out t ps g.point o (g.at, tt)))
     (λ f ps h o. (tt, tt))
@@ -341,6 +351,10 @@ module _ (k tenant place : ℕ) (x z : NotedCore) (b : Berth) (t : Transit) (n :
   withdrawn_written =
       let few = subst (λ (j : ℕ). j < x.label.tenants) (sym (leaver_number x.label.tenants b (get_or f.line place p) ended_why t.parcel waiter.berth waiter.noted taker_line)) waiter.berth.few in
       written_out x.label x.notes.items n k t o.note x z o.label o.notes o.told few
+
+  pub withdrawn_closed : (added : List Note) → z.notes.items ≡ x.notes.items ++ added → AreClosed added
+  withdrawn_closed added e =
+      closed-by x.notes.items x.notes.items z.notes.items [] (n ∷ []) added (sym (append-nil x.notes.items)) o.notes e (closed-one n (ap (λ (a : Entry). is_run a.kind) o.note.entry))
 
   pub gone_line : is_at_rest f ≡ true → IsFabric z.core (taken tenant f) → IsGone tenant (Take tenant) z t f
   gone_line rest core =

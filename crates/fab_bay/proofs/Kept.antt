@@ -17,10 +17,10 @@ use Rattle.fab_bay.specs.declared.noted.Label.{Label}
 use Rattle.fab_bay.specs.declared.noted.NotedCore.{NotedCore}
 use Rattle.fab_bay.specs.Berths.{seats, AreBerths, AreWaiters}
 use Rattle.fab_bay.specs.Standing.{IsNoted, IsSame}
-use Rattle.fab_bay.specs.Marks.{all_called_for, mark_at, marks, Mark}
-use Rattle.fab_bay.specs.Ways.{cycles_in, tokens, AreBelow, AreInOrder, AreOut, Goes, IsWritten}
+use Rattle.fab_bay.specs.Marks.{all_called_for, AreClosed, mark_at, marks, Mark}
+use Rattle.fab_bay.specs.Ways.{cycles_in, tokens, AreBelow, AreInOrder, AreOut, Goes, IsWritten, Settles}
 use Rattle.fab_notes.proofs.Legality.{kept_legal, kept_replay}
-use Rattle.fab_bay.proofs.Going.{bear-append, below-append, marks-append, outs-append, puts-append, told-append}
+use Rattle.fab_bay.proofs.Going.{bear-append, below-append, closed-none, marks-append, outs-append, puts-append, told-append}
 
 -- ---- a history
 
@@ -114,15 +114,15 @@ written_then k x y z a b ms ns g h = record {
 }
 
 -- what is known to be runs alone
-pub written_of : (k m : ℕ) (x y : NotedCore) → (g : Goes k m x y [] []) → marks g.added ≡ [] → IsWritten k x y [] []
-written_of k m x y g e = record { label = g.label; added = g.added; notes = g.notes; told = g.told; bear = g.bear; few = g.few; puts = g.puts; outs = sym g.outs; marks_are = e }
+pub written_of : (k : ℕ) (x y : NotedCore) → (g : Settles k x y []) → marks g.added ≡ [] → IsWritten k x y [] []
+written_of k x y g e = record { label = g.label; added = g.added; notes = g.notes; told = g.told; bear = g.bear; few = g.few; puts = g.puts; outs = sym g.outs; marks_are = e }
 
 -- what is written, and what happens
-pub goes_by : (k m : ℕ) (x y : NotedCore) (out out' : List Transit) (ts : List Token) (ms : List Mark) (es : List Event) → IsWritten k x y ts ms → tokens out' ≡ tokens out ++ ts → cycles_in es ≡ m
+pub goes_by : (k m : ℕ) (x y : NotedCore) (out out' : List Transit) (ts : List Token) (ms : List Mark) (es : List Event) → IsWritten k x y ts ms → ((added : List Note) → y.notes.items ≡ x.notes.items ++ added → AreClosed added) → tokens out' ≡ tokens out ++ ts → cycles_in es ≡ m
     → ((f : Fabric) (ps : List Point) → IsNoted x f → AreOut out ps → IsNoted y (run es (record { fabric = f; transit = ps })).fabric × AreOut out' (run es (record { fabric = f; transit = ps })).transit)
     → ((f : Fabric) (ps : List Point) → IsNoted x f → AreOut out ps → AreInOrder es (record { fabric = f; transit = ps }))
     → ((f : Fabric) (ps : List Point) → IsNoted x f → AreOut out ps → ms ≡ all_called_for es (record { fabric = f; transit = ps })) → Goes k m x y out out'
-goes_by k m x y out out' ts ms es w o count leads ordered calls = record {
+goes_by k m x y out out' ts ms es w closed o count leads ordered calls = record {
   label = w.label;
   added = w.added;
   notes = w.notes;
@@ -136,6 +136,7 @@ goes_by k m x y out out' ts ms es w o count leads ordered calls = record {
   leads = leads;
   ordered = ordered;
   marks_are = λ f ps h a. w.marks_are ∙ calls f ps h a;
+  runs = λ i. closed w.added w.notes;
 }
 
 -- ---- nothing done
@@ -176,7 +177,7 @@ still_noted x y f s h =
 
 pub still_goes : (k : ℕ) (x y : NotedCore) (out : List Transit) → IsStill x y → Goes k 0 x y out out
 still_goes k x y out s =
-    goes_by k 0 x y out out [] [] [] (written_none k x y s.label s.notes s.told) (sym (append-nil (tokens out))) refl (λ f ps h o. (still_noted x y f s h, o)) (λ f ps h o. tt) (λ f ps h o. refl)
+    goes_by k 0 x y out out [] [] [] (written_none k x y s.label s.notes s.told) (λ added e. closed-none x.notes.items y.notes.items added s.notes e) (sym (append-nil (tokens out))) refl (λ f ps h o. (still_noted x y f s h, o)) (λ f ps h o. tt) (λ f ps h o. refl)
 
 -- one more is out
 pub out-snoc : (ts : List Transit) (t : Transit) (ps : List Point) (p : Point) → AreOut ts ps → AreOut (t ∷ []) (p ∷ []) → AreOut (ts ++ t ∷ []) (ps ++ p ∷ [])
@@ -205,4 +206,5 @@ still_then k m x y z out out' s g = record {
   leads = λ f ps h o. g.leads f ps (still_noted x y f s h) o;
   ordered = λ f ps h o. g.ordered f ps (still_noted x y f s h) o;
   marks_are = λ f ps h o. g.marks_are f ps (still_noted x y f s h) o;
+  runs = g.runs;
 }

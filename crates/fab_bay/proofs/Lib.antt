@@ -5,6 +5,7 @@ pub mod Near
 pub mod Midst
 pub mod Events
 pub mod Saves
+pub mod Wholes
 pub mod Finding
 pub mod Flags
 pub mod Going

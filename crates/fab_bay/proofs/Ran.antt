@@ -25,9 +25,9 @@ use Rattle.fab_notes.specs.Histories.{after, changed, is_done, is_line, moved_to
 use Rattle.fab_bay.specs.declared.berth.Berth.{Berth}
 use Rattle.fab_bay.specs.declared.noted.NotedCore.{NotedCore}
 use Rattle.fab_bay.specs.Berths.{begun, deed_at, seat, seats, AreBerths, AreSettled, AreWaiters, IsBerth}
-use Rattle.fab_bay.specs.Marks.{mark_at, marks}
+use Rattle.fab_bay.specs.Marks.{is_run, mark_at, marks, IsRunOf}
 use Rattle.fab_bay.specs.Standing.{HasRoomFor, IsNoted}
-use Rattle.fab_bay.specs.Ways.{is_short, AreShort, Goes}
+use Rattle.fab_bay.specs.Ways.{is_short, AreShort, Settles}
 use Rattle.fab_bay.proofs.Kept.{noted_by, told_next, told_of}
 use Rattle.fab_bay.proofs.Onward.{goes-note}
 use Rattle.fab_bay.proofs.Places.{some-equal}
@@ -287,7 +287,7 @@ module _ (number : ℕ) (x y : NotedCore) (place : ℕ) (old : Berth) (who tick 
       (record { kind = kind-is; tenant = tenant-of f t.point h t.stands; from_is = ap (λ (e : Entry). e.from) w.entry; to_is = ap (λ (e : Entry). e.to) w.entry ∙ k.1 })
       w.writes (w.set ∙ ap (λ m. slice_set x.berths.items place (noted_at m old)) k.1)
 
-  pub ran-goes : (f : Fabric) → IsNoted x f → (out : List Transit) → Goes number 0 x y out out
+  pub ran-goes : (f : Fabric) → IsNoted x f → (out : List Transit) → Settles number x y out
   ran-goes f h out =
       let t = there x.label.tenants x.berths.items f.residents place h.residents r.inside in
       let v = w.writes in
@@ -297,6 +297,11 @@ module _ (number : ℕ) (x y : NotedCore) (place : ℕ) (old : Berth) (who tick 
 
   pub ran-runs : (added : List Note) → y.notes.items ≡ x.notes.items ++ added → marks added ≡ []
   ran-runs added e = subst (λ ns. marks ns ≡ []) (cancel x.notes.items (n ∷ []) added (sym w.writes.notes ∙ e)) (ap (λ k. mark_at k n.entry ++ []) kind-is)
+
+  pub ran-one : (f : Fabric) → IsNoted x f → (t : ℕ) (added : List Note) → ((b : Berth) → slice_get x.berths.items place ≡ Some b → b.tenant ≡ t) → y.notes.items ≡ x.notes.items ++ added → IsRunOf t added
+  ran-one f h t added who e =
+      let s = there x.label.tenants x.berths.items f.residents place h.residents r.inside in
+      subst (λ ns. IsRunOf t ns) (cancel x.notes.items (n ∷ []) added (sym w.writes.notes ∙ e)) (ap is_run kind-is, tenant-of f s.point h s.stands ∙ who old r.here)
 
   pub ran-short : (f : Fabric) (p : Point) (b : Berth) (added : List Note) → IsFabric x.core f → slice_get f.residents place ≡ Some p → slice_get x.berths.items place ≡ Some b → tick_of p ≤ b.noted + 1
       → y.notes.items ≡ x.notes.items ++ added → AreShort added
@@ -311,6 +316,9 @@ module _ (number : ℕ) (x y : NotedCore) (place : ℕ) (old : Berth) (who tick 
 -- nothing is told where nothing is written
 pub none-runs : (x : NotedCore) (added : List Note) → x.notes.items ≡ x.notes.items ++ added → marks added ≡ []
 none-runs x added e = subst (λ ns. marks ns ≡ []) (cancel x.notes.items [] added (append-nil x.notes.items ∙ e)) refl
+
+pub none-one : (x : NotedCore) (t : ℕ) (added : List Note) → x.notes.items ≡ x.notes.items ++ added → IsRunOf t added
+none-one x t added e = subst (λ ns. IsRunOf t ns) (cancel x.notes.items [] added (append-nil x.notes.items ∙ e)) tt
 
 -- where it isn't ahead, it is where its last note says
 pub still-set : (x : NotedCore) (f g : Fabric) (place : ℕ) (old : Berth) (who tick : ℕ) (p : Point) (b : Berth) → Read x place old who tick → IsNoted x g → tick ≤ old.noted → IsFabric x.core f

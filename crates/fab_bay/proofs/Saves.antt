@@ -9,9 +9,10 @@ use Rattle.fab_points.specs.Points.{Point, called, run_in, saved, served, tick_o
 use Rattle.fab_points.specs.Fabrics.{all_served, first_of, Fabric}
 use Rattle.fab_points.specs.Worlds.{serves, World, Serve}
 use Rattle.fab_core.specs.Standing.{IsFabric}
+use Rattle.fab_notes.specs.declared.note.Note.{Note}
 use Rattle.fab_notes.specs.declared.transit.Transit.{Transit}
 use Rattle.fab_bay.specs.declared.noted.NotedCore.{NotedCore}
-use Rattle.fab_bay.specs.Marks.{mark_of, save_for, Mark}
+use Rattle.fab_bay.specs.Marks.{mark_of, save_for, AreClosed, Mark}
 use Rattle.fab_bay.specs.Standing.{IsNoted}
 use Rattle.fab_bay.specs.Ways.{tokens, AreOut, Goes, IsWritten}
 use Rattle.fab_bay.proofs.Events.{first-is, first-number, serve-noted, Core}
@@ -28,10 +29,11 @@ still_there p e = ap (λ (b : Bool). tick_of (if b then called p else saved p)) 
 -- a resident that waits for a snapshot is served, and then that is written
 pub goes-saved : CallTicksLaw → (k t tick : ℕ) (x z u : NotedCore) (out : List Transit) → Core x z → ((f : Fabric) → IsFabric x.core f → IsFabric z.core (all_served t f))
     → ((f : Fabric) → IsNoted x f → (p : Point) × (first_of t f.residents ≡ Some p) × (waits p ≡ true) × (at_trap (table_of (run_in p).flat) p.stage ≡ false))
-    → IsWritten k z u [] (saved_at t tick ∷ []) → ((f : Fabric) → IsNoted z f → IsNoted u f)
+    → IsWritten k z u [] (saved_at t tick ∷ []) → ((added : List Note) → u.notes.items ≡ z.notes.items ++ added → AreClosed added) → ((f : Fabric) → IsNoted z f → IsNoted u f)
     → ((f : Fabric) (p : Point) → IsNoted z f → first_of t f.residents ≡ Some p → tick ≡ tick_of p) → Goes k 0 x u out out
-goes-saved same k t tick x z u out c go waiting w kept at =
-    goes_by k 0 x u out out [] (saved_at t tick ∷ []) (Serve t ∷ []) (written_then k x z u [] [] [] (saved_at t tick ∷ []) (written_none k x z c.label c.notes c.told) w) (sym (append-nil (tokens out))) refl
+goes-saved same k t tick x z u out c go waiting w closed kept at =
+    goes_by k 0 x u out out [] (saved_at t tick ∷ []) (Serve t ∷ []) (written_then k x z u [] [] [] (saved_at t tick ∷ []) (written_none k x z c.label c.notes c.told) w)
+    (λ added e. closed added (e ∙ ap (λ (l : List Note). l ++ added) (sym c.notes))) (sym (append-nil (tokens out))) refl
     (λ f ps h o.
     let p = waiting f h in
     let w : World = record { fabric = f; transit = ps } in

@@ -1,5 +1,5 @@
 -- Calls that take a tenant out.
-use Rattle.std.proofs.Common.{◌≡◌, ℕ, ◌+◌, List, [], ◌∷◌, ◌++◌, refl, sym, ap, ◌∙◌, subst, append_assoc}
+use Rattle.std.proofs.Common.{◌≡◌, ℕ, ◌+◌, List, [], ◌∷◌, ◌++◌, refl, sym, subst}
 use Rattle.fab_notes.specs.declared.transit.Transit.{Transit}
 use Rattle.fab_bay.specs.declared.leaving.Found.{Found}
 use Rattle.fab_bay.specs.declared.leaving.Found.TheVariants.{Here, Absent, Short}
@@ -11,9 +11,9 @@ use Rattle.fab_bay.specs.Nearness.{IsNear}
 use Rattle.fab_bay.specs.Refusals.{IsAway}
 use Rattle.fab_bay.specs.Rounds.{IsFoundReady, IsNearOn}
 use Rattle.fab_bay.specs.Taking.{IsFound}
-use Rattle.fab_bay.specs.Ways.{AreShort, Goes, Took, Way}
-use Rattle.fab_bay.proofs.Calls.{whole, IsLike}
-use Rattle.std.proofs.lemmas.List.{append_cancel_left}
+use Rattle.fab_bay.specs.Ways.{AreShort, Goes, Settles, Took, Way}
+use Rattle.fab_bay.specs.Marks.{AreWhole}
+use Rattle.fab_bay.proofs.Calls.{all-added, all-whole, whole, IsLike}
 use Rattle.fab_bay.proofs.Nears.{short-append}
 use Rattle.fab_bay.proofs.Rounds.{onward}
 use Rattle.fab_bay.proofs.Flags.{keeps-before, keeps-same}
@@ -34,21 +34,18 @@ found-label k t x y (Here out) f = f.2.label
 found-label k t x y Absent f = absurd f
 found-label k t x y Short f = f.1.label
 
-module _ (k t : ℕ) (x b m d e : NotedCore) (s : Taken) (begins : IsLike x b) (none : b.told.items ≡ []) (settles : (out : List Transit) → Goes k 0 m d out out) (ends : IsLike d e)
+module _ (k t : ℕ) (x b m d e : NotedCore) (s : Taken) (begins : IsLike x b) (none : b.told.items ≡ []) (settles : (out : List Transit) → Settles k m d out) (ends : IsLike d e)
     (told : s.entries.items ≡ d.told.items) (there : IsAway x.notes.items t → ⊥)
-    (near : IsNear b) (on : IsNearOn b m) (short : IsNear m → (added : List Note) → d.notes.items ≡ m.notes.items ++ added → AreShort added) where
+    (near : IsNear b) (on : IsNearOn b m) (short : IsNear m → (added : List Note) → d.notes.items ≡ m.notes.items ++ added → AreShort added)
+    (last : (added : List Note) → d.notes.items ≡ m.notes.items ++ added → AreWhole added) where
   took : (n : ℕ) (out : List Transit) → Goes k n b m [] out → Took k x e s.entries.items out
   took n out g =
       let way : Way k n x e [] s.entries.items [] out = whole k n x b m d e s.entries.items out begins none g (settles out) ends told in
-      let h : Goes k 0 m d out out = settles out in
-      let same : way.added ≡ g.added ++ h.added
-      = append_cancel_left x.notes.items way.added (g.added ++ h.added)
-      (sym way.notes
-      ∙ (ends.notes
-      ∙ (h.notes ∙ (ap (λ (ns : List Note). ns ++ h.added) (g.notes ∙ ap (λ (ns : List Note). ns ++ g.added) begins.notes) ∙ append_assoc x.notes.items g.added h.added)))) in
+      let h : Settles k m d out = settles out in
+      let same : way.added ≡ g.added ++ h.added = all-added k n x b m d e s.entries.items out begins ends g h way in
       let all : AreShort way.added
       = subst (λ (ns : List Note). AreShort ns) (sym same) (short-append g.added h.added (on.short near g.added g.notes) (short (on.near near) h.added h.notes)) in
-      record { cycles = n; goes = way; told = way.told; short = all }
+      record { cycles = n; goes = way; told = way.told; short = all; whole = all-whole k n x b m d e s.entries.items out begins ends g h way last }
 
   pub found-by : (w : Found) → IsFoundReady k t b m w → IsFound k t x e s w
   found-by (Here out) f = (f.0, took f.1 (out ∷ []) f.2, keeps-same x b out begins.notes f.3)

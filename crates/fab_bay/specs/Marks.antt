@@ -1,5 +1,5 @@
 -- What events call for in the history, runs left out (own).
-use Rattle.std.specs.Prelude.{ℕ, not, ◌&&◌, Bool, List, [], ◌∷◌, ◌++◌, map, take, if◌then◌else◌, is_some, Option, None, Some}
+use Rattle.std.specs.Prelude.{◌≡◌, ℕ, ◌==◌, not, ◌&&◌, Bool, true, false, ⊤, List, [], ◌∷◌, ◌++◌, map, take, if◌then◌else◌, is_some, Option, None, Some}
 use Rattle.sub_nodes.specs.Code.{table_of}
 use Rattle.sub_nodes.specs.Stands.{at_trap}
 use Rattle.fab_lock.specs.declared.entry.Entry.{Entry}
@@ -26,6 +26,38 @@ mark_at k e = record { kind = k; tenant = e.tenant; tick = e.from } ∷ []
 abbrev pub marks : List Note → List Mark
 marks [] = []
 marks (n ∷ ns) = mark_at n.entry.kind n.entry ++ marks ns
+
+-- ---- runs
+
+abbrev pub is_run : Kind → Bool
+is_run kind.Ran = true
+is_run k = false
+
+-- the next note of a tenant tells of a run
+abbrev pub runs_next : ℕ → List Note → Bool
+runs_next t [] = false
+runs_next t (n ∷ ns) = if n.entry.tenant == t then is_run n.entry.kind else runs_next t ns
+
+-- no two runs of a tenant follow one another without another note of that tenant between
+abbrev pub AreWhole : List Note → Type 0
+AreWhole [] = ⊤
+AreWhole (n ∷ ns) = (is_run n.entry.kind ≡ true → runs_next n.entry.tenant ns ≡ false) × AreWhole ns
+
+-- there is a next note of a tenant, and it tells of no run
+abbrev pub stops_next : ℕ → List Note → Bool
+stops_next t [] = false
+stops_next t (n ∷ ns) = if n.entry.tenant == t then not (is_run n.entry.kind) else stops_next t ns
+
+-- behind each run is a note of another kind of that tenant, before the next run
+abbrev pub AreClosed : List Note → Type 0
+AreClosed [] = ⊤
+AreClosed (n ∷ ns) = (is_run n.entry.kind ≡ true → stops_next n.entry.tenant ns ≡ true) × AreClosed ns
+
+-- a run of this tenant, or none
+abbrev pub IsRunOf : ℕ → List Note → Type 0
+IsRunOf t [] = ⊤
+IsRunOf t (n ∷ []) = (is_run n.entry.kind ≡ true) × (n.entry.tenant ≡ t)
+IsRunOf t (n ∷ m ∷ ns) = ⊥
 
 -- ---- what events call for
 

@@ -21,7 +21,7 @@ use Rattle.fab_bay.specs.declared.leaving.Leaving.{Leaving}
 use Rattle.fab_bay.specs.declared.leaving.Receipt.{Receipt}
 use Rattle.fab_bay.specs.declared.leaving.Turn.{Turn}
 use Rattle.fab_bay.specs.declared.noted.NotedCore.{NotedCore}
-use Rattle.fab_bay.specs.Marks.{all_called_for, marks, Mark}
+use Rattle.fab_bay.specs.Marks.{all_called_for, marks, AreClosed, AreWhole, Mark}
 use Rattle.fab_bay.specs.Standing.{IsNoted}
 
 -- ---- tenants that came out
@@ -104,7 +104,8 @@ pub record IsWritten (number : ℕ) (x y : NotedCore) (out : List Token) (told_m
 -- from x to y by the seat of this number, in so many cycles: notes are added that bear it, none of a tenant that is put in line, and they say who came out
 -- behind those before; what they tell is behind what was told before; and events happen to every fabric for which x stands, and lead to one for which y stands;
 -- but for runs, the notes are just those that the events call for
-pub record Way (number cycles : ℕ) (x y : NotedCore) (said said' : List Entry) (out out' : List Transit) : Type 0 where
+-- where it is closed, behind each run is a note of another kind
+pub record Path (closed : Bool) (number cycles : ℕ) (x y : NotedCore) (said said' : List Entry) (out out' : List Transit) : Type 0 where
   pub label : y.label ≡ x.label
   pub added : List Note
   pub notes : y.notes.items ≡ x.notes.items ++ added
@@ -119,10 +120,19 @@ pub record Way (number cycles : ℕ) (x y : NotedCore) (said said' : List Entry)
       IsNoted y (run events (record { fabric = f; transit = ps })).fabric × AreOut out' (run events (record { fabric = f; transit = ps })).transit
   pub ordered : (f : Fabric) (ps : List Point) → IsNoted x f → AreOut out ps → AreInOrder events (record { fabric = f; transit = ps })
   pub marks_are : (f : Fabric) (ps : List Point) → IsNoted x f → AreOut out ps → marks added ≡ all_called_for events (record { fabric = f; transit = ps })
+  pub runs : closed ≡ true → AreClosed added
+
+-- a whole call: at its end, the residents' runs are noted
+abbrev pub Way : (number cycles : ℕ) (x y : NotedCore) (said said' : List Entry) (out out' : List Transit) → Type 0
+Way number cycles x y said said' out out' = Path false number cycles x y said said' out out'
+
+-- runs are noted
+abbrev pub Settles : (number : ℕ) (x y : NotedCore) (out : List Transit) → Type 0
+Settles number x y out = Path false number 0 x y x.told.items y.told.items out out
 
 -- in a call: what is told is kept beside the history
 abbrev pub Goes : (number cycles : ℕ) (x y : NotedCore) (out out' : List Transit) → Type 0
-Goes number cycles x y out out' = Way number cycles x y x.told.items y.told.items out out'
+Goes number cycles x y out out' = Path true number cycles x y x.told.items y.told.items out out'
 
 -- nobody is there by the history
 abbrev pub IsEmpty : List Note → Type 0
@@ -136,6 +146,7 @@ pub record Turned (number most : ℕ) (x y : NotedCore) (t : Turn) : Type 0 wher
   pub few : cycles ≤ most
   pub all : t.short ≡ false → (cycles ≡ most) ⊎ IsEmpty y.notes.items
   pub whys : All LeftFor t.leaving.items
+  pub whole : AreWhole goes.added
 
 -- no run that is told of is longer than a tick
 abbrev pub is_short : Kind → Entry → Type 0
@@ -152,6 +163,7 @@ pub record Took (number : ℕ) (x y : NotedCore) (entries : List Entry) (out : L
   pub goes : Way number cycles x y [] entries [] out
   pub told : entries ≡ map (λ n. n.entry) goes.added
   pub short : AreShort goes.added
+  pub whole : AreWhole goes.added
 
 -- a tenant was put in line by the seat of this number: one note is added, and the receipt says so
 pub record IsPut (number : ℕ) (x y : NotedCore) (t : Transit) (r : Receipt) : Type 0 where

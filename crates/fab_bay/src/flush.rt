@@ -8,10 +8,10 @@ ghost use Rattle.fab_notes.specs.declared.note.Note.{Note as OneNote};
 ghost use Rattle.fab_notes.specs.declared.transit.Transit.{Transit as Out};
 ghost use Rattle.fab_bay.specs.declared.berth.Berth.{Berth as OneBerth};
 ghost use Rattle.fab_bay.specs.Berths.{AreSettled};
-ghost use Rattle.fab_bay.specs.Marks.{marks};
+ghost use Rattle.fab_bay.specs.Marks.{marks, AreWhole, IsRunOf};
 ghost use Rattle.fab_bay.specs.Nearness.{IsNear};
 ghost use Rattle.fab_bay.specs.Standing.{CanSettle, HasRoomFor, IsNoted, IsSame};
-ghost use Rattle.fab_bay.specs.Ways.{AreShort, Goes};
+ghost use Rattle.fab_bay.specs.Ways.{AreShort, Settles};
 
 use crate::noted::NotedCore;
 use fab_notes::note::Note;
@@ -56,7 +56,7 @@ impl NotedCore {
         requires fabric { (f : Fabric) × IsNoted self.old f }
         requires place { place < length self.old.berths.items }
         requires room { HasRoomFor 1 self.old }
-        ensures goes { (out : List Out) → Goes number 0 self.old self.new out out }
+        ensures goes { (out : List Out) → Settles number self.old self.new out }
         ensures kept { (f : Fabric) → IsNoted self.old f → IsNoted self.new f }
         ensures noted { (f : Fabric) (p : Point) (b : OneBerth) → IsFabric self.old.core f → slice_get f.residents place ≡ Some p → slice_get self.old.berths.items place ≡ Some b →
             self.new.berths.items ≡ slice_set self.old.berths.items place (record b { noted = tick_of p }) }
@@ -65,6 +65,7 @@ impl NotedCore {
         ensures short { (f : Fabric) (p : Point) (b : OneBerth) (added : List OneNote) → IsFabric self.old.core f → slice_get f.residents place ≡ Some p → slice_get self.old.berths.items place ≡ Some b →
             tick_of p ≤ b.noted + 1 → self.new.notes.items ≡ self.old.notes.items ++ added → AreShort added }
         ensures runs { (added : List OneNote) → self.new.notes.items ≡ self.old.notes.items ++ added → marks added ≡ [] }
+        ensures one { (t : ℕ) (added : List OneNote) → ((b : OneBerth) → slice_get self.old.berths.items place ≡ Some b → b.tenant ≡ t) → self.new.notes.items ≡ self.old.notes.items ++ added → IsRunOf t added }
         ensures near { IsNear self.old → IsNear self.new }
         ensures room { (n : ℕ) → HasRoomFor (suc n) self.old → HasRoomFor n self.new }
     {
@@ -80,9 +81,10 @@ impl NotedCore {
     pub(crate) fn settle(&mut self, number: u32)
         requires fabric { (f : Fabric) × IsNoted self.old f }
         requires room { CanSettle self.old }
-        ensures goes { (out : List Out) → Goes number 0 self.old self.new out out }
+        ensures goes { (out : List Out) → Settles number self.old self.new out }
         ensures near { IsNear self.old → IsNear self.new }
         ensures short { IsNear self.old → (added : List OneNote) → self.new.notes.items ≡ self.old.notes.items ++ added → AreShort added }
+        ensures whole { (added : List OneNote) → self.new.notes.items ≡ self.old.notes.items ++ added → AreWhole added }
         ensures settled { (f : Fabric) → IsNoted self.new f → AreSettled self.new.berths.items f.residents }
     {
         for place in 0..self.berths.len() {

@@ -7,6 +7,7 @@ ghost use Rattle.fab_points.specs.Fabrics.{first_of, Fabric};
 ghost use Rattle.fab_notes.specs.declared.note.Note.{Note as OneNote};
 ghost use Rattle.fab_notes.specs.declared.transit.Transit.{Transit as Out};
 ghost use Rattle.fab_bay.specs.Acts.{acts_to_come, saves_to_come};
+ghost use Rattle.fab_bay.specs.Marks.{AreClosed};
 ghost use Rattle.fab_bay.specs.Nearness.{IsNear};
 ghost use Rattle.fab_bay.specs.Standing.{CanSettle, HasRoomFor, IsNoted};
 ghost use Rattle.fab_bay.specs.Ways.{AreShort, Goes, IsWritten};
@@ -23,6 +24,7 @@ impl NotedCore {
         requires fabric { (f : Fabric) × (p : Point) × IsNoted self.old f × (first_of tenant f.residents ≡ Some p) }
         requires room { HasRoomFor 2 self.old }
         ensures written { (tick : ℕ) × IsWritten number self.old self.new [] (record { kind = kind.Saved; tenant = tenant; tick = tick } ∷ []) × ((f : Fabric) (p : Point) → IsNoted self.old f → first_of tenant f.residents ≡ Some p → tick ≡ tick_of p) }
+        ensures closed { (added : List OneNote) → self.new.notes.items ≡ self.old.notes.items ++ added → AreClosed added }
         ensures kept { (f : Fabric) → IsNoted self.old f → IsNoted self.new f }
         ensures core { self.new.core ≡ self.old.core }
         ensures near { IsNear self.old → IsNear self.new }

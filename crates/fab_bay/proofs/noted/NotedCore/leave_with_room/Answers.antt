@@ -7,7 +7,8 @@ use Rattle.ten_parcel.specs.Parcels.{ticks_of}
 use Rattle.fab_core.specs.declared.cores.FabCore.{FabCore}
 use Rattle.fab_core.specs.Standing.{IsFabric, IsPointOf}
 use Rattle.fab_bay.specs.declared.berth.Berth.{Berth}
-use Rattle.fab_bay.proofs.Gone.{goes_gone_leave, gone_leave, out_written, place_first, place_some, place_there, ran_berth, ran_noted, ran_still, ready_of, rests_if, room_left, IsOut, IsRan, IsReady}
+use Rattle.fab_bay.proofs.Events.{berthed}
+use Rattle.fab_bay.proofs.Gone.{goes_gone_leave, gone_leave, out_closed, out_written, place_first, place_some, place_there, ran_berth, ran_noted, ran_still, ready_of, rests_if, room_left, IsOut, IsRan, IsReady}
 use Rattle.fab_bay.specs.Ways.{IsLast}
 use Rattle.fab_bay.proofs.Leavers.{leaver_last, IsLeaver}
 use Rattle.fab_bay.proofs.Places.{berths_many, some-equal}
@@ -103,6 +104,7 @@ returns c =
       ran = r;
       goes = c.ran_one.ensures.goes [];
       runs = let d = c.ran_one.ensures.goes [] in c.ran_one.ensures.runs d.added d.notes;
+      run = let d = c.ran_one.ensures.goes [] in c.ran_one.ensures.one t d.added (berthed t x i e).tenant d.notes;
       label = c.write.ensures.label;
       notes = c.write.ensures.notes;
       told = c.write.ensures.told;
@@ -128,7 +130,7 @@ returns c =
     let m = berths_many x.label.tenants x.berths.items f.residents h.residents in
     let m2 = berths_many y.label.tenants y.berths.items f.residents (r.kept f h).residents in
     record {
-      goes = λ outs. goes_gone_leave k t x z s outs written (λ g j.
+      goes = λ outs. goes_gone_leave k t x z s outs written (out_closed k t i x y z b s n o f w p h l2) (λ g j.
           let v = c.requires.due g j in
           let u = c.leave-leaver.ensures.out g v.0 (c.ran_one.ensures.kept g j).core v.2 in
           gone_leave k t i x y z b s n o g j (c.requires.rest g j) w v.0 v.2 u.0 (subst (λ (a : Parcel). IsPointOf a (departed w v.0)) (sym c.into_leaver-transit.ensures.parcel) u.1)

@@ -10,7 +10,8 @@ use Rattle.fab_notes.specs.Tokens.{out_at, put_at}
 use Rattle.fab_bay.specs.declared.berth.Berth.{Berth}
 use Rattle.fab_bay.proofs.Events.{berthed, has-place}
 use Rattle.fab_bay.proofs.Near.{near-by, ran-near-short, short-one, short-then}
-use Rattle.fab_bay.specs.Marks.{mark_at}
+use Rattle.fab_bay.specs.Marks.{is_run, mark_at}
+use Rattle.fab_bay.proofs.Going.{closed-by, closed-run}
 use Rattle.fab_bay.proofs.Gone.{place_first}
 use Rattle.fab_bay.proofs.Kept.{written_of, written_one, written_then}
 use Rattle.fab_bay.proofs.Saves.{saved_at}
@@ -70,7 +71,7 @@ returns-clause-written c =
     let entry = c.saved.ensures.entry in
     let ran = c.ran_one.ensures.goes [] in (
       m.noted,
-      written_then k x y z [] [] [] (saved_at t m.noted ∷ []) (written_of k 0 x y ran (c.ran_one.ensures.runs ran.added ran.notes))
+      written_then k x y z [] [] [] (saved_at t m.noted ∷ []) (written_of k x y ran (c.ran_one.ensures.runs ran.added ran.notes))
           (written_one k y z n [] (saved_at t m.noted ∷ []) e.label e.notes e.told (ap (λ (w : Entry). w.seat) entry)
           (subst (λ k. k < y.label.tenants) (who ∙ sym (ap (λ (w : Entry). w.tenant) entry)) few) (ap (λ (w : Entry). put_at w.kind n) entry) (ap (λ (w : Entry). out_at w.kind n) entry)
           (ap (λ (w : Entry). mark_at w.kind w) entry)),
@@ -80,6 +81,20 @@ returns-clause-written c =
           let here : there.point ≡ p = some-equal there.point p (sym there.stands ∙ (slice_get-get_or g.residents i p spot.there ∙ (sym (spot.first p) ∙ first))) in
           ap (λ (w : Berth). w.noted) (some-equal m (noted_at (tick_of there.point) there.old) (sym at ∙ there.here)) ∙ ap tick_of here,
     )
+
+pub returns-clause-closed : goal.returns-clause-closed
+returns-clause-closed c = λ added eq.
+    let x = c.args.self.now in
+    let y = c.ran_one.new.self in
+    let z = c.write.new.self in
+    let i = c.in-Some.place in
+    let n = c.saved.result in
+    let t = c.args.tenant in
+    let b = berthed t x i (ap (λ (bs : List Berth). position (λ b. b.tenant == c.args.tenant) bs) (sym c.deref.ensures.value) ∙ (sym c.berth_of.ensures ∙ c.in-Some.is)) in
+    let d = c.ran_one.ensures.goes [] in
+    let entry = c.saved.ensures.entry in
+    closed-by x.notes.items y.notes.items z.notes.items d.added (n ∷ []) added d.notes c.write.ensures.notes eq
+    (closed-run t d.added n (c.ran_one.ensures.one t d.added b.tenant d.notes) (ap (λ (w : Entry). w.tenant) entry) (ap (λ (w : Entry). is_run w.kind) entry))
 
 pub returns-clause-kept : goal.returns-clause-kept
 returns-clause-kept c = λ g k.

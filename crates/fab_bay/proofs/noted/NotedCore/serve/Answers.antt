@@ -78,7 +78,7 @@ returns-then-saved-clause-goes c = λ out.
     (λ f h.
     let w = c.requires.waits f (same-noted y x f (same-back x y c.prepare.ensures.same) h) in
     (w.0, w.1, w.2, still-by c.in-Ok.saved (at_trap (table_of (run_in w.0).flat) w.0.stage) (c.in-Ok.ensures.which f w.0 h.core w.1) c.if-saved.true))
-    n.1 c.saved_one.ensures.kept n.2)
+    n.1 c.saved_one.ensures.closed c.saved_one.ensures.kept n.2)
 
 pub returns-then-saved-clause-room : goal.returns-then-saved-clause-room
 returns-then-saved-clause-room c =

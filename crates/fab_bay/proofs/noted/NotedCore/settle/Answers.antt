@@ -7,6 +7,9 @@ use Rattle.fab_bay.proofs.Events.{room-by}
 use Rattle.fab_bay.proofs.Near.{ran-near-short, short-none, short-then}
 use Rattle.fab_bay.proofs.Onward.{goes-none, goes-then}
 use Rattle.fab_bay.proofs.Ran.{behind, get-set-other, noted_at, room_less, settled-all, settled-more}
+use Rattle.fab_bay.specs.declared.berth.Berth.{Berth}
+use Rattle.fab_bay.proofs.Places.{some-equal}
+use Rattle.fab_bay.proofs.Wholes.{noted-apart, once-more, once-none}
 use Rattle.fab_bay.proofs.noted.NotedCore.settle.Goals as goal
 
 pub loop-place-init : goal.loop-place-init
@@ -20,6 +23,7 @@ loop-place-init c =
       room = λ m e. room-by (length x.berths.items) m x (omega (arith, e)) c.requires.room;
       near = λ n. n;
       short = λ n added e. short-none x.notes.items x.notes.items added refl e;
+      once = λ added e. once-none x added e;
       settled = λ f core j b p lt at stands. let z : ⊥ = omega (arith, lt) in absurd z;
     }
 
@@ -54,6 +58,13 @@ loop-place-preserved c =
           let a = v.goes [] in
           let d = e.goes [] in
           short-then x.notes.items s.notes.items y.notes.items a.added d.added added a.notes d.notes eq (v.short n a.added a.notes) (ran-near-short s y f i d.added h lt e.short (v.near n) d.notes);
+      once = λ added eq.
+          let a = v.goes [] in
+          let d = e.goes [] in
+          once-more x s y i _ b.old a.added d.added added (noted-apart s f h) b.at (omega arith)
+          (λ j lt. ap (λ bs. slice_get bs j) b.set ∙ get-set-other s.berths.items i j (noted_at (tick_of b.point) b.old) (λ same. let z : ⊥ = omega (arith, lt, same) in absurd z))
+          a.notes d.notes eq (v.once a.added a.notes)
+          (e.one b.old.tenant d.added (λ c at. ap (λ (w : Berth). w.tenant) (some-equal c b.old (sym at ∙ b.at))) d.notes);
       settled = λ g core.
           settled-more i s.berths.items y.berths.items g.residents b.old b.at lt (v.settled g core)
           (λ p stands. e.noted g p b.old (subst (λ (k : FabCore). IsFabric k g) (sym v.core) core) stands b.at)
@@ -67,3 +78,6 @@ returns-clause-settled c = λ f h.
     let long = v.long in
     let past : length c.args.self.now.berths.items ≤ c.loop-place.place = omega arith in
     settled-all s.label.tenants s.berths.items f.residents h.residents (λ j b p lt at stands. v.settled f (subst (λ (k : FabCore). IsFabric k f) v.core h.core) j b p (omega (arith, lt, long, past)) at stands)
+
+pub returns-clause-whole : goal.returns-clause-whole
+returns-clause-whole c = λ added e. (c.loop-place.invariant.once added e).whole

@@ -34,7 +34,7 @@ returns-clause-taken c =
     let there : (IsAway x.notes.items c.args.tenant → ⊥) = here_of x c.requires.bay.fabric c.args.tenant c.requires.bay.noted (sym c.is_there.ensures ∙ c.if-not-is_there.false) in (
       λ away. absurd (there away),
       found-by c.args.number c.args.tenant x b m d e t begins (s.told ∙ c.new-2.ensures.items) c.settle.ensures.goes ends (ap (λ v. v.items) c.replace-entries.ensures.value) there
-          near c.take_there-found.ensures.near c.settle.ensures.short found c.take_there-found.ensures.found,
+          near c.take_there-found.ensures.near c.settle.ensures.short c.settle.ensures.whole found c.take_there-found.ensures.found,
     )
 
 pub returns-clause-bay : goal.returns-clause-bay

@@ -6,8 +6,9 @@ use Rattle.fab_lock.specs.declared.entry.Entry.{Entry}
 use Rattle.fab_lock.specs.declared.entry.Kind.TheVariants.{Left}
 use Rattle.fab_core.specs.declared.cores.FabCore.{FabCore}
 use Rattle.fab_core.specs.Standing.{IsFabric, IsPointOf}
+use Rattle.fab_bay.proofs.Events.{berthed}
 use Rattle.fab_bay.proofs.Gaps.{taken-near}
-use Rattle.fab_bay.proofs.Gone.{goes_gone_take, gone_take, has_resident, out_keeps, out_number, out_written, place_there, ran_berth, ran_noted, ran_still, ready_of, room_left, for_none, taker_of, yes-no, IsOut, IsRan, IsReady}
+use Rattle.fab_bay.proofs.Gone.{goes_gone_take, gone_take, has_resident, out_keeps, out_closed, out_number, out_written, place_there, ran_berth, ran_noted, ran_still, ready_of, room_left, for_none, taker_of, yes-no, IsOut, IsRan, IsReady}
 use Rattle.fab_bay.proofs.Near.{ran-near-short, short-one, short-then}
 use Rattle.fab_bay.proofs.Places.{berths_many}
 use Rattle.fab_bay.proofs.Ran.{room_less}
@@ -90,6 +91,7 @@ returns c =
       ran = r;
       goes = c.ran_one.ensures.goes [];
       runs = let d = c.ran_one.ensures.goes [] in c.ran_one.ensures.runs d.added d.notes;
+      run = let d = c.ran_one.ensures.goes [] in c.ran_one.ensures.one t d.added (berthed t x i c.requires.place).tenant d.notes;
       label = c.write.ensures.label;
       notes = c.write.ensures.notes;
       told = c.write.ensures.told;
@@ -107,7 +109,7 @@ returns c =
     let m = berths_many x.label.tenants x.berths.items f.residents h.residents in
     let m2 = berths_many y.label.tenants y.berths.items f.residents (r.kept f h).residents in
     record {
-      goes = λ outs. goes_gone_take k t x z s outs (out_written k t i x y z b s n o f for_none out.0 h l) (λ g j.
+      goes = λ outs. goes_gone_take k t x z s outs (out_written k t i x y z b s n o f for_none out.0 h l) (out_closed k t i x y z b s n o f for_none out.0 h l) (λ g j.
           let u = c.in-Some.ensures.some g (c.ran_one.ensures.kept g j).core in
           gone_take k t i x y z b s n o g j (c.requires.rest g j) u.0 u.1 (subst (λ (a : Parcel). IsPointOf a u.0) (sym c.into_leaver-transit.ensures.parcel) u.2)
           (subst (λ (a : FabCore). IsFabric a (taken t g)) (sym c.write.ensures.core) (c.take.ensures.fabric g (c.ran_one.ensures.kept g j).core)));

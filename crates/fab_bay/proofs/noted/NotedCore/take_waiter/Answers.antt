@@ -8,7 +8,7 @@ use Rattle.fab_lock.specs.declared.entry.Kind.TheVariants.{Left}
 use Rattle.fab_core.specs.declared.cores.FabCore.{FabCore}
 use Rattle.fab_core.specs.Standing.{IsFabric, IsPointOf}
 use Rattle.fab_bay.proofs.Gaps.{withdrawn-near}
-use Rattle.fab_bay.proofs.Gone.{for_none, goes_gone_take, gone_line, has_waiter, line_taker, line_waiter, ready_of, room_stays, waiter_there, withdrawn_keeps, withdrawn_number, withdrawn_written, yes-no, IsReady, IsWithdrawn}
+use Rattle.fab_bay.proofs.Gone.{for_none, goes_gone_take, gone_line, has_waiter, line_taker, line_waiter, ready_of, room_stays, waiter_there, withdrawn_closed, withdrawn_keeps, withdrawn_number, withdrawn_written, yes-no, IsReady, IsWithdrawn}
 use Rattle.fab_bay.proofs.Leavers.{leaver_ticks}
 use Rattle.fab_bay.proofs.Near.{short-one, short-then}
 use Rattle.fab_bay.proofs.noted.NotedCore.take_waiter.Goals as goal
@@ -87,7 +87,7 @@ returns c =
     let out = c.in-Some.ensures.some f h.core in
     let at : IsPointOf s.parcel out.0 = subst (λ (a : Parcel). IsPointOf a out.0) (sym c.into_withdrawn-transit.ensures.parcel) out.2 in
     record {
-      goes = λ outs. goes_gone_take k t x z s outs (withdrawn_written k t i x z b s n o f h out.0 out.1 at) (λ g j.
+      goes = λ outs. goes_gone_take k t x z s outs (withdrawn_written k t i x z b s n o f h out.0 out.1 at) (withdrawn_closed k t i x z b s n o f h out.0 out.1 at) (λ g j.
           let u = c.in-Some.ensures.some g j.core in
           gone_line k t i x z b s n o g j u.0 u.1 (subst (λ (a : Parcel). IsPointOf a u.0) (sym c.into_withdrawn-transit.ensures.parcel) u.2) (c.requires.rest g j)
           (subst (λ (a : FabCore). IsFabric a (taken t g)) (sym c.write.ensures.core) (c.take.ensures.fabric g j.core)));

@@ -2,7 +2,7 @@ use Rattle.std.proofs.Common.{◌≡◌, List, [], refl, ap, ◌∙◌, subst}
 use Rattle.fab_bay.specs.declared.leaving.Leaving.{Leaving}
 use Rattle.fab_bay.specs.declared.noted.NotedCore.{NotedCore}
 use Rattle.fab_bay.specs.Ways.{transits, Goes, IsEmpty, Way}
-use Rattle.fab_bay.proofs.Calls.{bay-again, second-on, whole, IsLike}
+use Rattle.fab_bay.proofs.Calls.{all-whole, bay-again, second-on, whole, IsLike}
 use Rattle.fab_bay.proofs.Going.{empty-on}
 use Rattle.fab_bay.proofs.Rounds.{empty-vacant, vacant-empty}
 use Rattle.fab_bay.proofs.noted.NotedCore.turn.Goals as goal
@@ -31,6 +31,7 @@ returns-clause-turned c =
       few = r.few;
       all = λ h. second-on (r.cycles ≡ c.args.most) (IsEmpty m.notes.items) (IsEmpty d.notes.items) (empty-on k 0 m d m.told.items d.told.items out out (c.settle.ensures.goes out)) (r.all h);
       whys = c.rounds-short.ensures.whys;
+      whole = all-whole k r.cycles x b m d e said out begins ends goes (c.settle.ensures.goes out) way c.settle.ensures.whole;
     }
 
 pub returns-clause-idle : goal.returns-clause-idle

@@ -8,4 +8,6 @@ pub mod Kept
 pub mod Readings
 pub mod Ordered
 pub mod Limits
+pub mod Spellings
+pub mod Spelt
 pub mod Declared

@@ -3,8 +3,7 @@ use Rattle.std.specs.Prelude.{zero, suc}
 use Rattle.std.proofs.Common.{◌≡◌, ℕ, ◌+◌, ◌<◌, ◌≤◌, Bool, true, false, not, ◌&&◌, ◌==◌, nat_le, if◌then◌else◌, List, [], ◌∷◌, ◌++◌, length, map, slice_get, Option, Some, None, is_some, unwrap_or, Result, Ok, Err, refl, sym, ap, ◌∙◌, append_assoc, append-nil, subst, arith}
 use Rattle.std.specs.List.{AllByRecursion, IsDistinct, list_any}
 use Rattle.std.specs.Option.{option_map_or}
-use Rattle.std.specs.Str.{bytes_eq}
-use Rattle.std.proofs.lemmas.Bool.{leb-false, not-false, or_parts, true≢false}
+use Rattle.std.proofs.lemmas.Bool.{leb-false, not-false, or_parts}
 use Rattle.std.proofs.lemmas.Bool.Decides.{nat_tests}
 use Rattle.std.proofs.lemmas.Cmp.{nat_list_eq_equiv}
 use Rattle.std.proofs.lemmas.List.{length-append, length-map}
@@ -38,7 +37,7 @@ all-of : {X : Type 0} (P Q : X → Type 0) (xs : List X) → ((x : X) → P x �
 all-of P Q [] f h = tt
 all-of P Q (x ∷ xs) f h = (f x h.0, all-of P Q xs f h.1)
 
-all-more : {X : Type 0} (P : X → Type 0) (xs : List X) (x : X) → AllByRecursion P xs → P x → AllByRecursion P (xs ++ x ∷ [])
+pub all-more : {X : Type 0} (P : X → Type 0) (xs : List X) (x : X) → AllByRecursion P xs → P x → AllByRecursion P (xs ++ x ∷ [])
 all-more P [] x h p = (p, tt)
 all-more P (y ∷ ys) x h p = (h.0, all-more P ys x h.1 p)
 
@@ -154,7 +153,7 @@ all-at P p q f n [] a b keeps h = tt
 all-at P p q f zero (t ∷ ts) a b keeps h = (keeps t a b h.0, h.1)
 all-at P p q f (suc n) (t ∷ ts) a b keeps h = (h.0, all-at P p q f n ts a b keeps h.1)
 
-all-changed : (P : TenantLine → Type 0) (p q : TenantLine → Bool) (f : TenantLine → TenantLine) (o : Option ℕ) (ts : List TenantLine)
+pub all-changed : (P : TenantLine → Type 0) (p q : TenantLine → Bool) (f : TenantLine → TenantLine) (o : Option ℕ) (ts : List TenantLine)
     → option_map_or p (tenant_at ts o) false ≡ false → option_map_or q (tenant_at ts o) false ≡ false
     → ((t : TenantLine) → p t ≡ false → q t ≡ false → P t → P (f t)) → AllByRecursion P ts → AllByRecursion P (changed o f ts)
 all-changed P p q f None ts a b keeps h = h
@@ -252,7 +251,7 @@ errand-step s tenant tick order known single room h =
     tenant-changed s tenant (has_errand tick order) (λ t. nat_le 256 (length t.errands)) (sent e) single room
     (λ t a b g. sent-within (length s.fabrics) e t (leb-false 256 (length t.errands) b) (due-within s order known) (undoubled s e order t.errands refl a) g) h
 
-causes : (s : Script) (x : Statement) → cause_of s x ≡ None → (is_repeated s x ≡ false) × (is_undeclared s x ≡ false) × (is_clashing s x ≡ false) × (is_full s x ≡ false)
+pub causes : (s : Script) (x : Statement) → cause_of s x ≡ None → (is_repeated s x ≡ false) × (is_undeclared s x ≡ false) × (is_clashing s x ≡ false) × (is_full s x ≡ false)
 causes s x e = no-cause (is_repeated s x) (is_undeclared s x) (is_clashing s x) (is_full s x) e
 
 step : (s : Script) (x : Statement) → cause_of s x ≡ None → IsWithinLimits s → IsWithinLimits (with_statement s x)
@@ -291,23 +290,29 @@ line-step s (Err cause) e h = absurd (some_none cause e)
 line-step s (Ok None) e h = h
 line-step s (Ok (Some x)) e h = step s x e h
 
-steps : (above ls : List (List ℕ)) → first_fault above ls ≡ None → IsWithinLimits (script_of above) → IsWithinLimits (script_of (above ++ ls))
-steps above [] e h = subst (λ (xs : List (List ℕ)). IsWithinLimits (script_of xs)) (sym (append-nil above)) h
-steps above (x ∷ ls) e h =
-    let both = both-none _ (line_cause above x) (first_fault (above ++ x ∷ []) ls) e in
-    let next = line-step (script_of above) (says x) both.0 h in
-    let one : IsWithinLimits (script_of (above ++ x ∷ [])) = subst IsWithinLimits (sym (fold-append (λ s l. with_said s (says l)) nothing above (x ∷ []))) next in
-    subst (λ (xs : List (List ℕ)). IsWithinLimits (script_of xs)) (append_assoc above (x ∷ []) ls) (steps (above ++ x ∷ []) ls both.1 one)
-
 begun : IsWithinLimits nothing
 begun = record { fabrics = omega arith; tenants = omega arith; each = tt; free = omega arith; orders = tt }
 
-from : (ls : List (List ℕ)) (o : Option (ℕ × ℕ)) (s : Script) → first_fault [] ls ≡ o → reading_of ls o ≡ Ok s → IsWithinLimits (script_of ls)
-from ls None s e h = steps [] ls e begun
-from ls (Some f) s e h = absurd (err_ok (reading_of ls (Some f)) f s refl h)
+-- what each line without a cause keeps
+module _ (P : Script → Type 0) (keeps : (s : Script) (l : List ℕ) → cause_behind s (says l) ≡ None → P s → P (with_said s (says l))) (first : P nothing) where
+  steps : (above ls : List (List ℕ)) → first_fault above ls ≡ None → P (script_of above) → P (script_of (above ++ ls))
+  steps above [] e h = subst (λ (xs : List (List ℕ)). P (script_of xs)) (sym (append-nil above)) h
+  steps above (x ∷ ls) e h =
+      let both = both-none _ (line_cause above x) (first_fault (above ++ x ∷ []) ls) e in
+      let next = keeps (script_of above) x both.0 h in
+      let one : P (script_of (above ++ x ∷ [])) = subst P (sym (fold-append (λ s l. with_said s (says l)) nothing above (x ∷ []))) next in
+      subst (λ (xs : List (List ℕ)). P (script_of xs)) (append_assoc above (x ∷ []) ls) (steps (above ++ x ∷ []) ls both.1 one)
+
+  from : (ls : List (List ℕ)) (o : Option (ℕ × ℕ)) (s : Script) → first_fault [] ls ≡ o → reading_of ls o ≡ Ok s → P (script_of ls)
+  from ls None s e h = steps [] ls e first
+  from ls (Some f) s e h = absurd (err_ok (reading_of ls (Some f)) f s refl h)
+
+  -- holds of a script that is read
+  pub kept-by-lines : (bytes : List ℕ) (s : Script) → reading bytes ≡ Ok s → P s
+  kept-by-lines bytes s e = subst P (sym (reading-of bytes s e).is) (from (lines bytes) (first_fault [] (lines bytes)) s refl e)
 
 pub within : (bytes : List ℕ) (s : Script) → reading bytes ≡ Ok s → IsWithinLimits s
-within bytes s e = subst IsWithinLimits (sym (reading-of bytes s e).is) (from (lines bytes) (first_fault [] (lines bytes)) s refl e)
+within bytes s e = kept-by-lines IsWithinLimits (λ t l none h. line-step t (says l) none h) begun bytes s e
 
 pub not-bare : (bytes : List ℕ) (s : Script) → reading bytes ≡ Ok s → is_bare s ≡ false
 not-bare bytes s e = let a = reading-of bytes s e in ap is_bare a.is ∙ a.whole

@@ -1,11 +1,12 @@
--- The reading of a script in other words, the order of errands, and the limits that a script keeps to.
-use Rattle.std.specs.Prelude.{◌≡◌, ℕ, ◌+◌, ◌<◌, ◌≤◌, Bool, true, false, ◌&&◌, ◌==◌, not, if◌then◌else◌, List, [], ◌∷◌, length, take, Option, Some, None, Result, Ok, slice_index_or, ⊤}
+-- The reading of a script in other words, the order of errands, the limits that a script keeps to, and the words that stand in it.
+use Rattle.std.specs.Prelude.{◌≡◌, ℕ, ◌+◌, ◌<◌, ◌≤◌, Bool, true, false, ◌&&◌, ◌==◌, not, if◌then◌else◌, List, [], ◌∷◌, length, take, Option, Some, None, IfSome, Result, Ok, slice_index_or, ⊤}
 use Rattle.std.specs.List.{AllByRecursion, IsDistinct}
 use Rattle.std.specs.Str.{bytes_eq}
-use Rattle.script_line.specs.Words.{lines}
+use Rattle.script_line.specs.Words.{lines, is_name, is_save_name, is_path}
 use Rattle.script_line.specs.Statements.{Statement}
 use Rattle.script_line.specs.Statements as said
 use Rattle.script_text.specs.declared.script.FabricLine.{FabricLine}
+use Rattle.script_text.specs.declared.script.FileLine.{FileLine}
 use Rattle.ten_plan.specs.declared.plan.Due.{Due}
 use Rattle.ten_plan.specs.declared.plan.Due.TheVariants as due
 use Rattle.ten_plan.specs.declared.plan.Errand.{Errand}
@@ -90,6 +91,46 @@ pub record IsWithinLimits (s : Script) : Type 0 where
   pub each : AllByRecursion (IsTenant (length s.fabrics)) s.tenants
   pub free : length s.free ≤ 256
   pub orders : AllByRecursion (IsFree (length s.fabrics) (length s.tenants)) s.free
+
+-- ---- words
+
+-- a save has the name of a snapshot
+abbrev pub IsSpeltDue : Due → Type 0
+IsSpeltDue (due.Save name) = is_save_name name ≡ true
+IsSpeltDue (due.Move fabric) = ⊤
+IsSpeltDue due.Stop = ⊤
+
+-- no number is above 1,000,000,000
+pub record IsSpeltFabric (f : FabricLine) : Type 0 where
+  pub name : is_name f.name ≡ true
+  pub registers : f.capacity.registers ≤ 1000000000
+  pub cells : f.capacity.cells ≤ 1000000000
+  pub memory : f.capacity.memory ≤ 1000000000
+
+pub record IsSpeltFile (f : FileLine) : Type 0 where
+  pub name : is_path f.name ≡ true
+  pub path : is_path f.path ≡ true
+
+pub record IsSpeltTenant (t : TenantLine) : Type 0 where
+  pub name : is_name t.name ≡ true
+  pub source : is_path t.source ≡ true
+  pub budget : t.budget ≤ 1000000000
+  pub files : AllByRecursion IsSpeltFile t.files
+  pub different : IsDistinct (λ f g. bytes_eq f.name g.name) t.files
+  pub resume : IfSome t.resume (λ path. is_path path ≡ true)
+  pub errands : AllByRecursion (λ e. IsSpeltDue e.due) t.errands
+
+abbrev pub IsSpeltFree : Free → Type 0
+IsSpeltFree (free.Save tenant name) = is_save_name name ≡ true
+IsSpeltFree (free.Move tenant fabric) = ⊤
+IsSpeltFree (free.Stop tenant) = ⊤
+IsSpeltFree (free.Watch tenant) = ⊤
+
+-- names, paths and numbers are as lines may have them, and a tenant's files have different names
+pub record IsSpelt (s : Script) : Type 0 where
+  pub fabrics : AllByRecursion IsSpeltFabric s.fabrics
+  pub tenants : AllByRecursion IsSpeltTenant s.tenants
+  pub free : AllByRecursion IsSpeltFree s.free
 
 -- ---- what lines declare
 

@@ -4,7 +4,7 @@ ghost use Rattle.std.specs.Prelude.{◌≡◌, ℕ, List, [], ◌∷◌, ◌++�
 ghost use Rattle.ten_plan.specs.declared.plan.Errand.{Errand as Sent};
 ghost use Rattle.script_text.specs.declared.script.Script.{Script as Read};
 ghost use Rattle.script_line.specs.Statements.{says};
-ghost use Rattle.script_text.specs.Laws.{IsScript, IsFault, AreOrdered, is_like, IsWithinLimits, fabric_said, tenant_said};
+ghost use Rattle.script_text.specs.Laws.{IsScript, IsFault, AreOrdered, is_like, IsWithinLimits, IsSpelt, fabric_said, tenant_said};
 ghost use Rattle.script_text.specs.Reading.{reading, script_of, is_bare};
 ghost use Rattle.script_text.specs.Scripts.{with_errand};
 
@@ -32,6 +32,11 @@ pub fn errands_keep_their_order()
 pub fn a_script_keeps_to_its_limits()
     ensures whole { (bytes : List ℕ) (s : Read) → reading bytes ≡ Ok s → is_bare s ≡ false }
     ensures limits { (bytes : List ℕ) (s : Read) → reading bytes ≡ Ok s → IsWithinLimits s }
+{}
+
+/// The names, paths and numbers of a script that is read are as its lines may have them; a tenant's files have different names.
+pub fn words_of_a_script_are_spelt()
+    ensures { (bytes : List ℕ) (s : Read) → reading bytes ≡ Ok s → IsSpelt s }
 {}
 
 /// A script has the fabrics and the tenants that its lines declare, in their order.

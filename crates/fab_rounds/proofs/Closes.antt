@@ -6,6 +6,7 @@ use Rattle.fab_lock.specs.Histories.{notes_of}
 use Rattle.fab_lock.specs.Views.{after_join}
 use Rattle.fab_notes.specs.declared.note.Note.{Note}
 use Rattle.fab_notes.specs.Histories.{IsLegal}
+use Rattle.fab_notes.specs.Origins.{AreOwn}
 use Rattle.fab_notes.specs.Tokens.{outs, puts}
 use Rattle.fab_bay.specs.declared.noted.Label.{Label}
 use Rattle.fab_bay.specs.declared.noted.NotedCore.{NotedCore}
@@ -28,7 +29,7 @@ module _ (label : Label) (first other : DeskSeatFacts) (v : DeskView) (b : Noted
 
   pub shut : IsShut first other b
   shut = record {
-    closed = record { label = refl; legal = subst (λ (l : Label). IsLegal l.fabric l.capacity b.notes.items) (sym is) finds.legal; lines = finds.lines any };
+    closed = record { label = refl; legal = subst (λ (l : Label). IsLegal l.fabric l.capacity b.notes.items) (sym is) finds.legal; lines = finds.lines any; own = subst (λ (l : Label). AreOwn l.origins (puts b.notes.items)) (sym is) finds.starts };
     rest = outs (by_others other.view.low b.notes.items);
     outs = λ f. omega (
       arith,

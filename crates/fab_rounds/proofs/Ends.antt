@@ -14,7 +14,7 @@ use Rattle.fab_notes.specs.declared.transit.Stay.{Stay}
 use Rattle.fab_notes.specs.declared.transit.Transit.{Transit}
 use Rattle.fab_notes.specs.Histories.{IsLegal}
 use Rattle.fab_notes.specs.Moves.{ends_idle, is_behind, is_for, left_for, passed}
-use Rattle.fab_notes.specs.Tokens.{token_of, Token}
+use Rattle.fab_notes.specs.Tokens.{puts, token_of, Token}
 use Rattle.fab_bay.specs.declared.noted.Label.{Label}
 use Rattle.fab_bay.specs.declared.noted.NotedCore.{NotedCore}
 use Rattle.fab_rounds.specs.declared.ledgers.Ledger.{Ledger}
@@ -22,6 +22,7 @@ use Rattle.fab_rounds.specs.declared.outcomes.Start.{Start}
 use Rattle.fab_rounds.specs.declared.workers.Worker.{Worker}
 use Rattle.fab_rounds.specs.Totals.{total}
 use Rattle.fab_rounds.specs.Starts.{IsStart}
+use Rattle.fab_notes.specs.Origins.{AreOwn}
 use Rattle.fab_rounds.specs.Outcomes.{cause_of, goes_to, line_of, lines_at, lines_there, stays_there, IsClosed, IsEnded, IsOutcome}
 use Rattle.fab_rounds.specs.Ledgers.{all_outs, all_puts, in_hand, moving_sum, put_there, start_sum, worker_outs, AreAll, Balanced, HasEnded, IsKept, WeighsNoLeaver}
 use Rattle.fab_rounds.proofs.Conserved.{each, nobody_left, nothing, outs_in, puts_in, settled, still, worth, IsOneClosed}
@@ -143,6 +144,7 @@ module _ (l : Ledger) (ws : List Worker) (bays : Vec NotedCore Global) (rest : L
       let h = closed i b lt' in record {
         label = sym e;
         legal = subst (λ (y : Label). IsLegal y.fabric y.capacity x.notes.items) (sym e) h.legal;
+        own = subst (λ (y : Label). AreOwn y.origins (puts x.notes.items)) (sym e) h.own;
         lines = h.lines;
       }
 

@@ -10,6 +10,7 @@ use Rattle.fab_notes.specs.declared.transit.Stay.{Stay}
 use Rattle.fab_notes.specs.declared.transit.Transit.{Transit}
 use Rattle.fab_notes.specs.Histories.{stays_of, AreLinesByFirst, IsLegal}
 use Rattle.fab_notes.specs.Moves.{ends_idle}
+use Rattle.fab_notes.specs.Origins.{AreOwn}
 use Rattle.fab_notes.specs.Tokens.{puts, token_of, Token}
 use Rattle.fab_bay.specs.declared.noted.Label.{Label}
 use Rattle.fab_bay.specs.declared.noted.NotedCore.{NotedCore}
@@ -33,11 +34,12 @@ pub record IsEnded (s : Start) (t : ℕ) (e : Transit) : Type 0 where
   pub last : Queue
   pub ends : Ends (run_of e.parcel) (ticks_of e.parcel) end last
 
--- the bay of this label, by whose history only the first seat put tenants in line
+-- the bay of this label, by whose history only the first seat put tenants in line, each of which starts from what the label names
 pub record IsClosed (l : Label) (b : NotedCore) : Type 0 where
   pub label : b.label ≡ l
   pub legal : IsLegal l.fabric l.capacity b.notes.items
   pub lines : AreLinesByFirst b.notes.items
+  pub own : AreOwn l.origins (puts b.notes.items)
 
 -- the weights of a tenant's stays there, and of the tenants put in line there, added up
 abbrev pub stays_there : ℕ → (Stay → ℕ) → NotedCore → ℕ

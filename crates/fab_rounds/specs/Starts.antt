@@ -25,7 +25,7 @@ NamesOrigins starts (Some all) = all.value.items ≡ origins_of starts
 -- the label of fabric i: all tenants may come there, only the first seat puts them in line, and what each starts from is named
 pub record IsLabel (starts : List Start) (i : ℕ) (l : Label) : Type 0 where
   pub fabric : l.fabric ≡ i
-  pub tenants : l.tenants ≡ length starts
+  pub tenants : length starts ≤ l.tenants
   pub some : 1 ≤ l.tenants
   pub any_puts : l.any_puts ≡ false
   pub origins : NamesOrigins starts l.origins

@@ -3,6 +3,7 @@ use Rattle.std.proofs.Common.{◌≡◌, ◌≤◌, List, ℕ, length, refl, sym
 use Rattle.std.specs.Prelude.{Ok, All, map}
 use Rattle.vl_source.specs.declared.tree.Source.{Source}
 use Rattle.vl_design.specs.Alone.{Origin}
+use Rattle.vl_design.specs.Cost.{cost}
 use Rattle.vl_design.specs.Observed.{IsSameRun}
 use Rattle.vl_design.specs.Placed as p
 use Rattle.vl_design.specs.Plainly as plain
@@ -49,6 +50,9 @@ Lets = (d : p.Design) (a : Accepted) → IsFit d → HasOwnFunctions d → HasWr
 abbrev pub Unrolls : Type 0
 Unrolls = (o : Origin) → CanUnroll o.flat → IsSameRun o (record o { flat = unrolled_flat o.flat })
 
+abbrev pub Costs : Type 0
+Costs = (d : Flat) → cost (unrolled_flat d) ≡ cost d
+
 abbrev pub Limits : Type 0
 Limits = (s : Source) (d : p.Design) → IsElaboration s (Ok d) → IsLimited d
 
@@ -77,7 +81,7 @@ module _ (text : List ℕ) (a : Accepted) (is : IsAcceptedOf text a) where
       let e = is.of.elaborated in
       lets d a (fits s d e) (owns s d e) (writes s d e) is.stands few
 
-  module _ (fits : Fits) (unroll : Unrolls) (limits : Limits) (rows : Rows) (asks : Asks) (still : AsksStill) (own : WritesOwn) where
+  module _ (fits : Fits) (unroll : Unrolls) (costs : Costs) (limits : Limits) (rows : Rows) (asks : Asks) (still : AsksStill) (own : WritesOwn) where
     fit : IsFit d
     fit = fits is.of.tree d is.of.elaborated
 
@@ -90,6 +94,7 @@ module _ (text : List ℕ) (a : Accepted) (is : IsAcceptedOf text a) where
         record {
           same = λ o e. subst (λ (x : Flat). IsSameRun o (record o { flat = x })) (ap unrolled_flat e ∙ sym same) (unroll o (subst CanUnroll (sym e) can));
           rows = ap (λ (x : Flat). x.rows) same;
+          cost = ap cost same ∙ costs (plain.flat d);
         }
 
     names : HasRows (flat_of a.design).rows

@@ -1,6 +1,7 @@
 -- What a source is built into (own).
 use Rattle.std.specs.Prelude.{◌≡◌, ℕ, List, ⊤, Result, Ok, Err}
 use Rattle.vl_design.specs.Alone.{Origin}
+use Rattle.vl_design.specs.Cost.{cost}
 use Rattle.vl_design.specs.Observed.{IsSameRun}
 use Rattle.vl_design.specs.Syntax.{Flat}
 use Rattle.vl_design.specs.Trees.{flat_of}
@@ -14,10 +15,11 @@ use Rattle.ten_make.specs.Within.{IsWithinCost}
 use Rattle.ten_plan.specs.Written.{HasRows}
 use Rattle.vl_again.specs.Again.{CanGoOn}
 
--- over all files, with all plans and from all starts the run alone of one design is that of another, and their signals are the same
+-- over all files, with all plans and from all starts the run alone of one design is that of another; their signals and their costs are the same
 pub record RunsAs (d e : Flat) : Type 0 where
   pub same : (o : Origin) → o.flat ≡ e → IsSameRun o (record o { flat = d })
   pub rows : d.rows ≡ e.rows
+  pub cost : cost d ≡ cost e
 
 -- the image is that of a design that runs as the one that the text stands for, and it keeps within that design's cost; names of what its snapshots keep have at most 255 bytes
 pub record IsImageOf (text : List ℕ) (image : Image) : Type 0 where

@@ -20,7 +20,7 @@ use vl_functions::laws::functions_of_an_elaborated_design_keep_to_their_own;
 use vl_limited::laws::{
     rows_of_a_limited_design_can_be_written, signals_of_an_elaborated_design_are_limited,
 };
-use vl_turns::laws::runs_the_same;
+use vl_turns::laws::{costs_the_same, runs_the_same};
 use vl_writers::laws::processes_of_an_elaborated_design_write_what_is_theirs;
 
 /// The most signals of a design, so that cells can number its values: 2 ^ 28.
@@ -36,6 +36,7 @@ fn of_accepted(alloc: Global, accepted: Accepted) -> Result<Image, BuildError>
     processes_of_an_elaborated_design_write_what_is_theirs();
     an_accepted_design_is_a_tenants();
     runs_the_same();
+    costs_the_same();
     signals_of_an_elaborated_design_are_limited();
     processes_of_an_elaborated_design_ask_behind_calls();
     unrolled_designs_ask_behind_calls();

@@ -1,3 +1,9 @@
 pub mod Sums
 pub mod Bays
 pub mod Reports
+pub mod Numbers
+pub mod Carried
+pub mod Noted
+pub mod Same
+pub mod All
+pub mod Stays

@@ -1,0 +1,4 @@
+pub mod Closing
+pub mod Onward
+pub mod Placing
+pub mod Saying

@@ -1,0 +1,4 @@
+pub mod Ends
+pub mod Endings
+pub mod Orders
+pub mod Telling

@@ -1,0 +1,53 @@
+-- What is decided of a design, by its cost, its plan and its start.
+use Rattle.std.proofs.Common.{◌≡◌, ℕ, false, true, List, slice_get, Option, Some, Err, refl, sym, ap, ◌∙◌, subst}
+use Rattle.vl_base.specs.declared.files.File.{File}
+use Rattle.vl_cost.specs.declared.capacity.Cost.{Cost}
+use Rattle.vl_design.specs.Cost as sums
+use Rattle.vl_design.specs.Syntax.{Flat}
+use Rattle.vl_front.specs.declared.fault.BuildError.{BuildError}
+use Rattle.vl_front.specs.declared.fault.BuildError.TheVariants as build
+use Rattle.script_text.specs.declared.script.FabricLine.{FabricLine}
+use Rattle.script_text.specs.declared.script.TenantLine.{TenantLine}
+use Rattle.ten_plan.specs.declared.held.Held.{Held}
+use Rattle.ten_plan.specs.declared.plan.Plan.{Plan}
+use Rattle.ten_plan.specs.Plans as known
+use Rattle.ten_build.specs.Builds.{IsBuild}
+use Rattle.host_form.specs.Origins.{Faulty, Tenant, fits, fits_in, plan_of, cost_kind, snapshot_kind, for_its_source, for_its_cost, for_its_snapshot}
+use Rattle.host_load.specs.declared.loaded.Loaded.{Loaded}
+use Rattle.host_load.specs.Reading.{bytes_in}
+use Rattle.host_judge.specs.declared.judge.Decision.TheVariants as decision
+use Rattle.host_judge.specs.declared.judge.Verdict.{Verdict}
+use Rattle.host_judge.specs.declared.starting.Start.TheVariants as start
+use Rattle.host_judge.specs.Judged.{kind_words, IsTenantOf}
+use Rattle.host_judge.specs.Deciding.{sums_of, elsewhere, IsStarted, HasRoom, IsDecided, IsVerdict, IsSourceRefused}
+
+-- a tenant whose source is refused
+pub refused-source : (fabrics : List FabricLine) (line : TenantLine) (l : Loaded) (e : BuildError) (v : Verdict) → IsBuild l.source.items (Err e) → IsSourceRefused e v
+    → (t : Tenant) × IsTenantOf line l t × IsVerdict fabrics t v
+refused-source fabrics line l (build.Refused place kind) v h e =
+    let t : Tenant = record { line = line; source = Faulty place (kind_words kind); files = l.files; snapshot = bytes_in l.snapshot } in (
+      t,
+      record { is = refl; source = (kind, h, refl); files = refl; snapshot = refl },
+      subst (λ (x : Verdict). IsVerdict fabrics t x) (sym e) (for_its_source refl),
+    )
+refused-source fabrics line l build.Memory v h e = absurd e
+
+module _ (fabrics : List FabricLine) (line : TenantLine) (d : Flat) (files : List File) (bytes : Option (List ℕ)) where
+  pub runs : (c : Cost) (plan : Plan) (held : Option Held) → sums_of c ≡ sums.cost d → HasRoom fabrics line d → known.plan_of plan ≡ plan_of fabrics (sums_of c) line
+      → IsStarted d files line.budget bytes (start.From held) → IsDecided fabrics line d files bytes (decision.Runs plan held)
+  runs c plan held same room planned started =
+      (record { design = refl; room = room; files = refl; plan = planned ∙ ap (λ (x : sums.Cost). plan_of fabrics x line) same; start = started.0 }, started.1)
+
+  pub misstarted : (fault : ℕ) (kind : List ℕ) → HasRoom fabrics line d → IsStarted d files line.budget bytes (start.Bad fault) → kind ≡ snapshot_kind fault
+      → IsDecided fabrics line d files bytes (decision.Refused (elsewhere kind))
+  misstarted fault kind room bad is = for_its_snapshot {d = d} {fault = fault} refl room bad refl is
+
+  module _ (c : Cost) (same : sums_of c ≡ sums.cost d) (fabric : FabricLine) (there : slice_get fabrics line.fabric ≡ Some fabric) where
+    pub too-dear : (kind : List ℕ) → fits (sums_of c) fabric.capacity ≡ false → kind ≡ cost_kind (sums_of c) fabric.capacity
+        → IsDecided fabrics line d files bytes (decision.Refused (elsewhere kind))
+    too-dear kind above is =
+        for_its_cost {d = d} {fabric = fabric} refl there (subst (λ (x : sums.Cost). fits x fabric.capacity ≡ false) same above) refl
+        (subst (λ (x : sums.Cost). kind ≡ cost_kind x fabric.capacity) same is)
+
+    pub has-room : fits (sums_of c) fabric.capacity ≡ true → HasRoom fabrics line d
+    has-room e = ap (λ (o : Option FabricLine). fits_in (sums.cost d) o) there ∙ subst (λ (x : sums.Cost). fits x fabric.capacity ≡ true) same e

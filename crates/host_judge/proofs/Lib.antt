@@ -1,0 +1,6 @@
+pub mod Planned
+pub mod Begun
+pub mod Moved
+pub mod Decided
+pub mod Runs
+pub mod Noted

@@ -1,0 +1,253 @@
+//! Tenants judged.
+
+ghost use Rattle.std.specs.Prelude.{◌≡◌, ℕ, ◌<◌, List, [], ◌∷◌, ◌++◌, length, option_map, IfOk, OnOk};
+ghost use Rattle.vl_base.specs.Files.{IsFileSet};
+ghost use Rattle.vl_cost.specs.Costs.{saturated_cost};
+ghost use Rattle.vl_design.specs.Cost as sums;
+ghost use Rattle.vl_design.specs.Trees.{flat_of};
+ghost use Rattle.script_text.specs.Laws.{IsSpelt, IsSpeltTenant, IsTenant as IsTenantAt, IsWithinLimits};
+ghost use Rattle.ten_build.specs.Builds.{IsImageOf};
+ghost use Rattle.host_load.specs.declared.loaded.Loaded.{Loaded as Read};
+ghost use Rattle.ten_hold.specs.Holding.{CanBeHeld};
+ghost use Rattle.host_form.specs.Origins.{Tenant};
+ghost use Rattle.host_load.specs.Reading.{bytes_in};
+ghost use Rattle.host_judge.specs.Judged.{IsTenantOf, AreTenants, AreJudged};
+ghost use Rattle.host_judge.specs.Deciding as d;
+
+use crate::kinds::{cost_text, snapshot_text, source_text};
+use crate::planning::plan_for;
+use crate::room::{fits_in, is_exact};
+use crate::starting::{Start, start_of};
+use crate::verdict::{Judged, Ready, Refusal};
+use host_load::loaded::Loaded;
+use script_text::script::{FabricLine, Script, TenantLine};
+use std::alloc::{AllocError, Global};
+use ten_alone::laws::a_tenants_image_can_be_run;
+use ten_build::build::build;
+use ten_core::image::Image;
+use ten_core::origin::Origin;
+use ten_plan::held::Held;
+use ten_plan::plan::Plan;
+use vl_base::files::FileSet;
+use vl_base::items::Text;
+use vl_base::place::Place;
+use vl_front::fault::BuildError;
+use vl_save_names::laws::an_elaborated_design_names_its_snapshots;
+
+/// What comes of an image that was built.
+#[derive(Drop)]
+enum Decision {
+    /// It runs by this plan, from this on; from time zero where it is nothing.
+    Runs(Plan, Option<Held>),
+    /// It is refused, for its cost or its snapshot.
+    Refused(Refusal),
+}
+
+/// What a tenant is judged to be.
+#[derive(Drop)]
+enum Verdict {
+    /// It is to run.
+    Runs(Ready),
+    /// It is refused.
+    Refused(Refusal),
+}
+
+/// A refusal that isn't of the source.
+fn elsewhere(kind: Text) -> Refusal
+    ensures { result ≡ d.elsewhere kind }
+{
+    Refusal {
+        place: Place { line: 0, column: 0 },
+        kind,
+    }
+}
+
+/// What comes of an image whose cost fits its fabric: it is refused for the first fault of its snapshot, or it runs.
+fn decide_start(
+    alloc: Global,
+    fabrics: &[FabricLine],
+    line: &TenantLine,
+    image: &Image,
+    files: &FileSet,
+    snapshot: Option<&[u8]>,
+) -> Result<Decision, AllocError>
+    requires held { CanBeHeld (flat_of image.now.design) }
+    requires cost { d.sums_of image.now.cost ≡ sums.cost (flat_of image.now.design) }
+    requires room { d.HasRoom fabrics.now line.now (flat_of image.now.design) }
+    requires spelt { IsSpeltTenant line.now }
+    ensures { IfOk result (d.IsDecided fabrics.now line.now (flat_of image.now.design) files.now (option_map (λ bytes. bytes.now) snapshot.entry)) }
+{
+    match start_of(alloc, &image.design, files, line.budget, snapshot)? {
+        Start::From(held) => {
+            let plan = plan_for(alloc, fabrics, image.cost, line)?;
+            Ok(Decision::Runs(plan, held))
+        }
+        Start::Bad(fault) => {
+            let kind = snapshot_text(alloc, fault)?;
+            Ok(Decision::Refused(elsewhere(kind)))
+        }
+    }
+}
+
+/// What comes of an image: it is refused if its cost doesn't fit its fabric, else for the first fault of its snapshot; else it runs.
+/// Costs of 2 ^ 64 - 1 and more, to which no design within the limits comes, are want of memory.
+fn decide(
+    alloc: Global,
+    fabrics: &[FabricLine],
+    line: &TenantLine,
+    image: &Image,
+    files: &FileSet,
+    snapshot: Option<&[u8]>,
+) -> Result<Decision, AllocError>
+    requires held { CanBeHeld (flat_of image.now.design) }
+    requires cost { image.now.cost ≡ saturated_cost (sums.cost (flat_of image.now.design)) }
+    requires fabric { line.now.fabric < length fabrics.now }
+    requires spelt { IsSpeltTenant line.now }
+    ensures { IfOk result (d.IsDecided fabrics.now line.now (flat_of image.now.design) files.now (option_map (λ bytes. bytes.now) snapshot.entry)) }
+{
+    if !is_exact(image.cost) {
+        return Err(AllocError);
+    }
+    let fabric = &fabrics[line.fabric as usize];
+    if fits_in(image.cost, fabric) {
+        return decide_start(alloc, fabrics, line, image, files, snapshot);
+    }
+    let kind = cost_text(alloc, image.cost, fabric.capacity)?;
+    Ok(Decision::Refused(elsewhere(kind)))
+}
+
+/// The bytes of a snapshot, if there is one.
+fn bytes_of(snapshot: &Option<Vec<u8>>) -> Option<&[u8]>
+    ensures { option_map (λ bytes. bytes.now) result ≡ bytes_in snapshot.now }
+{
+    match snapshot {
+        Some(bytes) => Some(bytes.as_slice()),
+        None => None,
+    }
+}
+
+/// Files are a set: at most 16, of different names of at most 255 bytes. It does nothing but ask for a name, which may be any.
+fn are_a_set(files: &FileSet, name: &Text)
+    ensures { IsFileSet files.now }
+{
+    files.number(name);
+}
+
+/// What a tenant is judged to be whose source was built.
+fn judge_image(
+    alloc: Global,
+    fabrics: &[FabricLine],
+    line: &TenantLine,
+    image: Image,
+    files: FileSet,
+    snapshot: &Option<Vec<u8>>,
+) -> Result<Verdict, AllocError>
+    requires image { (text : List ℕ) × IsImageOf text image }
+    requires line { IsTenantAt (length fabrics.now) line.now }
+    requires spelt { IsSpeltTenant line.now }
+    ensures { IfOk result (λ v. (text : List ℕ) (is : IsImageOf text image) → d.IsVerdict fabrics.now (d.accepted line.now is.design files (bytes_in snapshot.now)) v) }
+{
+    a_tenants_image_can_be_run();
+    an_elaborated_design_names_its_snapshots();
+    are_a_set(&files, &line.name);
+    match decide(alloc, fabrics, line, &image, &files, bytes_of(snapshot))? {
+        Decision::Runs(plan, start) => Ok(Verdict::Runs(Ready {
+            fabric: line.fabric,
+            origin: Origin {
+                image,
+                files,
+                plan,
+                start,
+            },
+        })),
+        Decision::Refused(refusal) => Ok(Verdict::Refused(refusal)),
+    }
+}
+
+/// The verdict on a source that wasn't built: it is refused at a place, for a fault of a kind.
+fn refused_source(alloc: Global, error: BuildError) -> Result<Verdict, AllocError>
+    ensures { IfOk result (d.IsSourceRefused error) }
+{
+    match error {
+        BuildError::Refused(place, kind) => {
+            let kind = source_text(alloc, kind)?;
+            Ok(Verdict::Refused(Refusal { place, kind }))
+        }
+        BuildError::Memory => Err(AllocError),
+    }
+}
+
+/// What a tenant is judged to be: it is refused for its source's first fault; else if its cost doesn't fit its fabric; else for its
+/// snapshot's first fault, or if that one's tick is above the budget; else it is to run.
+fn judge(
+    alloc: Global,
+    fabrics: &[FabricLine],
+    line: &TenantLine,
+    loaded: Loaded,
+) -> Result<Verdict, AllocError>
+    requires line { IsTenantAt (length fabrics.now) line.now }
+    requires spelt { IsSpeltTenant line.now }
+    ensures { IfOk result (λ v. (t : Tenant) × IsTenantOf line.now loaded t × d.IsVerdict fabrics.now t v) }
+{
+    let Loaded {
+        source,
+        files,
+        snapshot,
+    } = loaded;
+    match build(alloc, &source) {
+        Ok(image) => judge_image(alloc, fabrics, line, image, files, &snapshot),
+        Err(error) => refused_source(alloc, error),
+    }
+}
+
+/// Notes what a tenant is judged to be, behind those before it.
+fn note(verdict: Verdict, judged: &mut Judged) -> Result<(), AllocError>
+    ensures { OnOk result (d.IsNoted verdict judged.old judged.new) }
+{
+    match verdict {
+        Verdict::Runs(ready) => {
+            judged.refusals.push(None)?;
+            judged.readies.push(ready)?;
+            Ok(())
+        }
+        Verdict::Refused(refusal) => {
+            judged.refusals.push(Some(refusal))?;
+            Ok(())
+        }
+    }
+}
+
+/// Judges the tenant behind those that are judged, of which this was read.
+fn judge_next(
+    alloc: Global,
+    script: &Script,
+    loaded: Loaded,
+    judged: &mut Judged,
+) -> Result<(), AllocError>
+    requires limits { IsWithinLimits script.now }
+    requires spelt { IsSpelt script.now }
+    requires more { length judged.old.refusals.items < length script.now.tenants }
+    ensures { OnOk result ((seen : List Read) → d.AreSoFar script.now seen judged.old → d.AreSoFar script.now (seen ++ loaded ∷ []) judged.new) }
+{
+    let line = &script.tenants.as_slice()[judged.refusals.len()];
+    let verdict = judge(alloc, script.fabrics.as_slice(), line, loaded)?;
+    note(verdict, judged)
+}
+
+/// What all tenants of a script are judged to be, by what was read of each. An `Err` is want of memory alone.
+pub fn judge_all(alloc: Global, script: &Script, loaded: Vec<Loaded>) -> Result<Judged, AllocError>
+    requires limits { IsWithinLimits script.now }
+    requires spelt { IsSpelt script.now }
+    requires count { length loaded.items ≡ length script.now.tenants }
+    ensures { IfOk result (λ j. (tenants : List Tenant) × AreTenants script.now.tenants loaded.items tenants
+        × AreJudged script.now.fabrics tenants j.refusals.items j.readies.items) }
+{
+    let mut judged = Judged {
+        refusals: Vec::new(alloc),
+        readies: Vec::new(alloc),
+    };
+    for tenant in loaded {
+        judge_next(alloc, script, tenant, &mut judged)?;
+    }
+    Ok(judged)
+}

@@ -1,0 +1,10 @@
+//! Which tenants of a script run, from what, and why others are refused.
+#![tactic(auto)]
+
+pub mod judge;
+mod kinds;
+pub mod laws;
+mod planning;
+mod room;
+mod starting;
+pub mod verdict;

@@ -1,0 +1,5 @@
+pub mod Nothing
+pub mod Reaching
+pub mod Answering
+pub mod Ended
+pub mod Lines

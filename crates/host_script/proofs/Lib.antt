@@ -1,0 +1,13 @@
+pub mod Rooms
+pub mod Placed
+pub mod Loaded
+pub mod Bays
+pub mod Beginnings
+pub mod Endings
+pub mod Keeping
+pub mod Leaving
+pub mod Refused
+pub mod Reports
+pub mod Saves
+pub mod Saying
+pub mod Tellable

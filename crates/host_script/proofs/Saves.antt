@@ -1,0 +1,89 @@
+-- The snapshots of the tenants of a script are written as a report says.
+use Rattle.std.proofs.Common.{◌≡◌, ℕ, ◌+◌, List, [], ◌∷◌, ◌++◌, length, map, refl, sym, ap, ◌∙◌, subst, arith, Option, Some, None}
+use Rattle.std.specs.List.{AllByRecursion}
+use Rattle.fab_io.specs.Outside.{with_file, Files}
+use Rattle.vl_design.specs.Snapshots.{Saved}
+use Rattle.ten_plan.specs.Written.{bytes_of}
+use Rattle.script_text.specs.declared.script.TenantLine.{TenantLine}
+use Rattle.fab_notes.specs.declared.transit.Transit.{Transit}
+use Rattle.host_form.specs.Orders.{Answered}
+use Rattle.host_form.specs.Origins.{Tenant}
+use Rattle.host_form.specs.Runs.{Outcome, Refused, Ran}
+use Rattle.host_form.specs.Saves.{path_of, with_saves, AreSaved}
+use Rattle.host_judge.specs.declared.verdict.Refusal.{Refusal}
+use Rattle.host_outcomes.specs.Ends.{AreTold}
+use Rattle.host_saves.specs.declared.kept.Kept.{Kept}
+use Rattle.host_saves.specs.Kept.{saved_in, CanBeKept}
+use Rattle.host_saves.specs.Writes.{after_writes, writes_in, writes_of, Write}
+use Rattle.host_blocks.specs.Telling.{AreKept}
+
+-- ---- writes
+
+after_both : (ws vs : List Write) (files : Files) → after_writes (ws ++ vs) files ≡ after_writes vs (after_writes ws files)
+after_both [] vs files = refl
+after_both (w ∷ ws) vs files = after_both ws vs (with_file w.path w.bytes files)
+
+after_saves : (tenant : List ℕ) (saved : List Saved) (files : Files) → after_writes (writes_in tenant saved) files ≡ with_saves tenant saved files
+after_saves tenant [] files = refl
+after_saves tenant (s ∷ saved) files = after_saves tenant saved (with_file (path_of tenant s.name) (bytes_of s.snapshot) files)
+
+first_writes : (tenant : List ℕ) (saved : List Saved) (ws : List Write) (files : Files) → after_writes ws (with_saves tenant saved files) ≡ after_writes (writes_in tenant saved ++ ws) files
+first_writes tenant saved ws files =
+    ap (λ (f : Files). after_writes ws f) (sym (after_saves tenant saved files)) ∙ sym (after_both (writes_in tenant saved) ws files)
+
+-- ---- what is kept
+
+pub all_can : (refusals : List (Option Refusal)) (ended : List Transit) (kept : List (Option Kept)) → AreKept refusals ended kept → AllByRecursion CanBeKept kept
+all_can [] [] [] k = tt
+all_can [] [] (x ∷ ks) k = absurd k
+all_can [] (e ∷ es) ks k = absurd k
+all_can (Some r ∷ rs) es [] k = absurd k
+all_can (Some r ∷ rs) es (None ∷ ks) k = (tt, all_can rs es ks k)
+all_can (Some r ∷ rs) es (Some x ∷ ks) k = absurd k
+all_can (None ∷ rs) [] ks k = absurd k
+all_can (None ∷ rs) (e ∷ es) [] k = absurd k
+all_can (None ∷ rs) (e ∷ es) (None ∷ ks) k = absurd k
+all_can (None ∷ rs) (e ∷ es) (Some x ∷ ks) k = (k.0.can, all_can rs es ks k.1)
+
+pub kept_count : (refusals : List (Option Refusal)) (ended : List Transit) (kept : List (Option Kept)) → AreKept refusals ended kept → length kept ≡ length refusals
+kept_count [] [] [] k = refl
+kept_count [] [] (x ∷ ks) k = absurd k
+kept_count [] (e ∷ es) ks k = absurd k
+kept_count (Some r ∷ rs) es [] k = absurd k
+kept_count (Some r ∷ rs) es (None ∷ ks) k = let n = kept_count rs es ks k in omega (arith, n)
+kept_count (Some r ∷ rs) es (Some x ∷ ks) k = absurd k
+kept_count (None ∷ rs) [] ks k = absurd k
+kept_count (None ∷ rs) (e ∷ es) [] k = absurd k
+kept_count (None ∷ rs) (e ∷ es) (None ∷ ks) k = absurd k
+kept_count (None ∷ rs) (e ∷ es) (Some x ∷ ks) k = let n = kept_count rs es ks k.1 in omega (arith, n)
+
+-- ---- the files behind a report
+
+abbrev lines_of : List Tenant → List TenantLine
+lines_of tenants = map (λ t. t.line) tenants
+
+module _ (answers : List Answered) where
+  pub are_saved : (n : ℕ) (tenants : List Tenant) (refusals : List (Option Refusal)) (ended : List Transit) (kept : List (Option Kept)) (ys : List Outcome) (files : Files)
+      → length refusals ≡ length tenants → AreTold answers n refusals ended ys → AreKept refusals ended kept
+      → AreSaved answers n tenants ys files (after_writes (writes_of (lines_of tenants) kept) files)
+  are_saved n [] refusals ended kept ys files m t k = refl
+  are_saved n (x ∷ ts) [] ended kept ys files m t k = absurd (omega (arith, m))
+  are_saved n (x ∷ ts) (Some r ∷ rs) es [] ys files m t k = absurd k
+  are_saved n (x ∷ ts) (Some r ∷ rs) es (Some q ∷ ks) ys files m t k = absurd k
+  are_saved n (x ∷ ts) (Some r ∷ rs) es (None ∷ ks) [] files m t k = absurd t
+  are_saved n (x ∷ ts) (Some r ∷ rs) es (None ∷ ks) (Ran y ∷ ys) files m t k = absurd t
+  are_saved n (x ∷ ts) (Some r ∷ rs) es (None ∷ ks) (Refused place kind ∷ ys) files m t k =
+      ([], refl, are_saved (n + 1) ts rs es ks ys files (omega (arith, m)) t k)
+  are_saved n (x ∷ ts) (None ∷ rs) [] ks ys files m t k = absurd k
+  are_saved n (x ∷ ts) (None ∷ rs) (e ∷ es) [] ys files m t k = absurd k
+  are_saved n (x ∷ ts) (None ∷ rs) (e ∷ es) (None ∷ ks) ys files m t k = absurd k
+  are_saved n (x ∷ ts) (None ∷ rs) (e ∷ es) (Some q ∷ ks) [] files m t k = absurd t
+  are_saved n (x ∷ ts) (None ∷ rs) (e ∷ es) (Some q ∷ ks) (Refused place kind ∷ ys) files m t k = absurd t
+  are_saved n (x ∷ ts) (None ∷ rs) (e ∷ es) (Some q ∷ ks) (Ran y ∷ ys) files m t k =
+      let name = x.line.name in
+      let saved = saved_in q in (
+        saved,
+        t.0.keeps saved k.0.keeps,
+        subst (λ (after : Files). AreSaved answers (n + 1) ts ys (with_saves name saved files) after) (first_writes name saved (writes_of (lines_of ts) ks) files)
+            (are_saved (n + 1) ts rs es ks ys (with_saves name saved files) (omega (arith, m)) t.1 k.1),
+      )

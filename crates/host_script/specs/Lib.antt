@@ -1,0 +1,5 @@
+pub mod Rooms
+pub mod Made
+pub mod Reported
+pub mod Steps
+pub mod Runs

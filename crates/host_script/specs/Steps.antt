@@ -1,0 +1,43 @@
+-- What stands between the judging of a script's tenants and their report (own).
+use Rattle.std.specs.Prelude.{◌≡◌, ℕ, Bool, List, map, Option}
+use Rattle.std.specs.List.{list_any}
+use Rattle.script_text.specs.declared.script.Script.{Script}
+use Rattle.report_text.specs.Report.{report}
+use Rattle.fab_notes.specs.declared.transit.Transit.{Transit}
+use Rattle.fab_bay.specs.declared.noted.Label.{Label}
+use Rattle.fab_rounds.specs.declared.outcomes.Start.{Start}
+use Rattle.fab_rounds.specs.Starts.{AreLabels, AreStarts}
+use Rattle.host_form.specs.Orders.{free_line}
+use Rattle.host_form.specs.Origins.{Tenant}
+use Rattle.host_form.specs.Reports.{blocks_of}
+use Rattle.host_form.specs.Runs.{Outcome}
+use Rattle.host_load.specs.declared.loaded.Loaded.{Loaded}
+use Rattle.host_judge.specs.declared.verdict.Ready.{Ready}
+use Rattle.host_judge.specs.declared.verdict.Refusal.{Refusal}
+use Rattle.host_judge.specs.Judged.{AreJudged, AreTenants}
+use Rattle.host_script.specs.Rooms.{HaveRoom}
+use Rattle.host_outcomes.specs.Begun.{AreBegun}
+use Rattle.host_blocks.specs.Ends.{is_refused, AreEnds}
+use Rattle.host_saves.specs.declared.kept.Kept.{Kept}
+use Rattle.host_blocks.specs.Telling.{AreKept}
+use Rattle.host_replies.specs.Late.{late_answers}
+
+-- tenants are judged so, and those that run stand at the first boundaries of their runs, on fabrics of these labels
+pub record Begin (s : Script) (loaded : List Loaded) (refusals : List (Option Refusal)) (labels : List Label) (starts : List Start) : Type 0 where
+  pub tenants : List Tenant
+  pub are : AreTenants s.tenants loaded tenants
+  pub readies : List Ready
+  pub judged : AreJudged s.fabrics tenants refusals readies
+  pub begun : AreBegun readies starts
+  pub labelled : AreLabels starts labels
+  pub placed : AreStarts labels starts
+  pub room : HaveRoom s.fabrics labels
+
+-- what is said of tenants that are refused so or have ended so, where free orders are done when all have ended
+pub record Says (s : Script) (refusals : List (Option Refusal)) (ended : List Transit) (refused : Bool) (text : List ℕ) (kept : List (Option Kept)) : Type 0 where
+  pub any : refused ≡ list_any (λ x. x) (map is_refused refusals)
+  pub outcomes : List Outcome
+  pub ends : AreEnds refusals ended outcomes
+  pub is : (tenants : List Tenant) → map (λ t. t.line) tenants ≡ s.tenants →
+      text ≡ report (blocks_of s tenants outcomes) (map (free_line s) (late_answers s refusals ended))
+  pub keeps : AreKept refusals ended kept

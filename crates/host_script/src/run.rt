@@ -1,0 +1,113 @@
+//! Running the tenants of a script.
+
+ghost use Rattle.std.specs.Prelude.{◌≡◌, ℕ, List, length, Ok, IfOk};
+ghost use Rattle.std.specs.List.{AllByRecursion};
+ghost use Rattle.fab_io.specs.Outside.{Files};
+ghost use Rattle.script_text.specs.Laws.{IsSpelt, IsWithinLimits};
+ghost use Rattle.script_text.specs.Reading.{reading};
+ghost use Rattle.fab_rounds.specs.Outcomes.{IsOutcome};
+ghost use Rattle.fab_rounds.specs.Starts.{AreLabels, AreStarts};
+ghost use Rattle.host_load.specs.Reading.{AreLoaded};
+ghost use Rattle.host_blocks.specs.Telling.{AreTellable};
+ghost use Rattle.host_saves.specs.Kept.{CanBeKept};
+ghost use Rattle.host_script.specs.Reported.{AreBays, IsReported};
+ghost use Rattle.host_script.specs.Steps.{Says};
+
+use crate::prepared::{Prepared, judged_and_begun};
+use crate::reported::Reported;
+use crate::said::{Said, said_of};
+use fab_io::gate::Gate;
+use fab_rounds::outcomes::Outcome;
+use fab_rounds::rounds;
+use host_judge::laws::tenants_are_read;
+use host_judge::verdict::Refusal;
+use host_load::loaded::Loaded;
+use host_outcomes::laws::all_tenants_are_reported;
+use host_replies::laws::{late_orders_do_nothing, late_replies_may_be_given};
+use script_text::laws::{a_script_keeps_to_its_limits, words_of_a_script_are_spelt};
+use script_text::script::Script;
+use std::alloc::{AllocError, Global};
+use std::sync::Wait;
+use std::thread::Threads;
+use vl_save_names::laws::kept_snapshots_are_named;
+
+/// The tenants of a script, run.
+#[derive(Drop)]
+struct Ran {
+    /// Of each tenant why it is refused, if it is.
+    refusals: Vec<Option<Refusal>>,
+    /// What became of those that ran.
+    outcome: Outcome,
+}
+
+/// Runs tenants that were judged and whose runs were begun.
+fn run_prepared<R: Threads + Wait + Sync, G: Gate + Sync>(
+    rt: &R,
+    alloc: Global,
+    gate: &G,
+    prepared: Prepared,
+) -> Result<Ran, AllocError>
+    requires labels { AreLabels prepared.starts.items prepared.labels.items }
+    requires starts { AreStarts prepared.labels.items prepared.starts.items }
+    ensures refusals { IfOk result (λ r. r.refusals.items ≡ prepared.refusals.items) }
+    ensures outcome { IfOk result (λ r. IsOutcome prepared.labels.items prepared.starts.items r.outcome) }
+{
+    let Prepared {
+        refusals,
+        labels,
+        starts,
+    } = prepared;
+    let outcome = rounds::run(rt, alloc, gate, labels, starts)?;
+    Ok(Ran { refusals, outcome })
+}
+
+/// Reports tenants that were run.
+fn report_on(alloc: Global, script: &Script, ran: Ran) -> Result<Reported, AllocError>
+    requires limits { IsWithinLimits script.now }
+    requires spelt { IsSpelt script.now }
+    requires count { length ran.refusals.items ≡ length script.now.tenants }
+    requires each { AreTellable ran.refusals.items ran.outcome.ended.items }
+    ensures says { IfOk result (λ r. Says script.now ran.refusals.items ran.outcome.ended.items r.refused r.text.items r.kept.items) }
+    ensures bays { IfOk result (λ r. r.bays.items ≡ ran.outcome.bays.items) }
+{
+    let Ran { refusals, outcome } = ran;
+    let Outcome { ended, bays, .. } = outcome;
+    let Said {
+        refused,
+        text,
+        kept,
+    } = said_of(alloc, script, refusals, ended)?;
+    Ok(Reported {
+        refused,
+        text,
+        kept,
+        bays,
+    })
+}
+
+/// Runs the tenants of a script that were read, until each has ended, and reports. An `Err` is want of memory alone. It may wait.
+pub fn run_script<R: Threads + Wait + Sync, G: Gate + Sync>(
+    rt: &R,
+    alloc: Global,
+    gate: &G,
+    script: &Script,
+    loaded: Vec<Loaded>,
+) -> Result<Reported, AllocError>
+    requires read { (bytes : List ℕ) × (reading bytes ≡ Ok script.now) }
+    requires count { length loaded.items ≡ length script.now.tenants }
+    ensures report { IfOk result (λ r. (files : Files) → AreLoaded files script.now.tenants loaded.items → IsReported files script.now r) }
+    ensures bays { IfOk result (λ r. AreBays script.now.fabrics r.bays.items) }
+    ensures kept { IfOk result (λ r. AllByRecursion CanBeKept r.kept.items) }
+    ensures count { IfOk result (λ r. length r.kept.items ≡ length script.now.tenants) }
+{
+    a_script_keeps_to_its_limits();
+    words_of_a_script_are_spelt();
+    kept_snapshots_are_named();
+    tenants_are_read();
+    late_orders_do_nothing();
+    late_replies_may_be_given();
+    all_tenants_are_reported();
+    let prepared = judged_and_begun(alloc, script, loaded)?;
+    let ran = run_prepared(rt, alloc, gate, prepared)?;
+    report_on(alloc, script, ran)
+}

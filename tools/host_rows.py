@@ -1,26 +1,33 @@
-"""Makes the input and the wanted output of crates/host_rows from the tables tools/host_rows.txt, tools/run_rows.txt and
-tools/width_rows.txt."""
+"""Makes the input and the wanted output of crates/host_rows from the tables tools/host_rows.txt, tools/run_rows.txt,
+tools/width_rows.txt and tools/host_scripts.txt."""
 
 import sys
 
 sys.dont_write_bytecode = True
 
-from flat_rows import MARK, TOOLS, TOP, marked, numbered, parted, text_of
+from flat_rows import MARK, TOOLS, TOP, expanded, marked, numbered, parted, text_of
 from items import item
 from values import corners
 
 FOLDER = TOP / "crates" / "host_rows"
-USAGE = "usage: fabhost run SOURCE TICKS"
+USAGE = "usage: fabhost run SCRIPT"
+ROOM = "fabric F 1000000000 1000000000 1000000000"
 LETTERS = "begin " + " ".join(f"msg[{i}] = {ord(c)};" for i, c in enumerate("Hello\n")) + " end"
 COUNTER = (TOP / "examples" / "counter.v").read_text().rstrip("\n")
 BLOCK = "module m(input wire k); reg [7:0] a; always @(posedge k) begin {} end endmodule"
 
 
 def ran(ticks, end, printed):
-    """The status and the lines of a run: it ended for a reason, after so many ticks, and printed these lines."""
+    """The status and the lines of a run: it ended for a reason, after so many ticks and any number of cycles, and printed these lines."""
     reason, number = (end.split() + [ticks])[:2]
     count = sum(len(line.encode()) + 1 for line in printed)
-    return ["status 0", f"tenant main {reason} {number} {count}"] + printed + [""]
+    stays = [f"stay main F 0 {number}"] * (number != "0")
+    return ["status 0", f"tenant main {reason} {number} * {count}"] + printed + [""] + stays
+
+
+def with_script(source, ticks):
+    """The files of a script of one tenant that runs a source."""
+    return f"+ m.v\n{source}\n+ s\n{ROOM}\ntenant main m.v F {ticks}"
 
 
 def refused(kind, source):
@@ -30,19 +37,18 @@ def refused(kind, source):
 
 
 def rows_of(head, rest):
-    """The rows of a case: the lines before what is wanted, what is wanted, and a source."""
+    """The rows of a case: the lines before what is wanted, what is wanted, and the files."""
     words = head.split()
     if words[0] == "run":
         printed, source = ("\n" + rest).split("\n\n", 1)
         wanted = ran(words[1], " ".join(words[2:]), printed.split("\n")[1:])
-        return [([f"@ run m.v {words[1]}"], wanted, text_of(source))]
+        return [(["@ run s"], wanted, with_script(text_of(source), words[1]))]
     if words[0] == "usage":
-        return [([f"@ {line}"], ["status 2", USAGE], COUNTER) for line in rest.split("\n")]
-    if words[0] in ("calls", "bytes"):
-        called, status, *printed = rest.split("\n")
-        wanted = [status] + printed + [""] * (status == "status 0")
-        numbers = words[1:] if words[0] == "calls" else ["4096", "0", "0", str(int(words[1]) - len(COUNTER))]
-        return [([f"@ {called}", f"! {' '.join(numbers)}"], wanted, COUNTER)]
+        return [([f"@ {line}"], ["status 2", USAGE], with_script(COUNTER, 3)) for line in rest.split("\n")]
+    if words[0] == "bytes":
+        status, *printed = rest.split("\n")
+        wanted = [status] + printed + ["", "stay main F 0 3"] * (status == "status 0")
+        return [(["@ run s", f"! 4096 0 0 {int(words[1]) - len(COUNTER)}"], wanted, with_script(COUNTER, 3))]
     if words[0] == "refused":
         sources = [text_of(rest)]
     elif words[0] == "sources":
@@ -51,7 +57,13 @@ def rows_of(head, rest):
         assert words[0] == "blocks", head
         sources = [BLOCK.format(text_of(line)) for line in rest.split("\n")]
     kind = " ".join(words[1:] if words[0] == "refused" else words[2:])
-    return [(["@ run m.v 3"], *refused(kind, source)) for source in sources]
+    return [(["@ run s"], wanted, with_script(source, 3)) for wanted, source in (refused(kind, source) for source in sources)]
+
+
+def scripts():
+    """The rows of the table of scripts, as they stand there but for files and repetitions."""
+    for head, rest in parted((TOOLS / "host_scripts.txt").read_text()):
+        yield "\n".join([head] + [text_of(line) if line.startswith("file examples/") else expanded(line) for line in rest.split("\n")])
 
 
 def run():
@@ -110,6 +122,7 @@ def large():
 
 tables = [case for name in ("host_rows.txt", "run_rows.txt", "width_rows.txt") for case in parted((TOOLS / name).read_text())]
 rows = [row for case in [*tables, *run(), *formats(), *large()] for row in rows_of(*case)]
-shown = ["\n".join(head + [f"= {line}" for line in wanted]) + "\n" + source for head, wanted, source in rows]
+shown = ["\n".join(head + [f"= {line}" for line in wanted]) + "\n" + files for head, wanted, files in rows]
+shown += scripts()
 (FOLDER / "stdin").write_text("\n".join(shown) + "\n")
 (FOLDER / "stdout").write_text("ok\n" * len(shown))

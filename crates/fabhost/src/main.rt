@@ -4,6 +4,7 @@
 use fab_io::dir_store::DirStore;
 use fab_io::gate::NoGate;
 use fab_io::std_sink::StdSink;
+use host_run::bays::Bays;
 use host_run::host::host;
 use std::alloc::AllocError;
 use std::env;
@@ -31,6 +32,7 @@ fn main(rt: HostRuntime) -> ExitCode {
     };
     let mut store = DirStore::new(&rt);
     let mut sink = StdSink::new(&rt);
+    let mut bays = Bays::new(rt.alloc());
     let status = host(
         &rt,
         rt.alloc(),
@@ -38,6 +40,7 @@ fn main(rt: HostRuntime) -> ExitCode {
         &mut store,
         &mut sink,
         &NoGate,
+        &mut bays,
     );
     ExitCode::from(status)
 }

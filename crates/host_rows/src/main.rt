@@ -1,6 +1,9 @@
-//! Reads sources and prints whether the host answers what is wanted of each. Before a source stand a line `@ ` of the
-//! words, lines `= ` of the status and of what is printed, and a line `! ` of four numbers where the sink takes less than
-//! all in a call, a call fails, or blanks stand before the source. A source's lines are joined by newlines.
+//! Reads command lines with files and prints whether the host answers what is wanted of each. A row begins with a line `@ ` of the
+//! words; lines `= ` are the status and what is printed, in which a word `*` of a tenant's first line stands for any, and a line `% ` is a
+//! part of a last line; a line `! ` has
+//! four numbers where the sink takes less than all in a call, a call fails, or blanks stand before the first file; a line `> ` is a file
+//! that is wanted behind the call, with its bytes in hexadecimal. A line `+ ` begins a file; its lines, joined by newlines, and lines `^ `
+//! of bytes in hexadecimal follow.
 #![tactic(auto)]
 
 mod judge;
@@ -27,12 +30,20 @@ fn answered<R: Threads + Wait + Sync>(
 }
 
 /// Adds a line to a row that has begun.
-fn read(row: &mut Row, line: &str) -> Result<(), AllocError> {
+fn read(alloc: Global, row: &mut Row, line: &str) -> Result<(), AllocError> {
     if let Some(numbers) = line.strip_prefix("! ") {
         row.set(numbers);
         Ok(())
     } else if let Some(wanted) = line.strip_prefix("= ") {
         row.want(wanted)
+    } else if let Some(part) = line.strip_prefix("% ") {
+        row.want_part(part)
+    } else if let Some(path) = line.strip_prefix("+ ") {
+        row.begin(alloc, path)
+    } else if let Some(saved) = line.strip_prefix("> ") {
+        row.save(alloc, saved)
+    } else if let Some(digits) = line.strip_prefix("^ ") {
+        row.extend_by(digits)
     } else {
         row.extend(line)
     }
@@ -47,7 +58,7 @@ fn main(rt: HostRuntime) -> io::Result<()> {
             print!(rt; "{text}")?;
             row = Row::new(rt.alloc(), words)?;
         } else {
-            read(&mut row, line.as_str())?;
+            read(rt.alloc(), &mut row, line.as_str())?;
         }
     }
     let text = answered(&rt, rt.alloc(), &row)?;

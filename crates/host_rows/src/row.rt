@@ -1,8 +1,17 @@
-//! A row: words, a source, and what is wanted of them.
+//! A row: words, files, and what is wanted of them.
 
 use std::alloc::{AllocError, Global};
 
-/// Words, a source, and what is wanted of them.
+/// A file of a store: its path and its bytes.
+#[derive(Drop)]
+pub struct Named {
+    /// The path.
+    pub path: String,
+    /// The bytes.
+    pub bytes: Vec<u8>,
+}
+
+/// Words, files, and what is wanted of them.
 #[derive(Drop)]
 pub struct Row {
     /// The words of the command line.
@@ -13,13 +22,15 @@ pub struct Row {
     pub failing_read: u64,
     /// The number of the write that fails, from 1.
     pub failing_write: u64,
-    /// The status and what is printed.
+    /// The status and what is printed. A word `*` of a tenant's first line stands for any word.
     pub wanted: String,
-    /// How many blanks stand before the source.
+    /// How many blanks stand before the bytes of the first file.
     pub blanks: usize,
-    /// The source.
-    pub source: String,
-    /// A line of the source was read.
+    /// The files.
+    pub files: Vec<Named>,
+    /// The files that are wanted behind the call, with their bytes in hexadecimal.
+    pub saved: Vec<Named>,
+    /// A line of the last file was read.
     begun: bool,
 }
 
@@ -33,13 +44,14 @@ impl Row {
             failing_write: 0,
             wanted: String::new(alloc),
             blanks: 0,
-            source: String::new(alloc),
+            files: Vec::new(alloc),
+            saved: Vec::new(alloc),
             begun: false,
         })
     }
 
     /// Takes four numbers from a line: the most bytes that the sink takes in a call, the read and the
-    /// write that fail, and the blanks before the source.
+    /// write that fail, and the blanks before the first file's bytes.
     pub fn set(&mut self, line: &str) {
         let mut numbers = line.split(' ').map(|word| word.parse::<u32>().unwrap_or(0));
         self.piece = numbers.next().unwrap_or(0) as usize;
@@ -54,12 +66,58 @@ impl Row {
         self.wanted.push('\n')
     }
 
-    /// Adds a line to the source.
-    pub fn extend(&mut self, line: &str) -> Result<(), AllocError> {
-        if self.begun {
-            self.source.push('\n')?;
+    /// Adds the part of a last line to what is wanted.
+    pub fn want_part(&mut self, part: &str) -> Result<(), AllocError> {
+        self.wanted.push_str(part)
+    }
+
+    /// Begins a file.
+    pub fn begin(&mut self, alloc: Global, path: &str) -> Result<(), AllocError> {
+        let blanks = if self.files.is_empty() {
+            self.blanks
+        } else {
+            0
+        };
+        let bytes = vec![in alloc; b' '; blanks]?;
+        let path = String::from_str(alloc, path)?;
+        self.begun = false;
+        self.files.push(Named { path, bytes })?;
+        Ok(())
+    }
+
+    /// Wants a file: its path, a blank, and its bytes in hexadecimal.
+    pub fn save(&mut self, alloc: Global, line: &str) -> Result<(), AllocError> {
+        if let Some((path, digits)) = line.split_once(' ') {
+            let path = String::from_str(alloc, path)?;
+            let bytes = Vec::from_slice(alloc, digits.as_bytes())?;
+            self.saved.push(Named { path, bytes })?;
         }
+        Ok(())
+    }
+
+    /// Adds a line to the last file.
+    pub fn extend(&mut self, line: &str) -> Result<(), AllocError> {
+        let begun = self.begun;
         self.begun = true;
-        self.source.push_str(line)
+        match self.files.last_mut() {
+            None => Ok(()),
+            Some(file) => {
+                if begun {
+                    file.bytes.push(b'\n')?;
+                }
+                file.bytes.extend_from_slice(line.as_bytes())
+            }
+        }
+    }
+
+    /// Adds bytes to the last file, which are written in hexadecimal with blanks between them.
+    pub fn extend_by(&mut self, line: &str) -> Result<(), AllocError> {
+        self.begun = true;
+        if let Some(file) = self.files.last_mut() {
+            for word in line.split(' ') {
+                file.bytes.push(u8::from_str_radix(word, 16).unwrap_or(0))?;
+            }
+        }
+        Ok(())
     }
 }

@@ -1,11 +1,4 @@
-pub mod Counter
-pub mod Naming
+pub mod Dues
 pub mod Outcomes
 pub mod Serving
 pub mod Takings
-pub mod Runs
-pub mod Same
-pub mod Ticks
-pub mod Saving
-pub mod Writing
-mod OneReport

@@ -1,35 +1,93 @@
 -- What follows of a call from its outcome.
-use Rattle.std.proofs.Common.{◌≡◌, ◌≤◌, ℕ, List, [], length, take, drop, refl, sym, ap, ◌∙◌, subst, arith, inl, inr}
-use Rattle.std.specs.Prelude.{Some, None, ◌⊎◌}
+use Rattle.std.proofs.Common.{◌≡◌, ◌≤◌, ℕ, List, [], ◌∷◌, ◌++◌, length, take, drop, Ok, refl, sym, ap, ◌∙◌, subst, arith, inl, inr}
+use Rattle.std.specs.Prelude.{Option, Some, None, option_map, ◌⊎◌}
 use Rattle.std.proofs.lemmas.List.{take-append-drop}
 use Rattle.fab_io.specs.declared.store.ReadError.{ReadError}
 use Rattle.fab_io.specs.declared.store.ReadError.TheVariants as read
-use Rattle.fab_io.specs.Outside.{HasRisen, IsAbsent, IsTooLong}
-use Rattle.vl_design.specs.Snapshots.{Saved}
+use Rattle.fab_io.specs.Outside.{Files, HasRisen, IsAbsent, IsTold, IsTooLong}
+use Rattle.fab_bay.specs.declared.noted.NotedCore.{NotedCore}
+use Rattle.script_text.specs.declared.script.Script.{Script}
+use Rattle.script_text.specs.Reading.{reading}
+use Rattle.host_load.specs.Reading.{Counts, IsAsked, IsCause, IsMissed}
+use Rattle.host_saves.specs.Writes.{after_writes, LeavesFront, Write}
 use Rattle.host_run.specs.Taking.{Takes}
 use Rattle.host_run.specs.Words.{command_of}
-use Rattle.host_run.specs.Due.{Outside, IsCause, IsDue, ran, misused, refused, missed, all, cut, short, unsaved, Outcome, wrote, starved, LeavesFront, most_source, with_all}
-use Rattle.host_run.specs.Claims.{HasRun, IsMisused, HasRefused, HasMissed, TakesFront, IsServed, IsStarved}
-use Rattle.host_run.proofs.Writing.{with_none, append-none}
+use Rattle.host_run.specs.Due.{Outside, IsDue, ran, misused, misread, unread_script, unread_file, all, cut, short, unsaved, Outcome, wrote, starved, most_script}
+use Rattle.host_run.specs.Claims.{HasReported, IsMisused, HasMisread, HasMissed, IsUnread, TakesFront, IsGiven, IsServed, IsFaulty, IsStarved}
 
-module _ (words : List (List ℕ)) (a b : Outside) (r : ℕ) where
-  abbrev IsDueNow : ℕ → List ℕ → List Saved → Type 0
-  IsDueNow status text saved = IsDue a.told a.counts b.counts words status text saved
+pub written-none : (told : Option Files) → option_map (after_writes []) told ≡ told
+written-none None = refl
+written-none (Some files) = refl
+
+append-none : {A : Type 0} (xs : List A) → xs ++ [] ≡ xs
+append-none [] = refl
+append-none (x ∷ xs) = ap (λ (zs : List _). x ∷ zs) (append-none xs)
+
+-- no cause without a count that rose, where the file is told within its limit
+no-cause : (told : Option Files) (files : Files) (old new : Counts) (path bytes : List ℕ) (most : ℕ) (why : ReadError) → told ≡ Some files → files path ≡ Some bytes → length bytes ≤ most
+    → (HasRisen old.faults new.faults → ⊥) → (HasRisen old.absences new.absences → ⊥) → IsCause told old new path most why → ⊥
+no-cause told files old new path bytes most read.NotThere tells there size f g (inl h) =
+    let absent : IsAbsent (Some files) path = subst (λ t. IsAbsent t path) tells h in
+    absurd cc
+no-cause told files old new path bytes most read.NotThere tells there size f g (inr h) = g h
+no-cause told files old new path bytes most read.TooLong tells there size f g (inl h) =
+    let long : IsTooLong (Some files) path most = subst (λ t. IsTooLong t path most) tells h in
+    let same : long.0 ≡ bytes = cc (long.1, there) in
+    let within : length long.0 ≤ most = rw same size in
+    omega (arith, long.2)
+no-cause told files old new path bytes most read.TooLong tells there size f g (inr h) = g h
+no-cause told files old new path bytes most read.Failed tells there size f g h = f h
+no-cause told files old new path bytes most read.Memory tells there size f g h = h
+
+-- what is told at the path of the words is what they are given
+told-bytes : {told : Option Files} {words : List (List ℕ)} {bytes : List ℕ} (s : IsGiven told words bytes) (path other : List ℕ) → command_of words ≡ Some path
+    → IsTold told path other → other ≡ bytes
+told-bytes {told = told} s path other c t =
+    let command = s.command in
+    let there = s.there in
+    let same : path ≡ s.path = cc in
+    let told_at : s.files s.path ≡ Some other = subst (λ p. s.files p ≡ Some other) same (subst (λ x. IsTold x path other) s.tells t) in
+    cc
+
+-- nor the script
+no-script : {told : Option Files} {words : List (List ℕ)} {bytes : List ℕ} (s : IsGiven told words bytes) (old new : Counts) (path : List ℕ) (why : ReadError) → command_of words ≡ Some path
+    → (HasRisen old.faults new.faults → ⊥) → (HasRisen old.absences new.absences → ⊥) → IsCause told old new path most_script why → ⊥
+no-script {told = told} {bytes = bytes} s old new path why c f g h =
+    let command = s.command in
+    let same : path ≡ s.path = cc in
+    no-cause told s.files old new s.path bytes most_script why s.tells s.there s.short f g (subst (λ p. IsCause told old new p most_script why) same h)
+
+-- nor what is read for it
+no-file : {told : Option Files} {words : List (List ℕ)} (s : IsServed told words) (old new : Counts) (path bytes asked : List ℕ) (script : Script) (why : ReadError) → command_of words ≡ Some path
+    → IsTold told path bytes → reading bytes ≡ Ok script → (HasRisen old.faults new.faults → ⊥) → (HasRisen old.absences new.absences → ⊥)
+    → IsMissed told old new script asked why → ⊥
+no-file {told = told} s old new path bytes asked script why c t l f g (most, h, k) =
+    let reads = s.reads in
+    let same : bytes ≡ s.bytes = told-bytes s.given path bytes c t in
+    let script_same : script ≡ s.script = cc in
+    let is_asked : IsAsked (Some s.given.files) s.script asked most =
+    subst (λ x. IsAsked x s.script asked most) s.given.tells (subst (λ x. IsAsked told x asked most) script_same h) in
+    let there = s.available asked most is_asked in
+    no-cause told s.given.files old new asked there.0 most why s.given.tells there.1 there.2 f g k
+
+module _ (words : List (List ℕ)) (a b : Outside) (bays : List NotedCore) (r : ℕ) where
+  abbrev IsDueNow : ℕ → List ℕ → List Write → Type 0
+  IsDueNow status text writes = IsDue a.told a.counts b.counts words status text bays writes
 
   -- what is due with a status, and was taken and written whole
   record IsDone : Type 0 where
     pub text : List ℕ
-    pub saved : List Saved
-    pub due : IsDueNow r text saved
+    pub writes : List Write
+    pub due : IsDueNow r text writes
     pub takes : Takes a.taken b.taken text
-    pub files : b.told ≡ with_all saved a.told
+    pub files : b.told ≡ option_map (after_writes writes) a.told
 
   -- a status that isn't that of a failed write is that of what was written whole
-  done : (r ≡ 6 → ⊥) → (r ≡ 7 → ⊥) → Outcome words a b r → IsDone
-  done six seven (wrote {text = text} {saved = saved} due (all e t f)) = record {
+  done : (r ≡ 6 → ⊥) → (r ≡ 7 → ⊥) → Outcome words a b bays r → IsDone
+  done six seven (wrote {text = text} {writes = writes} due (all e t f)) = record {
     text = text;
-    saved = saved;
-    due = subst (λ n. IsDueNow n text saved) (sym e) due;
+    writes = writes;
+    due = subst (λ n. IsDueNow n text writes) (sym e) due;
     takes = t;
     files = f;
   }
@@ -39,69 +97,107 @@ module _ (words : List (List ℕ)) (a b : Outside) (r : ℕ) where
   done six seven (wrote due (unsaved t f (inr e))) = absurd (six e.0)
   done six seven (starved e t f) = absurd (seven e)
 
-  -- where no snapshot is due, no told file changes
-  same : (saved : List Saved) → saved ≡ [] → b.told ≡ with_all saved a.told → b.told ≡ a.told
-  same saved e f = f ∙ ap (λ (xs : List Saved). with_all xs a.told) e ∙ with_none a.told
+  -- where nothing is to be written, no told file changes
+  same : (writes : List Write) → writes ≡ [] → b.told ≡ option_map (after_writes writes) a.told → b.told ≡ a.told
+  same writes e f = f ∙ ap (λ (xs : List Write). option_map (after_writes xs) a.told) e ∙ written-none a.told
 
-  pub has_run : r ≡ 0 → Outcome words a b r → HasRun words a b
-  has_run z o = go d.due d.takes d.files
+  -- a status that is 0 or 3 is no other
+  no-other : (n : ℕ) → (n ≡ 0) ⊎ (n ≡ 3) → (n ≡ 2 → ⊥) × (n ≡ 4 → ⊥) × (n ≡ 5 → ⊥) × (n ≡ 6 → ⊥) × (n ≡ 7 → ⊥)
+  no-other n (inl e) = (λ h. omega arith, λ h. omega arith, λ h. omega arith, λ h. omega arith, λ h. omega arith)
+  no-other n (inr e) = (λ h. omega arith, λ h. omega arith, λ h. omega arith, λ h. omega arith, λ h. omega arith)
+
+  pub has_reported : (r ≡ 0) ⊎ (r ≡ 3) → Outcome words a b bays r → HasReported words a b bays r
+  has_reported z o = go d.due d.takes d.files
     where
+      not : (r ≡ 2 → ⊥) × (r ≡ 4 → ⊥) × (r ≡ 5 → ⊥) × (r ≡ 6 → ⊥) × (r ≡ 7 → ⊥)
+      not = no-other r z
+
       d : IsDone
-      d = done (λ e. omega arith) (λ e. omega arith) o
+      d = done not.3 not.4 o
 
-      go : {text : List ℕ} {saved : List Saved} → IsDueNow r text saved → Takes a.taken b.taken text → b.told ≡ with_all saved a.told → HasRun words a b
-      go {text} {saved} (ran {path = p} {source = x} {budget = n} e c t l f) w k =
-          record { path = p; budget = n; source = x; report = text; saved = saved; command = c; read = t; short = l; reports = f; takes = w; files = k }
-      go (misused e c f s) w k = absurd (omega arith)
-      go (refused e c t l f s) w k = absurd (omega arith)
-      go (missed y e c t f s) w k = absurd (omega arith)
+      go : {text : List ℕ} {writes : List Write} → IsDueNow r text writes → Takes a.taken b.taken text → b.told ≡ option_map (after_writes writes) a.told → HasReported words a b bays r
+      go {text} {writes} (ran {path = p} x {script = s} e c t l y f h) w k = record {
+        path = p;
+        bytes = x;
+        script = s;
+        report = text;
+        writes = writes;
+        command = c;
+        read = t;
+        short = l;
+        reads = y;
+        fabrics = f;
+        ran = h;
+        takes = w;
+        files = k;
+      }
+      go (misused e c t f s) w k = absurd (not.0 e)
+      go (misread v e c t l y x f s) w k = absurd (not.1 e)
+      go (unread_script y e c t x f s) w k = absurd (not.2 e)
+      go (unread_file v q y e c t l x m u f s) w k = absurd (not.2 e)
 
-  pub is_misused : r ≡ 2 → Outcome words a b r → IsMisused words a b
+  pub is_misused : r ≡ 2 → Outcome words a b bays r → IsMisused words a b bays
   is_misused z o = go d.due d.takes d.files
     where
       d : IsDone
       d = done (λ e. omega arith) (λ e. omega arith) o
 
-      go : {text : List ℕ} {saved : List Saved} → IsDueNow r text saved → Takes a.taken b.taken text → b.told ≡ with_all saved a.told → IsMisused words a b
-      go (ran e c t l f) w k = absurd (omega arith)
-      go {text} {saved} (misused e c f s) w k = record { command = c; takes = subst (Takes a.taken b.taken) f w; files = same saved s k }
-      go (refused e c t l f s) w k = absurd (omega arith)
-      go (missed y e c t f s) w k = absurd (omega arith)
+      go : {text : List ℕ} {writes : List Write} → IsDueNow r text writes → Takes a.taken b.taken text → b.told ≡ option_map (after_writes writes) a.told → IsMisused words a b bays
+      go (ran v e c t l y f h) w k = absurd ((no-other r e).0 z)
+      go {text} {writes} (misused e c t f s) w k = record { command = c; takes = subst (Takes a.taken b.taken) t w; files = same writes s k; none = f }
+      go (misread v e c t l y x f s) w k = absurd (omega arith)
+      go (unread_script y e c t x f s) w k = absurd (omega arith)
+      go (unread_file v q y e c t l x m u f s) w k = absurd (omega arith)
 
-  pub has_refused : r ≡ 3 → Outcome words a b r → HasRefused words a b
-  has_refused z o = go d.due d.takes d.files
+  pub has_misread : r ≡ 4 → Outcome words a b bays r → HasMisread words a b bays
+  has_misread z o = go d.due d.takes d.files
     where
       d : IsDone
       d = done (λ e. omega arith) (λ e. omega arith) o
 
-      go : {text : List ℕ} {saved : List Saved} → IsDueNow r text saved → Takes a.taken b.taken text → b.told ≡ with_all saved a.told → HasRefused words a b
-      go (ran e c t l f) w k = absurd (omega arith)
-      go (misused e c f s) w k = absurd (omega arith)
-      go {text} {saved} (refused {path = p} {source = x} {budget = n} e c t l f s) w k =
-          record { path = p; budget = n; source = x; line = text; command = c; read = t; short = l; refuses = f; takes = w; files = same saved s k }
-      go (missed y e c t f s) w k = absurd (omega arith)
+      go : {text : List ℕ} {writes : List Write} → IsDueNow r text writes → Takes a.taken b.taken text → b.told ≡ option_map (after_writes writes) a.told → HasMisread words a b bays
+      go (ran v e c t l y f h) w k = absurd ((no-other r e).1 z)
+      go (misused e c t f s) w k = absurd (omega arith)
+      go {text} {writes} (misread {path = p} x {line = n} {cause = m} e c t l y u f s) w k = record {
+        path = p;
+        bytes = x;
+        line = n;
+        cause = m;
+        command = c;
+        read = t;
+        short = l;
+        faulty = y;
+        takes = subst (Takes a.taken b.taken) u w;
+        files = same writes s k;
+        none = f;
+      }
+      go (unread_script y e c t x f s) w k = absurd (omega arith)
+      go (unread_file v q y e c t l x m u f s) w k = absurd (omega arith)
 
-  pub has_missed : r ≡ 5 → Outcome words a b r → HasMissed words a b
+  pub has_missed : r ≡ 5 → Outcome words a b bays r → HasMissed words a b bays
   has_missed z o = go d.due d.takes d.files
     where
       d : IsDone
       d = done (λ e. omega arith) (λ e. omega arith) o
 
-      go : {text : List ℕ} {saved : List Saved} → IsDueNow r text saved → Takes a.taken b.taken text → b.told ≡ with_all saved a.told → HasMissed words a b
-      go (ran e c t l f) w k = absurd (omega arith)
-      go (misused e c f s) w k = absurd (omega arith)
-      go (refused e c t l f s) w k = absurd (omega arith)
-      go {text} {saved} (missed {path = p} {budget = n} y e c t f s) w k =
-          record { path = p; budget = n; why = y; command = c; cause = t; takes = subst (Takes a.taken b.taken) f w; files = same saved s k }
+      go : {text : List ℕ} {writes : List Write} → IsDueNow r text writes → Takes a.taken b.taken text → b.told ≡ option_map (after_writes writes) a.told → HasMissed words a b bays
+      go (ran v e c t l y f h) w k = absurd ((no-other r e).2 z)
+      go (misused e c t f s) w k = absurd (omega arith)
+      go (misread v e c t l y x f s) w k = absurd (omega arith)
+      go {text} {writes} (unread_script {path = p} y e c t x f s) w k =
+          record { path = p; why = y; cause = IsUnread.script c t; takes = subst (Takes a.taken b.taken) x w; files = same writes s k; none = f }
+      go {text} {writes} (unread_file v p y e c t l x m u f s) w k =
+          record { path = p; why = y; cause = IsUnread.file v c t l x m; takes = subst (Takes a.taken b.taken) u w; files = same writes s k; none = f }
 
-  -- what was due has one of four statuses
-  due_status : {s : ℕ} {text : List ℕ} {saved : List Saved} → IsDueNow s text saved → (s ≡ 6 → ⊥) × (s ≡ 7 → ⊥)
-  due_status (ran e c t l f) = (λ h. omega arith, λ h. omega arith)
-  due_status (misused e c f s) = (λ h. omega arith, λ h. omega arith)
-  due_status (refused e c t l f s) = (λ h. omega arith, λ h. omega arith)
-  due_status (missed y e c t f s) = (λ h. omega arith, λ h. omega arith)
+  -- what was due has one of five statuses
+  due_status : {s : ℕ} {text : List ℕ} {writes : List Write} → IsDueNow s text writes → (s ≡ 6 → ⊥) × (s ≡ 7 → ⊥)
+  due_status {s} (ran v e c t l y f h) = let not = no-other s e in (not.3, not.4)
+  due_status (misused e c t f s) = (λ h. omega arith, λ h. omega arith)
+  due_status (misread v e c t l y x f s) = (λ h. omega arith, λ h. omega arith)
+  due_status (unread_script y e c t x f s) = (λ h. omega arith, λ h. omega arith)
+  due_status (unread_file v q y e c t l x m u f s) = (λ h. omega arith, λ h. omega arith)
 
-  pub has_failed : r ≡ 6 → Outcome words a b r → HasRisen a.failures b.failures ⊎ HasRisen a.counts.faults b.counts.faults
+  pub has_failed : r ≡ 6 → Outcome words a b bays r → HasRisen a.failures b.failures ⊎ HasRisen a.counts.faults b.counts.faults
   has_failed z (wrote due (all e t f)) = absurd ((due_status due).0 (sym e ∙ z))
   has_failed z (wrote due (cut n t f e h)) = inl h
   has_failed z (wrote due (short n t f e)) = absurd (omega arith)
@@ -110,39 +206,39 @@ module _ (words : List (List ℕ)) (a b : Outside) (r : ℕ) where
   has_failed z (starved e t f) = absurd (omega arith)
 
   -- a front of the text was taken, and no told file changes
-  front_of : {s : ℕ} {text : List ℕ} {saved : List Saved} → IsDueNow s text saved → (n : ℕ) → Takes a.taken b.taken (take n text) → b.told ≡ a.told → TakesFront words a b
-  front_of {s} {text} {saved} due n t f = record {
+  front_of : {s : ℕ} {text : List ℕ} {writes : List Write} → IsDueNow s text writes → (n : ℕ) → Takes a.taken b.taken (take n text) → b.told ≡ a.told → TakesFront words a b bays
+  front_of {s} {text} {writes} due n t f = record {
     status = s;
     front = take n text;
     rest = drop n text;
-    saved = saved;
-    due = subst (λ x. IsDueNow s x saved) (sym (take-append-drop n text)) due;
+    writes = writes;
+    due = subst (λ x. IsDueNow s x writes) (sym (take-append-drop n text)) due;
     takes = t;
-    files = LeavesFront.written 0 (f ∙ sym (with_none a.told));
+    files = LeavesFront.written 0 (f ∙ sym (written-none a.told));
     order = λ more. f;
   }
 
-  -- the text was taken, and a front of the snapshots is written
-  saved_of : {s : ℕ} {text : List ℕ} {saved : List Saved} → IsDueNow s text saved → Takes a.taken b.taken text → LeavesFront a.told b.told saved → TakesFront words a b
-  saved_of {s} {text} {saved} due t f = record {
+  -- the text was taken, and a front of the files is written
+  saved_of : {s : ℕ} {text : List ℕ} {writes : List Write} → IsDueNow s text writes → Takes a.taken b.taken text → LeavesFront writes a.told b.told → TakesFront words a b bays
+  saved_of {s} {text} {writes} due t f = record {
     status = s;
     front = text;
     rest = [];
-    saved = saved;
-    due = subst (λ x. IsDueNow s x saved) (sym (append-none text)) due;
+    writes = writes;
+    due = subst (λ x. IsDueNow s x writes) (sym (append-none text)) due;
     takes = t;
     files = f;
     order = λ more. absurd (more refl);
   }
 
-  pub takes_front : r ≡ 6 → Outcome words a b r → TakesFront words a b
+  pub takes_front : r ≡ 6 → Outcome words a b bays r → TakesFront words a b bays
   takes_front z (wrote due (all e t f)) = absurd ((due_status due).0 (sym e ∙ z))
   takes_front z (wrote due (cut n t f e h)) = front_of due n t f
   takes_front z (wrote due (short n t f e)) = absurd (omega arith)
   takes_front z (wrote due (unsaved t f e)) = saved_of due t f
   takes_front z (starved e t f) = absurd (omega arith)
 
-  pub is_starved : r ≡ 7 → Outcome words a b r → IsStarved words a b
+  pub is_starved : r ≡ 7 → Outcome words a b bays r → IsStarved words a b bays
   is_starved z (wrote due (all e t f)) = absurd ((due_status due).1 (sym e ∙ z))
   is_starved z (wrote due (cut n t f e h)) = absurd (omega arith)
   is_starved z (wrote due (short n t f e)) = inr (front_of due n t f)
@@ -150,58 +246,67 @@ module _ (words : List (List ℕ)) (a b : Outside) (r : ℕ) where
   is_starved z (starved e t f) = inl (t, f)
 
   -- words that are no command are answered by the usage, or the sink failed, or memory
-  pub is_usage : command_of words ≡ None → Outcome words a b r → (r ≡ 2) ⊎ ((r ≡ 6) ⊎ (r ≡ 7))
-  is_usage none (wrote (ran e c t l f) w) = absurd cc
-  is_usage none (wrote (refused e c t l f s) w) = absurd cc
-  is_usage none (wrote (missed y e c t f s) w) = absurd cc
-  is_usage none (wrote (misused e c f s) (all d t k)) = inl (d ∙ e)
-  is_usage none (wrote (misused e c f s) (cut n t k d h)) = inr (inl d)
-  is_usage none (wrote (misused e c f s) (short n t k d)) = inr (inr d)
-  is_usage none (wrote (misused e c f s) (unsaved t k (inl d))) = inr (inr d)
-  is_usage none (wrote (misused e c f s) (unsaved t k (inr d))) = inr (inl d.0)
+  pub is_usage : command_of words ≡ None → Outcome words a b bays r → (r ≡ 2) ⊎ ((r ≡ 6) ⊎ (r ≡ 7))
+  is_usage none (wrote due (cut n t k d h)) = inr (inl d)
+  is_usage none (wrote due (short n t k d)) = inr (inr d)
+  is_usage none (wrote due (unsaved t k (inl d))) = inr (inr d)
+  is_usage none (wrote due (unsaved t k (inr d))) = inr (inl d.0)
   is_usage none (starved e t f) = inr (inr e)
+  is_usage none (wrote (ran v e c t l y f h) (all d w k)) = absurd cc
+  is_usage none (wrote (misused e c t f s) (all d w k)) = inl (d ∙ e)
+  is_usage none (wrote (misread v e c t l y x f s) (all d w k)) = absurd cc
+  is_usage none (wrote (unread_script y e c t x f s) (all d w k)) = absurd cc
+  is_usage none (wrote (unread_file v q y e c t l x m u f s) (all d w k)) = absurd cc
 
-  -- no cause without a count that rose, where the source is told within its limit
-  no_cause : (s : IsServed a.told words) (path : List ℕ) (why : ReadError) → path ≡ s.path → (HasRisen a.counts.faults b.counts.faults → ⊥) → (HasRisen a.counts.absences b.counts.absences → ⊥)
-      → IsCause a.told a.counts b.counts path why → ⊥
-  no_cause s path read.NotThere e f g (inl h) =
-      let there : IsAbsent (Some s.files) s.path = subst (λ t. IsAbsent t s.path) s.tells (subst (IsAbsent a.told) e h) in
-      let is = s.there in cc
-  no_cause s path read.NotThere e f g (inr h) = g h
-  no_cause s path read.TooLong e f g (inl h) =
-      let long : IsTooLong (Some s.files) s.path most_source = subst (λ t. IsTooLong t s.path most_source) s.tells (subst (λ p. IsTooLong a.told p most_source) e h) in
-      let same : long.0 ≡ s.source = cc (long.1, s.there) in
-      let size : length long.0 ≤ most_source = rw same s.short in
-      omega (arith, long.2)
-  no_cause s path read.TooLong e f g (inr h) = g h
-  no_cause s path read.Failed e f g h = f h
-  no_cause s path read.Memory e f g h = h
+  -- a told script that has no reading, without a count that rose, is answered by its fault, or the sink failed, or memory
+  pub is_faulty : IsFaulty a.told words → (HasRisen a.counts.faults b.counts.faults → ⊥) → (HasRisen a.counts.absences b.counts.absences → ⊥)
+      → Outcome words a b bays r → (r ≡ 4) ⊎ ((r ≡ 6) ⊎ (r ≡ 7))
+  is_faulty i f g (wrote due (cut n t k d h)) = inr (inl d)
+  is_faulty i f g (wrote due (short n t k d)) = inr (inr d)
+  is_faulty i f g (wrote due (unsaved t k (inl d))) = inr (inr d)
+  is_faulty i f g (wrote due (unsaved t k (inr d))) = inr (inl d.0)
+  is_faulty i f g (starved e t k) = inr (inr e)
+  is_faulty i f g (wrote (ran {path = p} v e c t l y m h) (all d w k)) =
+      let is = told-bytes i.given p v c t in
+      let faulty = i.faulty in
+      absurd cc
+  is_faulty i f g (wrote (misused e c t m s) (all d w k)) = let command = i.given.command in absurd cc
+  is_faulty i f g (wrote (misread v e c t l y x m s) (all d w k)) = inl (d ∙ e)
+  is_faulty i f g (wrote (unread_script {path = p} y e c t x m s) (all d w k)) = absurd (no-script i.given a.counts b.counts p y c f g t)
+  is_faulty i f g (wrote (unread_file {path = p} v q y e c t l x m u n s) (all d w k)) =
+      let is = told-bytes i.given p v c t in
+      let faulty = i.faulty in
+      absurd cc
 
-  -- a command whose source is told, without a count that rose, is run or refused, or memory was wanting
+  -- a script that is told with all that is read for it, without a count that rose, is run, or memory was wanting
   pub is_complete : IsServed a.told words → (HasRisen a.counts.faults b.counts.faults → ⊥) → (HasRisen a.counts.absences b.counts.absences → ⊥) → (HasRisen a.failures b.failures → ⊥)
-      → Outcome words a b r → (r ≡ 0) ⊎ ((r ≡ 3) ⊎ (r ≡ 7))
-  is_complete s f g k (wrote due (cut n t z d h)) = absurd (k h)
-  is_complete s f g k (wrote due (short n t z d)) = inr (inr d)
-  is_complete s f g k (wrote due (unsaved t z (inl d))) = inr (inr d)
-  is_complete s f g k (wrote due (unsaved t z (inr d))) = absurd (f d.1)
-  is_complete s f g k (starved e t z) = inr (inr e)
-  is_complete s f g k (wrote (ran e c t l h) (all d w z)) = inl (d ∙ e)
-  is_complete s f g k (wrote (misused e c h n) (all d w z)) = let command = s.command in absurd cc
-  is_complete s f g k (wrote (refused e c t l h n) (all d w z)) = inr (inl (d ∙ e))
-  is_complete s f g k (wrote (missed {path = p} {budget = n} y e c t h m) (all d w z)) =
-      let command = s.command in
-      let pair : ◌≡◌ {A = List ℕ × ℕ} (p, n) (s.path, s.budget) = cc in
-      let same : p ≡ s.path = ap (λ (x : List ℕ × ℕ). x.0) pair in
-      absurd (no_cause s p y same f g t)
+      → Outcome words a b bays r → (r ≡ 0) ⊎ ((r ≡ 3) ⊎ (r ≡ 7))
+  is_complete i f g z (wrote due (cut n t k d h)) = absurd (z h)
+  is_complete i f g z (wrote due (short n t k d)) = inr (inr d)
+  is_complete i f g z (wrote due (unsaved t k (inl d))) = inr (inr d)
+  is_complete i f g z (wrote due (unsaved t k (inr d))) = absurd (f d.1)
+  is_complete i f g z (starved e t k) = inr (inr e)
+  is_complete i f g z (wrote (ran v (inl e) c t l y m h) (all d w k)) = inl (d ∙ e)
+  is_complete i f g z (wrote (ran v (inr e) c t l y m h) (all d w k)) = inr (inl (d ∙ e))
+  is_complete i f g z (wrote (misused e c t m s) (all d w k)) = let command = i.given.command in absurd cc
+  is_complete i f g z (wrote (misread {path = p} v e c t l y x m s) (all d w k)) =
+      let is = told-bytes i.given p v c t in
+      let reads = i.reads in
+      absurd cc
+  is_complete i f g z (wrote (unread_script {path = p} y e c t x m s) (all d w k)) = absurd (no-script i.given a.counts b.counts p y c f g t)
+  is_complete i f g z (wrote (unread_file {path = p} v q {script = o} y e c t l x m u n s) (all d w k)) =
+      absurd (no-file i a.counts b.counts p v q o y c t x f g m)
 
   -- the statuses that there are
-  pub is_status : Outcome words a b r → (r ≡ 0) ⊎ ((r ≡ 2) ⊎ ((r ≡ 3) ⊎ ((r ≡ 5) ⊎ ((r ≡ 6) ⊎ (r ≡ 7)))))
-  is_status (wrote (ran e c t l f) (all d w z)) = inl (d ∙ e)
-  is_status (wrote (misused e c f s) (all d w z)) = inr (inl (d ∙ e))
-  is_status (wrote (refused e c t l f s) (all d w z)) = inr (inr (inl (d ∙ e)))
-  is_status (wrote (missed y e c t f s) (all d w z)) = inr (inr (inr (inl (d ∙ e))))
-  is_status (wrote due (cut n t z d h)) = inr (inr (inr (inr (inl d))))
-  is_status (wrote due (short n t z d)) = inr (inr (inr (inr (inr d))))
-  is_status (wrote due (unsaved t z (inl d))) = inr (inr (inr (inr (inr d))))
-  is_status (wrote due (unsaved t z (inr d))) = inr (inr (inr (inr (inl d.0))))
-  is_status (starved e t f) = inr (inr (inr (inr (inr e))))
+  pub is_status : Outcome words a b bays r → (r ≡ 0) ⊎ ((r ≡ 2) ⊎ ((r ≡ 3) ⊎ ((r ≡ 4) ⊎ ((r ≡ 5) ⊎ ((r ≡ 6) ⊎ (r ≡ 7))))))
+  is_status (wrote (ran v (inl e) c t l y f h) (all d w k)) = inl (d ∙ e)
+  is_status (wrote (ran v (inr e) c t l y f h) (all d w k)) = inr (inr (inl (d ∙ e)))
+  is_status (wrote (misused e c t f s) (all d w k)) = inr (inl (d ∙ e))
+  is_status (wrote (misread v e c t l y x f s) (all d w k)) = inr (inr (inr (inl (d ∙ e))))
+  is_status (wrote (unread_script y e c t x f s) (all d w k)) = inr (inr (inr (inr (inl (d ∙ e)))))
+  is_status (wrote (unread_file v q y e c t l x m u f s) (all d w k)) = inr (inr (inr (inr (inl (d ∙ e)))))
+  is_status (wrote due (cut n t z d h)) = inr (inr (inr (inr (inr (inl d)))))
+  is_status (wrote due (short n t z d)) = inr (inr (inr (inr (inr (inr d)))))
+  is_status (wrote due (unsaved t z (inl d))) = inr (inr (inr (inr (inr (inr d)))))
+  is_status (wrote due (unsaved t z (inr d))) = inr (inr (inr (inr (inr (inl d.0)))))
+  is_status (starved e t f) = inr (inr (inr (inr (inr (inr e)))))

@@ -1,80 +1,111 @@
 -- What the host claims, status by status.
-use Rattle.std.specs.Prelude.{◌≡◌, ◌≢◌, ℕ, ◌≤◌, List, [], ◌++◌, length, Option, Some, None, ◌⊎◌}
-use Rattle.vl_design.specs.Snapshots.{Saved}
+use Rattle.std.specs.Prelude.{◌≡◌, ◌≢◌, ℕ, ◌≤◌, List, [], ◌++◌, length, Option, Some, None, option_map, Ok, Err, ◌⊎◌}
 use Rattle.fab_io.specs.declared.store.ReadError.{ReadError}
 use Rattle.fab_io.specs.Outside.{Files, IsTold}
+use Rattle.fab_bay.specs.declared.noted.NotedCore.{NotedCore}
+use Rattle.script_text.specs.declared.script.Script.{Script}
+use Rattle.script_text.specs.Reading.{reading}
+use Rattle.host_load.specs.Reading.{IsAvailable, IsCause, IsMissed}
+use Rattle.host_saves.specs.Writes.{after_writes, LeavesFront, Write}
+use Rattle.host_script.specs.Reported.{AreBays}
+use Rattle.host_script.specs.Runs.{HasRun}
 use Rattle.host_run.specs.Taking.{Takes}
 use Rattle.host_run.specs.Words.{command_of}
-use Rattle.host_run.specs.Report.{usage, unread}
-use Rattle.host_run.specs.Due.{Outside, IsCause, IsDue, LeavesFront, Reports, Refuses, most_source, with_all}
+use Rattle.host_run.specs.Lines.{fault, unread, usage}
+use Rattle.host_run.specs.Due.{IsDue, Outside, most_script}
 
--- status 0: the sink has taken the block of the run alone of the told source, which is within the limit of what is read; and the told files
--- are those before, with each snapshot written that the run keeps
-pub record HasRun (words : List (List ℕ)) (a b : Outside) : Type 0 where
+-- statuses 0 and 3: the words name a script, whose bytes are within the limit of what is read, and which has a reading; the bays are those
+-- of its fabrics; and, where the store tells its files, the sink has taken the report of the script by the histories of these bays, and the told files
+-- are those before, with each snapshot written that its tenants' runs keep
+pub record HasReported (words : List (List ℕ)) (a b : Outside) (bays : List NotedCore) (status : ℕ) : Type 0 where
   pub path : List ℕ
-  pub budget : ℕ
-  pub source : List ℕ
+  pub bytes : List ℕ
+  pub script : Script
   pub report : List ℕ
-  pub saved : List Saved
-  pub command : command_of words ≡ Some (path, budget)
-  pub read : IsTold a.told path source
-  pub short : length source ≤ most_source
-  pub reports : Reports source budget report saved
+  pub writes : List Write
+  pub command : command_of words ≡ Some path
+  pub read : IsTold a.told path bytes
+  pub short : length bytes ≤ most_script
+  pub reads : reading bytes ≡ Ok script
+  pub fabrics : AreBays script.fabrics bays
+  pub ran : (files : Files) → a.told ≡ Some files → HasRun files script status report bays writes
   pub takes : Takes a.taken b.taken report
-  pub files : b.told ≡ with_all saved a.told
+  pub files : b.told ≡ option_map (after_writes writes) a.told
 
--- status 2: the words are no command, and the sink has taken the usage; no told file changes
-pub record IsMisused (words : List (List ℕ)) (a b : Outside) : Type 0 where
+-- status 2: the words are no command, and the sink has taken the usage; no told file changes, and no bay is there
+pub record IsMisused (words : List (List ℕ)) (a b : Outside) (bays : List NotedCore) : Type 0 where
   pub command : command_of words ≡ None
   pub takes : Takes a.taken b.taken usage
   pub files : b.told ≡ a.told
+  pub none : bays ≡ []
 
--- status 3: the sink has taken the line by which the told source is refused, which is within that limit; no told file changes
-pub record HasRefused (words : List (List ℕ)) (a b : Outside) : Type 0 where
+-- status 4: the told script, which is within that limit, has a fault, and the sink has taken the line that says where and which; no told
+-- file changes, and no bay is there
+pub record HasMisread (words : List (List ℕ)) (a b : Outside) (bays : List NotedCore) : Type 0 where
   pub path : List ℕ
-  pub budget : ℕ
-  pub source : List ℕ
-  pub line : List ℕ
-  pub command : command_of words ≡ Some (path, budget)
-  pub read : IsTold a.told path source
-  pub short : length source ≤ most_source
-  pub refuses : Refuses source line
-  pub takes : Takes a.taken b.taken line
+  pub bytes : List ℕ
+  pub line : ℕ
+  pub cause : ℕ
+  pub command : command_of words ≡ Some path
+  pub read : IsTold a.told path bytes
+  pub short : length bytes ≤ most_script
+  pub faulty : reading bytes ≡ Err (line, cause)
+  pub takes : Takes a.taken b.taken (fault line cause)
   pub files : b.told ≡ a.told
+  pub none : bays ≡ []
 
--- status 5: the read of the source failed for this cause, and the sink has taken the line that says so; no told file changes
-pub record HasMissed (words : List (List ℕ)) (a b : Outside) : Type 0 where
+-- a read that failed: that of the script, or one for a script that was read
+pub data IsUnread (words : List (List ℕ)) (a b : Outside) (path : List ℕ) (why : ReadError) : Type 0 where
+  script : command_of words ≡ Some path → IsCause a.told a.counts b.counts path most_script why → IsUnread words a b path why
+  file : {named : List ℕ} (bytes : List ℕ) {s : Script} → command_of words ≡ Some named → IsTold a.told named bytes → length bytes ≤ most_script → reading bytes ≡ Ok s →
+      IsMissed a.told a.counts b.counts s path why → IsUnread words a b path why
+
+-- status 5: a read of this path failed for this cause, and the sink has taken the line that says so; no told file changes, and no bay is there
+pub record HasMissed (words : List (List ℕ)) (a b : Outside) (bays : List NotedCore) : Type 0 where
   pub path : List ℕ
-  pub budget : ℕ
   pub why : ReadError
-  pub command : command_of words ≡ Some (path, budget)
-  pub cause : IsCause a.told a.counts b.counts path why
+  pub cause : IsUnread words a b path why
   pub takes : Takes a.taken b.taken (unread path why)
   pub files : b.told ≡ a.told
+  pub none : bays ≡ []
 
--- statuses 6 and 7: the sink has taken the front of what was due, and a front of its snapshots is written, none of them where the sink
+-- statuses 6 and 7: the sink has taken the front of what was due, and a front of its files is written, none of them where the sink
 -- hasn't taken all
-pub record TakesFront (words : List (List ℕ)) (a b : Outside) : Type 0 where
+pub record TakesFront (words : List (List ℕ)) (a b : Outside) (bays : List NotedCore) : Type 0 where
   pub status : ℕ
   pub front : List ℕ
   pub rest : List ℕ
-  pub saved : List Saved
-  pub due : IsDue a.told a.counts b.counts words status (front ++ rest) saved
+  pub writes : List Write
+  pub due : IsDue a.told a.counts b.counts words status (front ++ rest) bays writes
   pub takes : Takes a.taken b.taken front
-  pub files : LeavesFront a.told b.told saved
+  pub files : LeavesFront writes a.told b.told
   pub order : rest ≢ [] → b.told ≡ a.told
 
 -- status 7: so it is, or nothing is taken, and no told file changes
-abbrev pub IsStarved : List (List ℕ) → Outside → Outside → Type 0
-IsStarved words a b = ((b.taken ≡ a.taken) × (b.told ≡ a.told)) ⊎ TakesFront words a b
+abbrev pub IsStarved : List (List ℕ) → Outside → Outside → List NotedCore → Type 0
+IsStarved words a b bays = ((b.taken ≡ a.taken) × (b.told ≡ a.told)) ⊎ TakesFront words a b bays
 
--- the words are a command whose source is told, within its limit
-pub record IsServed (told : Option Files) (words : List (List ℕ)) : Type 0 where
+-- the words name a script that is told, within its limit
+pub record IsGiven (told : Option Files) (words : List (List ℕ)) (bytes : List ℕ) : Type 0 where
   pub path : List ℕ
-  pub budget : ℕ
   pub files : Files
-  pub source : List ℕ
-  pub command : command_of words ≡ Some (path, budget)
+  pub command : command_of words ≡ Some path
   pub tells : told ≡ Some files
-  pub there : files path ≡ Some source
-  pub short : length source ≤ most_source
+  pub there : files path ≡ Some bytes
+  pub short : length bytes ≤ most_script
+
+-- so it is, the script has a reading, and all that is read for it is told, within its limits
+pub record IsServed (told : Option Files) (words : List (List ℕ)) : Type 0 where
+  pub bytes : List ℕ
+  pub script : Script
+  pub given : IsGiven told words bytes
+  pub reads : reading bytes ≡ Ok script
+  pub available : IsAvailable given.files script
+
+-- so it is, and the script has no reading
+pub record IsFaulty (told : Option Files) (words : List (List ℕ)) : Type 0 where
+  pub bytes : List ℕ
+  pub line : ℕ
+  pub cause : ℕ
+  pub given : IsGiven told words bytes
+  pub faulty : reading bytes ≡ Err (line, cause)

@@ -1,10 +1,7 @@
-pub mod Answers
 pub mod Claims
 pub mod Due
-pub mod Examples
-pub mod Keeping
-pub mod Kept
-pub mod Report
+pub mod Dues
+pub mod Lines
 pub mod Statuses
 pub mod Taking
 pub mod Words

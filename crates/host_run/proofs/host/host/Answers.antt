@@ -1,32 +1,35 @@
-use Rattle.host_run.proofs.Outcomes.{has_run, is_misused, has_refused, has_missed, has_failed, takes_front, is_starved, is_status, is_usage, is_complete}
+use Rattle.host_run.proofs.Outcomes.{has_reported, is_misused, has_misread, has_missed, has_failed, takes_front, is_starved, is_status, is_usage, is_faulty, is_complete}
 use Rattle.host_run.proofs.host.host.Goals as goal
 
 pub returns-clause-ran : goal.returns-clause-ran
-returns-clause-ran g c = λ e. has_run _ _ _ _ e c.serve.ensures
+returns-clause-ran g c = λ e. has_reported _ _ _ _ _ e c.serve.ensures
 
 pub returns-clause-misused : goal.returns-clause-misused
-returns-clause-misused g c = λ e. is_misused _ _ _ _ e c.serve.ensures
+returns-clause-misused g c = λ e. is_misused _ _ _ _ _ e c.serve.ensures
 
-pub returns-clause-refused : goal.returns-clause-refused
-returns-clause-refused g c = λ e. has_refused _ _ _ _ e c.serve.ensures
+pub returns-clause-misread : goal.returns-clause-misread
+returns-clause-misread g c = λ e. has_misread _ _ _ _ _ e c.serve.ensures
 
 pub returns-clause-missed : goal.returns-clause-missed
-returns-clause-missed g c = λ e. has_missed _ _ _ _ e c.serve.ensures
+returns-clause-missed g c = λ e. has_missed _ _ _ _ _ e c.serve.ensures
 
 pub returns-clause-failed : goal.returns-clause-failed
-returns-clause-failed g c = λ e. has_failed _ _ _ _ e c.serve.ensures
+returns-clause-failed g c = λ e. has_failed _ _ _ _ _ e c.serve.ensures
 
 pub returns-clause-cut : goal.returns-clause-cut
-returns-clause-cut g c = λ e. takes_front _ _ _ _ e c.serve.ensures
+returns-clause-cut g c = λ e. takes_front _ _ _ _ _ e c.serve.ensures
 
 pub returns-clause-starved : goal.returns-clause-starved
-returns-clause-starved g c = λ e. is_starved _ _ _ _ e c.serve.ensures
+returns-clause-starved g c = λ e. is_starved _ _ _ _ _ e c.serve.ensures
 
 pub returns-clause-statuses : goal.returns-clause-statuses
-returns-clause-statuses g c = is_status _ _ _ _ c.serve.ensures
+returns-clause-statuses g c = is_status _ _ _ _ _ c.serve.ensures
 
 pub returns-clause-usage : goal.returns-clause-usage
-returns-clause-usage g c = λ none. is_usage _ _ _ _ none c.serve.ensures
+returns-clause-usage g c = λ none. is_usage _ _ _ _ _ none c.serve.ensures
+
+pub returns-clause-faulty : goal.returns-clause-faulty
+returns-clause-faulty g c = λ s f a. is_faulty _ _ _ _ _ s f a c.serve.ensures
 
 pub returns-clause-complete : goal.returns-clause-complete
-returns-clause-complete g c = λ s f a k. is_complete _ _ _ _ s f a k c.serve.ensures
+returns-clause-complete g c = λ s f a k. is_complete _ _ _ _ _ s f a k c.serve.ensures

@@ -1,4 +1,4 @@
-use Rattle.std.proofs.Common.{refl, ap, Err}
+use Rattle.std.proofs.Common.{ap, Err, refl}
 use Rattle.host_run.proofs.Serving.{put-failed, saves-came}
 use Rattle.host_run.proofs.host.write_due.Goals as goal
 
@@ -8,5 +8,6 @@ returns-in-Err-clause-wrote g c =
 
 pub returns-clause-wrote : goal.returns-clause-wrote
 returns-clause-wrote g c =
-    rw c.in-Some.is (saves-came c.write_all.result (rw c.deref.ensures.value at c.in_default.ensures.whole) c.write_all.ensures.all c.write_all.ensures.front
-    c.write_all.ensures.failed c.status_of-in-Some.ensures)
+    let write = c.write_all.ensures in
+    saves-came c.write_all.result (rw c.deref.ensures.value at c.in_default.ensures.whole) (rw c.as_slice.ensures at write.all) (rw c.as_slice.ensures at write.front) write.failed
+    c.status_of-2.ensures

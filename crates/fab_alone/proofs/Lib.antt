@@ -1,4 +1,0 @@
-mod Entering
-mod Leaving
-mod Points
-mod Steps

@@ -1,0 +1,31 @@
+-- What is due, as the code has it (own).
+use Rattle.std.specs.Prelude.{◌≡◌, ℕ, List, [], length, Option}
+use Rattle.std.specs.List.{AllByRecursion}
+use Rattle.fab_io.specs.Outside.{Files}
+use Rattle.script_text.specs.Laws.{IsSpeltTenant}
+use Rattle.host_load.specs.Reading.{Counts}
+use Rattle.host_saves.specs.Kept.{CanBeKept}
+use Rattle.host_saves.specs.Writes.{writes_of, Write}
+use Rattle.host_run.specs.declared.due.Due.{Due}
+use Rattle.host_run.specs.Due.{IsDue}
+
+-- the files that are to be written
+abbrev pub writes_due : Due → List Write
+writes_due d = writes_of d.tenants d.kept.items
+
+abbrev pub IsDueBy : Option Files → Counts → Counts → List (List ℕ) → Due → Type 0
+IsDueBy told old new words d = IsDue told old new words d.status d.text.items d.bays.items (writes_due d)
+
+-- a text, and nothing was run
+pub record IsOnly (status : ℕ) (text : List ℕ) (d : Due) : Type 0 where
+  pub status_is : d.status ≡ status
+  pub text_is : d.text.items ≡ text
+  pub tenants : d.tenants ≡ []
+  pub kept : d.kept.items ≡ []
+  pub bays : d.bays.items ≡ []
+
+-- what each tenant keeps can be written under its name
+pub record CanBeWritten (d : Due) : Type 0 where
+  pub count : length d.kept.items ≡ length d.tenants
+  pub names : AllByRecursion IsSpeltTenant d.tenants
+  pub kept : AllByRecursion CanBeKept d.kept.items

@@ -1,0 +1,51 @@
+//! The bays that a call hands out.
+
+ghost use Rattle.std.specs.Prelude.{◌≡◌, [], option_copied, slice_get};
+
+use fab_bay::bay::Bay;
+use std::alloc::Global;
+use std::marker::Model;
+
+/// The bays of a script's fabrics, in their order: each with the history of its fabric. Contracts see them as a list.
+#[derive(Drop)]
+pub struct Bays {
+    bays: Vec<Bay>,
+}
+
+impl Model for Bays {
+    ghost use Rattle.std.specs.Prelude.{List};
+    ghost use Rattle.std.specs.Coded.{coded_list};
+    ghost use Rattle.fab_bay.specs.contracts.noted.NotedCore as held;
+    ghost use Rattle.fab_bay.specs.declared.noted.NotedCore.{NotedCore};
+
+    ghost Value = { List NotedCore };
+
+    ghost coded = { coded_list held.the_row.coded };
+
+    ghost view = { λ b. b.bays.items };
+}
+
+impl Bays {
+    /// No bays.
+    pub fn new(alloc: Global) -> Bays
+        ensures { result ≡ [] }
+    {
+        Bays {
+            bays: Vec::new(alloc),
+        }
+    }
+
+    /// The bay of the fabric of a number. None exactly where there are not so many.
+    pub fn get(&self, fabric: usize) -> Option<&Bay>
+        ensures { option_copied result ≡ slice_get self.now fabric }
+    {
+        self.bays.as_slice().get(fabric)
+    }
+
+    /// Takes over bays in place of those that are there.
+    pub(crate) fn hold(&mut self, bays: Vec<Bay>)
+        ensures { self.new ≡ bays.items }
+    {
+        self.bays = bays;
+    }
+}

@@ -1,35 +1,27 @@
 -- The snapshots of the tenants of a script are written as a report says.
 use Rattle.std.proofs.Common.{◌≡◌, ℕ, ◌+◌, List, [], ◌∷◌, ◌++◌, length, map, refl, sym, ap, ◌∙◌, subst, arith, Option, Some, None}
 use Rattle.std.specs.List.{AllByRecursion}
-use Rattle.fab_io.specs.Outside.{with_file, Files}
+use Rattle.fab_io.specs.Outside.{Files}
 use Rattle.vl_design.specs.Snapshots.{Saved}
-use Rattle.ten_plan.specs.Written.{bytes_of}
 use Rattle.script_text.specs.declared.script.TenantLine.{TenantLine}
 use Rattle.fab_notes.specs.declared.transit.Transit.{Transit}
 use Rattle.host_form.specs.Orders.{Answered}
 use Rattle.host_form.specs.Origins.{Tenant}
 use Rattle.host_form.specs.Runs.{Outcome, Refused, Ran}
-use Rattle.host_form.specs.Saves.{path_of, with_saves, AreSaved}
+use Rattle.host_form.specs.Saves.{with_saves, AreSaved}
 use Rattle.host_judge.specs.declared.verdict.Refusal.{Refusal}
 use Rattle.host_outcomes.specs.Ends.{AreTold}
 use Rattle.host_saves.specs.declared.kept.Kept.{Kept}
 use Rattle.host_saves.specs.Kept.{saved_in, CanBeKept}
 use Rattle.host_saves.specs.Writes.{after_writes, writes_in, writes_of, Write}
+use Rattle.host_saves.proofs.Writing.{writes-append, writes-said}
 use Rattle.host_blocks.specs.Telling.{AreKept}
 
 -- ---- writes
 
-after_both : (ws vs : List Write) (files : Files) → after_writes (ws ++ vs) files ≡ after_writes vs (after_writes ws files)
-after_both [] vs files = refl
-after_both (w ∷ ws) vs files = after_both ws vs (with_file w.path w.bytes files)
-
-after_saves : (tenant : List ℕ) (saved : List Saved) (files : Files) → after_writes (writes_in tenant saved) files ≡ with_saves tenant saved files
-after_saves tenant [] files = refl
-after_saves tenant (s ∷ saved) files = after_saves tenant saved (with_file (path_of tenant s.name) (bytes_of s.snapshot) files)
-
 first_writes : (tenant : List ℕ) (saved : List Saved) (ws : List Write) (files : Files) → after_writes ws (with_saves tenant saved files) ≡ after_writes (writes_in tenant saved ++ ws) files
 first_writes tenant saved ws files =
-    ap (λ (f : Files). after_writes ws f) (sym (after_saves tenant saved files)) ∙ sym (after_both (writes_in tenant saved) ws files)
+    ap (λ (f : Files). after_writes ws f) (sym (writes-said tenant saved files)) ∙ sym (writes-append (writes_in tenant saved) ws files)
 
 -- ---- what is kept
 

@@ -2,5 +2,4 @@
 #![tactic(auto)]
 
 pub mod kept;
-pub mod laws;
 pub mod write;

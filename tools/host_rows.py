@@ -10,7 +10,7 @@ from items import item
 from values import corners
 
 FOLDER = TOP / "crates" / "host_rows"
-USAGE = "usage: fabhost run SCRIPT"
+USAGE = "usage: fabhost run SCRIPT | check SOURCE | demo N"
 ROOM = "fabric F 1000000000 1000000000 1000000000"
 LETTERS = "begin " + " ".join(f"msg[{i}] = {ord(c)};" for i, c in enumerate("Hello\n")) + " end"
 COUNTER = (TOP / "examples" / "counter.v").read_text().rstrip("\n")

@@ -28,7 +28,7 @@ use Rattle.fab_bay.specs.Berths.{deed_at, AreBerths, IsBerth, IsWaiter}
 use Rattle.fab_lock.specs.declared.entry.Kind.TheVariants as kind
 use Rattle.fab_bay.specs.Marks.{all_called_for, is_run, leave_for, mark_of, marks, take_for, AreClosed, IsRunOf, Mark}
 use Rattle.fab_bay.specs.Standing.{CanSettle, HasRoomFor, IsNoted, IsSame}
-use Rattle.fab_bay.specs.Taking.{KeepsFlag}
+use Rattle.fab_bay.specs.Taking.{KeepsFlag, IsWithdrawn as IsTakenOut}
 use Rattle.fab_bay.specs.Ways.{tokens, AreOut, Goes, IsWritten, Settles}
 use Rattle.fab_lock.specs.declared.entry.Entry.{Entry}
 use Rattle.fab_bay.proofs.Going.{closed-by, closed-one, closed-run}
@@ -39,6 +39,7 @@ use Rattle.fab_core.proofs.Firsts.{first-at, first-some, FirstAt}
 use Rattle.fab_bay.proofs.Places.{berth-place, berths_at, berths_many, berths_remove, removed_many, some-equal, waiters_at, waiters_berths, waiters_remove, number_at}
 use Rattle.fab_bay.proofs.Pointed.{tells}
 use Rattle.fab_bay.proofs.Ran.{room_less}
+use Rattle.fab_bay.proofs.Withdrawn.{withdrawn_by}
 
 -- ---- worlds
 
@@ -170,6 +171,10 @@ module _ (k tenant place : ℕ) (x y z : NotedCore) (b : Berth) (t : Transit) (n
         keeps-before k 0 x y v.legal o.goes t
         (keeps_resident y y.label y.berths.items y.waiting.items (told_of y f v) t place b (ran_still tenant place x y b o.ran f h) o.ran.read (leaver_number y.label.tenants b p w t.parcel berth now l)
         (leaver_keeps y.label.tenants b p w t.parcel berth now l end.Finished refl))
+
+    pub out_withdrawn : (f : Fabric) (d : Point) (h : IsNoted x f) → IsLeaver (why.Ended end.Finished) (get_or f.residents place d) t.parcel → IsTakenOut t
+    out_withdrawn f d h l =
+        withdrawn_by y.label.tenants b (get_or f.residents place d) t (ran_berth tenant place x y b o.ran f h d) (ran_noted tenant place x y b o.ran f h d) l (λ r. (y.label.fabric, o.stays))
 
     pub out_written : (f : Fabric) (w : Why) (d : Point) → IsNoted x f → IsLeaver w (get_or f.residents place d) t.parcel → IsWritten k x z (tokens (t ∷ [])) (mark_out t ∷ [])
     out_written f w d h l =
@@ -338,6 +343,9 @@ module _ (k tenant place : ℕ) (x z : NotedCore) (b : Berth) (t : Transit) (n :
       let q : Point = get_or f.line place p in
       keeps_waiter x x.label x.berths.items x.waiting.items (told_of x f h) t place b (line_there tenant place x b o.none o.there o.read f h) o.read
       (leaver_number x.label.tenants b q ended_why t.parcel waiter.berth waiter.noted taker_line) (leaver_keeps x.label.tenants b q ended_why t.parcel waiter.berth waiter.noted taker_line end.Finished refl)
+
+  pub withdrawn_out : IsTakenOut t
+  withdrawn_out = withdrawn_by x.label.tenants b (get_or f.line place p) t waiter.berth waiter.noted taker_line (λ r. absurd (false≢true (sym o.resident ∙ r)))
 
   -- it leaves where it was put in line, with the flag with which it was
   same_flag : is_moved t.parcel ≡ (deed_at b).moved

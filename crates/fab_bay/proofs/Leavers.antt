@@ -172,7 +172,7 @@ module _ (n : ℕ) (b : Berth) (p : Point) (w : Why) (q : Parcel) (h : IsBerth n
   here g = record { fabric = g; from = b.since; to = ticks_of q; by_move = b.by_move }
 
   -- it came by the move of the tick at which it leaves just where that is done
-  idle_is : (g : ℕ) → is_idle (here g) ≡ p.moved
+  pub idle_is : (g : ℕ) → is_idle (here g) ≡ p.moved
   idle_is g = by p.moved refl
     where
       none : (m : Bool) → p.moved ≡ false → is_idle (here g) ≡ m → is_idle (here g) ≡ false

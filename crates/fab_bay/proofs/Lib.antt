@@ -22,6 +22,7 @@ pub mod Coming
 pub mod Gone
 pub mod Kept
 pub mod Leavers
+pub mod Withdrawn
 pub mod Places
 pub mod Pointed
 pub mod Owning

@@ -20,7 +20,7 @@ use Rattle.fab_bay.proofs.Flags.{keeps-before, keeps-same}
 
 -- what was done before
 pub found-after : (k t n : ℕ) (x y z : NotedCore) → ((out : List Transit) → Goes k n x y out out) → IsLegal y.label.fabric y.label.capacity y.notes.items → (w : Found) → IsFoundReady k t y z w → IsFoundReady k t x z w
-found-after k t n x y z g l (Here out) f = (f.0, n + f.1, onward k n f.1 (n + f.1) x y z [] [] (out ∷ []) (g []) f.2 refl, keeps-before k n x y l (g []) out f.3)
+found-after k t n x y z g l (Here out) f = (f.0, n + f.1, onward k n f.1 (n + f.1) x y z [] [] (out ∷ []) (g []) f.2 refl, keeps-before k n x y l (g []) out f.3, f.4)
 found-after k t n x y z g l Absent f = absurd f
 found-after k t n x y z g l Short f = (n + f.0, onward k n f.0 (n + f.0) x y z [] [] [] (g []) f.1 refl)
 
@@ -48,6 +48,6 @@ module _ (k t : ℕ) (x b m d e : NotedCore) (s : Taken) (begins : IsLike x b) (
       record { cycles = n; goes = way; told = way.told; short = all; whole = all-whole k n x b m d e s.entries.items out begins ends g h way last }
 
   pub found-by : (w : Found) → IsFoundReady k t b m w → IsFound k t x e s w
-  found-by (Here out) f = (f.0, took f.1 (out ∷ []) f.2, keeps-same x b out begins.notes f.3)
+  found-by (Here out) f = (f.0, took f.1 (out ∷ []) f.2, keeps-same x b out begins.notes f.3, f.4)
   found-by Absent f = absurd f
   found-by Short f = (there, took f.0 [] f.1)

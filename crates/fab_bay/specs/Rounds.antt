@@ -11,7 +11,7 @@ use Rattle.fab_bay.specs.declared.leaving.Found.TheVariants.{Here, Absent, Short
 use Rattle.fab_bay.specs.declared.noted.NotedCore.{NotedCore}
 use Rattle.fab_bay.specs.Nearness.{IsNear}
 use Rattle.fab_bay.specs.Standing.{CanSettle, IsNoted}
-use Rattle.fab_bay.specs.Taking.{KeepsFlag}
+use Rattle.fab_bay.specs.Taking.{IsWithdrawn, KeepsFlag}
 use Rattle.fab_bay.specs.Ways.{AreShort, Goes, IsEmpty}
 
 -- a core in a call: it stands for some fabric, and each resident's run can be written
@@ -48,6 +48,6 @@ pub record Rounds (number most : ℕ) (x y : NotedCore) (out out' : List Transit
 
 -- the tenant is out, or memory ended the call
 abbrev pub IsFoundReady : (number tenant : ℕ) (x y : NotedCore) → Found → Type 0
-IsFoundReady number tenant x y (Here out) = (number_of out.parcel ≡ tenant) × (cycles : ℕ) × Goes number cycles x y [] (out ∷ []) × KeepsFlag x out
+IsFoundReady number tenant x y (Here out) = (number_of out.parcel ≡ tenant) × (cycles : ℕ) × Goes number cycles x y [] (out ∷ []) × KeepsFlag x out × IsWithdrawn out
 IsFoundReady number tenant x y Absent = ⊥
 IsFoundReady number tenant x y Short = (cycles : ℕ) × Goes number cycles x y [] []

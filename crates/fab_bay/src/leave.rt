@@ -13,7 +13,7 @@ ghost use Rattle.fab_notes.specs.Ends.{EndsNotBefore};
 ghost use Rattle.fab_notes.specs.Stays.{chains};
 ghost use Rattle.fab_bay.specs.Nearness.{IsNear};
 ghost use Rattle.fab_bay.specs.Standing.{CanSettle, HasRoomFor, IsNoted};
-ghost use Rattle.fab_bay.specs.Taking.{KeepsFlag};
+ghost use Rattle.fab_bay.specs.Taking.{IsWithdrawn, KeepsFlag};
 ghost use Rattle.fab_bay.specs.Ways.{AreShort, Goes, LeftFor};
 
 use crate::berth::Berth;
@@ -123,6 +123,7 @@ impl NotedCore {
         ensures goes { (out : List Out) → Goes number 0 self.old self.new out (out ++ result ∷ []) }
         ensures number { number_of result.parcel ≡ tenant }
         ensures flag { KeepsFlag self.old result }
+        ensures withdrawn { IsWithdrawn result }
         ensures near { IsNear self.old → IsNear self.new }
         ensures short { IsNear self.old → (added : List OneNote) → self.new.notes.items ≡ self.old.notes.items ++ added → AreShort added }
         ensures room { CanSettle self.new }
@@ -149,6 +150,7 @@ impl NotedCore {
         ensures goes { (out : List Out) → Goes number 0 self.old self.new out (out ++ result ∷ []) }
         ensures number { number_of result.parcel ≡ tenant }
         ensures flag { KeepsFlag self.old result }
+        ensures withdrawn { IsWithdrawn result }
         ensures near { IsNear self.old → IsNear self.new }
         ensures short { IsNear self.old → (added : List OneNote) → self.new.notes.items ≡ self.old.notes.items ++ added → AreShort added }
         ensures room { CanSettle self.new }
@@ -172,6 +174,7 @@ impl NotedCore {
         ensures goes { (out : List Out) → Goes number 0 self.old self.new out (out ++ result ∷ []) }
         ensures number { number_of result.parcel ≡ tenant }
         ensures flag { KeepsFlag self.old result }
+        ensures withdrawn { IsWithdrawn result }
         ensures near { IsNear self.old → IsNear self.new }
         ensures short { IsNear self.old → (added : List OneNote) → self.new.notes.items ≡ self.old.notes.items ++ added → AreShort added }
         ensures room { CanSettle self.new }
@@ -194,6 +197,7 @@ impl NotedCore {
         ensures goes { IfOk result (λ t. (out : List Out) → Goes number 0 self.old self.new out (out ++ t ∷ [])) }
         ensures number { IfOk result (λ t. number_of t.parcel ≡ tenant) }
         ensures flag { IfOk result (λ t. KeepsFlag self.old t) }
+        ensures withdrawn { IfOk result (λ t. IsWithdrawn t) }
         ensures err { OnErr result ((out : List Out) → Goes number 0 self.old self.new out out) }
         ensures near { IsNear self.old → IsNear self.new }
         ensures short { IsNear self.old → (added : List OneNote) → self.new.notes.items ≡ self.old.notes.items ++ added → AreShort added }

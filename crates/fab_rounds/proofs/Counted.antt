@@ -3,7 +3,7 @@ use Rattle.std.proofs.Common.{◌≡◌, ℕ, ◌+◌, ◌<◌, ◌≤◌, ◌�
 use Rattle.std.proofs.lemmas.Bool.{cases_lt, eqb-true, false≢true, le-leb, le-ltb, lt-leb, lt-ltb}
 use Rattle.std.proofs.lemmas.Option.{get_or_from_slice_get}
 use Rattle.std.specs.List.{AllByRecursion as ByRecursion}
-use Rattle.std.specs.Prelude.{not, ◌&&◌, ◌==◌, if◌then◌else◌, is_some, nat_le, nat_lt, All}
+use Rattle.std.specs.Prelude.{not, ◌&&◌, ◌||◌, ◌==◌, if◌then◌else◌, is_some, nat_le, nat_lt, All}
 use Rattle.vl_cost.specs.declared.capacity.Cost.{Cost}
 use Rattle.ten_core.specs.declared.origin.Origin.{Origin}
 use Rattle.ten_core.specs.Tenants.{origin_of}
@@ -29,6 +29,7 @@ use Rattle.fab_rounds.specs.declared.outcomes.Start.{Start}
 use Rattle.fab_rounds.specs.Totals.{total}
 use Rattle.fab_rounds.specs.Starts.{AreStarts, IsOwn, IsStart}
 use Rattle.fab_rounds.specs.Outcomes.{cause_of, goes_to, line_of, IsCause, IsReason, IsUnended}
+use Rattle.fab_rounds.specs.Ledgers.{errand_of, errands_of}
 use Rattle.fab_rounds.proofs.Conserved.{each, finally, held, nothing, outs_in, puts_in, still, IsOneClosed}
 use Rattle.fab_rounds.proofs.Lists.{own_origin, start_of}
 use Rattle.fab_rounds.proofs.Totals.{total_all, total_split}
@@ -169,7 +170,7 @@ module _ (starts : List Start) (labels : List Label) (a : AreStarts labels start
         (λ c h. weighs c.reason c.fabric c.transit.value h (number_of c.transit.value.parcel == t) refl) cs all
 
   module _ (j : ℕ) (some : is_some (move_at j (run_of s.transit.parcel).plan.errands) ≡ true) where
-    has_move : (x : Transit) → IsOwn starts x.parcel → (b : Bool) → (number_of x.parcel == t) ≡ b → moveless t j (token_of x) ≡ 0
+    pub has_move : (x : Transit) → IsOwn starts x.parcel → (b : Bool) → (number_of x.parcel == t) ≡ b → moveless t j (token_of x) ≡ 0
     has_move x o false n = off (number_of x.parcel == t) (not (is_some (move_at j (run_of x.parcel).plan.errands))) n
     has_move x o true n = ap₂ (λ (b v : Bool). one (b && not v)) n (ap (λ (y : Origin). is_some (move_at j (origin_of y).plan.errands)) (sym (origin_at x.parcel o (eqb-true (number_of x.parcel) t n))) ∙ some)
 
@@ -186,6 +187,31 @@ module _ (starts : List Start) (labels : List Label) (a : AreStarts labels start
     -- where its run ends as it was loaded, it isn't put in line so
     pub none_first : (cs : List Cause) → All (IsCause starts) cs → total (cause_of (λ _. fresh t)) cs ≡ 0
     none_first cs all = total_all (IsCause starts) (cause_of (λ _. fresh t)) (λ c h. no_first c.reason c.fabric c.transit.value h (number_of c.transit.value.parcel == t) refl) cs all
+
+  -- ---- moves of its plan
+
+  abbrev pub IsLeftFor : (ℕ → ℕ) → Type 0
+  IsLeftFor sum = (j : ℕ) × (is_some (move_at j (run_of s.transit.parcel).plan.errands) ≡ true) × (0 < sum j)
+
+  errand_or : (r : Reason) (h : ℕ) (x : Transit) → IsReason starts r h x → (b : Bool) → (number_of x.parcel == t) ≡ b → (errand_of t r (number_of x.parcel) ≡ 0) ⊎ IsLeftFor (λ j. left_for t j (token_of x))
+  errand_or First h x e b n = inl refl
+  errand_or Errand h x e false n = inl (ap one n)
+  errand_or Errand h x e true n = inr (
+    ticks_of x.parcel,
+    ap (λ (o : Origin). is_some (move_at (ticks_of x.parcel) (origin_of o).plan.errands)) (origin_at x.parcel e.own (eqb-true (number_of x.parcel) t n)) ∙ ap is_some e.move,
+    let f = on_flags (number_of x.parcel == t) (ticks_of x.parcel == ticks_of x.parcel) (is_moved x.parcel) x.resident (ends_idle x.stays.items) n e.moved e.resident e.busy in
+        omega (arith, f, ap one (eq-eqb (ticks_of x.parcel) (ticks_of x.parcel) refl)),
+  )
+
+  -- where it was put in line for a move of its plan, it has left for one
+  pub errand_left : (cs : List Cause) → ByRecursion (IsCause starts) cs → 0 < errands_of t cs → IsLeftFor (λ j. total (cause_of (λ _. left_for t j)) cs)
+  errand_left [] a p = absurd (omega (arith, p))
+  errand_left (c ∷ cs) a p = by (errand_or c.reason c.fabric c.transit.value a.0 (number_of c.transit.value.parcel == t) refl) (errand_left cs a.1)
+    where
+      by : (errand_of t c.reason (number_of c.transit.value.parcel) ≡ 0) ⊎ IsLeftFor (λ j. left_for t j (token_of c.transit.value)) → (0 < errands_of t cs → IsLeftFor (λ j. total (cause_of (λ _. left_for t j)) cs))
+          → IsLeftFor (λ j. total (cause_of (λ _. left_for t j)) (c ∷ cs))
+      by (inl z) next = let r = next (omega (arith, p, z)) in let q = r.2 in (r.0, r.1, omega (arith, q))
+      by (inr r) next = let q = r.2 in (r.0, r.1, omega (arith, q))
 
 -- ---- bays
 
@@ -245,23 +271,23 @@ fit_in true false n e = refl
 fit_in false true n e = e
 fit_in false false n e = refl
 
-pub begins_once : (first k j : ℕ) (fit : Bool) (n : ℕ) → n ≡ one (nat_lt first k) → cond ((first == j) && fit) n 0 ≡ one ((first == j) && (nat_lt j k && fit))
-begins_once first k j fit n e = by (first == j) refl
+pub begins_once : (first last j : ℕ) (stopped fit : Bool) (n : ℕ) → n ≡ one (nat_lt first last || stopped) → cond ((first == j) && fit) n 0 ≡ one ((first == j) && ((nat_lt j last || stopped) && fit))
+begins_once first last j stopped fit n e = by (first == j) refl
   where
-    by : (b : Bool) → (first == j) ≡ b → cond (b && fit) n 0 ≡ one (b && (nat_lt j k && fit))
-    by true q = fit_in (nat_lt j k) fit n (e ∙ ap (λ (i : ℕ). one (nat_lt i k)) (eqb-true first j q))
+    by : (b : Bool) → (first == j) ≡ b → cond (b && fit) n 0 ≡ one (b && ((nat_lt j last || stopped) && fit))
+    by true q = fit_in (nat_lt j last || stopped) fit n (e ∙ ap (λ (i : ℕ). one (nat_lt i last || stopped)) (eqb-true first j q))
     by false q = refl
 
 at_most : (b : Bool) → one b ≤ 1
 at_most true = omega arith
 at_most false = omega arith
 
-pub moves_once : (first k j n : ℕ) (goes : Bool) → (goes ≡ true → one (nat_lt j first) + n ≡ one (nat_lt j k)) → cond goes n 0 ≡ one (goes && (nat_le first j && nat_lt j k))
-moves_once first k j n false h = refl
-moves_once first k j n true h = by (cases_lt j first)
+pub moves_once : (first j n : ℕ) (goes past : Bool) → (goes ≡ true → one (nat_lt j first) + n ≡ one past) → cond goes n 0 ≡ one (goes && (nat_le first j && past))
+moves_once first j n false past h = refl
+moves_once first j n true past h = by (cases_lt j first)
   where
-    by : (j < first) ⊎ (first ≤ j) → n ≡ one (nat_le first j && nat_lt j k)
-    by (inl l) = let e = h refl in let m = at_most (nat_lt j k) in
-        omega (arith, e, m, ap one (lt-ltb j first l), ap (λ (b : Bool). one (b && nat_lt j k)) (lt-leb first j l))
+    by : (j < first) ⊎ (first ≤ j) → n ≡ one (nat_le first j && past)
+    by (inl l) = let e = h refl in let m = at_most past in
+        omega (arith, e, m, ap one (lt-ltb j first l), ap (λ (b : Bool). one (b && past)) (lt-leb first j l))
     by (inr l) = let e = h refl in
-        omega (arith, e, ap one (le-ltb j first l), ap (λ (b : Bool). one (b && nat_lt j k)) (le-leb first j l))
+        omega (arith, e, ap one (le-ltb j first l), ap (λ (b : Bool). one (b && past)) (le-leb first j l))

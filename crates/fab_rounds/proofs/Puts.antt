@@ -1,15 +1,13 @@
 -- A tenant that is put in line.
-use Rattle.std.proofs.Common.{◌≡◌, ℕ, ◌+◌, ◌<◌, true, List, [], ◌∷◌, ◌++◌, length, get_or, set, length-set, get_or-set_same, get_or-set_other, refl, sym, ap, ◌∙◌, subst, arith, Some, None}
-use mathlib.Core.Logic.{dite}
-use native.Mathlib.Decide.{ℕ_discrete}
+use Rattle.std.proofs.Common.{◌≡◌, ℕ, ◌+◌, ◌<◌, ◌≤◌, true, List, [], ◌∷◌, ◌++◌, length, get_or, set, refl, sym, ap, ◌∙◌, subst, arith, Some, None}
 use Rattle.std.specs.Prelude.{All, Vec, slice_get}
 use Rattle.std.specs.declared.alloc.Global.{Global}
 use Rattle.std.specs.declared.snapshot.Snapshot.{Snapshot}
-use Rattle.std.proofs.lemmas.List.{get_or-map, get_or_default, length-map}
-use Rattle.std.proofs.lemmas.List.Elements.{All-push}
+use Rattle.std.proofs.lemmas.List.{get_or-map, length-map}
+use Rattle.std.proofs.lemmas.List.Elements.{All-push, All-weaker}
 use Rattle.ten_core.specs.declared.origin.Origin.{Origin}
 use Rattle.ten_parcel.specs.declared.parcel.Parcel.{Parcel}
-use Rattle.ten_parcel.specs.Parcels.{cost_of, number_of, origin_in}
+use Rattle.ten_parcel.specs.Parcels.{cost_of, number_of, origin_in, ticks_of}
 use Rattle.fab_points.specs.Fabrics.{within}
 use Rattle.fab_notes.specs.declared.transit.Transit.{Transit}
 use Rattle.fab_notes.specs.Origins.{Origins, StartsFrom}
@@ -21,10 +19,13 @@ use Rattle.fab_rounds.specs.declared.outcomes.Cause.{Cause}
 use Rattle.fab_rounds.specs.declared.outcomes.Start.{Start}
 use Rattle.fab_rounds.specs.Totals.{total}
 use Rattle.fab_rounds.specs.Starts.{IsLabel, IsOwn, NamesOrigins}
+use Rattle.fab_rounds.specs.Orders.{ticks_told}
 use Rattle.fab_rounds.specs.Outcomes.{cause_of, IsCause, IsReason}
-use Rattle.fab_rounds.specs.Ledgers.{fabric_in, labels_of, put_there, seat_outs, seat_puts, AreFirsts, DeskSeatFacts, DeskFacts, IsFirst, IsLedger, IsMoving, PutsOne}
+use Rattle.fab_rounds.specs.Ledgers.{errand_of, errands_of, found_there, labels_of, put_there, reach, reach_in, seat_outs, seat_puts, AreFirsts, DeskSeatFacts, DeskFacts, IsFirst, IsLedger, IsMoving, PutsOne}
+use Rattle.fab_rounds.proofs.Kept.{more_answers}
 use Rattle.fab_rounds.proofs.Lists.{own_within}
-use Rattle.fab_rounds.proofs.Totals.{total-append, total-set}
+use Rattle.fab_rounds.proofs.Sets.{set_firsts, set_outs, set_puts, set_reach, set_there}
+use Rattle.fab_rounds.proofs.Totals.{total-append}
 
 -- the label at a place
 pub label_at : (desks : List DeskFacts) (labels : List Label) → labels_of desks ≡ labels → (i : ℕ) (d : DeskFacts) (e : Label) → i < length desks → get_or labels i e ≡ (get_or desks i d).label
@@ -64,63 +65,69 @@ module _ (desks : List DeskFacts) (l : Ledger) (m : Moving) (desk : DeskFacts) (
   pub moving_place : within (cost_of m.transit.parcel) desk.label.capacity ≡ true
   moving_place = ap (λ (x : Label). within (cost_of m.transit.parcel) x.capacity) (sym label_is) ∙ h.place.1 desk.label
 
+  fabric : desk.label.fabric ≡ m.fabric
+  fabric = moving_label.fabric
+
   module _ (seats : Vec DeskSeatFacts Global) (causes : Vec Cause Global) (seat old : DeskSeatFacts) (shown : Snapshot Transit) (shows : shown.value ≡ m.transit)
       (set_is : seats.items ≡ set l.firsts.items m.fabric seat) (pushed : causes.items ≡ l.causes.items ++ record { reason = m.reason; fabric = m.fabric; transit = shown } ∷ [])
-      (was : old ≡ get_or l.firsts.items m.fabric old) (first : IsFirst desk seat) where
-    long : m.fabric < length l.firsts.items
-    long = let a = within_desks in let b = k.firsts.count in omega (arith, a, b)
+      (was : old ≡ get_or l.firsts.items m.fabric old) (first : IsFirst desk seat) (puts : (f : Token → ℕ) → seat_puts f seat ≡ seat_puts f old + f (token_of m.transit)) (outs : (f : Token → ℕ) → seat_outs f seat ≡ seat_outs f old)
+      (reaches : (t : ℕ) → reach t old ≤ reach t seat) (there : ticks_of m.transit.parcel ≤ reach (number_of m.transit.parcel) seat) where
+    set_is_first : AreFirsts desks (set l.firsts.items m.fabric seat)
+    set_is_first = set_firsts desks l.firsts.items k.firsts m.fabric desk is within_desks fabric old seat was first
 
-    old_first : IsFirst desk old
-    old_first = subst (λ (d : DeskFacts). IsFirst d old) (sym is) (subst (IsFirst (get_or desks m.fabric desk)) (sym was) (k.firsts.each m.fabric desk old within_desks))
+    put_more : (f : ℕ → Token → ℕ) → total (put_there f) seats.items ≡ total (put_there f) l.firsts.items + f m.fabric (token_of m.transit)
+    put_more f = ap (total (put_there f)) set_is ∙ set_puts desks l.firsts.items k.firsts m.fabric desk is within_desks fabric old seat was first (λ h. h (token_of m.transit)) puts f
 
-    fabric_is : (s : DeskSeatFacts) → IsFirst desk s → fabric_in s.view.label ≡ m.fabric
-    fabric_is s f = ap fabric_in f.0.1 ∙ moving_label.fabric
+    out_same : (f : ℕ → Token → ℕ) → total (found_there f) seats.items ≡ total (found_there f) l.firsts.items
+    out_same f =
+        let h = set_outs desks l.firsts.items k.firsts m.fabric desk is within_desks fabric old seat was first (λ h. 0) (λ h. omega (arith, outs h)) f in
+        omega (arith, ap (total (found_there f)) set_is, h)
 
-    firsts_set : AreFirsts desks (set l.firsts.items m.fabric seat)
-    firsts_set = record {
-      count = length-set l.firsts.items m.fabric seat ∙ k.firsts.count;
-      each = λ i d s lt. dite (ℕ_discrete i m.fabric)
-          (λ same. let eq : get_or (set l.firsts.items m.fabric seat) i s ≡ seat = ap (λ j. get_or (set l.firsts.items m.fabric seat) j s) same ∙ get_or-set_same l.firsts.items m.fabric seat s long in
-          let dq : get_or desks i d ≡ desk = ap (λ j. get_or desks j d) same ∙ same_desk d ∙ sym is in
-          subst (λ (x : DeskFacts). IsFirst x (get_or (set l.firsts.items m.fabric seat) i s)) (sym dq) (subst (IsFirst desk) (sym eq) first))
-          (λ other. subst (IsFirst (get_or desks i d)) (sym (get_or-set_other l.firsts.items m.fabric i seat s other)) (k.firsts.each i d s lt));
+    reach_more : (t : ℕ) → reach_in t l.firsts.items ≤ reach_in t seats.items
+    reach_more t = subst (λ (ss : List DeskSeatFacts). reach_in t l.firsts.items ≤ reach_in t ss) (sym set_is) (set_reach desks l.firsts.items k.firsts m.fabric desk is within_desks fabric old seat was first reaches t)
+
+    errands_more : (t : ℕ) → errands_of t l.causes.items ≤ errands_of t causes.items
+    errands_more t = omega (
+      arith,
+      ap (errands_of t) pushed,
+      total-append (λ (c : Cause). errand_of t c.reason (number_of c.transit.value.parcel)) l.causes.items (record { reason = m.reason; fabric = m.fabric; transit = shown } ∷ []),
+    )
+
+    pub puts_one : PutsOne desks m.transit l (record l { firsts = seats; causes = causes })
+    puts_one = record {
+      ledger = record {
+        kept = record {
+          labels = k.kept.labels;
+          starts = k.kept.starts;
+          moving = k.kept.moving;
+          done = k.kept.done;
+          causes = subst (All (IsCause l.loaded.value.items)) (sym pushed) (All-push (IsCause l.loaded.value.items) l.causes.items (record { reason = m.reason; fabric = m.fabric; transit = shown }) k.kept.causes (subst (IsReason l.loaded.value.items m.reason m.fabric) (sym shows) h.reason));
+          caused = λ f. omega (
+            arith,
+            put_more f,
+            k.kept.caused f,
+            ap (total (cause_of f)) pushed,
+            total-append (cause_of f) l.causes.items (record { reason = m.reason; fabric = m.fabric; transit = shown } ∷ []),
+            ap (λ (t : Transit). f m.fabric (token_of t)) shows,
+          );
+          found = λ f. out_same f ∙ k.kept.found f;
+          asked = k.kept.asked;
+          orders = k.kept.orders;
+          answers = more_answers l.loaded.value.items l.causes.items causes.items l.done.items l.done.items errands_more (λ f. omega arith) l.answers.items k.kept.answers;
+          over = k.kept.over;
+          far = λ t. All-weaker (λ j. j ≤ reach_in t l.firsts.items) (λ j. j ≤ reach_in t seats.items) (λ j q. omega (arith, q, reach_more t)) (ticks_told t l.answers.items) (k.kept.far t);
+          watches = k.kept.watches;
+        };
+        labels = k.labels;
+        firsts = subst (AreFirsts desks) (sym set_is) set_is_first;
+      };
+      same = (refl, refl, refl);
+      moving = refl;
+      done = refl;
+      answers = (refl, refl);
+      reach = reach_more;
+      there = subst (λ (ss : List DeskSeatFacts). ticks_of m.transit.parcel ≤ reach_in (number_of m.transit.parcel) ss) (sym set_is)
+          (let a = set_there desks l.firsts.items k.firsts m.fabric desk is within_desks fabric old seat was first (number_of m.transit.parcel) in omega (arith, there, a));
+      puts = λ f. put_more (λ g. f);
+      outs = λ f. out_same (λ g. f);
     }
-      where
-        same_desk : (d : DeskFacts) → get_or desks m.fabric d ≡ get_or desks m.fabric desk
-        same_desk d = get_or_default desks m.fabric d desk within_desks
-
-    module _ (puts : (f : Token → ℕ) → seat_puts f seat ≡ seat_puts f old + f (token_of m.transit)) (outs : (f : Token → ℕ) → seat_outs f seat ≡ seat_outs f old) where
-      pub puts_one : PutsOne desks m.transit l (record l { firsts = seats; causes = causes })
-      puts_one =
-          let cause : Cause = record { reason = m.reason; fabric = m.fabric; transit = shown } in
-          record {
-            ledger = record {
-              kept = record {
-                labels = k.kept.labels;
-                starts = k.kept.starts;
-                moving = k.kept.moving;
-                done = k.kept.done;
-                causes = subst (All (IsCause l.loaded.value.items)) (sym pushed) (All-push (IsCause l.loaded.value.items) l.causes.items cause k.kept.causes (subst (IsReason l.loaded.value.items m.reason m.fabric) (sym shows) h.reason));
-                caused = λ f. omega (
-                  arith,
-                  ap (total (put_there f)) set_is,
-                  total-set (put_there f) l.firsts.items m.fabric seat old long,
-                  ap (put_there f) was,
-                  ap (λ (n : ℕ). seat_puts (f n) seat) (fabric_is seat first),
-                  ap (λ (n : ℕ). seat_puts (f n) old) (fabric_is old old_first),
-                  puts (f m.fabric),
-                  k.kept.caused f,
-                  ap (total (cause_of f)) pushed,
-                  total-append (cause_of f) l.causes.items (cause ∷ []),
-                  ap (λ (t : Transit). f m.fabric (token_of t)) shows,
-                );
-              };
-              labels = k.labels;
-              firsts = subst (AreFirsts desks) (sym set_is) firsts_set;
-            };
-            same = (refl, refl);
-            moving = refl;
-            done = refl;
-            puts = λ f. omega (arith, ap (total (seat_puts f)) set_is, total-set (seat_puts f) l.firsts.items m.fabric seat old long, ap (seat_puts f) was, puts f);
-            outs = λ f. omega (arith, ap (total (seat_outs f)) set_is, total-set (seat_outs f) l.firsts.items m.fabric seat old long, ap (seat_outs f) was, outs f);
-          }

@@ -1,5 +1,5 @@
 -- What a call at a desk does to the sums of its seat.
-use Rattle.std.proofs.Common.{◌≡◌, ℕ, ◌+◌, true, false, List, [], ◌∷◌, ◌++◌, append_assoc, append-nil, refl, sym, ap, ap₂, ◌∙◌, subst, arith, Some}
+use Rattle.std.proofs.Common.{◌≡◌, ℕ, ◌+◌, ◌≤◌, true, false, List, [], ◌∷◌, ◌++◌, append_assoc, append-nil, refl, sym, ap, ap₂, ◌∙◌, subst, arith, Some}
 use Rattle.std.specs.Prelude.{All, Vec}
 use Rattle.std.specs.declared.alloc.Global.{Global}
 use Rattle.std.proofs.lemmas.List.Elements.{All-nil, All-cons, All-head, All-tail, All-push}
@@ -15,7 +15,7 @@ use Rattle.fab_notes.specs.Tokens.{out_at, outs, put_at, puts, told, token_of, T
 use Rattle.fab_notes.proofs.Owns.{leavers_own, own-parts}
 use Rattle.fab_bay.specs.declared.leaving.Leaving.{Leaving}
 use Rattle.vl_cost.specs.declared.capacity.Cost.{Cost}
-use Rattle.ten_parcel.specs.Parcels.{cost_of}
+use Rattle.ten_parcel.specs.Parcels.{cost_of, number_of, ticks_of}
 use Rattle.fab_points.specs.Fabrics.{within}
 use Rattle.fab_bay.specs.declared.leaving.DeskError.TheVariants.{TooLarge}
 use Rattle.fab_bay.specs.declared.leaving.Receipt.{Receipt}
@@ -27,7 +27,8 @@ use Rattle.fab_bay.specs.Ways.{tokens, transits, LeftFor}
 use Rattle.fab_desk.specs.Desks.{serving, DeskView, DidNothing, DidPut, DidRefuse, DidTurn}
 use Rattle.fab_rounds.specs.declared.workers.Worker.{Worker}
 use Rattle.fab_rounds.specs.Totals.{total}
-use Rattle.fab_rounds.specs.Ledgers.{leaving_sum, pile_sum, seat_outs, AreOut, DeskFacts, IsOut, IsWorker, Steps}
+use Rattle.fab_rounds.specs.Ledgers.{leaving_sum, pile_sum, reach, seat_outs, AreOut, DeskFacts, DeskSeatFacts, IsOut, IsWorker, Steps}
+use Rattle.fab_rounds.proofs.Reach.{high_last, served_high, served_reach}
 use Rattle.fab_rounds.proofs.Totals.{total-append, total-map}
 
 pub outs-append : (xs ys : List Note) → outs (xs ++ ys) ≡ outs xs ++ outs ys
@@ -77,6 +78,21 @@ module _ (label : Label) (t : Transit) (v v' : DeskView) (r : Receipt) (p : DidP
   put_outs f =
       let e : out_at note.entry.kind note ++ [] ≡ [] = ap (λ (l : List Token). l ++ []) (line-out note (ap (λ (x : Entry). x.kind) (p.put.entry ∙ p.put.tells))) in
       omega (arith, served_outs v v' p.before.notes.items (note ∷ []) p.view f, ap (total f) e)
+
+module _ (label : Label) (t : Transit) (s s' : DeskSeatFacts) (r : Receipt) (p : DidPut label t s.view s'.view r) where
+  pub put_reach : (n : ℕ) → reach n s ≤ reach n s'
+  put_reach = served_reach s s' p.before.notes.items (p.put.note ∷ []) p.view p.found.finds.begins
+
+  pub put_far : ticks_of t.parcel ≤ reach (number_of t.parcel) s'
+  put_far =
+      let e = p.put.entry ∙ p.put.tells in
+      let a = high_last (number_of t.parcel) p.before.notes.items p.put.note (ap (λ (x : Entry). x.tenant) e) in
+      let b = served_high s s' p.before.notes.items (p.put.note ∷ []) p.view (number_of t.parcel) in
+      omega (arith, a, b, ap (λ (x : Entry). x.to) e)
+
+-- what is given back
+pub refused_reach : (label : Label) (t : Transit) (s s' : DeskSeatFacts) (r : Refused) → DidRefuse label t s.view s'.view r → (n : ℕ) → reach n s ≤ reach n s'
+refused_reach label t s s' r d = served_reach s s' d.found [] d.view d.finds.begins
 
 -- ---- a turn
 

@@ -1,10 +1,11 @@
 -- Tenants that the ledger takes over.
-use Rattle.std.proofs.Common.{rules, ◌≡◌, ℕ, Bool, true, false, List, [], ◌∷◌, ◌++◌, length, take, drop, refl, sym, ap, ◌∙◌, subst, arith, Option, Some, None}
+use Rattle.std.proofs.Common.{rules, ◌≡◌, inl, ℕ, Bool, true, false, List, [], ◌∷◌, ◌++◌, length, reverse, take, drop, refl, sym, ap, ◌∙◌, subst, arith, Option, Some, None}
 use Rattle.std.specs.List.{insert}
 use Rattle.std.specs.Prelude.{All, Vec, is_some, IfSome, IsNone, if◌then◌else◌, slice_get, IfOk, OnOk, Result, Ok, Err}
 use Rattle.std.specs.declared.alloc.Global.{Global}
-use Rattle.std.proofs.lemmas.List.Elements.{All-append, All-cons, All-drop, All-head, All-nil, All-tail, All-take}
-use Rattle.std.proofs.lemmas.List.{length-append}
+use Rattle.std.proofs.lemmas.Bool.{false≢true}
+use Rattle.std.proofs.lemmas.List.Elements.{All-append, All-cons, All-drop, All-head, All-nil, All-push, All-tail, All-take}
+use Rattle.std.proofs.lemmas.List.{length-append, reverse-append}
 use Rattle.std.proofs.lemmas.Option.{get_or_from_slice_get, none-some}
 use Rattle.vl_design.specs.declared.design.End.{End}
 use Rattle.vl_design.specs.declared.design.End.TheVariants.{Stopped}
@@ -29,18 +30,20 @@ use Rattle.fab_notes.specs.Tokens.{token_of}
 use Rattle.fab_bay.specs.declared.noted.Label.{Label}
 use Rattle.fab_rounds.specs.declared.ledgers.Ledger.{Ledger}
 use Rattle.fab_rounds.specs.declared.ledgers.Moving.{Moving}
+use Rattle.fab_rounds.specs.declared.outcomes.Answer.{Answer}
 use Rattle.fab_rounds.specs.declared.outcomes.Reason.TheVariants.{First, Errand}
 use Rattle.fab_rounds.specs.declared.outcomes.Start.{Start}
 use Rattle.fab_rounds.specs.Totals.{total}
 use Rattle.fab_rounds.specs.Starts.{AreStarts, IsOwn, IsStart}
 use Rattle.fab_rounds.specs.Ledgers.{HasEnded, IsKept, IsLeft, IsMoving, TakesOver}
+use Rattle.fab_rounds.proofs.Kept.{more_answers}
 use Rattle.fab_rounds.proofs.Totals.{total-insert}
 use Rattle.fab_rounds.proofs.Lists.{own_start, start_of}
 
-All-insert : {X : Type 0} (P : X → Type 0) (xs : List X) (i : ℕ) (x : X) → All P xs → P x → All P (insert xs i x)
+pub All-insert : {X : Type 0} (P : X → Type 0) (xs : List X) (i : ℕ) (x : X) → All P xs → P x → All P (insert xs i x)
 All-insert P xs i x h p = All-append P (take i xs) (x ∷ drop i xs) (All-take P i xs h) (All-cons P x (drop i xs) p (All-drop P i xs h))
 
-all_before : {X : Type 0} (P : X → Type 0) (xs ys : List X) → All P (xs ++ ys) → All P xs
+pub all_before : {X : Type 0} (P : X → Type 0) (xs ys : List X) → All P (xs ++ ys) → All P xs
 all_before P [] ys h = All-nil P
 all_before P (x ∷ xs) ys h = All-cons P x xs (All-head P x (xs ++ ys) h) (all_before P xs ys (All-tail P x (xs ++ ys) h))
 
@@ -48,13 +51,21 @@ pub all_behind : {X : Type 0} (P : X → Type 0) (xs ys : List X) → All P (xs 
 all_behind P [] ys h = h
 all_behind P (x ∷ xs) ys h = all_behind P xs ys (All-tail P x (xs ++ ys) h)
 
-all_last : {X : Type 0} (P : X → Type 0) (xs : List X) (x : X) → All P (xs ++ x ∷ []) → P x
+pub all_last : {X : Type 0} (P : X → Type 0) (xs : List X) (x : X) → All P (xs ++ x ∷ []) → P x
 all_last P xs x h = All-head P x [] (all_behind P xs (x ∷ []) h)
+
+pub all_reverse : {X : Type 0} (P : X → Type 0) (xs : List X) → All P xs → All P (reverse xs)
+all_reverse P [] h = All-nil P
+all_reverse P (x ∷ xs) h = subst (All P) (sym (reverse-append (x ∷ []) xs)) (All-push P (reverse xs) x (all_reverse P xs (All-tail P x xs h)) (All-head P x xs h))
 
 -- what follows from what a call gives
 pub on_ok : {T E P Q : Type 0} (r : Result T E) → (P → Q) → OnOk r P → OnOk r Q
 on_ok (Ok x) f h = f h
 on_ok (Err e) f h = h
+
+pub both_ok : {T E P Q R : Type 0} (r : Result T E) → (P → Q → R) → OnOk r P → OnOk r Q → OnOk r R
+both_ok (Ok x) f p q = f p q
+both_ok (Err e) f p q = p
 
 pub from_ok : {T E : Type 0} (P : T → Type 0) (r : Result T E) (x : T) → r ≡ Ok x → IfOk r P → P x
 from_ok {T} {E} P r x e h = subst (λ (q : Result T E). IfOk q P) e h
@@ -75,24 +86,40 @@ takes_moving l v m k h at = record {
     done = k.done;
     causes = k.causes;
     caused = k.caused;
+    found = k.found;
+    asked = k.asked;
+    orders = k.orders;
+    answers = k.answers;
+    over = k.over;
+    far = k.far;
+    watches = k.watches;
   };
-  same = (refl, refl);
+  same = (refl, refl, refl);
+  answers = (refl, refl);
   firsts = refl;
   sums = λ f. omega (arith, ap (total (λ (x : Moving). f (token_of x.transit))) at.1, total-insert (λ (x : Moving). f (token_of x.transit)) l.moving.items at.0 m);
 }
 
-pub takes_done : (l : Ledger) (v : Vec Transit Global) (t : Transit) → IsKept l → HasEnded l.loaded.value.items t → ((i : ℕ) × (v.items ≡ insert l.done.items i t))
+pub takes_done : (l : Ledger) (v : Vec Transit Global) (t : Transit) → IsKept l → HasEnded l.loaded.value.items l.answers.items t → ((i : ℕ) × (v.items ≡ insert l.done.items i t))
     → TakesOver l (record l { done = v }) (λ f. f (token_of t))
 takes_done l v t k h at = record {
   kept = record {
     labels = k.labels;
     starts = k.starts;
     moving = k.moving;
-    done = subst (All (HasEnded l.loaded.value.items)) (sym at.1) (All-insert (HasEnded l.loaded.value.items) l.done.items at.0 t k.done h);
+    done = subst (All (HasEnded l.loaded.value.items l.answers.items)) (sym at.1) (All-insert (HasEnded l.loaded.value.items l.answers.items) l.done.items at.0 t k.done h);
     causes = k.causes;
     caused = k.caused;
+    found = k.found;
+    asked = k.asked;
+    orders = k.orders;
+    answers = more_answers l.loaded.value.items l.causes.items l.causes.items l.done.items v.items (λ n. omega arith) (λ f. omega (arith, ap (total f) at.1, total-insert f l.done.items at.0 t)) l.answers.items k.answers;
+    over = λ f. omega (arith, k.over f, ap (total (λ (x : Transit). f (token_of x))) at.1, total-insert (λ (x : Transit). f (token_of x)) l.done.items at.0 t);
+    far = k.far;
+    watches = k.watches;
   };
-  same = (refl, refl);
+  same = (refl, refl, refl);
+  answers = (refl, refl);
   firsts = refl;
   sums = λ f. omega (arith, ap (total (λ (x : Transit). f (token_of x))) at.1, total-insert (λ (x : Transit). f (token_of x)) l.done.items at.0 t);
 }
@@ -150,24 +177,21 @@ left_moves starts labels t g a h told =
       };
     }
 
-ended_at : (starts : List Start) (t : Transit) (p : Point) (end : Option End) → IsPointOf t.parcel p → p.stopped ≡ false → is_moved t.parcel ≡ false → (t.stays.items ≡ [] → ⊥) → IsOwn starts t.parcel → is_some end ≡ true
-    → IfSome end (λ e. is_stopped t.parcel ≡ false → (q : Queue) × Ends (run_of t.parcel) (ticks_of t.parcel) e q) → HasEnded starts t
-ended_at starts t p (Some e) here stopped moved stayed own some h = let s = stopped_is t.parcel p here ∙ stopped in let x = h s in record {
+over_at : (starts : List Start) (told : List Answer) (t : Transit) (p : Point) (end : Option End) → IsPointOf t.parcel p → p.stopped ≡ false → is_moved t.parcel ≡ false → (t.stays.items ≡ [] → ⊥) → IsOwn starts t.parcel → is_some end ≡ true
+    → IfSome end (λ e. is_stopped t.parcel ≡ false → (q : Queue) × Ends (run_of t.parcel) (ticks_of t.parcel) e q) → HasEnded starts told t
+over_at starts told t p (Some e) here stopped moved stayed own some h = let s = stopped_is t.parcel p here ∙ stopped in let x = h s in record {
   parcel = parcel_is t.parcel p here;
   own = own;
-  stopped = s;
-  moved = moved;
   first = λ n d. absurd (stayed n);
-  end = e;
-  last = x.0;
-  ends = x.1;
+  withdrawn = λ m. absurd (false≢true (sym moved ∙ m));
+  why = inl (s, moved, e, x.0, x.1);
 }
-ended_at starts t p None here stopped moved stayed own some h = let z : ⊥ = cc in absurd z
+over_at starts told t p None here stopped moved stayed own some h = let z : ⊥ = cc in absurd z
 
 -- it has ended
-pub left_ended : (starts : List Start) (t : Transit) (x : End) (end : Option End) → IsLeft starts (record { transit = t; why = Ended x }) → is_some end ≡ true
-    → IfSome end (λ e. is_stopped t.parcel ≡ false → (q : Queue) × Ends (run_of t.parcel) (ticks_of t.parcel) e q) → HasEnded starts t
-left_ended starts t x end h some e = ended_at starts t h.left.0 end h.left.1 h.left.3 h.left.4.flag (λ n. never_nil h.left.4.before h.left.4.stay (sym h.left.4.stays ∙ n)) h.own some e
+pub left_ended : (starts : List Start) (told : List Answer) (t : Transit) (x : End) (end : Option End) → IsLeft starts (record { transit = t; why = Ended x }) → is_some end ≡ true
+    → IfSome end (λ e. is_stopped t.parcel ≡ false → (q : Queue) × Ends (run_of t.parcel) (ticks_of t.parcel) e q) → HasEnded starts told t
+left_ended starts told t x end h some e = over_at starts told t h.left.0 end h.left.1 h.left.3 h.left.4.flag (λ n. never_nil h.left.4.before h.left.4.stay (sym h.left.4.stays ∙ n)) h.own some e
 
 -- where it leaves as one that has ended, it has
 pub left_has_ended : (t : Transit) (x : End) (end : Option End) (starts : List Start) → IsLeft starts (record { transit = t; why = Ended x })
@@ -215,16 +239,13 @@ start_moves starts labels g t end s at none points boundary told reason tenant =
     }
 
 -- it has ended
-pub start_ended : (starts : List Start) (labels : List Label) (s : Start) (end : Option End) → IsStart labels (number_of s.transit.parcel) s → slice_get starts (number_of s.transit.parcel) ≡ Some s → is_some end ≡ true
-    → IfSome end (λ e. is_stopped s.transit.parcel ≡ false → (q : Queue) × Ends (run_of s.transit.parcel) (ticks_of s.transit.parcel) e q) → HasEnded starts s.transit
-start_ended starts labels s (Some e) k at some h = let x = h k.stopped in record {
+pub start_ended : (starts : List Start) (labels : List Label) (told : List Answer) (s : Start) (end : Option End) → IsStart labels (number_of s.transit.parcel) s → slice_get starts (number_of s.transit.parcel) ≡ Some s → is_some end ≡ true
+    → IfSome end (λ e. is_stopped s.transit.parcel ≡ false → (q : Queue) × Ends (run_of s.transit.parcel) (ticks_of s.transit.parcel) e q) → HasEnded starts told s.transit
+start_ended starts labels told s (Some e) k at some h = let x = h k.stopped in record {
   parcel = k.parcel;
   own = start_of starts s (number_of s.transit.parcel) at;
-  stopped = k.stopped;
-  moved = k.moved;
   first = λ n d. ap (λ (y : Start). ticks_of y.transit.parcel) (sym (get_or_from_slice_get starts (number_of s.transit.parcel) s d at));
-  end = e;
-  last = x.0;
-  ends = x.1;
+  withdrawn = λ m. absurd (false≢true (sym k.moved ∙ m));
+  why = inl (k.stopped, k.moved, e, x.0, x.1);
 }
-start_ended starts labels s None k at some h = let z : ⊥ = cc in absurd z
+start_ended starts labels told s None k at some h = let z : ⊥ = cc in absurd z

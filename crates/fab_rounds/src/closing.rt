@@ -37,12 +37,13 @@ pub(crate) fn closed<R: Wait>(
 ) -> Result<Outcome, AllocError>
     requires between { IsBetween desks.items ledger workers.items }
     requires all { AreAll (length ledger.loaded.value.items) ledger.done.items }
-    ensures { IfOk result (λ out. IsOutcome ledger.labels.value.items ledger.loaded.value.items out) }
+    requires orders { ledger.orders.items ≡ [] }
+    ensures { IfOk result (λ out. IsOutcome ledger.labels.value.items ledger.loaded.value.items ledger.asked.value.items out) }
 {
     let Ledger {
         firsts,
         done,
-        causes,
+        answers,
         ..
     } = ledger;
     let (mut desks, mut firsts, mut workers) = (desks, firsts, workers);
@@ -59,6 +60,6 @@ pub(crate) fn closed<R: Wait>(
     Ok(Outcome {
         ended: done,
         bays,
-        causes,
+        answers,
     })
 }

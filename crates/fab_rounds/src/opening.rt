@@ -1,14 +1,15 @@
 //! The desks, with the seats of the main thread and of the workers; and the ledger before anything is put in line.
 
-ghost use Rattle.std.specs.Prelude.{◌≡◌, ◌<◌, ◌≤◌, ◌∷◌, ℕ, [], length, slice_index_or, All, IfOk, OnOk};
+ghost use Rattle.std.specs.Prelude.{◌≡◌, ◌<◌, ◌≤◌, ◌∷◌, ℕ, [], length, reverse, slice_index_or, All, IfOk, OnOk};
 ghost use Rattle.fab_bay.specs.declared.noted.Label.{Label as AnyLabel};
 ghost use Rattle.fab_notes.specs.Tokens.{Token};
 ghost use Rattle.fab_rounds.specs.Starts.{AreLabels, AreStarts};
+ghost use Rattle.fab_rounds.specs.Orders.{AreOrders};
 ghost use Rattle.fab_rounds.specs.Ledgers.{in_hand, labels_of, start_sum, AreFresh, IsKept};
 ghost use Rattle.fab_rounds.specs.Openings.{AreSeated, Opens};
 
 use crate::ledgers::Ledger;
-use crate::outcomes::Start;
+use crate::outcomes::{Order, Start};
 use crate::posts::Opened;
 use crate::workers::Worker;
 use fab_bay::noted::Label;
@@ -58,29 +59,50 @@ pub(crate) fn open_all(alloc: Global, labels: Vec<Label>) -> Result<Opened, Allo
     Ok(posts)
 }
 
+/// Orders in reverse, so that the last is the next. An `Err` is want of memory alone.
+fn backwards(alloc: Global, orders: Vec<Order>) -> Result<Vec<Order>, AllocError>
+    ensures { IfOk result (λ r. r.items ≡ reverse orders.items) }
+{
+    let mut orders = orders;
+    let mut reversed = Vec::new(alloc);
+    while let Some(order) = orders.pop() {
+        reversed.push(order)?;
+    }
+    Ok(reversed)
+}
+
 /// The ledger before anything is put in line. An `Err` is want of memory alone.
 pub(crate) fn begun(
     alloc: Global,
     firsts: Vec<DeskSeat>,
     labels: Snapshot<Vec<Label>>,
     starts: Vec<Start>,
+    orders: Vec<Order>,
 ) -> Result<Ledger, AllocError>
     requires labels { AreLabels starts.items labels.value.items }
     requires starts { AreStarts labels.value.items starts.items }
+    requires orders { AreOrders labels.value.items starts.items orders.items }
     requires fresh { AreFresh firsts.items }
     ensures kept { IfOk result (λ l. IsKept l) }
     ensures firsts { IfOk result (λ l. l.firsts ≡ firsts) }
     ensures labels { IfOk result (λ l. l.labels ≡ labels) }
     ensures loaded { IfOk result (λ l. l.loaded.value ≡ starts) }
+    ensures asked { IfOk result (λ l. l.asked.value ≡ orders) }
+    ensures none { IfOk result (λ l. l.answers.items ≡ []) }
     ensures sums { IfOk result (λ l. (f : Token → ℕ) → in_hand f l ≡ start_sum f starts.items) }
 {
+    let asked = Snapshot::of(&orders);
+    let waiting = backwards(alloc, orders)?;
     let mut ledger = Ledger {
         firsts,
         moving: Vec::new(alloc),
         done: Vec::new(alloc),
         causes: Vec::new(alloc),
+        orders: waiting,
+        answers: Vec::new(alloc),
         loaded: Snapshot::of(&starts),
         labels,
+        asked,
     };
     let mut starts = starts;
     while let Some(start) = starts.pop() {

@@ -1,13 +1,13 @@
 //! Putting tenants in line.
 
-ghost use Rattle.std.specs.Prelude.{◌≡◌, ◌<◌, ◌+◌, ℕ, [], true, None, IfOk, OnOk};
-ghost use Rattle.ten_parcel.specs.Parcels.{cost_of, number_of, origin_in};
+ghost use Rattle.std.specs.Prelude.{◌≡◌, ◌<◌, ◌≤◌, ◌+◌, ℕ, [], true, None, All, IfOk, OnOk};
+ghost use Rattle.ten_parcel.specs.Parcels.{cost_of, number_of, origin_in, ticks_of};
 ghost use Rattle.fab_points.specs.Fabrics.{within};
 ghost use Rattle.fab_points.specs.Points.{ended, Point};
 ghost use Rattle.fab_core.specs.Standing.{IsPointOf};
 ghost use Rattle.fab_notes.specs.Origins.{StartsFrom};
 ghost use Rattle.fab_notes.specs.Tokens.{token_of, Token};
-ghost use Rattle.fab_rounds.specs.Ledgers.{seat_outs, seat_puts, IsFirst, IsLedger, IsMoving, IsSameRun, KeepsSums, PutsOne};
+ghost use Rattle.fab_rounds.specs.Ledgers.{reach, reach_in, seat_outs, seat_puts, IsFirst, IsLedger, IsMoving, IsSameAnswers, IsSameRun, KeepsReach, KeepsSums, PutsOne};
 
 use crate::ledgers::{Ledger, Moving};
 use crate::outcomes::Cause;
@@ -19,7 +19,7 @@ use std::snapshot::Snapshot;
 use std::sync::Wait;
 
 /// Puts a tenant in line, again and again while one of its number is there. An `Err` is want of memory alone.
-fn put_again<R: Wait>(
+pub(crate) fn put_again<R: Wait>(
     rt: &R,
     desk: &Desk,
     seat: &mut DeskSeat,
@@ -33,6 +33,8 @@ fn put_again<R: Wait>(
     ensures first { IsFirst desk.now seat.new }
     ensures puts { OnOk result ((f : Token → ℕ) → seat_puts f seat.new ≡ seat_puts f seat.old + f (token_of transit)) }
     ensures outs { (f : Token → ℕ) → seat_outs f seat.new ≡ seat_outs f seat.old }
+    ensures reach { (t : ℕ) → reach t seat.old ≤ reach t seat.new }
+    ensures there { OnOk result (ticks_of transit.parcel ≤ reach (number_of transit.parcel) seat.new) }
 {
     let mut transit = transit;
     for _ in rt.forever() {
@@ -76,6 +78,9 @@ impl Ledger {
         ensures ledger { IfOk result (λ l. IsLedger desks.now l) }
         ensures same { IfOk result (λ l. IsSameRun self l) }
         ensures sums { IfOk result (λ l. KeepsSums self l) }
+        ensures answers { IfOk result (λ l. IsSameAnswers self l) }
+        ensures reach { IfOk result (λ l. KeepsReach self l) }
+        ensures there { IfOk result (λ l. All (λ m. ticks_of m.transit.parcel ≤ reach_in (number_of m.transit.parcel) l.firsts.items) self.moving.items) }
         ensures none { IfOk result (λ l. l.moving.items ≡ []) }
     {
         let mut ledger = self;

@@ -1,15 +1,17 @@
 //! Rounds, and the call that runs tenants by them.
 
-ghost use Rattle.std.specs.Prelude.{◌≡◌, ◌<◌, ℕ, slice_index_or, vec_len, All, IfOk};
+ghost use Rattle.std.specs.Prelude.{◌≡◌, ◌<◌, ℕ, [], slice_index_or, vec_len, All, IfOk};
 ghost use Rattle.fab_rounds.specs.declared.workers.Worker.{Worker as AnyWorker};
 ghost use Rattle.fab_rounds.specs.Starts.{AreLabels, AreStarts};
+ghost use Rattle.fab_rounds.specs.Orders.{AreOrders};
 ghost use Rattle.fab_rounds.specs.Outcomes.{IsOutcome};
-ghost use Rattle.fab_rounds.specs.Ledgers.{AreAll, IsAtDesk, IsBetween, IsSameRun, IsTurned};
+ghost use Rattle.fab_rounds.specs.Ledgers.{AreAll, HaveBegun, IsAtDesk, IsBetween, IsLedger, IsSameRun, IsTurned, Operates};
 
 use crate::closing::closed;
 use crate::ledgers::Ledger;
 use crate::opening::{begun, open_all};
-use crate::outcomes::{Outcome, Start};
+use crate::operating::{finished, operated};
+use crate::outcomes::{Order, Outcome, Start};
 use crate::posts::Opened;
 use crate::sorting::are_all;
 use crate::workers::{Crew, Worker, turned};
@@ -21,13 +23,6 @@ use std::snapshot::Snapshot;
 use std::sync::Wait;
 use std::thread::{Threads, join};
 
-/// What is ordered while the workers turn their desks: nothing.
-fn operated(ledger: Ledger) -> Ledger
-    ensures { result ≡ ledger }
-{
-    ledger
-}
-
 /// The workers turn their desks, while what is ordered is done.
 fn turned_beside<R: Threads + Wait + Sync, G: Gate + Sync>(
     rt: &R,
@@ -36,18 +31,23 @@ fn turned_beside<R: Threads + Wait + Sync, G: Gate + Sync>(
     desks: &[Desk],
     ledger: Ledger,
     crew: Crew,
-) -> (Result<Crew, AllocError>, Ledger)
-    requires { All (IsAtDesk desks.now) crew.workers.items }
+) -> (Result<Crew, AllocError>, Result<Ledger, AllocError>)
+    requires crew { All (IsAtDesk desks.now) crew.workers.items }
+    requires ledger { IsLedger desks.now ledger }
+    requires none { ledger.moving.items ≡ [] }
+    requires begun { HaveBegun ledger }
     ensures count { IfOk result.0 (λ v. vec_len v.workers ≡ vec_len crew.workers) }
     ensures each { IfOk result.0 (λ v. (i : ℕ) (d : AnyWorker) → i < vec_len crew.workers → IsTurned desks.now (slice_index_or crew.workers.items i d) (slice_index_or v.workers.items i d)) }
-    ensures ledger { result.1 ≡ ledger }
+    ensures operates { IfOk result.1 (λ l. Operates desks.now ledger l) }
 {
     join(
         rt,
         ||
             requires { All (IsAtDesk desks.now) crew.workers.items }
         { turned(rt, alloc, gate, desks, crew) },
-        || operated(ledger),
+        ||
+            requires { IsLedger desks.now ledger × (ledger.moving.items ≡ []) × HaveBegun ledger }
+        { operated(rt, alloc, gate, desks, ledger) },
     )
 }
 
@@ -65,7 +65,8 @@ fn round<R: Threads + Wait + Sync, G: Gate + Sync>(
     ensures between { IfOk result (λ r. IsBetween desks.now r.0 r.1.items) }
     ensures same { IfOk result (λ r. IsSameRun ledger r.0) }
 {
-    let (crew, mut ledger) = turned_beside(rt, alloc, gate, desks, ledger, Crew { workers });
+    let (crew, ledger) = turned_beside(rt, alloc, gate, desks, ledger, Crew { workers });
+    let mut ledger = ledger?;
     let Crew { mut workers } = crew?;
     ledger.take_all(alloc, &mut workers)?;
     let ledger = ledger.put_all(rt, desks)?;
@@ -97,17 +98,19 @@ fn rounds_of<R: Threads + Wait + Sync, G: Gate + Sync>(
     unreachable!()
 }
 
-/// Runs tenants until each has ended. An `Err` is want of memory alone. It may wait.
+/// Runs tenants until each has ended, while orders are done, one after the other. An `Err` is want of memory alone. It may wait.
 pub fn run<R: Threads + Wait + Sync, G: Gate + Sync>(
     rt: &R,
     alloc: Global,
     gate: &G,
     labels: Vec<Label>,
     starts: Vec<Start>,
+    orders: Vec<Order>,
 ) -> Result<Outcome, AllocError>
     requires labels { AreLabels starts.items labels.items }
     requires starts { AreStarts labels.items starts.items }
-    ensures { IfOk result (λ out. IsOutcome labels.items starts.items out) }
+    requires orders { AreOrders labels.items starts.items orders.items }
+    ensures { IfOk result (λ out. IsOutcome labels.items starts.items orders.items out) }
 {
     let tenants = starts.len();
     let named = Snapshot::of(&labels);
@@ -116,8 +119,9 @@ pub fn run<R: Threads + Wait + Sync, G: Gate + Sync>(
         firsts,
         workers,
     } = open_all(alloc, labels)?;
-    let ledger = begun(alloc, firsts, named, starts)?;
+    let ledger = begun(alloc, firsts, named, starts, orders)?;
     let ledger = ledger.put_all(rt, &desks)?;
     let (ledger, workers) = rounds_of(rt, alloc, gate, &desks, ledger, workers, tenants)?;
+    let ledger = finished(&desks, ledger)?;
     closed(rt, alloc, desks, ledger, workers)
 }

@@ -5,7 +5,7 @@ use Rattle.std.specs.Arc.{arc_value}
 use Rattle.std.specs.List.{AllByRecursion}
 use Rattle.vl_design.specs.declared.design.End.{End}
 use Rattle.vl_design.specs.declared.design.End.TheVariants.{Stopped}
-use Rattle.vl_design.specs.Alone.{Boundary, FreeSave, Keeps, reason_at}
+use Rattle.vl_design.specs.Alone.{Boundary, Keeps, reason_at}
 use Rattle.vl_design.specs.Queue.{Queue}
 use Rattle.vl_design.specs.Syntax.{Row}
 use Rattle.vl_design.specs.Trees.{flat_of}
@@ -23,10 +23,19 @@ use Rattle.ten_plan.specs.Written.{written}
 use Rattle.fab_notes.specs.declared.transit.Transit.{Transit}
 use Rattle.host_saves.specs.declared.kept.Kept.{Kept}
 use Rattle.host_saves.specs.Kept.{saved_in, CanBeWritten}
+use Rattle.host_blocks.specs.Ends.{alone, stopped, EndsSo}
 use Rattle.host_blocks.specs.Telling.{IsKeptBy, IsTellable}
 
 not-stopped : (b : Bool) (x : Option End) → b ≡ false → (if b then Some Stopped else x) ≡ x
 not-stopped b x e = rw e refl
+
+was-stopped : (b : Bool) (x : Option End) → b ≡ true → (if b then Some Stopped else x) ≡ Some Stopped
+was-stopped b x e = rw e refl
+
+-- where its run has come to, however it ended
+ends-at : (p : Parcel) (reason : End) (last : Queue) → EndsSo p reason last → Boundary (run_of p) (ticks_of p) last
+ends-at p reason last (alone n e) = e.at
+ends-at p reason last (stopped y r b w) = b
 
 pub some-end : (a b : End) → ◌≡◌ {A = Option End} (Some a) (Some b) → a ≡ b
 some-end a b e = cc
@@ -44,23 +53,30 @@ module _ (e : Transit) (t : IsTellable e) where
   -- why it has ended
   pub reason-is : (r : Option End)
       → ((q : Queue) → Boundary (run_of e.parcel) (ticks_of e.parcel) q → r ≡ (if is_stopped e.parcel then Some Stopped else reason_at (run_of e.parcel).plan (ticks_of e.parcel) q)) → r ≡ Some t.end
-  reason-is r h = h t.last t.ends.at ∙ not-stopped (is_stopped e.parcel) _ t.stopped ∙ t.ends.why
+  reason-is r h = by t.ends
+    where
+      by : EndsSo e.parcel t.end t.last → r ≡ Some t.end
+      by (alone n x) = h t.last x.at ∙ not-stopped (is_stopped e.parcel) (reason_at (run_of e.parcel).plan (ticks_of e.parcel) t.last) n ∙ x.why
+      by (stopped y s b w) =
+          h t.last b ∙ was-stopped (is_stopped e.parcel) (reason_at (run_of e.parcel).plan (ticks_of e.parcel) t.last) y ∙ ap (λ (x : End). Some x) (sym s)
+
+  at-last : Boundary (run_of e.parcel) (ticks_of e.parcel) t.last
+  at-last = ends-at e.parcel t.end t.last t.ends
 
   -- what is said of one state at its boundary is said of the last
   pub count-is : (n : ℕ) → (q : Queue) × Boundary (run_of e.parcel) (ticks_of e.parcel) q × (q.state.count ≡ n) → n ≡ t.last.state.count
-  count-is n (q, b, k) = sym k ∙ ap (λ (z : Queue). z.state.count) (boundary_once b t.ends.at)
+  count-is n (q, b, k) = sym k ∙ ap (λ (z : Queue). z.state.count) (boundary_once b at-last)
 
   pub printed-is : (bytes : List ℕ) → (q : Queue) × Boundary (run_of e.parcel) (ticks_of e.parcel) q × (q.state.printed ≡ bytes) → bytes ≡ t.last.state.printed
-  printed-is bytes (q, b, k) = sym k ∙ ap (λ (z : Queue). z.state.printed) (boundary_once b t.ends.at)
+  printed-is bytes (q, b, k) = sym k ∙ ap (λ (z : Queue). z.state.printed) (boundary_once b at-last)
 
   -- what it keeps
   pub kept-by : (k : Kept) → arc_value k.origin ≡ origin_in e.parcel
       → Keeps (run_of e.parcel) (free_of e.parcel) (ticks_of e.parcel) (map (saved_of (run_of e.parcel).flat.rows) k.saved.items)
       → AllByRecursion (λ s. IsSnapshot (written (snapshot_of (flat_of (arc_value k.origin).image.design).rows s.held))) k.saved.items → IsKeptBy e k
   kept-by k origin keeps snapshots =
-      let own = subst (λ (f : List FreeSave). Keeps (run_of e.parcel) f (ticks_of e.parcel) (map (saved_of (run_of e.parcel).flat.rows) k.saved.items)) t.free keeps in
-      let here : Keeps (run_of e.parcel) [] (ticks_of e.parcel) (saved_in k) =
-      subst (λ (x : Origin). Keeps (run_of e.parcel) [] (ticks_of e.parcel) (map (saved_of (flat_of x.image.design).rows) k.saved.items)) (sym origin) own in
+      let here : Keeps (run_of e.parcel) (free_of e.parcel) (ticks_of e.parcel) (saved_in k) =
+      subst (λ (x : Origin). Keeps (run_of e.parcel) (free_of e.parcel) (ticks_of e.parcel) (map (saved_of (flat_of x.image.design).rows) k.saved.items)) (sym origin) keeps in
       record {
         origin = origin;
         keeps = here;

@@ -1,15 +1,14 @@
 -- What is said of one tenant (own).
 use Rattle.std.specs.Prelude.{◌≡◌, ℕ, List, [], ◌∷◌, Option, Some, None, ⊤}
 use Rattle.vl_design.specs.declared.design.End.{End}
-use Rattle.vl_design.specs.Alone.{Ends}
 use Rattle.vl_design.specs.Queue.{Queue}
 use Rattle.script_text.specs.declared.script.Script.{Script}
-use Rattle.ten_parcel.specs.Parcels.{run_of, ticks_of}
+use Rattle.ten_parcel.specs.Parcels.{ticks_of}
 use Rattle.fab_notes.specs.declared.transit.Transit.{Transit}
 use Rattle.host_form.specs.Reports.{block_of, status_of}
 use Rattle.host_form.specs.Runs.{Refused, Ran, Run}
 use Rattle.host_judge.specs.declared.verdict.Refusal.{Refusal}
-use Rattle.host_blocks.specs.Ends.{HasRun}
+use Rattle.host_blocks.specs.Ends.{EndsSo, HasRun}
 use Rattle.host_saves.specs.declared.kept.Kept.{Kept}
 use Rattle.host_blocks.specs.declared.ending.Ending.{Ending}
 use Rattle.host_blocks.specs.declared.lines.Said.{Said}
@@ -19,7 +18,7 @@ use Rattle.host_blocks.specs.Telling.{IsKeptBy, IsTellable}
 pub record IsEndingOf (e : Transit) (x : Ending) : Type 0 where
   pub reason : End
   pub last : Queue
-  pub ends : Ends (run_of e.parcel) (ticks_of e.parcel) reason last
+  pub ends : EndsSo e.parcel reason last
   pub status : x.status ≡ status_of reason
   pub ticks : x.ticks ≡ ticks_of e.parcel
   pub cycles : x.cycles ≡ last.state.count

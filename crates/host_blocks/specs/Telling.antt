@@ -1,35 +1,33 @@
 -- What a report says of the tenants of a script that have ended (own).
-use Rattle.std.specs.Prelude.{◌≡◌, true, false, List, [], ◌∷◌, map, Option, Some, None, ⊤}
+use Rattle.std.specs.Prelude.{◌≡◌, true, List, [], ◌∷◌, map, Option, Some, None, ⊤}
 use Rattle.std.specs.Arc.{arc_value}
 use Rattle.std.specs.List.{AllByRecursion}
 use Rattle.vl_design.specs.declared.design.End.{End}
-use Rattle.vl_design.specs.Alone.{Ends, Keeps}
+use Rattle.vl_design.specs.Alone.{Keeps}
 use Rattle.vl_design.specs.Queue.{Queue}
 use Rattle.vl_design.specs.Snapshots as run
 use Rattle.vl_save_names.specs.Names.{is_named}
 use Rattle.script_text.specs.declared.script.Script.{Script}
-use Rattle.ten_parcel.specs.Parcels.{free_of, is_stopped, origin_in, run_of, ticks_of, IsParcel}
+use Rattle.ten_parcel.specs.Parcels.{free_of, origin_in, run_of, ticks_of, IsParcel}
 use Rattle.ten_plan.specs.Written.{HasRows}
 use Rattle.fab_notes.specs.declared.transit.Transit.{Transit}
 use Rattle.host_form.specs.Origins.{Tenant}
 use Rattle.host_form.specs.Reports.{blocks_of}
 use Rattle.host_form.specs.Runs.{Outcome}
 use Rattle.host_judge.specs.declared.verdict.Refusal.{Refusal}
-use Rattle.host_blocks.specs.Ends.{AreEnds}
+use Rattle.host_blocks.specs.Ends.{AreEnds, EndsSo}
 use Rattle.host_saves.specs.declared.kept.Kept.{Kept}
 use Rattle.host_saves.specs.Kept.{saved_in, IsKeptOf}
 use Rattle.host_blocks.specs.declared.tell.Told.{Told}
 
--- a tenant that has ended by itself, and whose snapshots have names fit for files
+-- a tenant that has ended, and whose snapshots have names fit for files
 pub record IsTellable (e : Transit) : Type 0 where
   pub parcel : IsParcel e.parcel
-  pub stopped : is_stopped e.parcel ≡ false
-  pub free : free_of e.parcel ≡ []
   pub end : End
   pub last : Queue
-  pub ends : Ends (run_of e.parcel) (ticks_of e.parcel) end last
+  pub ends : EndsSo e.parcel end last
   pub written : HasRows (run_of e.parcel).flat.rows
-  pub named : (saved : List run.Saved) → Keeps (run_of e.parcel) [] (ticks_of e.parcel) saved → AllByRecursion (λ s. is_named s.name ≡ true) saved
+  pub named : (saved : List run.Saved) → Keeps (run_of e.parcel) (free_of e.parcel) (ticks_of e.parcel) saved → AllByRecursion (λ s. is_named s.name ≡ true) saved
 
 -- as many have ended as aren't refused
 abbrev pub AreTellable : List (Option Refusal) → List Transit → Type 0
@@ -43,7 +41,7 @@ AreTellable _ _ = ⊥
 -- the snapshots of a tenant that ran are those that its run keeps, and can be written
 pub record IsKeptBy (e : Transit) (k : Kept) : Type 0 where
   pub origin : arc_value k.origin ≡ origin_in e.parcel
-  pub keeps : Keeps (run_of e.parcel) [] (ticks_of e.parcel) (saved_in k)
+  pub keeps : Keeps (run_of e.parcel) (free_of e.parcel) (ticks_of e.parcel) (saved_in k)
   pub can : IsKeptOf k
 
 -- each tenant that isn't refused is the next that ran

@@ -12,3 +12,4 @@ pub mod Resuming
 pub mod Ends
 pub mod Times
 pub mod Ordered
+pub mod Reordered

@@ -1,8 +1,9 @@
 -- The snapshots that a script leaves in the store (own).
 use Rattle.std.specs.Prelude.{◌≡◌, ℕ, ◌+◌, List, [], ◌∷◌, ◌++◌, map, codes}
+use Rattle.std.specs.List.{sum_by}
 use Rattle.fab_io.specs.Outside.{Files, with_file}
 use Rattle.vl_design.specs.Snapshots.{Saved}
-use Rattle.vl_design.specs.Alone.{Keeps}
+use Rattle.vl_design.specs.Alone.{FreeSave, Keeps}
 use Rattle.ten_plan.specs.Written.{bytes_of}
 use Rattle.script_text.specs.declared.script.Script.{Script}
 use Rattle.host_form.specs.Origins.{Source, Tenant}
@@ -36,3 +37,7 @@ AreSaved answers n (t ∷ ts) (x ∷ xs) before after =
 abbrev pub LeavesFiles : (judged : List ℕ → Source → Type 0) (told : Files) (s : Script) (histories : Histories) (bytes : List ℕ)
     → IsReport judged told s histories bytes → Files → Type 0
 LeavesFiles judged told s histories bytes r after = AreSaved r.answers 0 r.tenants r.outcomes told after
+
+-- the same snapshots are made besides, each as often, in any order
+abbrev pub IsReordered : List FreeSave → List FreeSave → Type 0
+IsReordered xs ys = (w : FreeSave → ℕ) → sum_by w xs ≡ sum_by w ys

@@ -5,7 +5,8 @@ ghost use Rattle.std.specs.List.{AllByRecursion};
 ghost use Rattle.vl_base.specs.declared.place.Place.{Place};
 ghost use Rattle.vl_design.specs.declared.design.End.TheVariants.{Stopped};
 ghost use Rattle.vl_design.specs.Cost.{Cost};
-ghost use Rattle.vl_design.specs.Alone.{Origin, first_tick, stop_at, save_names};
+ghost use Rattle.vl_design.specs.Snapshots.{Saved};
+ghost use Rattle.vl_design.specs.Alone.{Origin, FreeSave, Keeps, first_tick, stop_at, save_names};
 ghost use Rattle.script_text.specs.declared.script.FabricLine.{FabricLine};
 ghost use Rattle.script_text.specs.declared.script.Script.{Script};
 ghost use Rattle.script_text.specs.declared.script.TenantLine.{TenantLine};
@@ -18,7 +19,7 @@ ghost use Rattle.ten_plan.specs.Plans.{errand_of};
 ghost use Rattle.host_form.specs.Orders.{Answered, stop_of};
 ghost use Rattle.host_form.specs.Runs.{Run, IsRun};
 ghost use Rattle.host_form.specs.Reports.{IsReport, blocks_of};
-ghost use Rattle.host_form.specs.Saves.{LeavesFiles};
+ghost use Rattle.host_form.specs.Saves.{LeavesFiles, IsReordered, with_saves};
 
 /// A plan has the errands of the script in their order, which is that of ticks, but for moves to fabrics that are too
 /// small: all of them where no move is to one, and none where there are none.
@@ -73,6 +74,12 @@ pub fn a_script_has_one_report_at_most()
     ensures files { (judge : List ℕ → Option Source) (told : Files) (s : Script) (histories : Histories) (bytes others : List ℕ) →
         (a : IsReport (Judges judge) told s histories bytes) (b : IsReport (Judges judge) told s histories others) → a.answers ≡ b.answers →
         (left right : Files) → LeavesFiles (Judges judge) told s histories bytes a left → LeavesFiles (Judges judge) told s histories others b right → left ≡ right }
+{}
+
+/// Snapshots that are made besides a run may be made in any order: there are some that are kept so, and they leave the same files.
+pub fn free_saves_may_be_made_in_any_order()
+    ensures { (o : Origin) (free others : List FreeSave) (k : ℕ) (saved : List Saved) → IsReordered free others → Keeps o free k saved →
+        (kept : List Saved) × Keeps o others k kept × ((tenant : List ℕ) (files : Files) → with_saves tenant kept files ≡ with_saves tenant saved files) }
 {}
 
 /// A tenant runs from its first tick on, and not past its budget.

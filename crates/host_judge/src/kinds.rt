@@ -54,7 +54,7 @@ fn push_kind(alloc: Global, kind: Kind, text: &mut Vec<u8>) -> Result<(), AllocE
 }
 
 /// The kind of a source's refusal.
-pub(crate) fn source_text(alloc: Global, kind: Kind) -> Result<Text, AllocError>
+pub fn source_text(alloc: Global, kind: Kind) -> Result<Text, AllocError>
     ensures { IfOk result (λ text. text ≡ kind_words kind) }
 {
     let mut text = Vec::new(alloc);

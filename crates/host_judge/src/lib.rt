@@ -2,9 +2,9 @@
 #![tactic(auto)]
 
 pub mod judge;
-mod kinds;
+pub mod kinds;
 pub mod laws;
 mod planning;
-mod room;
+pub mod room;
 mod starting;
 pub mod verdict;

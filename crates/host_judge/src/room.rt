@@ -10,7 +10,7 @@ use script_text::script::FabricLine;
 use vl_cost::capacity::Cost;
 
 /// Whether the numbers of a cost are those of its sums: 2 ^ 64 - 1 may stand for a greater one.
-pub(crate) fn is_exact(cost: Cost) -> bool
+pub fn is_exact(cost: Cost) -> bool
     ensures { result ≡ true → (sums : Sums) → cost ≡ saturated_cost sums → sums_of cost ≡ sums }
 {
     cost.regs < u64::MAX && cost.cells < u64::MAX && cost.mem < u64::MAX

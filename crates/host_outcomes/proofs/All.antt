@@ -1,39 +1,46 @@
 -- What a report says of all tenants of a script.
 use Rattle.std.proofs.Common.{◌≡◌, ℕ, suc, ◌+◌, ◌<◌, Bool, true, false, List, [], ◌∷◌, length, drop, filter, get_or, map, refl, sym, ap, ◌∙◌, subst, arith, Option, Some, None}
+use Rattle.std.specs.List.{sum_by}
+use Rattle.std.proofs.lemmas.Bool.{false≢true}
 use Rattle.vl_design.specs.Alone as alone
-use Rattle.vl_design.specs.Alone.{first_tick, Ends, Keeps}
-use Rattle.vl_design.specs.Observed.{Observed}
+use Rattle.vl_design.specs.Alone.{first_tick, Keeps}
+use Rattle.vl_design.specs.Observed.{observed, Observed}
+use Rattle.vl_design.specs.Queue.{Queue}
 use Rattle.ten_core.specs.declared.origin.Origin.{Origin}
 use Rattle.ten_core.specs.Tenants.{origin_of}
-use Rattle.ten_parcel.specs.Parcels.{run_of, ticks_of}
+use Rattle.ten_parcel.specs.Parcels.{free_of, run_of, ticks_of}
 use Rattle.script_text.specs.declared.script.Script.{Script}
 use Rattle.report_text.specs.declared.block.Block.{Block}
 use Rattle.fab_notes.specs.declared.transit.Transit.{Transit}
 use Rattle.fab_bay.specs.declared.noted.Label.{Label}
-use Rattle.fab_rounds.specs.declared.outcomes.Start.{Start}
+use Rattle.fab_rounds.specs.declared.outcomes.Order.{Order}
 use Rattle.fab_rounds.specs.declared.outcomes.Outcome.{Outcome as Ended}
-use Rattle.fab_rounds.specs.Outcomes.{IsEnded}
+use Rattle.fab_rounds.specs.declared.outcomes.Start.{Start}
+use Rattle.fab_rounds.specs.Orders as run
+use Rattle.fab_rounds.specs.Outcomes.{HasStopped, IsEnded}
 use Rattle.fab_rounds.specs.Outcomes as rounds
 use Rattle.fab_rounds.specs.Starts.{AreLabels, AreStarts}
 use Rattle.host_form.specs.Origins.{IsRefused, Tenant}
 use Rattle.host_form.specs.Histories.{history_of, is_line, lines_of, notes_of, AreVisits, Histories}
-use Rattle.host_form.specs.Orders.{Answered}
+use Rattle.host_form.specs.Orders.{saves_of, stop_of, Answered}
 use Rattle.host_form.specs.Runs.{AreLines, IsRun, Outcome, Ran, Refused, Run, RunsAs}
 use Rattle.host_form.specs.Runs as runs
 use Rattle.host_form.specs.Reports.{block_of, blocks_of, AreOutcomes}
+use Rattle.host_form.specs.Saves.{IsReordered}
 use Rattle.host_judge.specs.declared.verdict.Ready.{Ready}
 use Rattle.host_judge.specs.declared.verdict.Refusal.{Refusal}
 use Rattle.host_judge.specs.Judged.{AreJudged, IsReady}
 use Rattle.host_outcomes.specs.Begun.{AreBegun, IsBegun}
-use Rattle.host_outcomes.specs.Ends.{is_refusal, AreSaid, AreTold, DidNothing, EndsAs, IsSaidOf, IsTold}
-use Rattle.host_blocks.specs.Ends.{is_refused, AreEnds, HasRun}
+use Rattle.host_outcomes.specs.Ends.{is_refusal, AreSaid, AreTold, DidAs, EndsAs, IsSaidOf, IsTold, Tells}
+use Rattle.host_blocks.specs.Ends.{is_refused, AreEnds, EndsSo, HasRun}
 use Rattle.host_outcomes.specs.Reported.{histories_for, histories_of, number_in, numbers_from, renumbered}
-use Rattle.host_outcomes.proofs.Carried.{history_for, lines_carried, noted_carried, visits_carried}
+use Rattle.host_outcomes.proofs.Carried.{history_for, noted_carried, same_notes, visits_carried}
 use Rattle.host_outcomes.proofs.Noted.{noted_so}
-use Rattle.host_outcomes.proofs.Numbers.{from_here, notes_refused, notes_renumbered}
+use Rattle.host_outcomes.proofs.Numbers.{from_here, notes_refused}
 use Rattle.host_outcomes.proofs.Reports.{lines_reported, stays_reported}
-use Rattle.host_outcomes.proofs.Same.{ends_same, keeps_same}
+use Rattle.host_outcomes.proofs.Same.{ends_same, keeps_same, none_same, there_same}
 use Rattle.host_outcomes.proofs.Stays.{no_stays, no_visits}
+use Rattle.host_outcomes.proofs.Sums.{sum_total}
 
 -- ---- what is said
 
@@ -50,8 +57,8 @@ same_blocks s (t ∷ ts) (x ∷ xs) [] h = absurd h
 same_blocks s (t ∷ ts) (x ∷ xs) (y ∷ ys) h =
     ap (λ (b : Block). b ∷ blocks_of s ts ys) (same_block s t.line.name x y h.0) ∙ ap (λ (bs : List Block). block_of s t.line.name x ∷ bs) (same_blocks s ts xs ys h.1)
 
-module _ (s : Script) (labels : List Label) (starts : List Start) (out : Ended) (answers : List Answered) (refused : List Bool)
-    (a : AreLabels starts labels) (b : AreStarts labels starts) (h : rounds.IsOutcome labels starts out) (did : DidNothing answers) where
+module _ (s : Script) (labels : List Label) (starts : List Start) (orders : List Order) (out : Ended) (answers : List Answered) (refused : List Bool)
+    (a : AreLabels starts labels) (b : AreStarts labels starts) (h : rounds.IsOutcome labels starts orders out) (did : DidAs refused answers out.answers.items) where
   abbrev theirs : Histories
   theirs = histories_for refused out.bays.items
 
@@ -71,13 +78,13 @@ module _ (s : Script) (labels : List Label) (starts : List Start) (out : Ended) 
     abbrev o : alone.Origin
     o = ready.origin
 
-    same_notes : (g : ℕ) → notes_of n (history_of theirs g) ≡ map (renumbered refused) (notes_of k (history_of ours g))
-    same_notes g =
-        ap (λ ns. notes_of n ns) (history_for refused out.bays.items g)
-        ∙ ap (λ (m : ℕ). notes_of m (map (renumbered refused) (history_of ours g))) (sym kn)
-        ∙ notes_renumbered refused k kl (history_of ours g)
+    same : (g : ℕ) → notes_of n (history_of theirs g) ≡ map (renumbered refused) (notes_of k (history_of ours g))
+    same = same_notes refused out.bays.items n k kl kn
 
-    ended : IsEnded first k last
+    tells : Tells answers n k out.answers.items
+    tells = did k n kl kn
+
+    ended : IsEnded first k out.answers.items last
     ended = h.ended k d e lt
 
     runs_first : RunsAs o (run_of first.transit.parcel)
@@ -95,21 +102,35 @@ module _ (s : Script) (labels : List Label) (starts : List Start) (out : Ended) 
     fabric_is : first.fabric ≡ t.line.fabric
     fabric_is = begun.fabric ∙ ready.fabric
 
+    -- the design's run ends as this one did, by itself or where it was stopped
+    end_so : HasStopped (run.stop_of k out.answers.items) last.parcel → EndsSo last.parcel x.reason x.last
+        → (z : Queue) × runs.IsEnd o (stop_of n answers) (ticks_of last.parcel) x.reason z × (observed (run_of last.parcel).flat.rows x.last.state ≡ observed o.flat.rows z.state)
+    end_so (HasStopped.alone none y m f q ends) (EndsSo.alone w end) =
+        let z = ends_same o (run_of last.parcel) runs_last rows_last (ticks_of last.parcel) x.reason x.last end in
+        (z.0, runs.IsEnd.alone (tells.stop ∙ none) z.1, z.2)
+    end_so (HasStopped.alone none y m f q ends) (EndsSo.stopped w e b u) = absurd (false≢true (sym y ∙ w))
+    end_so (HasStopped.ordered stop y goes) (EndsSo.alone w end) = absurd (false≢true (sym w ∙ y))
+    end_so (HasStopped.ordered stop y goes) (EndsSo.stopped w e b u) =
+        let z = there_same o (run_of last.parcel) runs_last rows_last (ticks_of last.parcel) x.last b in
+        (z.0, runs.IsEnd.stopped (tells.stop ∙ stop) e z.1 (none_same o (run_of last.parcel) runs_last rows_last (ticks_of last.parcel) u), z.2)
+
+    reordered : IsReordered (free_of last.parcel) (saves_of n answers)
+    reordered w = sum_total w (free_of last.parcel) ∙ ended.free w ∙ sym (sum_total w (run.saves_of k out.answers.items)) ∙ ap (sum_by w) (sym tells.saves)
+
     comes_so : (u : Run) × IsRun s.fabrics theirs answers n t u × EndsAs x u × IsTold answers n last u
     comes_so =
-        let z = ends_same o (run_of last.parcel) runs_last rows_last (ticks_of last.parcel) x.reason x.last has.ends in
+        let z = end_so ended.why has.ends in
         let tick = sym has.tick in
-        let lines = lines_carried refused theirs ours n k same_notes answers (did.stops n) (did.saves n) (did.moves n) first.fabric o (ticks_of last.parcel)
-        (lines_reported labels starts out a h k d e lt o ready.plan (sym runs_first.plan) starts_at) in
-        let visits = visits_carried refused theirs ours n k same_notes (ticks_of first.transit.parcel) (ticks_of last.parcel) x.visits
-        (stays_reported labels starts out a h k d e lt b x.visits has.ordered has.each) in (
+        let lines = lines_reported labels starts orders out a b h k d e lt refused theirs n same answers tells o ready.plan (sym runs_first.plan) starts_at in
+        let visits = visits_carried refused theirs ours n k same (ticks_of first.transit.parcel) (ticks_of last.parcel) x.visits
+        (stays_reported labels starts orders out a b h k d e lt x.visits has.ordered has.each) in (
           record { origin = o; tick = x.tick; reason = x.reason; last = z.0; visits = x.visits },
           record {
             origin = ready.is;
-            end = runs.alone (did.stops n) (subst (λ (j : ℕ). Ends o j x.reason z.0) tick z.1);
+            end = subst (λ (j : ℕ). runs.IsEnd o (stop_of n answers) j x.reason z.0) tick z.1;
             visits = subst (λ (j : ℕ). AreVisits theirs n j x.tick x.visits) (sym starts_at) (subst (λ (j : ℕ). AreVisits theirs n (ticks_of first.transit.parcel) j x.visits) tick visits);
             lines = subst (λ (g : ℕ). AreLines theirs answers n g o x.tick) fabric_is (subst (λ (j : ℕ). AreLines theirs answers n first.fabric o j) tick lines);
-            noted = noted_carried refused theirs ours n k same_notes o (noted_so labels starts out a h k d lt o runs_first);
+            noted = noted_carried refused theirs ours n k same o (noted_so labels starts orders out a h k d lt o runs_first);
           },
           record { tick = refl; reason = refl; printed = ap (λ (y : Observed). y.printed) (sym z.2); count = ap (λ (y : Observed). y.count) (sym z.2); visits = refl },
           record {
@@ -117,8 +138,9 @@ module _ (s : Script) (labels : List Label) (starts : List Start) (out : Ended) 
             cost = sym runs_last.cost;
             stays = no_visits last x has;
             visits = no_stays last x has;
+            first = ap first_tick (sym runs_last.resume);
             keeps = λ saved keeps.
-                subst (λ free. Keeps o free x.tick saved) (sym (did.saves n)) (subst (λ (j : ℕ). Keeps o [] j saved) tick (keeps_same o (run_of last.parcel) runs_last rows_last keeps));
+                (free_of last.parcel, reordered, subst (λ (j : ℕ). Keeps o (free_of last.parcel) j saved) tick (keeps_same o (run_of last.parcel) runs_last rows_last keeps));
           },
         )
 
@@ -204,12 +226,12 @@ module _ (s : Script) (labels : List Label) (starts : List Start) (out : Ended) 
   all_come n k (t ∷ ts) (None ∷ rs) (r ∷ readies) (st ∷ ss) (y ∷ es) (Ran x ∷ xs) i j g e =
       come_ran n k t ts r rs st ss y es x xs i j.0 g.0 e.0 (all_come (n + 1) (suc k) ts rs readies ss es xs (here_ran n k rs st ss y es i) j.1 g.1 e.1)
 
-pub all_reported : (s : Script) (tenants : List Tenant) (refusals : List (Option Refusal)) (readies : List Ready) (labels : List Label) (starts : List Start) (out : Ended) (answers : List Answered) (xs : List Outcome)
-    → AreJudged s.fabrics tenants refusals readies → AreBegun readies starts → AreLabels starts labels → AreStarts labels starts → rounds.IsOutcome labels starts out
-    → DidNothing answers → AreEnds refusals out.ended.items xs
+pub all_reported : (s : Script) (tenants : List Tenant) (refusals : List (Option Refusal)) (readies : List Ready) (labels : List Label) (starts : List Start) (orders : List Order) (out : Ended) (answers : List Answered) (xs : List Outcome)
+    → AreJudged s.fabrics tenants refusals readies → AreBegun readies starts → AreLabels starts labels → AreStarts labels starts → rounds.IsOutcome labels starts orders out
+    → DidAs (map is_refused refusals) answers out.answers.items → AreEnds refusals out.ended.items xs
     → (ys : List Outcome) × AreOutcomes s (histories_for (map is_refused refusals) out.bays.items) answers 0 tenants ys
     × (blocks_of s tenants ys ≡ blocks_of s tenants xs) × (map is_refusal ys ≡ map is_refused refusals) × AreTold answers 0 refusals out.ended.items ys
-all_reported s tenants refusals readies labels starts out answers xs j g a b h did e =
-    let c = all_come s labels starts out answers (map is_refused refusals) a b h did 0 0 tenants refusals readies starts out.ended.items xs
+all_reported s tenants refusals readies labels starts orders out answers xs j g a b h did e =
+    let c = all_come s labels starts orders out answers (map is_refused refusals) a b h did 0 0 tenants refusals readies starts out.ended.items xs
     (record { flags = refl; numbers = refl; begun = refl; ended = refl }) j g e in
     (c.0, c.1, same_blocks s tenants xs c.0 c.2, c.3, c.4)

@@ -1,26 +1,28 @@
 -- What the bays of a run tell.
-use Rattle.std.proofs.Common.{◌≡◌, ℕ, ◌<◌, ◌≤◌, ◌⊎◌, inl, inr, eqb, Bool, true, false, List, [], ◌∷◌, length, get_or, map, cond, refl, sym, ap, ◌∙◌, subst, arith, eq-eqb}
+use Rattle.std.proofs.Common.{◌≡◌, ℕ, ◌+◌, ◌<◌, ◌≤◌, ◌⊎◌, inl, inr, eqb, Bool, true, false, List, [], ◌∷◌, length, get_or, map, cond, refl, sym, ap, ◌∙◌, subst, arith, eq-eqb}
 use Rattle.std.proofs.lemmas.Bool.{cases_lt}
 use Rattle.std.proofs.lemmas.List.{get_or-map, length-map}
-use Rattle.ten_parcel.specs.Parcels.{ticks_of}
 use Rattle.fab_notes.specs.declared.transit.Transit.{Transit}
 use Rattle.fab_notes.specs.Histories.{stays_of, Away, of_tenant, IsLegal}
-use Rattle.fab_notes.specs.Tokens.{puts}
+use Rattle.fab_notes.specs.Tokens.{outs, puts}
 use Rattle.fab_bay.specs.declared.noted.Label.{Label}
 use Rattle.fab_bay.specs.declared.noted.NotedCore.{NotedCore}
+use Rattle.fab_rounds.specs.declared.outcomes.Order.{Order}
 use Rattle.fab_rounds.specs.declared.outcomes.Outcome.{Outcome}
 use Rattle.fab_rounds.specs.declared.outcomes.Start.{Start}
 use Rattle.fab_rounds.specs.Outcomes as rounds
-use Rattle.fab_rounds.specs.Outcomes.{line_of, lines_there, stays_there, IsClosed, IsOutcome}
+use Rattle.fab_rounds.specs.Orders.{back_at, moved_at}
+use Rattle.fab_rounds.specs.Outcomes.{lefts_there, line_of, lines_there, stays_there, IsClosed, IsOutcome}
 use Rattle.fab_rounds.specs.Starts.{AreLabels}
 use Rattle.fab_rounds.specs.Totals.{total}
 use Rattle.fab_rounds.proofs.Totals.{total_at, total_each}
-use Rattle.host_form.specs.Histories.{history_of, lines_at, notes_of, times, visits_in, visits_on, Histories, Visit}
+use Rattle.host_form.specs.Histories.{history_of, lefts_at, lines_at, notes_of, times, visits_in, visits_on, Histories, Visit}
 use Rattle.host_form.specs.Histories as report
 use Rattle.host_notes.specs.Told.{told, visit_of}
 use Rattle.host_notes.proofs.Lines.{lines_read}
 use Rattle.host_notes.proofs.Visits.{visits_read}
 use Rattle.host_outcomes.specs.Reported.{histories_of}
+use Rattle.host_outcomes.proofs.Lefts.{lefts_read}
 use Rattle.host_outcomes.proofs.Sums.{counts, differ, differs, lines_here, lines_other, past, same_total, times_total, total_beyond, weigh_from, weight}
 
 pub some_bay : (bs : List NotedCore) (g : ℕ) → g < length bs → NotedCore
@@ -30,7 +32,7 @@ some_bay (b ∷ bs) g l = b
 notes_in : NotedCore → List report.Note
 notes_in b = told b.notes.items
 
-module _ (labels : List Label) (starts : List Start) (out : Outcome) (a : AreLabels starts labels) (h : IsOutcome labels starts out) where
+module _ (labels : List Label) (starts : List Start) (orders : List Order) (out : Outcome) (a : AreLabels starts labels) (h : IsOutcome labels starts orders out) where
   abbrev bays : List NotedCore
   bays = out.bays.items
 
@@ -125,7 +127,32 @@ module _ (labels : List Label) (starts : List Start) (out : Outcome) (a : AreLab
         ap (λ (ns : List report.Note). lines_at t j ns) (history_beyond g l)
         ∙ sym (none_beyond (lines_there (line_of t j g)) g own_lines l)
 
+    own_lefts : (b : NotedCore) → lefts_there (line_of t j g) b ≡ cond (eqb b.label.fabric g) (lefts_there (line_of t j g) b) 0
+    own_lefts b = step (eqb b.label.fabric g) refl
+      where
+        step : (x : Bool) → eqb b.label.fabric g ≡ x → lefts_there (line_of t j g) b ≡ cond x (lefts_there (line_of t j g) b) 0
+        step true e = refl
+        step false e = lines_other t j g b.label.fabric (outs b.notes.items) e
+
+    lefts_told : (g < length out.bays.items) ⊎ (length out.bays.items ≤ g) → lefts_at t j (history g) ≡ total (lefts_there (line_of t j g)) bays
+    lefts_told (inl l) =
+        let b = some_bay bays g l in
+        let c = get_or bays g b in
+        let notes = c.notes.items in
+        ap (λ (ns : List report.Note). lefts_at t j ns) (history_at g b l)
+        ∙ lefts_read g t j (get_or labels g b.label) notes (legal_at g b l)
+        ∙ sym (lines_here t j g c.label.fabric (outs notes) (eq-eqb c.label.fabric g (fabric_at g b l)))
+        ∙ sym (only_at (lefts_there (line_of t j g)) g own_lefts b l)
+    lefts_told (inr l) =
+        ap (λ (ns : List report.Note). lefts_at t j ns) (history_beyond g l)
+        ∙ sym (none_beyond (lefts_there (line_of t j g)) g own_lefts l)
+
   -- how often a report reads that a tenant is put in line
   pub lines_known : (t j g : ℕ) (d : Start) (e : Transit) → t < length starts
-      → lines_at t j (history_of (histories_of out.bays.items) g) ≡ rounds.lines_at (get_or starts t d) (ticks_of (get_or out.ended.items t e).parcel) g j
+      → lines_at t j (history_of (histories_of out.bays.items) g)
+      ≡ rounds.lines_at (get_or starts t d) (get_or out.ended.items t e) g j + moved_at t j g out.answers.items + back_at t j g out.answers.items
   lines_known t j g d e lt = lines_told t j g (cases_lt g (length bays)) ∙ h.puts_at t j g d e lt
+
+  -- and that it leaves
+  pub lefts_known : (t j g : ℕ) → lefts_at t j (history_of (histories_of out.bays.items) g) ≡ total (lefts_there (line_of t j g)) out.bays.items
+  lefts_known t j g = lefts_told t j g (cases_lt g (length bays))

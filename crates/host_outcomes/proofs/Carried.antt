@@ -1,21 +1,29 @@
 -- What a report says of a tenant, carried over to its number in the script.
-use Rattle.std.proofs.Common.{◌≡◌, ℕ, zero, suc, ◌<◌, ◌⊎◌, inl, inr, Bool, true, false, List, [], ◌∷◌, ◌++◌, length, filter, map, cond, refl, sym, ap, ◌∙◌, subst, Option, Some, None}
-use Rattle.std.specs.Prelude.{◌==◌, ◌&&◌, is_some, nat_le, nat_lt, if◌then◌else◌}
+use Rattle.std.proofs.Common.{◌≡◌, ℕ, zero, suc, ◌<◌, Bool, true, false, List, [], ◌∷◌, ◌++◌, length, filter, map, cond, refl, sym, ap, ◌∙◌, subst, Option, Some}
+use Rattle.std.specs.Prelude.{◌==◌, ◌&&◌, if◌then◌else◌}
 use Rattle.std.specs.List.{AllByRecursion}
-use Rattle.std.proofs.lemmas.Bool.{false≢true}
 use Rattle.std.proofs.lemmas.List.{length-map}
-use Rattle.vl_design.specs.Alone.{first_tick, Origin}
+use Rattle.vl_design.specs.Alone.{Origin}
 use Rattle.fab_bay.specs.declared.noted.NotedCore.{NotedCore}
 use Rattle.host_form.specs.Histories.{history_of, is_came, is_left, is_line, lefts_at, lines_at, lines_of, next_left, notes_of, times, visit_to, visits_in, visits_on, AreVisits, Histories, Note, Visit}
-use Rattle.host_form.specs.Orders.{moves_of, puts_at, saves_of, stop_of, Answered, Put}
-use Rattle.host_form.specs.Runs.{at_once, later, moves_when, AreLines, ArePut, RunsAsNoted}
-use Rattle.host_outcomes.specs.Reported.{histories_for, histories_of, renumbered}
+use Rattle.host_form.specs.Orders.{Put}
+use Rattle.host_form.specs.Runs.{RunsAsNoted}
+use Rattle.host_outcomes.specs.Reported.{histories_for, histories_of, number_in, numbers_from, renumbered}
+use Rattle.host_outcomes.proofs.Numbers.{notes_renumbered}
 
 -- what a fabric's history is where tenants have their numbers in the script
 pub history_for : (refused : List Bool) (bays : List NotedCore) (g : ℕ) → history_of (histories_for refused bays) g ≡ map (renumbered refused) (history_of (histories_of bays) g)
 history_for refused [] g = refl
 history_for refused (b ∷ bs) zero = refl
 history_for refused (b ∷ bs) (suc g) = history_for refused bs g
+
+-- the notes of a tenant there
+pub same_notes : (refused : List Bool) (bays : List NotedCore) (n k : ℕ) → k < length (numbers_from 0 refused) → number_in refused k ≡ n
+    → (g : ℕ) → notes_of n (history_of (histories_for refused bays) g) ≡ map (renumbered refused) (notes_of k (history_of (histories_of bays) g))
+same_notes refused bays n k kl kn g =
+    ap (λ ns. notes_of n ns) (history_for refused bays g)
+    ∙ ap (λ (m : ℕ). notes_of m (map (renumbered refused) (history_of (histories_of bays) g))) (sym kn)
+    ∙ notes_renumbered refused k kl (history_of (histories_of bays) g)
 
 module _ (refused : List Bool) where
   abbrev told_as : Note → Note
@@ -48,17 +56,17 @@ module _ (refused : List Bool) where
   -- ---- one tenant, in histories in which it has another number
 
   module _ (theirs ours : Histories) (n k : ℕ) (same : (g : ℕ) → notes_of n (history_of theirs g) ≡ map (renumbered refused) (notes_of k (history_of ours g))) where
-    same_lines : (g : ℕ) → lines_of n (history_of theirs g) ≡ map told_as (lines_of k (history_of ours g))
+    pub same_lines : (g : ℕ) → lines_of n (history_of theirs g) ≡ map told_as (lines_of k (history_of ours g))
     same_lines g = ap (λ ns. filter (λ m. is_line m.entry.kind) ns) (same g) ∙ kept (λ m. is_line m.entry.kind) (λ m. refl) (notes_of k (history_of ours g))
 
-    same_lines_at : (j g : ℕ) → lines_at n j (history_of theirs g) ≡ lines_at k j (history_of ours g)
+    pub same_lines_at : (j g : ℕ) → lines_at n j (history_of theirs g) ≡ lines_at k j (history_of ours g)
     same_lines_at j g =
         let ns = lines_of k (history_of ours g) in
         ap (λ ms. length (filter (λ m. m.entry.from == j) ms)) (same_lines g)
         ∙ ap (λ (ms : List Note). length ms) (kept (λ m. m.entry.from == j) (λ m. refl) ns)
         ∙ length-map (filter (λ m. m.entry.from == j) ns) told_as
 
-    same_lefts_at : (j g : ℕ) → lefts_at n j (history_of theirs g) ≡ lefts_at k j (history_of ours g)
+    pub same_lefts_at : (j g : ℕ) → lefts_at n j (history_of theirs g) ≡ lefts_at k j (history_of ours g)
     same_lefts_at j g =
         let ns = notes_of k (history_of ours g) in
         ap (λ ms. length (filter (λ m. is_left m.entry.kind && m.entry.from == j) ms)) (same g)
@@ -79,29 +87,9 @@ module _ (refused : List Bool) where
         → (g : ℕ) → AllByRecursion (λ m. RunsAsNoted o m.origin) (lines_of n (history_of theirs g))
     noted_carried o h g = subst (AllByRecursion (λ m. RunsAsNoted o m.origin)) (sym (same_lines g)) (noted_kept o (lines_of k (history_of ours g)) (h g))
 
-    -- ---- where no free order was done
-
-    lefts_carried : (ps : List Put) → AllByRecursion (λ p. 0 < lefts_at k p.tick (history_of ours p.fabric)) ps → AllByRecursion (λ p. 0 < lefts_at n p.tick (history_of theirs p.fabric)) ps
+    pub lefts_carried : (ps : List Put) → AllByRecursion (λ p. 0 < lefts_at k p.tick (history_of ours p.fabric)) ps → AllByRecursion (λ p. 0 < lefts_at n p.tick (history_of theirs p.fabric)) ps
     lefts_carried [] h = tt
     lefts_carried (p ∷ ps) h = (subst (λ (m : ℕ). 0 < m) (sym (same_lefts_at p.tick p.fabric)) h.0, lefts_carried ps h.1)
 
-    module _ (answers : List Answered) (stops : stop_of n answers ≡ None) (saves : saves_of n answers ≡ []) (moves : moves_of n answers ≡ []) where
-      put_carried : (fabric : ℕ) (o : Origin) (to : ℕ) → ArePut ours [] k fabric o to → ArePut theirs answers n fabric o to
-      put_carried fabric o to p = record {
-        last = p.last;
-        back = p.back;
-        may = may p.may;
-        saved = p.saved ∙ ap (λ ss. map (λ s. s.tick) ss) (sym saves);
-        left = lefts_carried p.back p.left;
-        just = λ g j. same_lines_at j g ∙ p.just g j ∙ ap (λ (ps : List Put). puts_at g j (
-            record { fabric = fabric; tick = first_tick o.resume } ∷ []
-            ++ moves_when (λ j. nat_le (first_tick o.resume) j && nat_lt j to) o.plan.errands ++ p.last ++ ps ++ p.back)) (sym moves);
-      }
-        where
-          may : (p.last ≡ []) ⊎ ((stop_of k [] ≡ Some to) × (p.last ≡ moves_when (λ j. j == to) o.plan.errands)) → (p.last ≡ []) ⊎ ((stop_of n answers ≡ Some to) × (p.last ≡ moves_when (λ j. j == to) o.plan.errands))
-          may (inl e) = inl e
-          may (inr h) = absurd (false≢true (ap (λ (o : Option ℕ). is_some o) h.0))
-
-      pub lines_carried : (fabric : ℕ) (o : Origin) (to : ℕ) → AreLines ours [] k fabric o to → AreLines theirs answers n fabric o to
-      lines_carried fabric o to (at_once s e p) = at_once stops e (λ g. same_lines g ∙ ap (λ ns. map told_as ns) (p g))
-      lines_carried fabric o to (later ne p) = later (λ _. ne refl) (put_carried fabric o to p)
+    pub nowhere_carried : ((g : ℕ) → lines_of k (history_of ours g) ≡ []) → (g : ℕ) → lines_of n (history_of theirs g) ≡ []
+    nowhere_carried h g = same_lines g ∙ ap (λ ns. map told_as ns) (h g)

@@ -17,6 +17,7 @@ use Rattle.fab_notes.specs.Origins.{AreOwn, Origins, StartsFrom}
 use Rattle.fab_notes.specs.Tokens as tokens
 use Rattle.fab_notes.specs.Tokens.{put_at, puts, Token}
 use Rattle.fab_bay.specs.declared.noted.Label.{Label}
+use Rattle.fab_rounds.specs.declared.outcomes.Order.{Order}
 use Rattle.fab_rounds.specs.declared.outcomes.Outcome.{Outcome}
 use Rattle.fab_rounds.specs.declared.outcomes.Start.{Start}
 use Rattle.fab_rounds.specs.Outcomes.{IsOutcome}
@@ -69,7 +70,7 @@ origin_at [] k d l = absurd (omega (arith, l))
 origin_at (s ∷ ss) zero d l = refl
 origin_at (s ∷ ss) (suc k) d l = origin_at ss k d (omega (arith, l))
 
-module _ (labels : List Label) (starts : List Start) (out : Outcome) (a : AreLabels starts labels) (h : IsOutcome labels starts out)
+module _ (labels : List Label) (starts : List Start) (orders : List Order) (out : Outcome) (a : AreLabels starts labels) (h : IsOutcome labels starts orders out)
     (k : ℕ) (d : Start) (lt : k < length starts) (o : alone.Origin) (runs : RunsAs o (run_of (get_or starts k d).transit.parcel)) where
   own_named : (all : Origins) → NamesOrigins starts all → (x : Origin) → StartsFrom all k x → RunsAs o (origin_of x)
   own_named None n x e = absurd n
@@ -85,7 +86,7 @@ module _ (labels : List Label) (starts : List Start) (out : Outcome) (a : AreLab
           let b = some_bay out.bays.items g l in
           let within : g < length labels = let n = h.all_bays in omega (arith, l, n) in
           let closed = h.bays g b.label b within in
-          subst (λ ns. AllByRecursion (λ m. RunsAsNoted o m.origin) (lines_of k ns)) (sym (history_at labels starts out a h g b l))
+          subst (λ ns. AllByRecursion (λ m. RunsAsNoted o m.origin) (lines_of k ns)) (sym (history_at labels starts orders out a h g b l))
           (noted_from (get_or labels g b.label).origins k o (own_named (get_or labels g b.label).origins (a g b.label within).origins)
           (get_or labels g b.label) [] (get_or out.bays.items g b).notes.items closed.legal closed.own)
-      by (inr l) = subst (λ ns. AllByRecursion (λ m. RunsAsNoted o m.origin) (lines_of k ns)) (sym (history_beyond labels starts out a h g l)) tt
+      by (inr l) = subst (λ ns. AllByRecursion (λ m. RunsAsNoted o m.origin) (lines_of k ns)) (sym (history_beyond labels starts orders out a h g l)) tt

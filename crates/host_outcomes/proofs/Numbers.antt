@@ -44,7 +44,7 @@ module _ (refused : List Bool) where
   abbrev numbers : List ℕ
   numbers = numbers_from 0 refused
 
-  same_number : (t k : ℕ) → k < length (numbers_from 0 refused) → eqb (number_in refused t) (number_in refused k) ≡ eqb t k
+  pub same_number : (t k : ℕ) → k < length (numbers_from 0 refused) → eqb (number_in refused t) (number_in refused k) ≡ eqb t k
   same_number t k l = step (eqb t k) refl
     where
       once : (t < length numbers) ⊎ (length numbers ≤ t) → number_in refused t ≡ number_in refused k → t ≡ k

@@ -1,5 +1,5 @@
 -- Where stays are told, there are some.
-use Rattle.std.proofs.Common.{◌≡◌, ℕ, suc, true, List, [], ◌∷◌, length, filter, map, cond, refl, sym, ap, ◌∙◌, arith, eq-eqb}
+use Rattle.std.proofs.Common.{◌≡◌, suc, true, List, [], ◌∷◌, length, filter, map, cond, refl, sym, ap, ◌∙◌, arith, eq-eqb}
 use Rattle.std.specs.Prelude.{◌==◌, ◌&&◌}
 use Rattle.fab_notes.specs.declared.transit.Stay.{Stay}
 use Rattle.fab_notes.specs.declared.transit.Transit.{Transit}

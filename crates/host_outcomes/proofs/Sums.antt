@@ -1,8 +1,9 @@
 -- Sums over stays, over lines and over bays.
 use Rattle.std.proofs.Common.{◌≡◌, ℕ, zero, suc, ◌+◌, ◌<◌, ◌≤◌, ◌⊎◌, inl, inr, eqb, Bool, true, false, List, [], ◌∷◌, length, filter, get_or, map, cond, refl, sym, ap, ◌∙◌, arith, eq-eqb}
-use Rattle.std.specs.Prelude.{◌==◌, ◌&&◌, nat_le, nat_lt}
-use Rattle.std.specs.List.{AllByRecursion}
-use Rattle.std.proofs.lemmas.Bool.{cases_lt, eqb-true, false≢true, le-ltb, leb-true, lt-leb, lt-ltb}
+use Rattle.std.specs.Prelude.{◌==◌, ◌&&◌, ◌||◌, nat_le, nat_lt}
+use Rattle.std.specs.List.{sum_by, AllByRecursion}
+use Rattle.std.proofs.lemmas.List.Sums.{sum_by-cons}
+use Rattle.std.proofs.lemmas.Bool.{cases_lt, eqb-true, false≢true, le-leb, le-ltb, leb-true, lt-leb, lt-ltb}
 use Rattle.fab_lock.specs.declared.entry.Kind.{Kind}
 use Rattle.fab_lock.specs.declared.entry.Kind.TheVariants.{Line, Came, Ran, Saved, Left}
 use Rattle.fab_notes.specs.declared.note.Note.{Note}
@@ -112,32 +113,96 @@ and_zero : (p : Bool) → one (p && false) ≡ 0
 and_zero true = refl
 and_zero false = refl
 
+or_false : (p : Bool) → (p || false) ≡ p
+or_false true = refl
+or_false false = refl
+
+or_true : (p : Bool) → (p || true) ≡ true
+or_true true = refl
+or_true false = refl
+
+and_false : (p : Bool) → (p && false) ≡ false
+and_false true = refl
+and_false false = refl
+
+and_true : (p : Bool) → (p && true) ≡ p
+and_true true = refl
+and_true false = refl
+
 -- it has ended where it begins
-pub begins_never : (first k j : ℕ) (fit : Bool) → first ≡ k → one ((first == j) && (nat_lt j k && fit)) ≡ 0
-begins_never first k j fit e = by (cases_lt j k)
+pub begins_never : (first k j : ℕ) (stopped fit : Bool) → first ≡ k → stopped ≡ false → one ((first == j) && ((nat_lt j k || stopped) && fit)) ≡ 0
+begins_never first k j stopped fit e s =
+    ap (λ (b : Bool). one ((first == j) && ((nat_lt j k || b) && fit))) s
+    ∙ ap (λ (b : Bool). one ((first == j) && (b && fit))) (or_false (nat_lt j k)) ∙ by (cases_lt j k)
   where
     by : (j < k) ⊎ (k ≤ j) → one ((first == j) && (nat_lt j k && fit)) ≡ 0
     by (inl l) = ap (λ (b : Bool). one (b && (nat_lt j k && fit))) (differ first j (λ q. omega (arith, q, e, l)))
     by (inr l) = ap (λ (b : Bool). one ((first == j) && (b && fit))) (le-ltb j k l) ∙ and_zero (first == j)
 
-pub moves_never : (first k j : ℕ) (goes : Bool) → first ≡ k → one (goes && (nat_le first j && nat_lt j k)) ≡ 0
-moves_never first k j goes e = by (cases_lt j k)
+-- it has ended later, or was stopped
+pub begins_first : (first k j : ℕ) (stopped fit : Bool) → (first < k) ⊎ (stopped ≡ true) → one ((first == j) && ((nat_lt j k || stopped) && fit)) ≡ one (fit && (first == j))
+begins_first first k j stopped fit l = by (first == j) refl
+  where
+    passes : (first < k) ⊎ (stopped ≡ true) → (first == j) ≡ true → (nat_lt j k || stopped) ≡ true
+    passes (inl l) q = ap (λ (b : Bool). b || stopped) (lt-ltb j k (let e = eqb-true first j q in omega (arith, e, l)))
+    passes (inr s) q = ap (λ (b : Bool). nat_lt j k || b) s ∙ or_true (nat_lt j k)
+
+    by : (b : Bool) → (first == j) ≡ b → one (b && ((nat_lt j k || stopped) && fit)) ≡ one (fit && b)
+    by true q = ap (λ (b : Bool). one (b && fit)) (passes l q) ∙ ap (λ (b : Bool). one b) (sym (and_true fit))
+    by false q = sym (and_zero fit)
+
+-- a move is done that stands below the tick at which it ended, or at that tick, where it is done there
+abbrev pub past_by : (k j : ℕ) (moved : Bool) → Bool
+past_by k j moved = nat_lt j k || ((k == j) && moved)
+
+past_unmoved : (k j : ℕ) (moved : Bool) → moved ≡ false → past_by k j moved ≡ nat_lt j k
+past_unmoved k j moved e =
+    ap (λ (b : Bool). nat_lt j k || ((k == j) && b)) e ∙ ap (λ (b : Bool). nat_lt j k || b) (and_false (k == j)) ∙ or_false (nat_lt j k)
+
+pub moves_unmoved : (first k j : ℕ) (moved goes : Bool) → moved ≡ false → one (goes && (nat_le first j && past_by k j moved)) ≡ one (goes && (nat_le first j && nat_lt j k))
+moves_unmoved first k j moved goes e = ap (λ (b : Bool). one (goes && (nat_le first j && b))) (past_unmoved k j moved e)
+
+pub moves_never : (first k j : ℕ) (moved goes : Bool) → first ≡ k → moved ≡ false → one (goes && (nat_le first j && past_by k j moved)) ≡ 0
+moves_never first k j moved goes e m = moves_unmoved first k j moved goes m ∙ by (cases_lt j k)
   where
     by : (j < k) ⊎ (k ≤ j) → one (goes && (nat_le first j && nat_lt j k)) ≡ 0
     by (inl l) = ap (λ (b : Bool). one (goes && (b && nat_lt j k))) (lt-leb first j (omega (arith, l, e))) ∙ and_zero goes
     by (inr l) = ap (λ (b : Bool). one (goes && (nat_le first j && b))) (le-ltb j k l) ∙ with_false goes (nat_le first j)
 
--- it has ended later
-pub begins_first : (first k j : ℕ) (fit : Bool) → first < k → one ((first == j) && (nat_lt j k && fit)) ≡ one (fit && (first == j))
-begins_first first k j fit l = by (first == j) refl
+pub moves_moved : (first k j : ℕ) (moved goes : Bool) → first ≤ k → moved ≡ true
+    → one (goes && (nat_le first j && past_by k j moved)) ≡ one (goes && (nat_le first j && nat_lt j k)) + one (goes && (j == k))
+moves_moved first k j moved goes l m =
+    ap (λ (b : Bool). one (goes && (nat_le first j && (nat_lt j k || ((k == j) && b))))) m
+    ∙ ap (λ (b : Bool). one (goes && (nat_le first j && (nat_lt j k || b)))) (and_true (k == j)) ∙ by (k == j) refl
   where
-    alone : (f : Bool) → one f ≡ one (f && true)
-    alone true = refl
-    alone false = refl
+    none : (b : Bool) → one (goes && b) ≡ one (goes && b) + one (goes && false)
+    none b = let z = and_zero goes in omega (arith, z)
 
-    by : (b : Bool) → (first == j) ≡ b → one (b && (nat_lt j k && fit)) ≡ one (fit && b)
-    by true q = ap (λ (b : Bool). one (b && fit)) (lt-ltb j k (let e = eqb-true first j q in omega (arith, e, l))) ∙ alone fit
-    by false q = sym (and_zero fit)
+    only : one (goes && true) ≡ one (goes && false) + one (goes && true)
+    only = let z = and_zero goes in omega (arith, z)
+
+    by : (b : Bool) → (k == j) ≡ b → one (goes && (nat_le first j && (nat_lt j k || b))) ≡ one (goes && (nat_le first j && nat_lt j k)) + one (goes && (j == k))
+    by true q =
+        let e = eqb-true k j q in
+        let below : nat_lt j k ≡ false = le-ltb j k (omega (arith, e)) in
+        let above : nat_le first j ≡ true = le-leb first j (omega (arith, e, l)) in
+        let here : (j == k) ≡ true = eq-eqb j k (sym e) in
+        ap (λ (b : Bool). one (goes && (nat_le first j && b))) (or_true (nat_lt j k))
+        ∙ ap (λ (b : Bool). one (goes && (b && true))) above
+        ∙ only
+        ∙ ap (λ (b : Bool). one (goes && b) + one (goes && true)) (sym (and_false (nat_le first j)))
+        ∙ ap (λ (b : Bool). one (goes && (nat_le first j && b)) + one (goes && true)) (sym below)
+        ∙ ap (λ (b : Bool). one (goes && (nat_le first j && nat_lt j k)) + one (goes && b)) (sym here)
+    by false q =
+        let there : (j == k) ≡ false = differ j k (λ e. differs k j q (sym e)) in
+        ap (λ (b : Bool). one (goes && (nat_le first j && b))) (or_false (nat_lt j k))
+        ∙ none (nat_le first j && nat_lt j k)
+        ∙ ap (λ (b : Bool). one (goes && (nat_le first j && nat_lt j k)) + one (goes && b)) (sym there)
+
+-- a sum over a list is the same either way
+pub sum_total : {X : Type 0} (w : X → ℕ) (xs : List X) → sum_by w xs ≡ total w xs
+sum_total w [] = refl
+sum_total w (x ∷ xs) = sum_by-cons w x xs ∙ ap (λ (n : ℕ). w x + n) (sum_total w xs)
 
 -- ---- chains
 

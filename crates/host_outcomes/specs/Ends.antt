@@ -1,13 +1,18 @@
 -- What a report says of the tenants of a script (own).
-use Rattle.std.specs.Prelude.{◌≡◌, ℕ, ◌+◌, Bool, true, false, List, [], ◌∷◌, Option, Some, None, ⊤}
-use Rattle.vl_design.specs.Alone.{Keeps}
+use Rattle.std.specs.Prelude.{◌≡◌, ℕ, ◌+◌, ◌<◌, length, Bool, true, false, List, [], ◌∷◌, Option, Some, None, ⊤}
+use Rattle.vl_design.specs.Alone.{first_tick, FreeSave, Keeps}
 use Rattle.vl_design.specs.Cost.{cost}
 use Rattle.vl_design.specs.Snapshots.{Saved}
-use Rattle.ten_parcel.specs.Parcels.{run_of, ticks_of}
+use Rattle.ten_parcel.specs.Parcels.{free_of, run_of, ticks_of}
 use Rattle.fab_notes.specs.declared.transit.Transit.{Transit}
-use Rattle.host_form.specs.Orders.{moves_of, saves_of, stop_of, Answered}
+use Rattle.fab_rounds.specs.declared.outcomes.Answer.{Answer}
+use Rattle.fab_rounds.specs.Orders as run
+use Rattle.fab_rounds.specs.Orders.{moved_at}
+use Rattle.host_form.specs.Orders.{moves_of, puts_at, saves_of, stop_of, Answered}
 use Rattle.host_form.specs.Runs.{Outcome, Ran, Refused, Run}
+use Rattle.host_form.specs.Saves.{IsReordered}
 use Rattle.host_judge.specs.declared.verdict.Refusal.{Refusal}
+use Rattle.host_outcomes.specs.Reported.{number_in, numbers_from}
 
 abbrev pub is_refusal : Outcome → Bool
 is_refusal (Refused place kind) = true
@@ -15,11 +20,15 @@ is_refusal (Ran r) = false
 
 -- ---- what a report says of them
 
--- no free order was done
-pub record DidNothing (answers : List Answered) : Type 0 where
-  pub stops : (n : ℕ) → stop_of n answers ≡ None
-  pub saves : (n : ℕ) → saves_of n answers ≡ []
-  pub moves : (n : ℕ) → moves_of n answers ≡ []
+-- what the answers of a report say of the tenant of number n is what those of a run say of its tenant k
+pub record Tells (answers : List Answered) (n k : ℕ) (theirs : List Answer) : Type 0 where
+  pub stop : stop_of n answers ≡ run.stop_of k theirs
+  pub saves : saves_of n answers ≡ run.saves_of k theirs
+  pub moves : (g j : ℕ) → puts_at g j (moves_of n answers) ≡ moved_at k j g theirs
+
+-- so it is of each tenant that isn't refused
+abbrev pub DidAs : List Bool → List Answered → List Answer → Type 0
+DidAs refused answers theirs = (k n : ℕ) → k < length (numbers_from 0 refused) → number_in refused k ≡ n → Tells answers n k theirs
 
 -- a run ends as another: at the same tick, for the same reason, with the same bytes printed, acts counted and stays
 pub record EndsAs (r u : Run) : Type 0 where
@@ -50,7 +59,9 @@ pub record IsTold (answers : List Answered) (n : ℕ) (e : Transit) (r : Run) : 
   pub cost : cost r.origin.flat ≡ cost (run_of e.parcel).flat
   pub stays : e.stays.items ≡ [] → r.visits ≡ []
   pub visits : r.visits ≡ [] → e.stays.items ≡ []
-  pub keeps : (saved : List Saved) → Keeps (run_of e.parcel) [] (ticks_of e.parcel) saved → Keeps r.origin (saves_of n answers) r.tick saved
+  pub first : first_tick r.origin.resume ≡ first_tick (run_of e.parcel).resume
+  pub keeps : (saved : List Saved) → Keeps (run_of e.parcel) (free_of e.parcel) (ticks_of e.parcel) saved →
+      (free : List FreeSave) × IsReordered free (saves_of n answers) × Keeps r.origin free r.tick saved
 
 -- so it is of each tenant that has run, where tenants have numbers from n on
 abbrev pub AreTold : List Answered → ℕ → List (Option Refusal) → List Transit → List Outcome → Type 0

@@ -1,12 +1,22 @@
 //! Reads command lines with files and prints whether the host answers what is wanted of each. A row begins with a line `@ ` of the
-//! words; lines `= ` are the status and what is printed, in which a word `*` of a tenant's first line stands for any, and a line `% ` is a
-//! part of a last line; a line `! ` has
+//! words. Lines `= ` are the status and what is printed: a word `*` of a tenant's first line, or of that of a stay or a free order, stands
+//! for any, and a line `...` for any lines up to the next that is as wanted; a line `% ` is a part of a last line, and with what stands in a
+//! line `- ` no printed line begins. A line `! ` has
 //! four numbers where the sink takes less than all in a call, a call fails, or blanks stand before the first file; a line `> ` is a file
-//! that is wanted behind the call, with its bytes in hexadecimal. A line `+ ` begins a file; its lines, joined by newlines, and lines `^ `
-//! of bytes in hexadecimal follow.
+//! that is wanted behind the call, with its bytes in hexadecimal, `*` for any, or `-` where no such file is wanted. A line `+ ` begins a file;
+//! its lines, joined by newlines, and lines `^ ` of bytes in hexadecimal follow.
+//!
+//! A line `& F T G U` is of the gate: whoever comes there with the numbers F and T is held until someone has come with G and U. A worker
+//! comes before each turn with the number of its fabric, from 0, and that of the turn, from 1; the operator before each try of an order with
+//! the number of fabrics and that of the order, from 1, among those that are given to tenants, so that one that is answered `small` or
+//! `refused` has none. The rounds of fab_rounds end when their workers and the operator have ended, so neither is held until a later one.
+//! Where someone is held too long, a line `held N` stands behind what is printed.
 #![tactic(auto)]
 
+mod gates;
 mod judge;
+mod lines;
+mod numbers;
 mod row;
 
 use row::Row;
@@ -14,9 +24,10 @@ use std::alloc::{AllocError, Global};
 use std::io;
 use std::sync::Wait;
 use std::thread::Threads;
+use std::time::Clock;
 
 /// What came of a row, in a line; nothing where there is no row.
-fn answered<R: Threads + Wait + Sync>(
+fn answered<R: Threads + Wait + Clock + Sync>(
     rt: &R,
     alloc: Global,
     row: &Row,
@@ -38,6 +49,10 @@ fn read(alloc: Global, row: &mut Row, line: &str) -> Result<(), AllocError> {
         row.want(wanted)
     } else if let Some(part) = line.strip_prefix("% ") {
         row.want_part(part)
+    } else if let Some(text) = line.strip_prefix("- ") {
+        row.refuse(text)
+    } else if let Some(numbers) = line.strip_prefix("& ") {
+        row.hold(numbers)
     } else if let Some(path) = line.strip_prefix("+ ") {
         row.begin(alloc, path)
     } else if let Some(saved) = line.strip_prefix("> ") {

@@ -1,5 +1,7 @@
 //! A row: words, files, and what is wanted of them.
 
+use crate::gates::Hold;
+use crate::numbers::number;
 use std::alloc::{AllocError, Global};
 
 /// A file of a store: its path and its bytes.
@@ -22,13 +24,18 @@ pub struct Row {
     pub failing_read: u64,
     /// The number of the write that fails, from 1.
     pub failing_write: u64,
-    /// The status and what is printed. A word `*` of a tenant's first line stands for any word.
+    /// The status and what is printed. A word `*` of a tenant's first line, or of that of a stay or a free order, stands for any word, and a line
+    /// `...` for any lines up to the next that is as wanted.
     pub wanted: String,
+    /// Lines with which no line of what is printed begins.
+    pub unwanted: String,
+    /// Who is held at the gate, and until when.
+    pub holds: Vec<Hold>,
     /// How many blanks stand before the bytes of the first file.
     pub blanks: usize,
     /// The files.
     pub files: Vec<Named>,
-    /// The files that are wanted behind the call, with their bytes in hexadecimal.
+    /// The files that are wanted behind the call, with their bytes in hexadecimal, `*` for any bytes, or `-` where none is wanted.
     pub saved: Vec<Named>,
     /// A line of the last file was read.
     begun: bool,
@@ -43,6 +50,8 @@ impl Row {
             failing_read: 0,
             failing_write: 0,
             wanted: String::new(alloc),
+            unwanted: String::new(alloc),
+            holds: Vec::new(alloc),
             blanks: 0,
             files: Vec::new(alloc),
             saved: Vec::new(alloc),
@@ -53,17 +62,29 @@ impl Row {
     /// Takes four numbers from a line: the most bytes that the sink takes in a call, the read and the
     /// write that fail, and the blanks before the first file's bytes.
     pub fn set(&mut self, line: &str) {
-        let mut numbers = line.split(' ').map(|word| word.parse::<u32>().unwrap_or(0));
-        self.piece = numbers.next().unwrap_or(0) as usize;
-        self.failing_read = u64::from(numbers.next().unwrap_or(0));
-        self.failing_write = u64::from(numbers.next().unwrap_or(0));
-        self.blanks = numbers.next().unwrap_or(0) as usize;
+        let mut words = line.split(' ');
+        self.piece = number(words.next()) as usize;
+        self.failing_read = u64::from(number(words.next()));
+        self.failing_write = u64::from(number(words.next()));
+        self.blanks = number(words.next()) as usize;
     }
 
     /// Adds a line to what is wanted.
     pub fn want(&mut self, line: &str) -> Result<(), AllocError> {
         self.wanted.push_str(line)?;
         self.wanted.push('\n')
+    }
+
+    /// Adds a line to what is not wanted.
+    pub fn refuse(&mut self, line: &str) -> Result<(), AllocError> {
+        self.unwanted.push_str(line)?;
+        self.unwanted.push('\n')
+    }
+
+    /// Adds a hold to the gate, by its four numbers.
+    pub fn hold(&mut self, line: &str) -> Result<(), AllocError> {
+        self.holds.push(Hold::of(line))?;
+        Ok(())
     }
 
     /// Adds the part of a last line to what is wanted.
@@ -85,7 +106,7 @@ impl Row {
         Ok(())
     }
 
-    /// Wants a file: its path, a blank, and its bytes in hexadecimal.
+    /// Wants a file: its path, a blank, and its bytes in hexadecimal, `*` for any bytes, or `-` where it isn't to be there.
     pub fn save(&mut self, alloc: Global, line: &str) -> Result<(), AllocError> {
         if let Some((path, digits)) = line.split_once(' ') {
             let path = String::from_str(alloc, path)?;

@@ -1,5 +1,5 @@
 -- What is due, as the code makes it.
-use Rattle.std.proofs.Common.{◌≡◌, ◌≤◌, ℕ, Bool, true, false, List, [], length, Result, Ok, Err, refl, sym, ap, ◌∙◌, subst, inl, inr}
+use Rattle.std.proofs.Common.{◌≡◌, ◌≤◌, ℕ, Bool, true, false, List, [], length, Result, Ok, Err, refl, sym, ap, ◌∙◌, subst, inl, inr, arith}
 use Rattle.std.specs.Prelude.{◌≢◌, Option, Some, IfOk, IfSome, OnOk, Vec, if◌then◌else◌, ◌⊎◌}
 use Rattle.std.specs.List.{AllByRecursion}
 use Rattle.fab_io.specs.declared.store.ReadError.{ReadError}
@@ -10,17 +10,24 @@ use Rattle.script_text.specs.declared.script.Script.{Script}
 use Rattle.script_text.specs.Laws.{IsSpelt, IsSpeltTenant}
 use Rattle.script_text.specs.Reading.{reading}
 use Rattle.host_load.specs.declared.loaded.Loaded.{Loaded}
-use Rattle.host_load.specs.Reading.{AreLoaded, Counts, IsAvailable, IsCause, IsMissed}
+use Rattle.host_form.specs.Origins.{Source, Accepted, Faulty}
+use Rattle.host_load.specs.Reading.{most_source, counts_of, AreLoaded, Counts, IsAvailable, IsCause, IsMissed}
 use Rattle.host_saves.specs.Kept.{CanBeKept}
 use Rattle.host_saves.specs.Writes.{writes_of, Write}
 use Rattle.host_script.specs.declared.reported.Reported.{Reported}
 use Rattle.host_script.specs.Reported.{AreBays, IsReported}
 use Rattle.host_script.specs.Runs.{HasRun}
+use Rattle.host_check.specs.Checks.{check_status, IsCheck}
+use Rattle.host_demo.specs.Sources.{files_of}
+use Rattle.host_demo.specs.Summary.{summary}
+use Rattle.host_demo.specs.Texts as demo
 use Rattle.host_run.specs.declared.due.Due.{Due}
-use Rattle.host_run.specs.Words.{command_of}
+use Rattle.host_run.specs.Demos.{IsShown, IsSummed}
+use Rattle.host_run.specs.Words.{command_of, path_of, Command, Run, Check, Demo}
 use Rattle.host_run.specs.Lines.{fault, unread}
-use Rattle.host_run.specs.Due.{ran, misread, unread_script, unread_file, most_script}
-use Rattle.host_run.specs.Dues.{writes_due, IsDueBy, IsOnly, CanBeWritten}
+use Rattle.host_run.specs.Due.{ran, checked, shown, misread, unread_named, unread_file, most_of, most_script}
+use Rattle.host_run.specs.Dues.{writes_due, IsDueBy, IsOnly, KeepsNothing, CanBeWritten}
+use Rattle.host_run.proofs.Parsing.{some-same}
 use Rattle.host_run.proofs.Serving.{due-before}
 
 -- ---- a script that was run
@@ -45,7 +52,7 @@ has-run files s r status text bays writes e t b w a h =
 
 pub run-due : (told : Option Files) (old new : Counts) (words : List (List ℕ)) (s : Script) (loaded : List Loaded) (r : Reported) (d : Due) {path : List ℕ} (bytes : List ℕ)
     → d.status ≡ (if r.refused then 3 else 0) → d.text ≡ r.text → d.tenants ≡ s.tenants → d.kept ≡ r.kept → d.bays ≡ r.bays
-    → command_of words ≡ Some path → IsTold told path bytes → length bytes ≤ most_script → reading bytes ≡ Ok s → AreBays s.fabrics r.bays.items
+    → command_of words ≡ Some (Run path) → IsTold told path bytes → length bytes ≤ most_script → reading bytes ≡ Ok s → AreBays s.fabrics r.bays.items
     → IfSome told (λ files. AreLoaded files s.tenants loaded) → IfSome told (λ files. IsAvailable files s) → ((files : Files) → AreLoaded files s.tenants loaded → IsReported files s r) → IsDueBy told old new words d
 run-due told old new words s loaded r d bytes status text tenants kept bays command there short reads fabrics all there-all reported =
     ran bytes (zero-or-three r.refused d.status status) command there short reads (subst (AreBays s.fabrics) (sym (items-same bays)) fabrics)
@@ -69,16 +76,16 @@ no-writes : (d : Due) → d.tenants ≡ [] → writes_due d ≡ []
 no-writes d e = ap (λ ts. writes_of ts d.kept.items) e
 
 pub fault-due : (told : Option Files) (old new : Counts) (words : List (List ℕ)) (d : Due) {path : List ℕ} (bytes : List ℕ) {text : List ℕ} {line cause : ℕ} → IsOnly 4 text d → text ≡ fault line cause
-    → command_of words ≡ Some path → IsTold told path bytes → length bytes ≤ most_script → reading bytes ≡ Err (line, cause) → IsDueBy told old new words d
+    → command_of words ≡ Some (Run path) → IsTold told path bytes → length bytes ≤ most_script → reading bytes ≡ Err (line, cause) → IsDueBy told old new words d
 fault-due told old new words d bytes o e command there short faulty =
     misread bytes o.status_is command there short faulty (o.text_is ∙ e) o.bays (no-writes d o.tenants)
 
-pub unread-script-due : (told : Option Files) (old new : Counts) (words : List (List ℕ)) (d : Due) {path text : List ℕ} (why : ReadError) → IsOnly 5 text d → text ≡ unread path why
-    → command_of words ≡ Some path → IsCause told old new path most_script why → IsDueBy told old new words d
-unread-script-due told old new words d why o e command cause = unread_script why o.status_is command cause (o.text_is ∙ e) o.bays (no-writes d o.tenants)
+pub unread-named-due : (told : Option Files) (old new : Counts) (words : List (List ℕ)) (d : Due) (c : Command) (path : List ℕ) {text : List ℕ} (why : ReadError) → IsOnly 5 text d → text ≡ unread path why
+    → command_of words ≡ Some c → path_of c ≡ Some path → IsCause told old new path (most_of c) why → IsDueBy told old new words d
+unread-named-due told old new words d c path why o e command names cause = unread_named c why o.status_is command names cause (o.text_is ∙ e) o.bays (no-writes d o.tenants)
 
 pub unread-file-due : (told : Option Files) (old new : Counts) (words : List (List ℕ)) (s : Script) (d : Due) {path : List ℕ} (bytes asked : List ℕ) {text named : List ℕ} (why : ReadError) → IsOnly 5 text d
-    → text ≡ unread named why → named ≡ asked → command_of words ≡ Some path → IsTold told path bytes → length bytes ≤ most_script → reading bytes ≡ Ok s → IsMissed told old new s asked why
+    → text ≡ unread named why → named ≡ asked → command_of words ≡ Some (Run path) → IsTold told path bytes → length bytes ≤ most_script → reading bytes ≡ Ok s → IsMissed told old new s asked why
     → IsDueBy told old new words d
 unread-file-due told old new words s d bytes asked why o e n command there short reads missed =
     unread_file bytes asked why o.status_is command there short reads missed (o.text_is ∙ e ∙ ap (λ x. unread x why) n) o.bays (no-writes d o.tenants)
@@ -95,25 +102,112 @@ cause-of told old new path most read.TooLong m n t f = t refl
 cause-of told old new path most read.Failed m n t f = f refl
 cause-of told old new path most read.Memory m n t f = absurd (m refl)
 
-pub due-unread : {E : Type 0} (result : Result Due E) (told : Option Files) (old new : Counts) (path : List ℕ) (why : ReadError) → OnOk result (why ≢ read.Memory) → IfOk result (IsOnly 5 (unread path why))
+pub due-unread : {E : Type 0} (result : Result Due E) (told : Option Files) (old new : Counts) (c : Command) (path : List ℕ) (why : ReadError) → path_of c ≡ Some path → OnOk result (why ≢ read.Memory)
+    → IfOk result (IsOnly 5 (unread path why))
     → (why ≡ read.NotThere → IsAbsent told path ⊎ HasRisen old.absences new.absences)
-    → (why ≡ read.TooLong → IsTooLong told path most_script ⊎ HasRisen old.absences new.absences)
+    → (why ≡ read.TooLong → IsTooLong told path (most_of c) ⊎ HasRisen old.absences new.absences)
     → (why ≡ read.Failed → HasRisen old.faults new.faults)
-    → IfOk result (λ d. (words : List (List ℕ)) → command_of words ≡ Some path → IsDueBy told old new words d)
-due-unread (Ok d) told old new path why m o n t f = λ words command. unread-script-due told old new words d why o refl command (cause-of told old new path most_script why m n t f)
-due-unread (Err e) told old new path why m o n t f = o
+    → IfOk result (λ d. (words : List (List ℕ)) → command_of words ≡ Some c → IsDueBy told old new words d)
+due-unread (Ok d) told old new c path why names m o n t f = λ words command.
+    unread-named-due told old new words d c path why o refl command names (cause-of told old new path (most_of c) why m n t f)
+due-unread (Err e) told old new c path why names m o n t f = o
+
+-- ---- a source that was checked
+
+zero-or-three-of : (x : Source) (status : ℕ) → status ≡ check_status x → (status ≡ 0) ⊎ (status ≡ 3)
+zero-or-three-of (Accepted d) status e = inl e
+zero-or-three-of (Faulty place kind) status e = inr e
+
+pub due-checked : {E : Type 0} (result : Result Due E) (told : Option Files) (old new : Counts) (path bytes : List ℕ) → IfOk result (λ d. IsOnly d.status d.text.items d)
+    → IfOk result (λ d. IsCheck bytes d.status d.text.items) → IsTold told path bytes → length bytes ≤ most_source
+    → IfOk result (λ d. (words : List (List ℕ)) → command_of words ≡ Some (Check path) → IsDueBy told old new words d)
+due-checked (Ok d) told old new path bytes o k there short = λ words command.
+    checked bytes (zero-or-three-of k.source d.status k.status_is) command there short k o.bays (no-writes d o.tenants)
+due-checked (Err e) told old new path bytes o k there short = o
 
 pub due-read : {E : Type 0} (result : Result Due E) (told : Option Files) (old new : Counts) (s : Script) (bytes : List ℕ) → length bytes ≤ most_script → reading bytes ≡ Ok s
-    → IfOk result (λ d. (words : List (List ℕ)) (path bytes : List ℕ) → command_of words ≡ Some path → IsTold told path bytes → length bytes ≤ most_script → reading bytes ≡ Ok s
+    → IfOk result (λ d. (words : List (List ℕ)) (path bytes : List ℕ) → command_of words ≡ Some (Run path) → IsTold told path bytes → length bytes ≤ most_script → reading bytes ≡ Ok s
     → IsDueBy told old new words d)
-    → IfOk result (λ d. (words : List (List ℕ)) (path : List ℕ) → command_of words ≡ Some path → IsTold told path bytes → IsDueBy told old new words d)
+    → IfOk result (λ d. (words : List (List ℕ)) (path : List ℕ) → command_of words ≡ Some (Run path) → IsTold told path bytes → IsDueBy told old new words d)
 due-read (Ok d) told old new s bytes short reads h = λ words path command there. h words path bytes command there short reads
 due-read (Err e) told old new s bytes short reads h = h
 
 pub due-told : {E : Type 0} (result : Result Due E) (told told' : Option Files) (old mid new : Counts) (path bytes : List ℕ) → told' ≡ told → old.faults ≤ mid.faults → old.absences ≤ mid.absences
     → IsTold told path bytes
-    → IfOk result (λ d. (words : List (List ℕ)) (path : List ℕ) → command_of words ≡ Some path → IsTold told' path bytes → IsDueBy told' mid new words d)
-    → IfOk result (λ d. (words : List (List ℕ)) → command_of words ≡ Some path → IsDueBy told old new words d)
+    → IfOk result (λ d. (words : List (List ℕ)) (path : List ℕ) → command_of words ≡ Some (Run path) → IsTold told' path bytes → IsDueBy told' mid new words d)
+    → IfOk result (λ d. (words : List (List ℕ)) → command_of words ≡ Some (Run path) → IsDueBy told old new words d)
 due-told (Ok d) told told' old mid new path bytes e f a there h = λ words command.
     due-before told told' old mid new e f a (h words path command (subst (λ (t : Option Files). IsTold t path bytes) (sym e) there))
 due-told (Err x) told told' old mid new path bytes e f a there h = h
+
+-- ---- the demonstration
+
+pub due-shown : {E : Type 0} (result : Result Due E) (told : Option Files) (old new : Counts) (tenants : ℕ) → IfOk result (λ d. IsShown tenants d.text.items d.bays.items) → IfOk result KeepsNothing
+    → IfOk result (λ d. (words : List (List ℕ)) → command_of words ≡ Some (Demo tenants) → IsDueBy told old new words d)
+due-shown (Ok d) told old new tenants h k = λ words command. shown k.status_is command h (no-writes d k.tenants)
+due-shown (Err e) told old new tenants h k = tt
+
+pub nothing-written : {E : Type 0} (result : Result Due E) → IfOk result KeepsNothing → IfOk result CanBeWritten
+nothing-written (Ok d) k = record {
+  count = ap length k.kept ∙ sym (ap length k.tenants);
+  names = subst (AllByRecursion IsSpeltTenant) (sym k.tenants) tt;
+  kept = subst (AllByRecursion CanBeKept) (sym k.kept) tt;
+}
+nothing-written (Err e) k = tt
+
+-- a script that was run is summed
+summed : (files : Files) (s : Script) (r : Reported) (bytes text : List ℕ) (bays : List NotedCore) → reading bytes ≡ Ok s → AreBays s.fabrics r.bays.items → IsReported files s r
+    → text ≡ summary r.blocks.items → bays ≡ r.bays.items → IsSummed files bytes text bays
+summed files s r bytes text bays reads fabrics h is same = subst (λ (bs : List NotedCore). IsSummed files bytes text bs) (sym same) (record {
+  script = s;
+  reads = reads;
+  fabrics = fabrics;
+  blocks = r.blocks.items;
+  ran = record { refusals = h.refusals; text = r.text.items; report = h.report; refused = h.refused; are = h.blocks };
+  is = is;
+})
+
+pub due-summed : {E : Type 0} (result : Result Due E) (files : Files) (s : Script) (loaded : List Loaded) (r : Reported) → AreBays s.fabrics r.bays.items
+    → AreLoaded files s.tenants loaded → ((files : Files) → AreLoaded files s.tenants loaded → IsReported files s r)
+    → IfOk result (λ d. d.text.items ≡ summary r.blocks.items) → IfOk result (λ d. d.bays.items ≡ r.bays.items)
+    → IfOk result (λ d. (bytes : List ℕ) → reading bytes ≡ Ok s → IsSummed files bytes d.text.items d.bays.items)
+due-summed (Ok d) files s loaded r fabrics there reported text bays = λ bytes reads.
+    summed files s r bytes d.text.items d.bays.items reads fabrics (reported files there) text bays
+due-summed (Err e) files s loaded r fabrics there reported text bays = tt
+
+pub due-summed-of : {E : Type 0} (result : Result Due E) (files : Files) (s : Script) (bytes : List ℕ) → reading bytes ≡ Ok s
+    → IfOk result (λ d. (bytes : List ℕ) → reading bytes ≡ Ok s → IsSummed files bytes d.text.items d.bays.items)
+    → IfOk result (λ d. IsSummed files bytes d.text.items d.bays.items)
+due-summed-of (Ok d) files s bytes reads h = h bytes reads
+due-summed-of (Err e) files s bytes reads h = tt
+
+pub due-shown-of : {E : Type 0} (result : Result Due E) (files : Files) (tenants : ℕ) (bytes : List ℕ) → bytes ≡ demo.script tenants → Some files ≡ Some (files_of tenants)
+    → IfOk result (λ d. IsSummed files bytes d.text.items d.bays.items) → IfOk result (λ d. IsShown tenants d.text.items d.bays.items)
+due-shown-of (Ok d) files tenants bytes same tells h =
+    subst (λ (b : List ℕ). IsSummed (files_of tenants) b d.text.items d.bays.items) same
+    (subst (λ (f : Files). IsSummed f bytes d.text.items d.bays.items) (some-same tells) h)
+due-shown-of (Err e) files tenants bytes same tells h = tt
+
+-- ---- the demonstration's script has no fault, and each of its reads succeeds
+
+-- bytes that have a reading have no other
+pub one-script : (bytes : List ℕ) (s t : Script) → reading bytes ≡ Ok s → reading bytes ≡ Ok t → s ≡ t
+one-script bytes s t e f = cc
+
+not-risen : HasRisen 0 0 → ⊥
+not-risen (inl l) = omega (arith, l)
+not-risen (inr l) = omega (arith, l)
+
+not-caused : (files : Files) (path bytes : List ℕ) (most : ℕ) (why : ReadError) → files path ≡ Some bytes → length bytes ≤ most → IsCause (Some files) (counts_of 0 0) (counts_of 0 0) path most why → ⊥
+not-caused files path bytes most read.NotThere e l (inl none) = cc
+not-caused files path bytes most read.NotThere e l (inr risen) = not-risen risen
+not-caused files path bytes most read.TooLong e l (inl long) =
+    let same : bytes ≡ long.0 = some-same (sym e ∙ long.1) in omega (arith, l, long.2, ap length same)
+not-caused files path bytes most read.TooLong e l (inr risen) = not-risen risen
+not-caused files path bytes most read.Failed e l risen = not-risen risen
+not-caused files path bytes most read.Memory e l never = never
+
+-- what is there is not missed by a store that never fails
+pub none-missed : (files : Files) (s : Script) (path : List ℕ) (why : ReadError) → IsAvailable files s → IsMissed (Some files) (counts_of 0 0) (counts_of 0 0) s path why → ⊥
+none-missed files s path why there missed =
+    let here = there path missed.0 missed.1 in not-caused files path here.0 missed.0 why here.1 here.2 missed.2

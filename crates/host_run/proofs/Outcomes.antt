@@ -11,9 +11,10 @@ use Rattle.script_text.specs.Reading.{reading}
 use Rattle.host_load.specs.Reading.{Counts, IsAsked, IsCause, IsMissed}
 use Rattle.host_saves.specs.Writes.{after_writes, LeavesFront, Write}
 use Rattle.host_run.specs.Taking.{Takes}
-use Rattle.host_run.specs.Words.{command_of}
-use Rattle.host_run.specs.Due.{Outside, IsDue, ran, misused, misread, unread_script, unread_file, all, cut, short, unsaved, Outcome, wrote, starved, most_script}
-use Rattle.host_run.specs.Claims.{HasReported, IsMisused, HasMisread, HasMissed, IsUnread, TakesFront, IsGiven, IsServed, IsFaulty, IsStarved}
+use Rattle.host_run.specs.Demos.{IsShown}
+use Rattle.host_run.specs.Words.{command_of, path_of, Command, Run, Check, Demo}
+use Rattle.host_run.specs.Due.{Outside, IsDue, ran, checked, shown, misused, misread, unread_named, unread_file, all, cut, short, unsaved, Outcome, wrote, starved, most_of}
+use Rattle.host_run.specs.Claims.{HasReported, HasJudged, HasShown, IsMisused, HasMisread, HasMissed, IsUnread, TakesFront, IsGiven, IsServed, IsFaulty, IsCheckable, IsStarved}
 
 pub written-none : (told : Option Files) → option_map (after_writes []) told ≡ told
 written-none None = refl
@@ -39,31 +40,47 @@ no-cause told files old new path bytes most read.TooLong tells there size f g (i
 no-cause told files old new path bytes most read.Failed tells there size f g h = f h
 no-cause told files old new path bytes most read.Memory tells there size f g h = h
 
--- what is told at the path of the words is what they are given
-told-bytes : {told : Option Files} {words : List (List ℕ)} {bytes : List ℕ} (s : IsGiven told words bytes) (path other : List ℕ) → command_of words ≡ Some path
-    → IsTold told path other → other ≡ bytes
-told-bytes {told = told} s path other c t =
-    let command = s.command in
-    let there = s.there in
-    let same : path ≡ s.path = cc in
-    let told_at : s.files s.path ≡ Some other = subst (λ p. s.files p ≡ Some other) same (subst (λ x. IsTold x path other) s.tells t) in
+-- the words are one command
+one-command : (words : List (List ℕ)) {c e : Command} → command_of words ≡ Some c → command_of words ≡ Some e → e ≡ c
+one-command words h k = cc
+
+-- which names one path at most
+one-path : (words : List (List ℕ)) (c e : Command) (x y : List ℕ) → e ≡ c → path_of c ≡ Some x → path_of e ≡ Some y → y ≡ x
+one-path words c e x y same p q =
+    let both : Some y ≡ Some x = sym q ∙ ap path_of same ∙ p in
     cc
 
--- nor the script
-no-script : {told : Option Files} {words : List (List ℕ)} {bytes : List ℕ} (s : IsGiven told words bytes) (old new : Counts) (path : List ℕ) (why : ReadError) → command_of words ≡ Some path
-    → (HasRisen old.faults new.faults → ⊥) → (HasRisen old.absences new.absences → ⊥) → IsCause told old new path most_script why → ⊥
-no-script {told = told} {bytes = bytes} s old new path why c f g h =
-    let command = s.command in
-    let same : path ≡ s.path = cc in
-    no-cause told s.files old new s.path bytes most_script why s.tells s.there s.short f g (subst (λ p. IsCause told old new p most_script why) same h)
+-- what is told at the path of the words is what they are given
+told-bytes : {told : Option Files} {words : List (List ℕ)} {c : Command} {bytes : List ℕ} (s : IsGiven told words c bytes) (e : Command) (path other : List ℕ) → command_of words ≡ Some e
+    → path_of e ≡ Some path → IsTold told path other → other ≡ bytes
+told-bytes {told = told} {words = words} {c = c} s e path other h q t =
+    let there = s.there in
+    let same : path ≡ s.path = one-path words c e s.path path (one-command words s.command h) s.names q in
+    let told_at : s.files path ≡ Some other = subst (λ x. IsTold x path other) s.tells t in
+    cc
+
+-- nor the file that they name
+no-named : {told : Option Files} {words : List (List ℕ)} {c : Command} {bytes : List ℕ} (s : IsGiven told words c bytes) (old new : Counts) (e : Command) (path : List ℕ) (why : ReadError)
+    → command_of words ≡ Some e → path_of e ≡ Some path → (HasRisen old.faults new.faults → ⊥) → (HasRisen old.absences new.absences → ⊥) → IsCause told old new path (most_of e) why → ⊥
+no-named {told = told} {words = words} {c = c} {bytes = bytes} s old new e path why k q f g h =
+    let same : e ≡ c = one-command words s.command k in
+    let path_same : path ≡ s.path = one-path words c e s.path path same s.names q in
+    no-cause told s.files old new s.path bytes (most_of c) why s.tells s.there s.short f g
+    (subst (λ x. IsCause told old new s.path (most_of x) why) same (subst (λ x. IsCause told old new x (most_of e) why) path_same h))
+
+-- nor is there a path in the words of the demonstration
+no-path : (words : List (List ℕ)) (c : Command) (tenants : ℕ) (path : List ℕ) → command_of words ≡ Some c → command_of words ≡ Some (Demo tenants) → path_of c ≡ Some path → ⊥
+no-path words c tenants path k h q =
+    let none : path_of (Demo tenants) ≡ Some path = subst (λ x. path_of x ≡ Some path) (one-command words h k) q in
+    absurd cc
 
 -- nor what is read for it
-no-file : {told : Option Files} {words : List (List ℕ)} (s : IsServed told words) (old new : Counts) (path bytes asked : List ℕ) (script : Script) (why : ReadError) → command_of words ≡ Some path
+no-file : {told : Option Files} {words : List (List ℕ)} (s : IsServed told words) (old new : Counts) (path bytes asked : List ℕ) (script : Script) (why : ReadError) → command_of words ≡ Some (Run path)
     → IsTold told path bytes → reading bytes ≡ Ok script → (HasRisen old.faults new.faults → ⊥) → (HasRisen old.absences new.absences → ⊥)
     → IsMissed told old new script asked why → ⊥
 no-file {told = told} s old new path bytes asked script why c t l f g (most, h, k) =
     let reads = s.reads in
-    let same : bytes ≡ s.bytes = told-bytes s.given path bytes c t in
+    let same : bytes ≡ s.bytes = told-bytes s.given (Run path) path bytes c refl t in
     let script_same : script ≡ s.script = cc in
     let is_asked : IsAsked (Some s.given.files) s.script asked most =
     subst (λ x. IsAsked x s.script asked most) s.given.tells (subst (λ x. IsAsked told x asked most) script_same h) in
@@ -106,8 +123,8 @@ module _ (words : List (List ℕ)) (a b : Outside) (bays : List NotedCore) (r : 
   no-other n (inl e) = (λ h. omega arith, λ h. omega arith, λ h. omega arith, λ h. omega arith, λ h. omega arith)
   no-other n (inr e) = (λ h. omega arith, λ h. omega arith, λ h. omega arith, λ h. omega arith, λ h. omega arith)
 
-  pub has_reported : (r ≡ 0) ⊎ (r ≡ 3) → Outcome words a b bays r → HasReported words a b bays r
-  has_reported z o = go d.due d.takes d.files
+  pub has_reported : (path : List ℕ) → command_of words ≡ Some (Run path) → (r ≡ 0) ⊎ (r ≡ 3) → Outcome words a b bays r → HasReported words a b bays r
+  has_reported path run z o = go d.due d.takes d.files
     where
       not : (r ≡ 2 → ⊥) × (r ≡ 4 → ⊥) × (r ≡ 5 → ⊥) × (r ≡ 6 → ⊥) × (r ≡ 7 → ⊥)
       not = no-other r z
@@ -131,10 +148,58 @@ module _ (words : List (List ℕ)) (a b : Outside) (bays : List NotedCore) (r : 
         takes = w;
         files = k;
       }
+      go (checked v e c t l y f s) w k = absurd cc
+      go (shown e c h s) w k = absurd cc
       go (misused e c t f s) w k = absurd (not.0 e)
       go (misread v e c t l y x f s) w k = absurd (not.1 e)
-      go (unread_script y e c t x f s) w k = absurd (not.2 e)
+      go (unread_named {path = p} n y e c q t x f s) w k = absurd (not.2 e)
       go (unread_file v q y e c t l x m u f s) w k = absurd (not.2 e)
+
+  pub has_judged : (path : List ℕ) → command_of words ≡ Some (Check path) → (r ≡ 0) ⊎ (r ≡ 3) → Outcome words a b bays r → HasJudged words a b bays r
+  has_judged path check z o = go d.due d.takes d.files
+    where
+      not : (r ≡ 2 → ⊥) × (r ≡ 4 → ⊥) × (r ≡ 5 → ⊥) × (r ≡ 6 → ⊥) × (r ≡ 7 → ⊥)
+      not = no-other r z
+
+      d : IsDone
+      d = done not.3 not.4 o
+
+      go : {text : List ℕ} {writes : List Write} → IsDueNow r text writes → Takes a.taken b.taken text → b.told ≡ option_map (after_writes writes) a.told → HasJudged words a b bays r
+      go (ran v e c t l y f h) w k = absurd cc
+      go {text} {writes} (checked {path = p} x e c t l y f s) w k = record {
+        path = p;
+        bytes = x;
+        said = text;
+        command = c;
+        read = t;
+        short = l;
+        check = y;
+        takes = w;
+        files = same writes s k;
+        none = f;
+      }
+      go (shown e c h s) w k = absurd cc
+      go (misused e c t f s) w k = absurd (not.0 e)
+      go (misread v e c t l y x f s) w k = absurd (not.1 e)
+      go (unread_named {path = p} n y e c q t x f s) w k = absurd (not.2 e)
+      go (unread_file v q y e c t l x m u f s) w k = absurd (not.2 e)
+
+  pub has_shown : (tenants : ℕ) → command_of words ≡ Some (Demo tenants) → r ≡ 0 → Outcome words a b bays r → HasShown tenants a b bays
+  has_shown tenants demo z o = go d.due d.takes d.files
+    where
+      d : IsDone
+      d = done (λ e. omega arith) (λ e. omega arith) o
+
+      go : {text : List ℕ} {writes : List Write} → IsDueNow r text writes → Takes a.taken b.taken text → b.told ≡ option_map (after_writes writes) a.told → HasShown tenants a b bays
+      go (ran v e c t l y f h) w k = absurd cc
+      go (checked v e c t l y f s) w k = absurd cc
+      go {text} {writes} (shown {tenants = n} e c h s) w k =
+          let is : n ≡ tenants = cc in
+          record { text = text; shown = subst (λ (m : ℕ). IsShown m text bays) is h; takes = w; files = same writes s k }
+      go (misused e c t f s) w k = absurd (omega arith)
+      go (misread v e c t l y x f s) w k = absurd (omega arith)
+      go (unread_named n y e c q t x f s) w k = absurd (omega arith)
+      go (unread_file v q y e c t l x m u f s) w k = absurd (omega arith)
 
   pub is_misused : r ≡ 2 → Outcome words a b bays r → IsMisused words a b bays
   is_misused z o = go d.due d.takes d.files
@@ -144,9 +209,11 @@ module _ (words : List (List ℕ)) (a b : Outside) (bays : List NotedCore) (r : 
 
       go : {text : List ℕ} {writes : List Write} → IsDueNow r text writes → Takes a.taken b.taken text → b.told ≡ option_map (after_writes writes) a.told → IsMisused words a b bays
       go (ran v e c t l y f h) w k = absurd ((no-other r e).0 z)
+      go (checked v e c t l y f s) w k = absurd ((no-other r e).0 z)
+      go (shown e c h s) w k = absurd (omega arith)
       go {text} {writes} (misused e c t f s) w k = record { command = c; takes = subst (Takes a.taken b.taken) t w; files = same writes s k; none = f }
       go (misread v e c t l y x f s) w k = absurd (omega arith)
-      go (unread_script y e c t x f s) w k = absurd (omega arith)
+      go (unread_named {path = p} n y e c q t x f s) w k = absurd (omega arith)
       go (unread_file v q y e c t l x m u f s) w k = absurd (omega arith)
 
   pub has_misread : r ≡ 4 → Outcome words a b bays r → HasMisread words a b bays
@@ -157,6 +224,8 @@ module _ (words : List (List ℕ)) (a b : Outside) (bays : List NotedCore) (r : 
 
       go : {text : List ℕ} {writes : List Write} → IsDueNow r text writes → Takes a.taken b.taken text → b.told ≡ option_map (after_writes writes) a.told → HasMisread words a b bays
       go (ran v e c t l y f h) w k = absurd ((no-other r e).1 z)
+      go (checked v e c t l y f s) w k = absurd ((no-other r e).1 z)
+      go (shown e c h s) w k = absurd (omega arith)
       go (misused e c t f s) w k = absurd (omega arith)
       go {text} {writes} (misread {path = p} x {line = n} {cause = m} e c t l y u f s) w k = record {
         path = p;
@@ -171,7 +240,7 @@ module _ (words : List (List ℕ)) (a b : Outside) (bays : List NotedCore) (r : 
         files = same writes s k;
         none = f;
       }
-      go (unread_script y e c t x f s) w k = absurd (omega arith)
+      go (unread_named {path = p} n y e c q t x f s) w k = absurd (omega arith)
       go (unread_file v q y e c t l x m u f s) w k = absurd (omega arith)
 
   pub has_missed : r ≡ 5 → Outcome words a b bays r → HasMissed words a b bays
@@ -182,19 +251,23 @@ module _ (words : List (List ℕ)) (a b : Outside) (bays : List NotedCore) (r : 
 
       go : {text : List ℕ} {writes : List Write} → IsDueNow r text writes → Takes a.taken b.taken text → b.told ≡ option_map (after_writes writes) a.told → HasMissed words a b bays
       go (ran v e c t l y f h) w k = absurd ((no-other r e).2 z)
+      go (checked v e c t l y f s) w k = absurd ((no-other r e).2 z)
+      go (shown e c h s) w k = absurd (omega arith)
       go (misused e c t f s) w k = absurd (omega arith)
       go (misread v e c t l y x f s) w k = absurd (omega arith)
-      go {text} {writes} (unread_script {path = p} y e c t x f s) w k =
-          record { path = p; why = y; cause = IsUnread.script c t; takes = subst (Takes a.taken b.taken) x w; files = same writes s k; none = f }
+      go {text} {writes} (unread_named {path = p} n y e c q t x f s) w k =
+          record { path = p; why = y; cause = IsUnread.named n c q t; takes = subst (Takes a.taken b.taken) x w; files = same writes s k; none = f }
       go {text} {writes} (unread_file v p y e c t l x m u f s) w k =
           record { path = p; why = y; cause = IsUnread.file v c t l x m; takes = subst (Takes a.taken b.taken) u w; files = same writes s k; none = f }
 
   -- what was due has one of five statuses
   due_status : {s : ℕ} {text : List ℕ} {writes : List Write} → IsDueNow s text writes → (s ≡ 6 → ⊥) × (s ≡ 7 → ⊥)
   due_status {s} (ran v e c t l y f h) = let not = no-other s e in (not.3, not.4)
+  due_status {s} (checked v e c t l y f w) = let not = no-other s e in (not.3, not.4)
+  due_status (shown e c h s) = (λ h. omega arith, λ h. omega arith)
   due_status (misused e c t f s) = (λ h. omega arith, λ h. omega arith)
   due_status (misread v e c t l y x f s) = (λ h. omega arith, λ h. omega arith)
-  due_status (unread_script y e c t x f s) = (λ h. omega arith, λ h. omega arith)
+  due_status (unread_named {path = p} n y e c q t x f s) = (λ h. omega arith, λ h. omega arith)
   due_status (unread_file v q y e c t l x m u f s) = (λ h. omega arith, λ h. omega arith)
 
   pub has_failed : r ≡ 6 → Outcome words a b bays r → HasRisen a.failures b.failures ⊎ HasRisen a.counts.faults b.counts.faults
@@ -253,10 +326,27 @@ module _ (words : List (List ℕ)) (a b : Outside) (bays : List NotedCore) (r : 
   is_usage none (wrote due (unsaved t k (inr d))) = inr (inl d.0)
   is_usage none (starved e t f) = inr (inr e)
   is_usage none (wrote (ran v e c t l y f h) (all d w k)) = absurd cc
+  is_usage none (wrote (checked v e c t l y f s) (all d w k)) = absurd cc
+  is_usage none (wrote (shown e c h s) (all d w k)) = absurd cc
   is_usage none (wrote (misused e c t f s) (all d w k)) = inl (d ∙ e)
   is_usage none (wrote (misread v e c t l y x f s) (all d w k)) = absurd cc
-  is_usage none (wrote (unread_script y e c t x f s) (all d w k)) = absurd cc
+  is_usage none (wrote (unread_named {path = p} n y e c q t x f s) (all d w k)) = absurd cc
   is_usage none (wrote (unread_file v q y e c t l x m u f s) (all d w k)) = absurd cc
+
+  -- the demonstration is answered by its summary, or the sink failed, or the store, or memory
+  pub is_demo : (tenants : ℕ) → command_of words ≡ Some (Demo tenants) → Outcome words a b bays r → (r ≡ 0) ⊎ ((r ≡ 6) ⊎ (r ≡ 7))
+  is_demo tenants demo (wrote due (cut n t k d h)) = inr (inl d)
+  is_demo tenants demo (wrote due (short n t k d)) = inr (inr d)
+  is_demo tenants demo (wrote due (unsaved t k (inl d))) = inr (inr d)
+  is_demo tenants demo (wrote due (unsaved t k (inr d))) = inr (inl d.0)
+  is_demo tenants demo (starved e t f) = inr (inr e)
+  is_demo tenants demo (wrote (ran v e c t l y f h) (all d w k)) = absurd cc
+  is_demo tenants demo (wrote (checked v e c t l y f s) (all d w k)) = absurd cc
+  is_demo tenants demo (wrote (shown e c h s) (all d w k)) = inl (d ∙ e)
+  is_demo tenants demo (wrote (misused e c t f s) (all d w k)) = absurd cc
+  is_demo tenants demo (wrote (misread v e c t l y x f s) (all d w k)) = absurd cc
+  is_demo tenants demo (wrote (unread_named {path = p} n y e c q t x f s) (all d w k)) = absurd (no-path words n tenants p c demo q)
+  is_demo tenants demo (wrote (unread_file v q y e c t l x m u f s) (all d w k)) = absurd cc
 
   -- a told script that has no reading, without a count that rose, is answered by its fault, or the sink failed, or memory
   pub is_faulty : IsFaulty a.told words → (HasRisen a.counts.faults b.counts.faults → ⊥) → (HasRisen a.counts.absences b.counts.absences → ⊥)
@@ -267,20 +357,22 @@ module _ (words : List (List ℕ)) (a b : Outside) (bays : List NotedCore) (r : 
   is_faulty i f g (wrote due (unsaved t k (inr d))) = inr (inl d.0)
   is_faulty i f g (starved e t k) = inr (inr e)
   is_faulty i f g (wrote (ran {path = p} v e c t l y m h) (all d w k)) =
-      let is = told-bytes i.given p v c t in
+      let is = told-bytes i.given (Run p) p v c refl t in
       let faulty = i.faulty in
       absurd cc
+  is_faulty i f g (wrote (checked v e c t l y m s) (all d w k)) = let command = i.given.command in absurd cc
+  is_faulty i f g (wrote (shown e c h s) (all d w k)) = let command = i.given.command in absurd cc
   is_faulty i f g (wrote (misused e c t m s) (all d w k)) = let command = i.given.command in absurd cc
   is_faulty i f g (wrote (misread v e c t l y x m s) (all d w k)) = inl (d ∙ e)
-  is_faulty i f g (wrote (unread_script {path = p} y e c t x m s) (all d w k)) = absurd (no-script i.given a.counts b.counts p y c f g t)
+  is_faulty i f g (wrote (unread_named {path = p} n y e c q t x m s) (all d w k)) = absurd (no-named i.given a.counts b.counts n p y c q f g t)
   is_faulty i f g (wrote (unread_file {path = p} v q y e c t l x m u n s) (all d w k)) =
-      let is = told-bytes i.given p v c t in
+      let is = told-bytes i.given (Run p) p v c refl t in
       let faulty = i.faulty in
       absurd cc
 
-  -- a script that is told with all that is read for it, without a count that rose, is run, or memory was wanting
-  pub is_complete : IsServed a.told words → (HasRisen a.counts.faults b.counts.faults → ⊥) → (HasRisen a.counts.absences b.counts.absences → ⊥) → (HasRisen a.failures b.failures → ⊥)
-      → Outcome words a b bays r → (r ≡ 0) ⊎ ((r ≡ 3) ⊎ (r ≡ 7))
+  -- a script that is told with all that is read for it, or a source that is, without a count that rose, is run or checked, or memory was wanting
+  pub is_complete : IsServed a.told words ⊎ IsCheckable a.told words → (HasRisen a.counts.faults b.counts.faults → ⊥) → (HasRisen a.counts.absences b.counts.absences → ⊥)
+      → (HasRisen a.failures b.failures → ⊥) → Outcome words a b bays r → (r ≡ 0) ⊎ ((r ≡ 3) ⊎ (r ≡ 7))
   is_complete i f g z (wrote due (cut n t k d h)) = absurd (z h)
   is_complete i f g z (wrote due (short n t k d)) = inr (inr d)
   is_complete i f g z (wrote due (unsaved t k (inl d))) = inr (inr d)
@@ -288,22 +380,33 @@ module _ (words : List (List ℕ)) (a b : Outside) (bays : List NotedCore) (r : 
   is_complete i f g z (starved e t k) = inr (inr e)
   is_complete i f g z (wrote (ran v (inl e) c t l y m h) (all d w k)) = inl (d ∙ e)
   is_complete i f g z (wrote (ran v (inr e) c t l y m h) (all d w k)) = inr (inl (d ∙ e))
-  is_complete i f g z (wrote (misused e c t m s) (all d w k)) = let command = i.given.command in absurd cc
-  is_complete i f g z (wrote (misread {path = p} v e c t l y x m s) (all d w k)) =
-      let is = told-bytes i.given p v c t in
+  is_complete i f g z (wrote (checked v (inl e) c t l y m s) (all d w k)) = inl (d ∙ e)
+  is_complete i f g z (wrote (checked v (inr e) c t l y m s) (all d w k)) = inr (inl (d ∙ e))
+  is_complete (inl i) f g z (wrote (shown e c h s) (all d w k)) = let command = i.given.command in absurd cc
+  is_complete (inl i) f g z (wrote (misused e c t m s) (all d w k)) = let command = i.given.command in absurd cc
+  is_complete (inl i) f g z (wrote (misread {path = p} v e c t l y x m s) (all d w k)) =
+      let is = told-bytes i.given (Run p) p v c refl t in
       let reads = i.reads in
       absurd cc
-  is_complete i f g z (wrote (unread_script {path = p} y e c t x m s) (all d w k)) = absurd (no-script i.given a.counts b.counts p y c f g t)
-  is_complete i f g z (wrote (unread_file {path = p} v q {script = o} y e c t l x m u n s) (all d w k)) =
+  is_complete (inl i) f g z (wrote (unread_named {path = p} n y e c q t x m s) (all d w k)) = absurd (no-named i.given a.counts b.counts n p y c q f g t)
+  is_complete (inl i) f g z (wrote (unread_file {path = p} v q {script = o} y e c t l x m u n s) (all d w k)) =
       absurd (no-file i a.counts b.counts p v q o y c t x f g m)
+  is_complete (inr i) f g z (wrote (shown e c h s) (all d w k)) = let command = i.given.command in absurd cc
+  is_complete (inr i) f g z (wrote (misused e c t m s) (all d w k)) = let command = i.given.command in absurd cc
+  is_complete (inr i) f g z (wrote (misread v e c t l y x m s) (all d w k)) = let command = i.given.command in absurd cc
+  is_complete (inr i) f g z (wrote (unread_named {path = p} n y e c q t x m s) (all d w k)) = absurd (no-named i.given a.counts b.counts n p y c q f g t)
+  is_complete (inr i) f g z (wrote (unread_file v q y e c t l x m u n s) (all d w k)) = let command = i.given.command in absurd cc
 
   -- the statuses that there are
   pub is_status : Outcome words a b bays r → (r ≡ 0) ⊎ ((r ≡ 2) ⊎ ((r ≡ 3) ⊎ ((r ≡ 4) ⊎ ((r ≡ 5) ⊎ ((r ≡ 6) ⊎ (r ≡ 7))))))
   is_status (wrote (ran v (inl e) c t l y f h) (all d w k)) = inl (d ∙ e)
   is_status (wrote (ran v (inr e) c t l y f h) (all d w k)) = inr (inr (inl (d ∙ e)))
+  is_status (wrote (checked v (inl e) c t l y f s) (all d w k)) = inl (d ∙ e)
+  is_status (wrote (checked v (inr e) c t l y f s) (all d w k)) = inr (inr (inl (d ∙ e)))
+  is_status (wrote (shown e c h s) (all d w k)) = inl (d ∙ e)
   is_status (wrote (misused e c t f s) (all d w k)) = inr (inl (d ∙ e))
   is_status (wrote (misread v e c t l y x f s) (all d w k)) = inr (inr (inr (inl (d ∙ e))))
-  is_status (wrote (unread_script y e c t x f s) (all d w k)) = inr (inr (inr (inr (inl (d ∙ e)))))
+  is_status (wrote (unread_named {path = p} n y e c q t x f s) (all d w k)) = inr (inr (inr (inr (inl (d ∙ e)))))
   is_status (wrote (unread_file v q y e c t l x m u f s) (all d w k)) = inr (inr (inr (inr (inl (d ∙ e)))))
   is_status (wrote due (cut n t z d h)) = inr (inr (inr (inr (inr (inl d)))))
   is_status (wrote due (short n t z d)) = inr (inr (inr (inr (inr (inr d)))))

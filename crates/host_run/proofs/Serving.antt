@@ -11,7 +11,7 @@ use Rattle.script_text.specs.declared.script.Script.{Script}
 use Rattle.host_load.specs.Reading.{Counts, IsCause, IsMissed}
 use Rattle.host_saves.specs.Writes.{after_writes, LeavesFront, Write}
 use Rattle.host_run.specs.Taking.{Takes}
-use Rattle.host_run.specs.Due.{most_script, Outside, outside, IsDue, ran, misused, misread, unread_script, unread_file, Wrote, all, cut, short, unsaved}
+use Rattle.host_run.specs.Due.{most_of, Outside, outside, IsDue, ran, checked, shown, misused, misread, unread_named, unread_file, Wrote, all, cut, short, unsaved}
 use Rattle.host_run.specs.Statuses.{status_of}
 use Rattle.host_run.proofs.Outcomes.{written-none}
 
@@ -55,9 +55,11 @@ missed-before told old mid new s path why f g (most, h, k) = (most, h, cause-bef
 pub due-later : (told : Option Files) (old mid new : Counts) {words : List (List ℕ)} {status : ℕ} {text : List ℕ} {bays : List NotedCore} {writes : List Write}
     → mid.faults ≤ new.faults → mid.absences ≤ new.absences → IsDue told old mid words status text bays writes → IsDue told old new words status text bays writes
 due-later told old mid new f g (ran v e c t l y b h) = ran v e c t l y b h
+due-later told old mid new f g (checked v e c t l k b w) = checked v e c t l k b w
+due-later told old mid new f g (shown e c h w) = shown e c h w
 due-later told old mid new f g (misused e c t b w) = misused e c t b w
 due-later told old mid new f g (misread v e c t l y x b w) = misread v e c t l y x b w
-due-later told old mid new f g (unread_script {path = p} why e c h x b w) = unread_script why e c (cause-later told old mid new p most_script why f g h) x b w
+due-later told old mid new f g (unread_named {path = p} n why e c q h x b w) = unread_named n why e c q (cause-later told old mid new p (most_of n) why f g h) x b w
 due-later told old mid new f g (unread_file v p {script = s} why e c t l y m x b w) = unread_file v p why e c t l y (missed-later told old mid new s p why f g m) x b w
 
 -- what is due behind a call that told the same files and counted less is due before it
@@ -67,9 +69,11 @@ due-before told told' old mid new {words} {status} {text} {bays} {writes} e f g 
   where
     back : IsDue told mid new words status text bays writes → IsDue told old new words status text bays writes
     back (ran v e c t l y b h) = ran v e c t l y b h
+    back (checked v e c t l k b w) = checked v e c t l k b w
+    back (shown e c h w) = shown e c h w
     back (misused e c t b w) = misused e c t b w
     back (misread v e c t l y x b w) = misread v e c t l y x b w
-    back (unread_script {path = p} why e c h x b w) = unread_script why e c (cause-before told old mid new p most_script why f g h) x b w
+    back (unread_named {path = p} n why e c q h x b w) = unread_named n why e c q (cause-before told old mid new p (most_of n) why f g h) x b w
     back (unread_file v p {script = s} why e c t l y m x b w) = unread_file v p why e c t l y (missed-before told old mid new s p why f g m) x b w
 
 -- ---- writing

@@ -5,16 +5,18 @@ use Rattle.fab_io.specs.Outside.{Files, IsTold}
 use Rattle.fab_bay.specs.declared.noted.NotedCore.{NotedCore}
 use Rattle.script_text.specs.declared.script.Script.{Script}
 use Rattle.script_text.specs.Reading.{reading}
-use Rattle.host_load.specs.Reading.{IsAvailable, IsCause, IsMissed}
+use Rattle.host_load.specs.Reading.{most_source, IsAvailable, IsCause, IsMissed}
 use Rattle.host_saves.specs.Writes.{after_writes, LeavesFront, Write}
 use Rattle.host_script.specs.Reported.{AreBays}
 use Rattle.host_script.specs.Runs.{HasRun}
 use Rattle.host_run.specs.Taking.{Takes}
-use Rattle.host_run.specs.Words.{command_of}
+use Rattle.host_check.specs.Checks.{IsCheck}
+use Rattle.host_run.specs.Demos.{IsShown}
+use Rattle.host_run.specs.Words.{command_of, path_of, Command, Run, Check}
 use Rattle.host_run.specs.Lines.{fault, unread, usage}
-use Rattle.host_run.specs.Due.{IsDue, Outside, most_script}
+use Rattle.host_run.specs.Due.{IsDue, Outside, most_of, most_script}
 
--- statuses 0 and 3: the words name a script, whose bytes are within the limit of what is read, and which has a reading; the bays are those
+-- statuses 0 and 3 of `run`: the words name a script, whose bytes are within the limit of what is read, and which has a reading; the bays are those
 -- of its fabrics; and, where the store tells its files, the sink has taken the report of the script by the histories of these bays, and the told files
 -- are those before, with each snapshot written that its tenants' runs keep
 pub record HasReported (words : List (List ℕ)) (a b : Outside) (bays : List NotedCore) (status : ℕ) : Type 0 where
@@ -23,7 +25,7 @@ pub record HasReported (words : List (List ℕ)) (a b : Outside) (bays : List No
   pub script : Script
   pub report : List ℕ
   pub writes : List Write
-  pub command : command_of words ≡ Some path
+  pub command : command_of words ≡ Some (Run path)
   pub read : IsTold a.told path bytes
   pub short : length bytes ≤ most_script
   pub reads : reading bytes ≡ Ok script
@@ -31,6 +33,28 @@ pub record HasReported (words : List (List ℕ)) (a b : Outside) (bays : List No
   pub ran : (files : Files) → a.told ≡ Some files → HasRun files script status report bays writes
   pub takes : Takes a.taken b.taken report
   pub files : b.told ≡ option_map (after_writes writes) a.told
+
+-- statuses 0 and 3 of `check`: the words name a source, whose bytes are within the limit of what is read, and the sink has taken what is said of
+-- them, as they are judged; no told file changes, and no bay is there
+pub record HasJudged (words : List (List ℕ)) (a b : Outside) (bays : List NotedCore) (status : ℕ) : Type 0 where
+  pub path : List ℕ
+  pub bytes : List ℕ
+  pub said : List ℕ
+  pub command : command_of words ≡ Some (Check path)
+  pub read : IsTold a.told path bytes
+  pub short : length bytes ≤ most_source
+  pub check : IsCheck bytes status said
+  pub takes : Takes a.taken b.taken said
+  pub files : b.told ≡ a.told
+  pub none : bays ≡ []
+
+-- status 0 of `demo`: the sink has taken the summary of a run of the demonstration with so many tenants, over its own sources, on these bays; no told
+-- file changes
+pub record HasShown (tenants : ℕ) (a b : Outside) (bays : List NotedCore) : Type 0 where
+  pub text : List ℕ
+  pub shown : IsShown tenants text bays
+  pub takes : Takes a.taken b.taken text
+  pub files : b.told ≡ a.told
 
 -- status 2: the words are no command, and the sink has taken the usage; no told file changes, and no bay is there
 pub record IsMisused (words : List (List ℕ)) (a b : Outside) (bays : List NotedCore) : Type 0 where
@@ -46,7 +70,7 @@ pub record HasMisread (words : List (List ℕ)) (a b : Outside) (bays : List Not
   pub bytes : List ℕ
   pub line : ℕ
   pub cause : ℕ
-  pub command : command_of words ≡ Some path
+  pub command : command_of words ≡ Some (Run path)
   pub read : IsTold a.told path bytes
   pub short : length bytes ≤ most_script
   pub faulty : reading bytes ≡ Err (line, cause)
@@ -54,11 +78,11 @@ pub record HasMisread (words : List (List ℕ)) (a b : Outside) (bays : List Not
   pub files : b.told ≡ a.told
   pub none : bays ≡ []
 
--- a read that failed: that of the script, or one for a script that was read
+-- a read that failed: that of the file that the command names, or one for a script that was read
 pub data IsUnread (words : List (List ℕ)) (a b : Outside) (path : List ℕ) (why : ReadError) : Type 0 where
-  script : command_of words ≡ Some path → IsCause a.told a.counts b.counts path most_script why → IsUnread words a b path why
-  file : {named : List ℕ} (bytes : List ℕ) {s : Script} → command_of words ≡ Some named → IsTold a.told named bytes → length bytes ≤ most_script → reading bytes ≡ Ok s →
-      IsMissed a.told a.counts b.counts s path why → IsUnread words a b path why
+  named : (c : Command) → command_of words ≡ Some c → path_of c ≡ Some path → IsCause a.told a.counts b.counts path (most_of c) why → IsUnread words a b path why
+  file : {script_path : List ℕ} (bytes : List ℕ) {s : Script} → command_of words ≡ Some (Run script_path) → IsTold a.told script_path bytes → length bytes ≤ most_script →
+      reading bytes ≡ Ok s → IsMissed a.told a.counts b.counts s path why → IsUnread words a b path why
 
 -- status 5: a read of this path failed for this cause, and the sink has taken the line that says so; no told file changes, and no bay is there
 pub record HasMissed (words : List (List ℕ)) (a b : Outside) (bays : List NotedCore) : Type 0 where
@@ -85,27 +109,36 @@ pub record TakesFront (words : List (List ℕ)) (a b : Outside) (bays : List Not
 abbrev pub IsStarved : List (List ℕ) → Outside → Outside → List NotedCore → Type 0
 IsStarved words a b bays = ((b.taken ≡ a.taken) × (b.told ≡ a.told)) ⊎ TakesFront words a b bays
 
--- the words name a script that is told, within its limit
-pub record IsGiven (told : Option Files) (words : List (List ℕ)) (bytes : List ℕ) : Type 0 where
-  pub path : List ℕ
+-- the words are this command, and the file that it names is told, within its limit
+pub record IsGiven (told : Option Files) (words : List (List ℕ)) (c : Command) (bytes : List ℕ) : Type 0 where
   pub files : Files
-  pub command : command_of words ≡ Some path
+  pub path : List ℕ
+  pub command : command_of words ≡ Some c
+  pub names : path_of c ≡ Some path
   pub tells : told ≡ Some files
   pub there : files path ≡ Some bytes
-  pub short : length bytes ≤ most_script
+  pub short : length bytes ≤ most_of c
 
--- so it is, the script has a reading, and all that is read for it is told, within its limits
+-- so it is of a script, which has a reading, and all that is read for it is told, within its limits
 pub record IsServed (told : Option Files) (words : List (List ℕ)) : Type 0 where
+  pub path : List ℕ
   pub bytes : List ℕ
   pub script : Script
-  pub given : IsGiven told words bytes
+  pub given : IsGiven told words (Run path) bytes
   pub reads : reading bytes ≡ Ok script
   pub available : IsAvailable given.files script
 
--- so it is, and the script has no reading
+-- so it is of a script, which has no reading
 pub record IsFaulty (told : Option Files) (words : List (List ℕ)) : Type 0 where
+  pub path : List ℕ
   pub bytes : List ℕ
   pub line : ℕ
   pub cause : ℕ
-  pub given : IsGiven told words bytes
+  pub given : IsGiven told words (Run path) bytes
   pub faulty : reading bytes ≡ Err (line, cause)
+
+-- so it is of a source
+pub record IsCheckable (told : Option Files) (words : List (List ℕ)) : Type 0 where
+  pub path : List ℕ
+  pub bytes : List ℕ
+  pub given : IsGiven told words (Check path) bytes

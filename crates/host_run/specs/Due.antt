@@ -5,30 +5,41 @@ use Rattle.fab_io.specs.Outside.{Files, HasRisen, IsTold}
 use Rattle.fab_bay.specs.declared.noted.NotedCore.{NotedCore}
 use Rattle.script_text.specs.declared.script.Script.{Script}
 use Rattle.script_text.specs.Reading.{reading}
-use Rattle.host_load.specs.Reading.{counts_of, Counts, IsCause, IsMissed}
+use Rattle.host_load.specs.Reading.{counts_of, most_source, Counts, IsCause, IsMissed}
 use Rattle.host_saves.specs.Writes.{after_writes, LeavesFront, Write}
 use Rattle.host_script.specs.Reported.{AreBays}
 use Rattle.host_script.specs.Runs.{HasRun}
 use Rattle.host_run.specs.Taking.{Takes}
-use Rattle.host_run.specs.Words.{command_of}
+use Rattle.host_check.specs.Checks.{IsCheck}
+use Rattle.host_run.specs.Demos.{IsShown}
+use Rattle.host_run.specs.Words.{command_of, path_of, Command, Run, Check, Demo}
 use Rattle.host_run.specs.Lines.{fault, unread, usage}
 
 -- the most bytes that are read of a script
 abbrev pub most_script : ℕ
 most_script = 1048576
 
+-- of the file that a command names
+abbrev pub most_of : Command → ℕ
+most_of (Run path) = most_script
+most_of (Check path) = most_source
+most_of (Demo tenants) = 0
+
 -- what is due with which status, which bays are handed out, and which files are to be written, for these words, over a store that tells
 -- these files
 pub data IsDue (told : Option Files) (old new : Counts) (words : List (List ℕ)) (status : ℕ) (text : List ℕ) (bays : List NotedCore) (writes : List Write) : Type 0 where
-  ran : {path : List ℕ} (bytes : List ℕ) {script : Script} → (status ≡ 0) ⊎ (status ≡ 3) → command_of words ≡ Some path → IsTold told path bytes →
+  ran : {path : List ℕ} (bytes : List ℕ) {script : Script} → (status ≡ 0) ⊎ (status ≡ 3) → command_of words ≡ Some (Run path) → IsTold told path bytes →
       length bytes ≤ most_script → reading bytes ≡ Ok script → AreBays script.fabrics bays →
       ((files : Files) → told ≡ Some files → HasRun files script status text bays writes) → IsDue told old new words status text bays writes
+  checked : {path : List ℕ} (bytes : List ℕ) → (status ≡ 0) ⊎ (status ≡ 3) → command_of words ≡ Some (Check path) → IsTold told path bytes →
+      length bytes ≤ most_source → IsCheck bytes status text → bays ≡ [] → writes ≡ [] → IsDue told old new words status text bays writes
+  shown : {tenants : ℕ} → status ≡ 0 → command_of words ≡ Some (Demo tenants) → IsShown tenants text bays → writes ≡ [] → IsDue told old new words status text bays writes
   misused : status ≡ 2 → command_of words ≡ None → text ≡ usage → bays ≡ [] → writes ≡ [] → IsDue told old new words status text bays writes
-  misread : {path : List ℕ} (bytes : List ℕ) {line cause : ℕ} → status ≡ 4 → command_of words ≡ Some path → IsTold told path bytes →
+  misread : {path : List ℕ} (bytes : List ℕ) {line cause : ℕ} → status ≡ 4 → command_of words ≡ Some (Run path) → IsTold told path bytes →
       length bytes ≤ most_script → reading bytes ≡ Err (line, cause) → text ≡ fault line cause → bays ≡ [] → writes ≡ [] → IsDue told old new words status text bays writes
-  unread_script : {path : List ℕ} (why : ReadError) → status ≡ 5 → command_of words ≡ Some path →
-      IsCause told old new path most_script why → text ≡ unread path why → bays ≡ [] → writes ≡ [] → IsDue told old new words status text bays writes
-  unread_file : {path : List ℕ} (bytes asked : List ℕ) {script : Script} (why : ReadError) → status ≡ 5 → command_of words ≡ Some path → IsTold told path bytes →
+  unread_named : {path : List ℕ} (c : Command) (why : ReadError) → status ≡ 5 → command_of words ≡ Some c → path_of c ≡ Some path →
+      IsCause told old new path (most_of c) why → text ≡ unread path why → bays ≡ [] → writes ≡ [] → IsDue told old new words status text bays writes
+  unread_file : {path : List ℕ} (bytes asked : List ℕ) {script : Script} (why : ReadError) → status ≡ 5 → command_of words ≡ Some (Run path) → IsTold told path bytes →
       length bytes ≤ most_script → reading bytes ≡ Ok script → IsMissed told old new script asked why → text ≡ unread asked why → bays ≡ [] → writes ≡ [] →
       IsDue told old new words status text bays writes
 

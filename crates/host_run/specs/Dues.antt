@@ -24,6 +24,12 @@ pub record IsOnly (status : ℕ) (text : List ℕ) (d : Due) : Type 0 where
   pub kept : d.kept.items ≡ []
   pub bays : d.bays.items ≡ []
 
+-- the status is 0, and nothing is to be written
+pub record KeepsNothing (d : Due) : Type 0 where
+  pub status_is : d.status ≡ 0
+  pub tenants : d.tenants ≡ []
+  pub kept : d.kept.items ≡ []
+
 -- what each tenant keeps can be written under its name
 pub record CanBeWritten (d : Due) : Type 0 where
   pub count : length d.kept.items ≡ length d.tenants

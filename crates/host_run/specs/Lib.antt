@@ -1,7 +1,10 @@
 pub mod Claims
+pub mod Demos
 pub mod Due
 pub mod Dues
 pub mod Lines
+pub mod Parser
+pub mod Said
 pub mod Statuses
 pub mod Taking
 pub mod Words

@@ -5,7 +5,7 @@ use Rattle.fab_io.specs.declared.store.ReadError.{ReadError}
 use Rattle.fab_io.specs.declared.store.ReadError.TheVariants as read
 
 abbrev pub usage : List ℕ
-usage = codes "usage: fabhost run SCRIPT\n"
+usage = codes "usage: fabhost run SCRIPT | check SOURCE | demo N\n"
 
 -- how a read failed, in a word
 abbrev pub read_word : ReadError → List ℕ

@@ -5,5 +5,6 @@ pub mod bays;
 mod due;
 pub mod host;
 mod lines;
+mod matches;
 mod put;
 mod words;

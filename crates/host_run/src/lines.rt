@@ -58,5 +58,5 @@ pub fn fault(alloc: Global, line: u64, cause: u8) -> Result<Vec<u8>, AllocError>
 pub fn usage() -> &'static [u8]
     ensures { result.now ≡ l.usage }
 {
-    b"usage: fabhost run SCRIPT\n".as_slice()
+    b"usage: fabhost run SCRIPT | check SOURCE | demo N\n".as_slice()
 }

@@ -1,8 +1,20 @@
 //! The words of the command line.
 
-ghost use Rattle.std.specs.Prelude.{◌≡◌, map, option_map};
+ghost use Rattle.std.specs.Prelude.{◌≡◌, is_some, map, option_map};
 ghost use Rattle.std.specs.String.{string_bytes};
+ghost use Rattle.host_run.specs.Said.{command_in};
 ghost use Rattle.host_run.specs.Words as w;
+
+/// What the words ask for.
+#[derive(Clone, Copy)]
+pub(crate) enum Command<'a> {
+    /// The script at this path is to be run.
+    Run(&'a str),
+    /// The source at this path is to be checked.
+    Check(&'a str),
+    /// The demonstration is to be run with so many tenants.
+    Demo(u32),
+}
 
 /// Whether a word is a path: it isn't empty and doesn't begin with `-`.
 fn is_path(word: &[u8]) -> bool
@@ -14,15 +26,68 @@ fn is_path(word: &[u8]) -> bool
     }
 }
 
-/// The path of the script that the words say is to be run; none where they are no such command.
-pub fn recognise(words: &[String]) -> Option<&str>
-    ensures { option_map (λ p. p.now) result ≡ w.command_of (map string_bytes words.now) }
+/// Whether a byte is a decimal digit.
+fn is_digit(byte: u8) -> bool
+    ensures { result ≡ w.is_digit byte }
 {
-    let [verb, path] = words else {
-        return None;
-    };
-    if verb.as_bytes() != b"run".as_slice() || !is_path(path.as_bytes()) {
-        return None;
+    byte >= b'0' && byte <= b'9'
+}
+
+/// The number that one or two decimal digits write.
+fn number_of(word: &[u8]) -> Option<u32>
+    ensures { result ≡ w.number_of word.now }
+{
+    match word {
+        [digit] => {
+            if !is_digit(*digit) {
+                return None;
+            }
+            Some(u32::from(*digit - b'0'))
+        }
+        [tens, ones] => {
+            if !(is_digit(*tens) && is_digit(*ones)) {
+                return None;
+            }
+            Some(u32::from(*tens - b'0') * 10 + u32::from(*ones - b'0'))
+        }
+        _ => None,
     }
-    Some(path.as_str())
+}
+
+/// How many tenants a word says.
+fn tenants_of(word: &[u8]) -> Option<u32>
+    ensures { result ≡ w.tenants_of word.now }
+{
+    let number = number_of(word)?;
+    if number >= 1 && number <= 32 {
+        Some(number)
+    } else {
+        None
+    }
+}
+
+/// The command of a verb, with a word.
+pub(crate) fn command_by<'a>(verb: &[u8], word: &'a str) -> Option<Command<'a>>
+    ensures { option_map command_in result ≡ w.command_by verb.now word.entry.now }
+{
+    if verb == b"run".as_slice() {
+        return Some(Command::Run(word));
+    }
+    if verb == b"check".as_slice() {
+        return Some(Command::Check(word));
+    }
+    if verb == b"demo".as_slice() {
+        return Some(Command::Demo(tenants_of(word.as_bytes())?));
+    }
+    None
+}
+
+/// Whether the words are a command.
+pub(crate) fn is_command(words: &[String]) -> bool
+    ensures { result ≡ is_some (w.command_of (map string_bytes words.now)) }
+{
+    let [verb, word] = words else {
+        return false;
+    };
+    is_path(word.as_bytes()) && command_by(verb.as_bytes(), word.as_str()).is_some()
 }

@@ -4,6 +4,7 @@ use Rattle.std.proofs.lemmas.List.{get_or-map, length-map}
 use Rattle.script_text.specs.declared.script.FabricLine.{FabricLine}
 use Rattle.fab_notes.specs.Histories.{IsLegal}
 use Rattle.fab_bay.specs.declared.noted.Label.{Label}
+use Rattle.fab_rounds.specs.declared.outcomes.Order.{Order}
 use Rattle.fab_rounds.specs.declared.outcomes.Outcome.{Outcome}
 use Rattle.fab_rounds.specs.declared.outcomes.Start.{Start}
 use Rattle.fab_rounds.specs.Outcomes.{IsOutcome}
@@ -15,7 +16,7 @@ module _ {A B C : Type 0} (f : A → C) (g : B → C) (xs : List A) (ys : List B
   same_length : length xs ≡ length ys
   same_length = let e : length (map f xs) ≡ length (map g ys) = ap length h in omega (arith, e, length-map xs f, length-map ys g)
 
-  same_at : (i : ℕ) (d : A) (e : B) → i < length ys → f (get_or xs i d) ≡ g (get_or ys i e)
+  pub same_at : (i : ℕ) (d : A) (e : B) → i < length ys → f (get_or xs i d) ≡ g (get_or ys i e)
   same_at i d e lt =
       sym (get_or-map f xs i d (f d) (let n = same_length in omega (arith, lt, n)))
       ∙ ap (λ (cs : List C). get_or cs i (f d)) h
@@ -27,8 +28,8 @@ module _ (fabrics : List FabricLine) (labels : List Label) (h : HaveRoom fabrics
   as_many = same_length (λ (l : Label). l.capacity) (λ (f : FabricLine). room_of f.capacity) labels fabrics h
 
   -- each fabric has its bay, whose history is legal for the room that its line says
-  pub are_bays : (starts : List Start) (out : Outcome) → AreLabels starts labels → IsOutcome labels starts out → AreBays fabrics out.bays.items
-  are_bays starts out a o = record {
+  pub are_bays : (starts : List Start) (orders : List Order) (out : Outcome) → AreLabels starts labels → IsOutcome labels starts orders out → AreBays fabrics out.bays.items
+  are_bays starts orders out a o = record {
     count = o.all_bays ∙ as_many;
     each = λ g d b lt.
         let w : g < length labels = let n = as_many in omega (arith, lt, n) in

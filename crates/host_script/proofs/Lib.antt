@@ -5,7 +5,7 @@ pub mod Bays
 pub mod Beginnings
 pub mod Endings
 pub mod Keeping
-pub mod Leaving
+pub mod Named
 pub mod Refused
 pub mod Reports
 pub mod Saves

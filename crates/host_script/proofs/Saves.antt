@@ -2,13 +2,14 @@
 use Rattle.std.proofs.Common.{◌≡◌, ℕ, ◌+◌, List, [], ◌∷◌, ◌++◌, length, map, refl, sym, ap, ◌∙◌, subst, arith, Option, Some, None}
 use Rattle.std.specs.List.{AllByRecursion}
 use Rattle.fab_io.specs.Outside.{Files}
+use Rattle.vl_design.specs.Alone.{FreeSave, Keeps, Origin}
 use Rattle.vl_design.specs.Snapshots.{Saved}
 use Rattle.script_text.specs.declared.script.TenantLine.{TenantLine}
 use Rattle.fab_notes.specs.declared.transit.Transit.{Transit}
-use Rattle.host_form.specs.Orders.{Answered}
+use Rattle.host_form.specs.Orders.{saves_of, Answered}
 use Rattle.host_form.specs.Origins.{Tenant}
 use Rattle.host_form.specs.Runs.{Outcome, Refused, Ran}
-use Rattle.host_form.specs.Saves.{with_saves, AreSaved}
+use Rattle.host_form.specs.Saves.{with_saves, AreSaved, IsReordered}
 use Rattle.host_judge.specs.declared.verdict.Refusal.{Refusal}
 use Rattle.host_outcomes.specs.Ends.{AreTold}
 use Rattle.host_saves.specs.declared.kept.Kept.{Kept}
@@ -54,7 +55,12 @@ kept_count (None ∷ rs) (e ∷ es) (Some x ∷ ks) k = let n = kept_count rs es
 abbrev lines_of : List Tenant → List TenantLine
 lines_of tenants = map (λ t. t.line) tenants
 
-module _ (answers : List Answered) where
+-- snapshots made besides may be made in any order
+abbrev pub MayBeReordered : Type 0
+MayBeReordered = (o : Origin) (free others : List FreeSave) (k : ℕ) (saved : List Saved) → IsReordered free others → Keeps o free k saved
+    → (kept : List Saved) × Keeps o others k kept × ((tenant : List ℕ) (files : Files) → with_saves tenant kept files ≡ with_saves tenant saved files)
+
+module _ (reordered : MayBeReordered) (answers : List Answered) where
   pub are_saved : (n : ℕ) (tenants : List Tenant) (refusals : List (Option Refusal)) (ended : List Transit) (kept : List (Option Kept)) (ys : List Outcome) (files : Files)
       → length refusals ≡ length tenants → AreTold answers n refusals ended ys → AreKept refusals ended kept
       → AreSaved answers n tenants ys files (after_writes (writes_of (lines_of tenants) kept) files)
@@ -73,9 +79,13 @@ module _ (answers : List Answered) where
   are_saved n (x ∷ ts) (None ∷ rs) (e ∷ es) (Some q ∷ ks) (Refused place kind ∷ ys) files m t k = absurd t
   are_saved n (x ∷ ts) (None ∷ rs) (e ∷ es) (Some q ∷ ks) (Ran y ∷ ys) files m t k =
       let name = x.line.name in
-      let saved = saved_in q in (
-        saved,
-        t.0.keeps saved k.0.keeps,
-        subst (λ (after : Files). AreSaved answers (n + 1) ts ys (with_saves name saved files) after) (first_writes name saved (writes_of (lines_of ts) ks) files)
-            (are_saved (n + 1) ts rs es ks ys (with_saves name saved files) (omega (arith, m)) t.1 k.1),
+      let saved = saved_in q in
+      let z = t.0.keeps saved k.0.keeps in
+      let kept = reordered y.origin z.0 (saves_of n answers) y.tick saved z.1 z.2 in
+      let rest = are_saved (n + 1) ts rs es ks ys (with_saves name saved files) (omega (arith, m)) t.1 k.1 in
+      let after = after_writes (writes_of (lines_of ts) ks) (with_saves name saved files) in (
+        kept.0,
+        kept.1,
+        subst (λ (last : Files). AreSaved answers (n + 1) ts ys (with_saves name kept.0 files) last) (first_writes name saved (writes_of (lines_of ts) ks) files)
+            (subst (λ (first : Files). AreSaved answers (n + 1) ts ys first after) (sym (kept.2 name files)) rest),
       )

@@ -1,32 +1,39 @@
 -- Tenants that have ended can be told of.
-use Rattle.std.proofs.Common.{◌≡◌, ℕ, suc, ◌<◌, ◌≤◌, true, List, [], ◌∷◌, length, get_or, map, refl, sym, ap, ◌∙◌, subst, arith, Option, Some, None}
-use Rattle.std.specs.Prelude.{⊤}
+use Rattle.std.proofs.Common.{◌≡◌, ℕ, suc, ◌<◌, ◌≤◌, true, List, [], ◌∷◌, length, filter, get_or, map, refl, sym, ap, ◌∙◌, subst, arith, Option, Some, None}
+use Rattle.std.specs.Prelude.{not, ⊤}
 use Rattle.std.specs.List.{AllByRecursion}
 use Rattle.std.proofs.lemmas.List.{length-map}
+use Rattle.vl_design.specs.declared.design.End.{End}
+use Rattle.vl_design.specs.declared.design.End.TheVariants.{Stopped}
 use Rattle.vl_design.specs.Alone as alone
 use Rattle.vl_design.specs.Alone.{FreeSave, Keeps}
+use Rattle.vl_design.specs.Queue.{Queue}
 use Rattle.vl_design.specs.Snapshots.{Saved}
 use Rattle.vl_save_names.specs.Names.{is_named, NamesErrands, NamesFreeSaves, NamesSaves}
 use Rattle.ten_core.specs.declared.origin.Origin.{Origin}
 use Rattle.ten_core.specs.Tenants.{origin_of}
-use Rattle.ten_parcel.specs.Parcels.{origin_in, ticks_of, IsParcel}
+use Rattle.ten_parcel.specs.Parcels.{free_of, origin_in, ticks_of, IsParcel}
 use Rattle.ten_plan.specs.Written.{HasRows}
 use Rattle.script_text.specs.declared.script.FabricLine.{FabricLine}
 use Rattle.script_text.specs.declared.script.TenantLine.{TenantLine}
 use Rattle.fab_notes.specs.declared.transit.Transit.{Transit}
 use Rattle.fab_bay.specs.declared.noted.Label.{Label}
+use Rattle.fab_rounds.specs.declared.outcomes.Answer.{Answer}
+use Rattle.fab_rounds.specs.declared.outcomes.Order.{Order}
 use Rattle.fab_rounds.specs.declared.outcomes.Outcome.{Outcome}
 use Rattle.fab_rounds.specs.declared.outcomes.Start.{Start}
-use Rattle.fab_rounds.specs.Outcomes.{IsEnded, IsOutcome}
+use Rattle.fab_rounds.specs.Orders.{stop_of}
+use Rattle.fab_rounds.specs.Outcomes.{HasStopped, IsEnded, IsOutcome}
 use Rattle.host_form.specs.Origins.{Tenant}
 use Rattle.host_load.specs.declared.loaded.Loaded.{Loaded}
 use Rattle.host_judge.specs.declared.verdict.Ready.{Ready}
 use Rattle.host_judge.specs.declared.verdict.Refusal.{Refusal}
 use Rattle.host_judge.specs.Judged.{AreJudged, AreTenants, IsReady}
 use Rattle.host_outcomes.specs.Begun.{AreBegun, IsBegun}
+use Rattle.host_blocks.specs.Ends.{is_refused, EndsSo}
 use Rattle.host_blocks.specs.Telling.{AreTellable, IsTellable}
-use Rattle.host_replies.specs.Late.{AreMatched}
 use Rattle.host_script.proofs.Keeping.{keeps-same}
+use Rattle.host_script.proofs.Named.{all_named, other, saves_named, AreNamed}
 
 -- ---- as many
 
@@ -60,19 +67,38 @@ module _ (fabrics : List FabricLine) where
   few (t ∷ ts) (None ∷ refusals) [] j = absurd j
   few (t ∷ ts) (None ∷ refusals) (r ∷ rs) j = let l = few ts refusals rs j.1 in omega (arith, l)
 
+-- ---- those that run, as many as aren't refused
+
+module _ (fabrics : List FabricLine) where
+  pub readies_count : (tenants : List Tenant) (refusals : List (Option Refusal)) (readies : List Ready) → AreJudged fabrics tenants refusals readies
+      → length readies ≡ length (filter (λ r. not r) (map is_refused refusals))
+  readies_count [] [] [] j = refl
+  readies_count [] [] (r ∷ rs) j = absurd j
+  readies_count [] (x ∷ refusals) rs j = absurd j
+  readies_count (t ∷ ts) [] rs j = absurd j
+  readies_count (t ∷ ts) (Some r ∷ refusals) rs j = readies_count ts refusals rs j.1
+  readies_count (t ∷ ts) (None ∷ refusals) [] j = absurd j
+  readies_count (t ∷ ts) (None ∷ refusals) (r ∷ rs) j = ap suc (readies_count ts refusals rs j.1)
+
+pub starts_count : (readies : List Ready) (starts : List Start) → AreBegun readies starts → length starts ≡ length readies
+starts_count [] [] b = refl
+starts_count [] (s ∷ ss) b = absurd b
+starts_count (r ∷ rs) [] b = absurd b
+starts_count (r ∷ rs) (s ∷ ss) b = ap suc (starts_count rs ss b.1)
+
 -- ---- ends, one after another
 
-abbrev AreEnded : List Start → List Transit → Type 0
-AreEnded [] [] = ⊤
-AreEnded (s ∷ ss) (e ∷ es) = ((n : ℕ) × IsEnded s n e) × AreEnded ss es
-AreEnded _ _ = ⊥
+abbrev AreEnded : List Answer → List Start → List Transit → Type 0
+AreEnded answers [] [] = ⊤
+AreEnded answers (s ∷ ss) (e ∷ es) = ((n : ℕ) × IsEnded s n answers e) × AreEnded answers ss es
+AreEnded answers _ _ = ⊥
 
-ended_from : (starts : List Start) (ended : List Transit) → length ended ≡ length starts
-    → ((t : ℕ) (d : Start) (e : Transit) → t < length starts → (n : ℕ) × IsEnded (get_or starts t d) n (get_or ended t e)) → AreEnded starts ended
-ended_from [] [] n f = tt
-ended_from [] (e ∷ es) n f = absurd (omega (arith, n))
-ended_from (s ∷ ss) [] n f = absurd (omega (arith, n))
-ended_from (s ∷ ss) (e ∷ es) n f = (f 0 s e (omega arith), ended_from ss es (omega (arith, n)) (λ t d x lt. f (suc t) d x (omega (arith, lt))))
+ended_from : (answers : List Answer) (starts : List Start) (ended : List Transit) → length ended ≡ length starts
+    → ((t : ℕ) (d : Start) (e : Transit) → t < length starts → (n : ℕ) × IsEnded (get_or starts t d) n answers (get_or ended t e)) → AreEnded answers starts ended
+ended_from answers [] [] n f = tt
+ended_from answers [] (e ∷ es) n f = absurd (omega (arith, n))
+ended_from answers (s ∷ ss) [] n f = absurd (omega (arith, n))
+ended_from answers (s ∷ ss) (e ∷ es) n f = (f 0 s e (omega arith), ended_from answers ss es (omega (arith, n)) (λ t d x lt. f (suc t) d x (omega (arith, lt))))
 
 -- ---- what is told of a tenant
 
@@ -81,24 +107,33 @@ abbrev pub AllAreNamed : Type 0
 AllAreNamed = (o : alone.Origin) (free : List FreeSave) (k : ℕ) (saved : List Saved) → NamesSaves o.flat → NamesErrands o.plan → NamesFreeSaves free
     → Keeps o free k saved → AllByRecursion (λ s. is_named s.name ≡ true) saved
 
-module _ (named : AllAreNamed) (fabrics : List FabricLine) where
-  is_tellable : (t : Tenant) (r : Ready) (s : Start) (n : ℕ) (e : Transit) → IsReady fabrics t r → IsBegun r s → IsEnded s n e → IsTellable e
+-- how its run has ended
+abbrev HasEnd : Transit → Type 0
+HasEnd e = (end : End) × (last : Queue) × EndsSo e.parcel end last
+
+has_end : (stop : Option ℕ) (e : Transit) → HasStopped stop e.parcel → HasEnd e
+has_end stop e (HasStopped.alone none y m end last ends) = (end, last, EndsSo.alone y ends)
+has_end stop e (HasStopped.ordered is y goes) = (Stopped, goes.last, EndsSo.stopped y refl goes.at goes.none)
+
+module _ (named : AllAreNamed) (fabrics : List FabricLine) (answers : List Answer) (orders : AreNamed (map (λ a. a.order.value) answers)) where
+  is_tellable : (t : Tenant) (r : Ready) (s : Start) (n : ℕ) (e : Transit) → IsReady fabrics t r → IsBegun r s → IsEnded s n answers e → IsTellable e
   is_tellable t r s n e y b x =
       let from : origin_in e.parcel ≡ r.origin = x.origin ∙ b.origin in
+      let end = has_end (stop_of n answers) e x.why in
+      let free = all_named (free_of e.parcel) (x.free other ∙ saves_named n answers orders) in
       record {
         parcel = x.parcel;
-        stopped = x.stopped;
-        free = x.free;
-        end = x.end;
-        last = x.last;
-        ends = x.ends;
+        end = end.0;
+        last = end.1;
+        ends = end.2;
         written = subst (λ (o : Origin). HasRows (origin_of o).flat.rows) (sym from) y.written;
-        named = λ saved keeps. named y.origin [] (ticks_of e.parcel) saved y.saves y.errands (record { names = tt })
-            (keeps-same y.origin (origin_of r.origin) y.runs.run y.runs.plan y.runs.resume y.rows (subst (λ (o : Origin). Keeps (origin_of o) [] (ticks_of e.parcel) saved) from keeps));
+        named = λ saved keeps. named y.origin (free_of e.parcel) (ticks_of e.parcel) saved y.saves y.errands (record { names = free })
+            (keeps-same y.origin (origin_of r.origin) y.runs.run y.runs.plan y.runs.resume y.rows
+            (subst (λ (o : Origin). Keeps (origin_of o) (free_of e.parcel) (ticks_of e.parcel) saved) from keeps));
       }
 
   tellable_by : (tenants : List Tenant) (refusals : List (Option Refusal)) (readies : List Ready) (starts : List Start) (ended : List Transit)
-      → AreJudged fabrics tenants refusals readies → AreBegun readies starts → AreEnded starts ended → AreTellable refusals ended
+      → AreJudged fabrics tenants refusals readies → AreBegun readies starts → AreEnded answers starts ended → AreTellable refusals ended
   tellable_by [] [] [] [] [] j b e = tt
   tellable_by [] [] [] [] (x ∷ es) j b e = absurd e
   tellable_by [] [] [] (s ∷ ss) es j b e = absurd b
@@ -112,19 +147,20 @@ module _ (named : AllAreNamed) (fabrics : List FabricLine) where
   tellable_by (t ∷ ts) (None ∷ refusals) (r ∷ rs) (s ∷ ss) (x ∷ es) j b e =
       (is_tellable t r s e.0.0 x j.0 b.0 e.0.1, tellable_by ts refusals rs ss es j.1 b.1 e.1)
 
-  pub tellable : (tenants : List Tenant) (refusals : List (Option Refusal)) (readies : List Ready) (labels : List Label) (starts : List Start) (out : Outcome)
-      → AreJudged fabrics tenants refusals readies → AreBegun readies starts → IsOutcome labels starts out → AreTellable refusals out.ended.items
-  tellable tenants refusals readies labels starts out j b o =
-      tellable_by tenants refusals readies starts out.ended.items j b (ended_from starts out.ended.items o.all_ended (λ t d e lt. (t, o.ended t d e lt)))
+pub tellable : (named : AllAreNamed) (fabrics : List FabricLine) (tenants : List Tenant) (refusals : List (Option Refusal)) (readies : List Ready) (labels : List Label) (starts : List Start) (orders : List Order) (out : Outcome)
+    → AreJudged fabrics tenants refusals readies → AreBegun readies starts → IsOutcome labels starts orders out → AreNamed orders → AreTellable refusals out.ended.items
+tellable named fabrics tenants refusals readies labels starts orders out j b o are =
+    tellable_by named fabrics out.answers.items (subst AreNamed (sym o.asked) are) tenants refusals readies starts out.ended.items j b
+    (ended_from out.answers.items starts out.ended.items o.all_ended (λ t d e lt. (t, o.ended t d e lt)))
 
 -- ---- what follows of tenants that can be told of
 
-pub matched : (refusals : List (Option Refusal)) (ended : List Transit) → AreTellable refusals ended → AreMatched refusals ended
-matched [] [] a = tt
-matched [] (e ∷ es) a = absurd a
-matched (Some r ∷ rs) es a = matched rs es a
-matched (None ∷ rs) [] a = absurd a
-matched (None ∷ rs) (e ∷ es) a = matched rs es a.1
+pub running : (refusals : List (Option Refusal)) (ended : List Transit) → AreTellable refusals ended → length ended ≡ length (filter (λ r. not r) (map is_refused refusals))
+running [] [] a = refl
+running [] (e ∷ es) a = absurd a
+running (Some r ∷ rs) es a = running rs es a
+running (None ∷ rs) [] a = absurd a
+running (None ∷ rs) (e ∷ es) a = ap suc (running rs es a.1)
 
 pub parcels : (refusals : List (Option Refusal)) (ended : List Transit) → AreTellable refusals ended → AllByRecursion (λ e. IsParcel e.parcel) ended
 parcels [] [] a = tt

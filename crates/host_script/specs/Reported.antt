@@ -6,7 +6,7 @@ use Rattle.script_text.specs.declared.script.FabricLine.{FabricLine}
 use Rattle.script_text.specs.declared.script.Script.{Script}
 use Rattle.fab_bay.specs.declared.noted.NotedCore.{NotedCore}
 use Rattle.fab_notes.specs.Histories.{IsLegal}
-use Rattle.host_form.specs.Reports.{IsReport}
+use Rattle.host_form.specs.Reports.{blocks_of, IsReport}
 use Rattle.host_form.specs.Saves.{LeavesFiles}
 use Rattle.host_judge.specs.Judged.{judged}
 use Rattle.host_script.specs.Rooms.{room_of}
@@ -26,11 +26,12 @@ pub record AreBays (fabrics : List FabricLine) (bays : List NotedCore) : Type 0 
   pub count : length bays ≡ length fabrics
   pub each : (g : ℕ) (d : FabricLine) (b : NotedCore) → g < length fabrics → IsBayOf g (slice_index_or fabrics g d) (slice_index_or bays g b)
 
--- over a store that tells these files: the text is the report of the script, by the histories of these bays; the snapshots are those that
--- the runs keep
+-- over a store that tells these files: the text is the report of the script, by the histories of these bays; the blocks are those of the report;
+-- the snapshots are those that the runs keep
 pub record IsReported (files : Files) (s : Script) (r : Reported) : Type 0 where
   pub refusals : List Bool
   pub report : IsReport judged files s (histories_for refusals r.bays.items) r.text.items
   pub refused : map is_refusal report.outcomes ≡ refusals
+  pub blocks : r.blocks.items ≡ blocks_of s report.tenants report.outcomes
   pub any : r.refused ≡ list_any (λ x. x) refusals
   pub saves : LeavesFiles judged files s (histories_for refusals r.bays.items) r.text.items report (after_writes (writes_of s.tenants r.kept.items) files)

@@ -4,7 +4,8 @@ use Rattle.std.specs.List.{list_any}
 use Rattle.fab_io.specs.Outside.{Files}
 use Rattle.fab_bay.specs.declared.noted.NotedCore.{NotedCore}
 use Rattle.script_text.specs.declared.script.Script.{Script}
-use Rattle.host_form.specs.Reports.{IsReport}
+use Rattle.report_text.specs.declared.block.Block.{Block}
+use Rattle.host_form.specs.Reports.{blocks_of, IsReport}
 use Rattle.host_form.specs.Saves.{LeavesFiles}
 use Rattle.host_judge.specs.Judged.{judged}
 use Rattle.host_load.specs.Reading.{IsAvailable}
@@ -21,3 +22,11 @@ pub record HasRun (files : Files) (s : Script) (status : ℕ) (text : List ℕ) 
   pub refused : map is_refusal report.outcomes ≡ refusals
   pub status_is : status ≡ (if list_any (λ x. x) refusals then 3 else 0)
   pub saves : LeavesFiles judged files s (histories_for refusals bays) text report (after_writes writes files)
+
+-- over a store that tells these files: a script has a report, by the histories of these bays, and these are its blocks
+pub record HasBlocks (files : Files) (s : Script) (bays : List NotedCore) (blocks : List Block) : Type 0 where
+  pub refusals : List Bool
+  pub text : List ℕ
+  pub report : IsReport judged files s (histories_for refusals bays) text
+  pub refused : map is_refusal report.outcomes ≡ refusals
+  pub are : blocks ≡ blocks_of s report.tenants report.outcomes

@@ -2,9 +2,12 @@
 use Rattle.std.specs.Prelude.{◌≡◌, ℕ, Bool, List, map, Option}
 use Rattle.std.specs.List.{list_any}
 use Rattle.script_text.specs.declared.script.Script.{Script}
+use Rattle.report_text.specs.declared.block.Block.{Block}
 use Rattle.report_text.specs.Report.{report}
 use Rattle.fab_notes.specs.declared.transit.Transit.{Transit}
 use Rattle.fab_bay.specs.declared.noted.Label.{Label}
+use Rattle.fab_rounds.specs.declared.outcomes.Answer.{Answer}
+use Rattle.fab_rounds.specs.declared.outcomes.Order.{Order}
 use Rattle.fab_rounds.specs.declared.outcomes.Start.{Start}
 use Rattle.fab_rounds.specs.Starts.{AreLabels, AreStarts}
 use Rattle.host_form.specs.Orders.{free_line}
@@ -20,7 +23,7 @@ use Rattle.host_outcomes.specs.Begun.{AreBegun}
 use Rattle.host_blocks.specs.Ends.{is_refused, AreEnds}
 use Rattle.host_saves.specs.declared.kept.Kept.{Kept}
 use Rattle.host_blocks.specs.Telling.{AreKept}
-use Rattle.host_replies.specs.Late.{late_answers}
+use Rattle.host_outcomes.specs.Given.{answered, costs_begun, costs_of, given}
 
 -- tenants are judged so, and those that run stand at the first boundaries of their runs, on fabrics of these labels
 pub record Begin (s : Script) (loaded : List Loaded) (refusals : List (Option Refusal)) (labels : List Label) (starts : List Start) : Type 0 where
@@ -33,11 +36,20 @@ pub record Begin (s : Script) (loaded : List Loaded) (refusals : List (Option Re
   pub placed : AreStarts labels starts
   pub room : HaveRoom s.fabrics labels
 
--- what is said of tenants that are refused so or have ended so, where free orders are done when all have ended
-pub record Says (s : Script) (refusals : List (Option Refusal)) (ended : List Transit) (refused : Bool) (text : List ℕ) (kept : List (Option Kept)) : Type 0 where
+-- the orders that are given to those that run
+abbrev pub orders_for : Script → List (Option Refusal) → List Start → List Order
+orders_for s refusals starts = given s.fabrics (map is_refused refusals) (costs_begun starts) s.free
+
+-- these are answers to them, where those that run have ended so
+abbrev pub AreAnswersTo : Script → List (Option Refusal) → List Transit → List Answer → Type 0
+AreAnswersTo s refusals ended answers = map (λ a. a.order.value) answers ≡ given s.fabrics (map is_refused refusals) (costs_of ended) s.free
+
+-- what is said of tenants that are refused so or have ended so, where orders have these answers
+pub record Says (s : Script) (refusals : List (Option Refusal)) (ended : List Transit) (answers : List Answer) (refused : Bool) (blocks : List Block) (text : List ℕ) (kept : List (Option Kept)) : Type 0 where
   pub any : refused ≡ list_any (λ x. x) (map is_refused refusals)
   pub outcomes : List Outcome
   pub ends : AreEnds refusals ended outcomes
+  pub told : (tenants : List Tenant) → map (λ t. t.line) tenants ≡ s.tenants → blocks ≡ blocks_of s tenants outcomes
   pub is : (tenants : List Tenant) → map (λ t. t.line) tenants ≡ s.tenants →
-      text ≡ report (blocks_of s tenants outcomes) (map (free_line s) (late_answers s refusals ended))
+      text ≡ report (blocks_of s tenants outcomes) (map (free_line s) (answered s.fabrics (map is_refused refusals) (costs_of ended) s.free answers))
   pub keeps : AreKept refusals ended kept

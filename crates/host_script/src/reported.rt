@@ -2,12 +2,15 @@
 
 use fab_bay::bay::Bay;
 use host_saves::kept::Kept;
+use report_text::block::Block;
 
 /// What the run of a script comes to.
 #[derive(Drop)]
 pub struct Reported {
     /// A tenant is refused.
     pub refused: bool,
+    /// What is said of each tenant, in the order of the script.
+    pub blocks: Vec<Block>,
     /// The report.
     pub text: Vec<u8>,
     /// The snapshots that each tenant keeps, in the order of the script; None where it is refused.

@@ -1,17 +1,19 @@
 //! Running the tenants of a script.
 
-ghost use Rattle.std.specs.Prelude.{◌≡◌, ℕ, List, length, Ok, IfOk};
+ghost use Rattle.std.specs.Prelude.{◌≡◌, ℕ, List, filter, length, map, not, Ok, IfOk};
 ghost use Rattle.std.specs.List.{AllByRecursion};
 ghost use Rattle.fab_io.specs.Outside.{Files};
 ghost use Rattle.script_text.specs.Laws.{IsSpelt, IsWithinLimits};
 ghost use Rattle.script_text.specs.Reading.{reading};
+ghost use Rattle.fab_rounds.specs.Orders.{AreOrders};
 ghost use Rattle.fab_rounds.specs.Outcomes.{IsOutcome};
 ghost use Rattle.fab_rounds.specs.Starts.{AreLabels, AreStarts};
 ghost use Rattle.host_load.specs.Reading.{AreLoaded};
+ghost use Rattle.host_blocks.specs.Ends.{is_refused};
 ghost use Rattle.host_blocks.specs.Telling.{AreTellable};
 ghost use Rattle.host_saves.specs.Kept.{CanBeKept};
 ghost use Rattle.host_script.specs.Reported.{AreBays, IsReported};
-ghost use Rattle.host_script.specs.Steps.{Says};
+ghost use Rattle.host_script.specs.Steps.{orders_for, AreAnswersTo, Says};
 
 use crate::prepared::{Prepared, judged_and_begun};
 use crate::reported::Reported;
@@ -19,11 +21,15 @@ use crate::said::{Said, said_of};
 use fab_io::gate::Gate;
 use fab_rounds::outcomes::Outcome;
 use fab_rounds::rounds;
+use host_form::laws::free_saves_may_be_made_in_any_order;
 use host_judge::laws::tenants_are_read;
 use host_judge::verdict::Refusal;
 use host_load::loaded::Loaded;
-use host_outcomes::laws::all_tenants_are_reported;
-use host_replies::laws::{late_orders_do_nothing, late_replies_may_be_given};
+use host_outcomes::laws::{
+    all_tenants_are_reported, answers_do_as_orders, given_orders_may_be_given, orders_are_seen,
+    replies_may_be_given, tenants_end_at_their_costs,
+};
+use host_outcomes::replies::orders_of;
 use script_text::laws::{a_script_keeps_to_its_limits, words_of_a_script_are_spelt};
 use script_text::script::Script;
 use std::alloc::{AllocError, Global};
@@ -40,24 +46,31 @@ struct Ran {
     outcome: Outcome,
 }
 
-/// Runs tenants that were judged and whose runs were begun.
+/// Runs tenants that were judged and whose runs were begun, while a script's free orders are done.
 fn run_prepared<R: Threads + Wait + Sync, G: Gate + Sync>(
     rt: &R,
     alloc: Global,
     gate: &G,
+    script: &Script,
     prepared: Prepared,
 ) -> Result<Ran, AllocError>
+    requires limits { IsWithinLimits script.now }
+    requires spelt { IsSpelt script.now }
+    requires count { length prepared.refusals.items ≡ length script.now.tenants }
+    requires running { length prepared.starts.items ≡ length (filter (λ r. not r) (map is_refused prepared.refusals.items)) }
     requires labels { AreLabels prepared.starts.items prepared.labels.items }
     requires starts { AreStarts prepared.labels.items prepared.starts.items }
+    requires orders { AreOrders prepared.labels.items prepared.starts.items (orders_for script.now prepared.refusals.items prepared.starts.items) }
     ensures refusals { IfOk result (λ r. r.refusals.items ≡ prepared.refusals.items) }
-    ensures outcome { IfOk result (λ r. IsOutcome prepared.labels.items prepared.starts.items r.outcome) }
+    ensures outcome { IfOk result (λ r. IsOutcome prepared.labels.items prepared.starts.items (orders_for script.now prepared.refusals.items prepared.starts.items) r.outcome) }
 {
+    let orders = orders_of(alloc, script, &prepared.refusals, &prepared.starts)?;
     let Prepared {
         refusals,
         labels,
         starts,
     } = prepared;
-    let outcome = rounds::run(rt, alloc, gate, labels, starts)?;
+    let outcome = rounds::run(rt, alloc, gate, labels, starts, orders)?;
     Ok(Ran { refusals, outcome })
 }
 
@@ -67,25 +80,32 @@ fn report_on(alloc: Global, script: &Script, ran: Ran) -> Result<Reported, Alloc
     requires spelt { IsSpelt script.now }
     requires count { length ran.refusals.items ≡ length script.now.tenants }
     requires each { AreTellable ran.refusals.items ran.outcome.ended.items }
-    ensures says { IfOk result (λ r. Says script.now ran.refusals.items ran.outcome.ended.items r.refused r.text.items r.kept.items) }
+    requires answers { AreAnswersTo script.now ran.refusals.items ran.outcome.ended.items ran.outcome.answers.items }
+    ensures says { IfOk result (λ r. Says script.now ran.refusals.items ran.outcome.ended.items ran.outcome.answers.items r.refused r.blocks.items r.text.items r.kept.items) }
     ensures bays { IfOk result (λ r. r.bays.items ≡ ran.outcome.bays.items) }
 {
     let Ran { refusals, outcome } = ran;
-    let Outcome { ended, bays, .. } = outcome;
+    let Outcome {
+        ended,
+        bays,
+        answers,
+    } = outcome;
     let Said {
         refused,
+        blocks,
         text,
         kept,
-    } = said_of(alloc, script, refusals, ended)?;
+    } = said_of(alloc, script, refusals, ended, &answers)?;
     Ok(Reported {
         refused,
+        blocks,
         text,
         kept,
         bays,
     })
 }
 
-/// Runs the tenants of a script that were read, until each has ended, and reports. An `Err` is want of memory alone. It may wait.
+/// Runs the tenants of a script that were read, until each has ended, while its free orders are done, and reports. An `Err` is want of memory alone. It may wait.
 pub fn run_script<R: Threads + Wait + Sync, G: Gate + Sync>(
     rt: &R,
     alloc: Global,
@@ -103,11 +123,15 @@ pub fn run_script<R: Threads + Wait + Sync, G: Gate + Sync>(
     a_script_keeps_to_its_limits();
     words_of_a_script_are_spelt();
     kept_snapshots_are_named();
+    free_saves_may_be_made_in_any_order();
     tenants_are_read();
-    late_orders_do_nothing();
-    late_replies_may_be_given();
+    given_orders_may_be_given();
+    tenants_end_at_their_costs();
+    answers_do_as_orders();
+    replies_may_be_given();
+    orders_are_seen();
     all_tenants_are_reported();
     let prepared = judged_and_begun(alloc, script, loaded)?;
-    let ran = run_prepared(rt, alloc, gate, prepared)?;
+    let ran = run_prepared(rt, alloc, gate, script, prepared)?;
     report_on(alloc, script, ran)
 }

@@ -6,12 +6,13 @@ ghost use Rattle.report_text.specs.Report as r;
 ghost use Rattle.script_text.specs.Laws.{IsSpelt, IsWithinLimits};
 ghost use Rattle.host_blocks.specs.Ends.{is_refused};
 ghost use Rattle.host_blocks.specs.Telling.{AreTellable};
-ghost use Rattle.host_script.specs.Steps.{Says};
+ghost use Rattle.host_script.specs.Steps.{AreAnswersTo, Says};
 
 use fab_notes::transit::Transit;
+use fab_rounds::outcomes::Answer;
 use host_blocks::tell::{Told, tell};
 use host_judge::verdict::Refusal;
-use host_replies::replies::replies;
+use host_outcomes::replies::replies;
 use host_saves::kept::Kept;
 use report_text::block::{Block, FreeLine};
 use report_text::report::report;
@@ -23,6 +24,8 @@ use std::alloc::{AllocError, Global};
 pub(crate) struct Said {
     /// A tenant is refused.
     pub(crate) refused: bool,
+    /// What is said of each tenant.
+    pub(crate) blocks: Vec<Block>,
     /// The report.
     pub(crate) text: Vec<u8>,
     /// The snapshots that each tenant keeps; None where it is refused.
@@ -58,6 +61,7 @@ fn in_words(
     lines: &[FreeLine],
 ) -> Result<Said, AllocError>
     ensures refused { IfOk result (λ s. s.refused ≡ refused) }
+    ensures blocks { IfOk result (λ s. s.blocks.items ≡ told.blocks.items) }
     ensures text { IfOk result (λ s. s.text.items ≡ r.report told.blocks.items lines.now) }
     ensures kept { IfOk result (λ s. s.kept.items ≡ told.kept.items) }
 {
@@ -65,25 +69,28 @@ fn in_words(
     let text = written(alloc, &blocks, lines)?;
     Ok(Said {
         refused,
+        blocks,
         text,
         kept,
     })
 }
 
-/// What is said of tenants that are refused so or have ended so.
+/// What is said of tenants that are refused so or have ended so, where orders have these answers.
 pub(crate) fn said_of(
     alloc: Global,
     script: &Script,
     refusals: Vec<Option<Refusal>>,
     ended: Vec<Transit>,
+    answers: &[Answer],
 ) -> Result<Said, AllocError>
     requires limits { IsWithinLimits script.now }
     requires spelt { IsSpelt script.now }
     requires count { length refusals.items ≡ length script.now.tenants }
     requires each { AreTellable refusals.items ended.items }
-    ensures { IfOk result (λ s. Says script.now refusals.items ended.items s.refused s.text.items s.kept.items) }
+    requires answers { AreAnswersTo script.now refusals.items ended.items answers.now }
+    ensures { IfOk result (λ s. Says script.now refusals.items ended.items answers.now s.refused s.blocks.items s.text.items s.kept.items) }
 {
-    let lines = replies(alloc, script, &refusals, &ended)?;
+    let lines = replies(alloc, script, &refusals, &ended, answers)?;
     let refused = any_refused(&refusals);
     let told = tell(alloc, script, refusals, ended)?;
     in_words(alloc, refused, told, &lines)

@@ -7,12 +7,14 @@ use Rattle.fab_bay.specs.declared.noted.Label.{Label}
 use Rattle.fab_bay.specs.declared.noted.NotedCore.{NotedCore}
 use Rattle.fab_rounds.specs.declared.workers.Worker.{Worker}
 use Rattle.fab_rounds.specs.Totals.{total}
-use Rattle.fab_rounds.specs.Outcomes.{lines_there}
-use Rattle.fab_rounds.specs.Ledgers.{fabric_in, labels_of, put_there, seat_outs, seat_puts, worker_outs, DeskFacts, IsFirst, IsWorker}
+use Rattle.fab_rounds.specs.Orders.{reached_in}
+use Rattle.fab_rounds.specs.Outcomes.{lefts_there, lines_there}
+use Rattle.fab_rounds.specs.Ledgers.{fabric_in, found_there, labels_of, put_there, reach_in, seat_outs, seat_puts, worker_outs, DeskFacts, IsFirst, IsWorker}
 use Rattle.fab_rounds.proofs.Between.{never_any}
 use Rattle.fab_rounds.proofs.Conserved.{outs_in, IsOneClosed}
 use Rattle.fab_rounds.proofs.Ends.{outcome}
 use Rattle.fab_rounds.proofs.Lists.{pair_pop}
+use Rattle.fab_rounds.proofs.Reach.{reach_pop}
 use Rattle.fab_rounds.proofs.Taken.{all_pop}
 use Rattle.fab_rounds.proofs.Totals.{total-append, total_pop}
 use Rattle.fab_rounds.proofs.closing.closed.Goals as goal
@@ -38,6 +40,8 @@ loop-desk-init g c = let b = c.requires.between in let e = c.new-bays.ensures.it
   closed = subst (All IsOneClosed) (sym e) (All-nil IsOneClosed);
   there = λ f. omega (arith, ap (total (lines_there f)) e);
   outs = ([], λ f. omega (arith, ap (total (outs_in f)) e));
+  lefts = λ f. omega (arith, ap (total (lefts_there f)) e);
+  reach = λ t. omega (arith, ap (reached_in t) e);
 }
 
 pub close_one-requires-clause-first : goal.close_one-requires-clause-first
@@ -93,6 +97,15 @@ loop-desk-preserved g c = let v = c.loop-desk.invariant in
           total-append h shut.rest v.outs.0,
         ),
       );
+      lefts = λ h. omega (
+        arith,
+        v.lefts h,
+        total_pop (found_there h) fs fs' first c.in-Some-pop.ensures.items,
+        ap (total (lefts_there h)) e,
+        shut.outs (h b.label.fabric),
+        ap (λ (n : ℕ). seat_outs (h n) first) here,
+      );
+      reach = λ t. let old = v.reach t in let far = shut.reach t in omega (arith, old, far, ap (reach_in t) c.in-Some-pop.ensures.items, reach_pop t fs' first, ap (reached_in t) e);
     }
 
 pub returns : goal.returns
@@ -101,9 +114,11 @@ returns g c = let v = c.loop-desk.invariant in let b = c.requires.between in
     let nd = nil_from_length c.loop-desk.desks.items zd in
     let nf = nil_from_length c.loop-desk.firsts.items (v.firsts.count ∙ zd) in
     let nw = nil_from_length c.loop-desk.workers.items (v.count ∙ zd) in
-    outcome c.args.ledger c.args.workers.items c.loop-desk.bays v.outs.0 b.ledger.kept b.none b.balanced c.requires.all
+    outcome c.args.ledger c.args.workers.items c.loop-desk.bays v.outs.0 b.ledger.kept b.none c.requires.orders b.balanced c.requires.all
     (ap (λ (l : List DeskFacts). labels_of l ++ map (λ x. x.label) c.loop-desk.bays.items) (sym nd) ∙ v.labels)
     v.closed
     (λ f. omega (arith, v.there f, ap (total (put_there f)) nf))
     (λ f. omega (arith, v.outs.1 f, ap (total (seat_outs f)) nf, ap (worker_outs f) nw))
+    (λ f. omega (arith, v.lefts f, ap (total (found_there f)) nf))
+    (λ t. let far = v.reach t in omega (arith, far, ap (reach_in t) nf))
     b.outs

@@ -1,10 +1,11 @@
-use Rattle.std.proofs.Common.{◌≡◌, ◌<◌, ℕ, ◌+◌, ◌++◌, false, List, length, get_or, map}
+use Rattle.std.proofs.Common.{◌≡◌, ◌<◌, ◌≤◌, max, ℕ, ◌+◌, ◌++◌, false, List, length, get_or, map}
 use Rattle.std.specs.Prelude.{All}
 use Rattle.fab_notes.specs.Tokens.{Token}
 use Rattle.fab_rounds.specs.declared.workers.Worker.{Worker}
 use Rattle.fab_rounds.specs.Totals.{total}
-use Rattle.fab_rounds.specs.Outcomes.{lines_there}
-use Rattle.fab_rounds.specs.Ledgers.{labels_of, put_there, seat_outs, worker_outs, AreFirsts, DeskFacts, IsWorker}
+use Rattle.fab_rounds.specs.Orders.{reached_in}
+use Rattle.fab_rounds.specs.Outcomes.{lefts_there, lines_there}
+use Rattle.fab_rounds.specs.Ledgers.{found_there, labels_of, put_there, reach_in, seat_outs, worker_outs, AreFirsts, DeskFacts, IsWorker}
 use Rattle.fab_rounds.proofs.Conserved.{outs_in, IsOneClosed}
 use Rattle.fab_rounds.proofs.closing.closed.Given as goal
 
@@ -18,6 +19,8 @@ invariant-loop-desk g l = record {
   closed : All IsOneClosed l.bays.items;
   there : (f : ℕ → Token → ℕ) → total (put_there f) l.firsts.items + total (lines_there f) l.bays.items ≡ total (put_there f) l.fn.ledger.firsts.items;
   outs : (rest : List Token) × ((f : Token → ℕ) → total (seat_outs f) l.firsts.items + worker_outs f l.workers.items + total (outs_in f) l.bays.items ≡ total (seat_outs f) l.fn.ledger.firsts.items + worker_outs f l.fn.workers.items + total f rest);
+  lefts : (f : ℕ → Token → ℕ) → total (found_there f) l.fn.ledger.firsts.items ≤ total (found_there f) l.firsts.items + total (lefts_there f) l.bays.items;
+  reach : (t : ℕ) → reach_in t l.fn.ledger.firsts.items ≤ max (reach_in t l.firsts.items) (reached_in t l.bays.items);
 }
 
 abbrev pub decreases-loop-desk : goal.decreases-loop-desk

@@ -1,4 +1,4 @@
-use Rattle.std.proofs.Common.{◌≡◌, ℕ, ◌+◌, ◌++◌, List, length}
+use Rattle.std.proofs.Common.{◌≡◌, ℕ, ◌+◌, ◌++◌, List, [], length}
 use Rattle.fab_notes.specs.Tokens.{Token}
 use Rattle.fab_rounds.specs.declared.outcomes.Start.{Start}
 use Rattle.fab_rounds.specs.Ledgers.{in_hand, start_sum, IsKept}
@@ -10,6 +10,8 @@ invariant-loop-start l = record {
   firsts : l.ledger.firsts ≡ l.fn.firsts;
   labels : l.ledger.labels ≡ l.fn.labels;
   loaded : l.ledger.loaded.value ≡ l.fn.starts;
+  asked : l.ledger.asked.value ≡ l.fn.orders;
+  none : l.ledger.answers.items ≡ [];
   front : (rest : List Start) × (l.fn.starts.items ≡ l.starts.items ++ rest);
   sums : (f : Token → ℕ) → in_hand f l.ledger + start_sum f l.starts.items ≡ start_sum f l.fn.starts.items;
 }

@@ -1,19 +1,17 @@
-use Rattle.std.proofs.Common.{ap, Err}
 use Rattle.host_load.specs.Reading.{counts_of}
-use Rattle.host_run.proofs.Dues.{due-told, due-unread}
+use Rattle.host_run.proofs.Dues.{due-shown, nothing-written}
 use Rattle.host_run.proofs.due.due_for.Goals as goal
 
-pub returns-in-Ok-clause-due : goal.returns-in-Ok-clause-due
-returns-in-Ok-clause-due g c =
-    due-told c.due_of_bytes.result (g.S.Store.told c.args.store.now) (g.S.Store.told c.read.new.self)
-    (counts_of (g.S.Store.faults c.args.store.now) (g.S.Store.absences c.args.store.now)) (counts_of (g.S.Store.faults c.read.new.self) (g.S.Store.absences c.read.new.self))
-    (counts_of (g.S.Store.faults c.due_of_bytes.new.store) (g.S.Store.absences c.due_of_bytes.new.store)) c.args.path.now c.deref.result.now c.read.ensures.told c.read.ensures.faults
-    c.read.ensures.absences (rw c.deref.ensures.value c.in-Ok.ensures.bytes) c.due_of_bytes.ensures.due
+pub returns-in-Run-clause-due : goal.returns-in-Run-clause-due
+returns-in-Run-clause-due g c = rw c.in-Run.is c.due_of_path.ensures.due
 
-pub returns-in-Err-clause-due : goal.returns-in-Err-clause-due
-returns-in-Err-clause-due g c =
-    let failed = c.in-Err.ensures in
-    let only = rw c.as_bytes.ensures.value at c.due_of_unread.ensures.only in
-    due-unread c.due_of_unread.result (g.S.Store.told c.args.store.now) (counts_of (g.S.Store.faults c.args.store.now) (g.S.Store.absences c.args.store.now))
-    (counts_of (g.S.Store.faults c.read.new.self) (g.S.Store.absences c.read.new.self)) c.args.path.now c.in-Err.why c.due_of_unread.ensures.why only (λ e. failed.not_there (ap Err e))
-    (λ e. failed.too_long (ap Err e)) (λ e. failed.failed (ap Err e))
+pub returns-in-Check-clause-due : goal.returns-in-Check-clause-due
+returns-in-Check-clause-due g c = rw c.in-Check.is c.due_of_source_path.ensures.due
+
+pub returns-in-Demo-clause-due : goal.returns-in-Demo-clause-due
+returns-in-Demo-clause-due g c =
+    let here = counts_of (g.S.Store.faults c.args.store.now) (g.S.Store.absences c.args.store.now) in
+    rw c.in-Demo.is (due-shown c.due_of_demo.result (g.S.Store.told c.args.store.now) here here c.in-Demo.tenants c.due_of_demo.ensures.shown c.due_of_demo.ensures.nothing)
+
+pub returns-in-Demo-clause-written : goal.returns-in-Demo-clause-written
+returns-in-Demo-clause-written g c = nothing-written c.due_of_demo.result c.due_of_demo.ensures.nothing

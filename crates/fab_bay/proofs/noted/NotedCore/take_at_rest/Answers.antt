@@ -29,6 +29,7 @@ returns-in-Ok-clause-found c =
       0,
       onward c.args.number 0 0 0 c.args.self.now c.take_out.new.self c.rebuild_at_rest.new.self [] o o (c.in-Ok.ensures.goes []) (c.rebuild_at_rest.ensures.goes o) (omega arith),
       c.in-Ok.ensures.flag,
+      c.in-Ok.ensures.withdrawn,
     )
 
 pub returns-in-Err-clause-ready : goal.returns-in-Err-clause-ready

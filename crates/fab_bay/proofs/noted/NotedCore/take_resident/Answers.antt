@@ -8,7 +8,7 @@ use Rattle.fab_core.specs.declared.cores.FabCore.{FabCore}
 use Rattle.fab_core.specs.Standing.{IsFabric, IsPointOf}
 use Rattle.fab_bay.proofs.Events.{berthed}
 use Rattle.fab_bay.proofs.Gaps.{taken-near}
-use Rattle.fab_bay.proofs.Gone.{goes_gone_take, gone_take, has_resident, out_keeps, out_closed, out_number, out_written, place_there, ran_berth, ran_noted, ran_still, ready_of, room_left, for_none, taker_of, yes-no, IsOut, IsRan, IsReady}
+use Rattle.fab_bay.proofs.Gone.{goes_gone_take, gone_take, has_resident, out_keeps, out_closed, out_number, out_withdrawn, out_written, place_there, ran_berth, ran_noted, ran_still, ready_of, room_left, for_none, taker_of, yes-no, IsOut, IsRan, IsReady}
 use Rattle.fab_bay.proofs.Near.{ran-near-short, short-one, short-then}
 use Rattle.fab_bay.proofs.Places.{berths_many}
 use Rattle.fab_bay.proofs.Ran.{room_less}
@@ -115,6 +115,7 @@ returns c =
           (subst (λ (a : FabCore). IsFabric a (taken t g)) (sym c.write.ensures.core) (c.take.ensures.fabric g (c.ran_one.ensures.kept g j).core)));
       number = out_number k t i x y z b s n o f for_none out.0 h l;
       flag = out_keeps k t i x y z b s n o f out.0 h l;
+      withdrawn = out_withdrawn k t i x y z b s n o f out.0 h l;
       near = λ j.
           taken-near k t i x y z b s n o f h (c.requires.rest f h)
           (subst (λ (a : FabCore). IsFabric a (taken t f)) (sym c.write.ensures.core) (c.take.ensures.fabric f (c.ran_one.ensures.kept f h).core)) (c.ran_one.ensures.near j);

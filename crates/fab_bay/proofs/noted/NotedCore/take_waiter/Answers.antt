@@ -8,7 +8,7 @@ use Rattle.fab_lock.specs.declared.entry.Kind.TheVariants.{Left}
 use Rattle.fab_core.specs.declared.cores.FabCore.{FabCore}
 use Rattle.fab_core.specs.Standing.{IsFabric, IsPointOf}
 use Rattle.fab_bay.proofs.Gaps.{withdrawn-near}
-use Rattle.fab_bay.proofs.Gone.{for_none, goes_gone_take, gone_line, has_waiter, line_taker, line_waiter, ready_of, room_stays, waiter_there, withdrawn_closed, withdrawn_keeps, withdrawn_number, withdrawn_written, yes-no, IsReady, IsWithdrawn}
+use Rattle.fab_bay.proofs.Gone.{for_none, goes_gone_take, gone_line, has_waiter, line_taker, line_waiter, ready_of, room_stays, waiter_there, withdrawn_closed, withdrawn_keeps, withdrawn_number, withdrawn_out, withdrawn_written, yes-no, IsReady, IsWithdrawn}
 use Rattle.fab_bay.proofs.Leavers.{leaver_ticks}
 use Rattle.fab_bay.proofs.Near.{short-one, short-then}
 use Rattle.fab_bay.proofs.noted.NotedCore.take_waiter.Goals as goal
@@ -93,6 +93,7 @@ returns c =
           (subst (λ (a : FabCore). IsFabric a (taken t g)) (sym c.write.ensures.core) (c.take.ensures.fabric g j.core)));
       number = withdrawn_number k t i x z b s n o f h out.0 out.1 at;
       flag = withdrawn_keeps k t i x z b s n o f h out.0 out.1 at;
+      withdrawn = withdrawn_out k t i x z b s n o f h out.0 out.1 at;
       near = withdrawn-near k t i x z b s n o f h (subst (λ (a : FabCore). IsFabric a (taken t f)) (sym c.write.ensures.core) (c.take.ensures.fabric f h.core));
       short = λ j added e.
           short-then x.notes.items x.notes.items z.notes.items [] (n ∷ []) added (sym (append-nil x.notes.items)) c.write.ensures.notes e tt

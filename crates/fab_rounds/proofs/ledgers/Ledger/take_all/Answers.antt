@@ -28,7 +28,8 @@ loop-i-preserved c = let v = c.loop-i.invariant in let t = c.in_ok-take_piles.en
       kept = t.kept;
       left = subst (λ (s : Snapshot (Vec Start Global)). All (P s.value.items) (set ws i w)) (sym t.same.0)
           (All-set (P c.loop-i.self.loaded.value.items) ws i w (subst (λ (x : List (Vec Leaving Global)). AreLeft c.loop-i.self.loaded.value.items x) (sym e.empty) (All-nil _)) v.left);
-      same = (t.same.0 ∙ v.same.0, t.same.1 ∙ v.same.1);
+      same = (t.same.0 ∙ v.same.0, t.same.1 ∙ v.same.1, t.same.2 ∙ v.same.2);
+      answers = (t.answers.0 ∙ v.answers.0, t.answers.1 ∙ v.answers.1);
       firsts = t.firsts ∙ v.firsts;
       sums = λ f. omega (
         arith,
@@ -55,6 +56,7 @@ pub returns-clause-takes : goal.returns-clause-takes
 returns-clause-takes c = let v = c.loop-i.invariant in let ws = c.loop-i.workers.items in record {
   kept = v.kept;
   same = v.same;
+  answers = v.answers;
   firsts = v.firsts;
   sums = λ f. let a : (k : ℕ) (x : Worker) → k < length ws → (get_or ws k x).out.items ≡ [] = λ k x lt. v.empty k x (search rules) in
       omega (arith, v.sums f, total_all (λ (x : Worker). x.out.items ≡ []) (λ (x : Worker). pile_sum f x.out.items) (λ x q. ap (pile_sum f) q) ws a);

@@ -2,7 +2,7 @@ use Rattle.std.proofs.Common.{◌≡◌, ℕ, ◌+◌, ◌<◌, [], length, get_
 use Rattle.std.specs.Prelude.{All}
 use Rattle.fab_notes.specs.Tokens.{Token}
 use Rattle.fab_rounds.specs.declared.workers.Worker.{Worker}
-use Rattle.fab_rounds.specs.Ledgers.{in_hand, worker_piles, AreLeft, IsKept, IsSameRun}
+use Rattle.fab_rounds.specs.Ledgers.{in_hand, worker_piles, AreLeft, IsKept, IsSameAnswers, IsSameRun}
 use Rattle.fab_rounds.proofs.ledgers.Ledger.take_all.Given as goal
 
 abbrev pub invariant-loop-i : goal.invariant-loop-i
@@ -10,6 +10,7 @@ invariant-loop-i l = record {
   kept : IsKept l.self;
   left : All (λ w. AreLeft l.self.loaded.value.items w.out.items) l.workers.items;
   same : IsSameRun l.fn.self l.self;
+  answers : IsSameAnswers l.fn.self l.self;
   firsts : l.self.firsts ≡ l.fn.self.firsts;
   sums : (f : Token → ℕ) → in_hand f l.self + worker_piles f l.workers.items ≡ in_hand f l.fn.self + worker_piles f l.fn.workers.items;
   count : length l.workers.items ≡ length l.fn.workers.items;

@@ -13,5 +13,5 @@ returns-in-Move c = let l = c.args.self.now in let t = c.args.leaving.transit in
 pub returns-in-Ended : goal.returns-in-Ended
 returns-in-Ended c = let l = c.args.self.now in let t = c.args.leaving.transit in
     on_ok c.insert_done.result (takes_done l c.insert_done.new.done t c.requires.kept
-    (left_ended l.loaded.value.items t c.in-Ended.field-0 c.ended.result (subst (λ (y : Why). IsLeft l.loaded.value.items (record { transit = t; why = y })) c.in-Ended.is c.requires.left) (sym c.is_some-ended.ensures ∙ c.if-prove.false) c.ended.ensures.ends))
+    (left_ended l.loaded.value.items l.answers.items t c.in-Ended.field-0 c.ended.result (subst (λ (y : Why). IsLeft l.loaded.value.items (record { transit = t; why = y })) c.in-Ended.is c.requires.left) (sym c.is_some-ended.ensures ∙ c.if-prove.false) c.ended.ensures.ends))
     c.insert_done.ensures

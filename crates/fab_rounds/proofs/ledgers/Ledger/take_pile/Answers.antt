@@ -18,7 +18,8 @@ loop-leaving-preserved c = let v = c.loop-leaving.invariant in let t = c.in_ok-t
     let left = (all_pop (IsLeft c.loop-leaving.self.loaded.value.items) c.loop-leaving.pile.items c.pop.new.self.items c.in-Some.leaving c.in-Some.ensures.items v.left).0 in record {
       kept = t.kept;
       left = subst (λ (s : Snapshot (Vec Start Global)). All (IsLeft s.value.items) c.pop.new.self.items) (sym t.same.0) left;
-      same = (t.same.0 ∙ v.same.0, t.same.1 ∙ v.same.1);
+      same = (t.same.0 ∙ v.same.0, t.same.1 ∙ v.same.1, t.same.2 ∙ v.same.2);
+      answers = (t.answers.0 ∙ v.answers.0, t.answers.1 ∙ v.answers.1);
       firsts = t.firsts ∙ v.firsts;
       sums = λ f. omega (arith, v.sums f, t.sums f, total_pop (λ (l : Leaving). f (token_of l.transit)) c.loop-leaving.pile.items c.pop.new.self.items c.in-Some.leaving c.in-Some.ensures.items);
     }

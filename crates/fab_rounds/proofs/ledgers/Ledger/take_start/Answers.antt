@@ -5,7 +5,7 @@ use Rattle.fab_rounds.proofs.ledgers.Ledger.take_start.Goals as goal
 pub returns-then-is_some : goal.returns-then-is_some
 returns-then-is_some c = let l = c.args.self.now in let s = c.args.start in
     on_ok c.insert_done.result (takes_done l c.insert_done.new.done s.transit c.requires.kept
-    (start_ended l.loaded.value.items l.labels.value.items s c.ended.result c.requires.start c.requires.loaded (sym c.is_some.ensures ∙ c.if-is_some.true) c.ended.ensures.ends))
+    (start_ended l.loaded.value.items l.labels.value.items l.answers.items s c.ended.result c.requires.start c.requires.loaded (sym c.is_some.ensures ∙ c.if-is_some.true) c.ended.ensures.ends))
     c.insert_done.ensures
 
 pub returns-else-is_some : goal.returns-else-is_some

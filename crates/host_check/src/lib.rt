@@ -1,0 +1,4 @@
+//! A source checked: what its design costs, or why it is refused.
+#![tactic(auto)]
+
+pub mod check;

@@ -1,0 +1,4 @@
+pub mod Pieces
+pub mod Expected
+pub mod Nexts
+pub mod Read

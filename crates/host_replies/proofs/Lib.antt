@@ -1,5 +1,0 @@
-pub mod Nothing
-pub mod Reaching
-pub mod Answering
-pub mod Ended
-pub mod Lines

@@ -1,5 +1,5 @@
 #!/usr/bin/env python3
-"""Runs a program once and measures it, for at_limits.py, too_deep.py, hostile.py and bench.py:
+"""Runs a program once and measures it, for the tools that try it:
 
     measure(words, folder, seconds=.., memory=.., kept=..)  ->  Ran(status, cpu, clock, peak, out)
 

@@ -1,5 +1,5 @@
-"""Makes the rows of crates/cell_rows: sources with combinational blocks, what their registers hold, and the value that is wanted of
-a signal.
+"""Prints the section `cells` of the rows of crates/host_rows: sources with combinational blocks, what their registers hold, and the
+value that is wanted of a signal. It stands first there; tools/host_rows.py puts it in.
 
 The rows of tools/cell_rows.txt were worked out by hand. The others are the expressions of tools/width_rows.py, whose values it
 computes in whole numbers: `y` is assigned by an `always @*`, and `a`, `b` and so on are registers.
@@ -13,7 +13,6 @@ sys.dont_write_bytecode = True
 from width_rows import PARTS, Context, Maker, unique
 
 TOOLS = pathlib.Path(__file__).resolve().parent
-FOLDER = TOOLS.parent / "crates" / "cell_rows"
 
 
 def row(wanted, told, body):
@@ -63,10 +62,14 @@ def rows_by_hand():
                 yield row(told_of(line), told, body)
 
 
-made = list(rows_by_hand())
-for title, part in PARTS:
-    for expression, side in part(Maker(title)):
-        made += rows_of(expression, side)
-(FOLDER / "stdin").write_text("".join(made))
-(FOLDER / "stdout").write_text("ok\n" * len(made))
-print(len(made), "rows")
+def cell_rows():
+    """All rows, and the lines that are wanted."""
+    made = list(rows_by_hand())
+    for title, part in PARTS:
+        for expression, side in part(Maker(title)):
+            made += rows_of(expression, side)
+    return "".join(made), "ok\n" * len(made)
+
+
+if __name__ == "__main__":
+    print("### cells\n" + cell_rows()[0], end="")

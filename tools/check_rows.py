@@ -1,12 +1,12 @@
-"""Makes the input and the wanted output of crates/check_rows from the table tools/check_rows.txt."""
+"""Makes the section `check` of the input and of the wanted output of crates/check_rows from the tables tools/check_rows.txt and
+tools/cost_rows.txt; the other sections stay as they are."""
 
 import sys
 
 sys.dont_write_bytecode = True
 
-from flat_rows import MARK, TOOLS, TOP, marked, parted, text_of, write
+from flat_rows import MARK, TOOLS, marked, parted, text_of, write
 
-FOLDER = TOP / "crates" / "check_rows"
 MODULE = (
     "module m(input k); wire [7:0] u, v, w; reg [7:0] a, b, c; reg p; integer i, j; reg [7:0] r [0:3]; {} endmodule"
 )
@@ -15,7 +15,7 @@ KINDS = ("construct", "limit", "loop", "lex", "parse")
 
 def row(wanted, source):
     """What is wanted of a source, in a line, and the source without the mark."""
-    if wanted == "accepted":
+    if wanted.split()[0] in ("accepted", "cost"):
         assert MARK not in source, source
         return [wanted], source
     assert wanted.split()[0] in KINDS, wanted
@@ -76,5 +76,5 @@ def large():
 
 
 if __name__ == "__main__":
-    tables = [*parted((TOOLS / "check_rows.txt").read_text()), *large()]
-    write(FOLDER, [found for case in tables for found in rows_of(*case)])
+    faults, costs = (parted((TOOLS / name).read_text()) for name in ("check_rows.txt", "cost_rows.txt"))
+    write("check", [found for case in [*faults, *large(), *costs] for found in rows_of(*case)])

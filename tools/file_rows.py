@@ -1,4 +1,4 @@
-"""Makes the rows of crates/file_rows: calls on tables of open files, and what they answer."""
+"""Makes the rows of crates/file_rows: calls on tables of open files and on real files, and what they answer."""
 
 import pathlib
 import random
@@ -177,7 +177,47 @@ def full_set():
         getc(open_file(f"f{number}"))
 
 
-for part in [descriptors, short_reads, ends, some_calls, full_set]:
+def folder(call, *answer):
+    """A call on the real files of the folder in which the program runs."""
+    put(f"folder {call}", *answer)
+
+
+def real_files():
+    """What the program's folder does: files are kept and read up to a limit, and what can't be read or written is told and counted."""
+    absences = 0
+    long = b"7" * 10_000
+    folder(f"fill long.txt {len(long):x}", "ok")
+    for most in [0, 1, 4095, 4096, 4097, 8192, 9999, 10_000, 10_001, 2**64 - 1]:
+        if len(long) <= most:
+            folder(f"load long.txt {most:x}", f"{len(long):x}", long[:8].decode())
+        else:
+            folder(f"load long.txt {most:x}", "toolong")
+            absences += 1
+    for text in ["short", "a"]:
+        # The file is as long as what was written last.
+        folder(f"save long.txt {text}", "ok")
+        folder(f"load long.txt {len(text):x}", f"{len(text):x}", text)
+        folder(f"load long.txt {len(text) - 1:x}", "toolong")
+        absences += 1
+    folder("fill chunk.txt 1000", "ok")
+    folder("load chunk.txt 1000", "1000", "77777777")
+    folder("load chunk.txt fff", "toolong")
+    folder("load missing.txt 9", "notthere")
+    folder("load missing/a.txt 9", "notthere")
+    # A file with no end is not read to it.
+    folder("load /dev/zero 2328", "toolong")
+    absences += 4
+    folder("reports", "0", f"{absences:x}")
+    # A folder is no file.
+    folder("load . 9", "failed")
+    folder("save . text", "failed")
+    folder("save missing/a.txt text", "failed")
+    folder("reports", "3", f"{absences:x}")
+    folder("load chunk.txt 1000", "1000", "77777777")
+    folder("reports", "3", f"{absences:x}")
+
+
+for part in [descriptors, short_reads, ends, some_calls, full_set, real_files]:
     part()
 (FOLDER / "stdin").write_text("\n".join(rows) + "\n")
 (FOLDER / "stdout").write_text("\n".join(answers) + "\n")

@@ -1,12 +1,16 @@
-"""Makes the input and the wanted output of crates/flat_rows from the tables tools/flat_rows.txt and tools/name_rows.txt, and
-looks that docs/DESIGNS.md has the designs of its two examples."""
+"""Makes the section `flat` of the input and of the wanted output of crates/check_rows from the tables tools/flat_rows.txt and
+tools/name_rows.txt, and looks that docs/DESIGNS.md has the designs of its two examples; the other sections stay as they are."""
 
 import pathlib
 import re
+import sys
+
+sys.dont_write_bytecode = True
+
+import sections
 
 TOOLS = pathlib.Path(__file__).resolve().parent
 TOP = TOOLS.parent
-FOLDER = TOP / "crates" / "flat_rows"
 MARK = "«"
 
 
@@ -110,12 +114,13 @@ def large():
     yield "limit 5", instances + "\n  «c z(k);\nendmodule"
     yield "limit 5", instances + f"\n  «c {'z' * 254}(k);\nendmodule"
     yield "construct 10", instances + "\n  reg [128:0] «x;\nendmodule"
-    # 2^30 instances and more: depth first, the 4,097th is one of a1
-    doubled = "\n".join(
-        ["module a1(input k); endmodule"]
-        + [f"module a{i}(input k); {MARK if i == 2 else ''}a{i - 1} u(k), v(k); endmodule" for i in range(2, 31)]
-    )
-    yield "limit 5", doubled + "\nmodule m(input k); a30 u(k), v(k); endmodule"
+    # 2^30 instances and more, and more than any number of 32 or 64 bits: depth first, the 4,097th is one of a1
+    for levels in (30, 60, 100):
+        doubled = "\n".join(
+            ["module a1(input k); endmodule"]
+            + [f"module a{i}(input k); {MARK if i == 2 else ''}a{i - 1} u(k), v(k); endmodule" for i in range(2, levels + 1)]
+        )
+        yield "limit 5", doubled + f"\nmodule m(input k); a{levels} u(k), v(k); endmodule"
     # instances in one another: the path of the 127th has 255 bytes
     yield "construct 10", nested(127) + "\nmodule n127(input k); reg [128:0] «x; endmodule"
     yield "limit 11", nested(127) + "\nmodule n127(input k); «n128 u(k); endmodule\nmodule n128(input k); endmodule"
@@ -130,11 +135,10 @@ def large():
     yield "construct 24", signals + '\n  initial $display((«"12345678901234567"));\nendmodule'
 
 
-def write(folder, rows):
-    """Writes the input of a program that compares answers, and the output that is wanted of it."""
-    shown = ["\n".join(f"= {line}" for line in lines) + "\n" + source for lines, source in rows]
-    (folder / "stdin").write_text("\n".join(shown) + "\n")
-    (folder / "stdout").write_text("ok\n" * len(shown))
+def write(section, rows):
+    """Writes a section whose rows are compared with what is wanted, and the output that is wanted of it."""
+    lines = [line for wanted, source in rows for line in [f"= {each}" for each in wanted] + source.split("\n")]
+    sections.write(section, lines, ["ok"] * len(rows))
 
 
 def check_documents(rows):
@@ -149,5 +153,5 @@ def check_documents(rows):
 if __name__ == "__main__":
     tables = [(TOOLS / name).read_text() for name in ("flat_rows.txt", "name_rows.txt")]
     answers = [answer(*case) for table in tables for case in cases(table)] + [fault(*case) for case in large()]
-    write(FOLDER, answers)
+    write("flat", answers)
     check_documents(answers)

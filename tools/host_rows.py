@@ -1,10 +1,15 @@
-"""Makes the input and the wanted output of crates/host_rows from the tables tools/host_rows.txt, tools/run_rows.txt,
-tools/width_rows.txt and tools/host_scripts.txt."""
+"""Makes the input and the wanted output of crates/host_rows, which has four sections: `cells` by tools/cell_rows.py; `splits` and
+`fabrics`, whose rows stand in the tables tools/split_rows.txt and tools/fabric_rows.txt as the program reads them, with a line `---`
+between two; and last `host`, from the tables tools/host_rows.txt, tools/run_rows.txt, tools/width_rows.txt and tools/host_scripts.txt.
+
+`host_rows.py SECTION` only prints the rows of that section.
+"""
 
 import sys
 
 sys.dont_write_bytecode = True
 
+from cell_rows import cell_rows
 from flat_rows import MARK, TOOLS, TOP, expanded, marked, numbered, parted, text_of
 from items import item
 from values import corners
@@ -120,9 +125,33 @@ def large():
     yield "refused limit 9", leaf + top.replace("MARK", MARK).replace("MORE", "a = 7;")
 
 
-tables = [case for name in ("host_rows.txt", "run_rows.txt", "width_rows.txt") for case in parted((TOOLS / name).read_text())]
-rows = [row for case in [*tables, *run(), *formats(), *large()] for row in rows_of(*case)]
-shown = ["\n".join(head + [f"= {line}" for line in wanted]) + "\n" + files for head, wanted, files in rows]
-shown += scripts()
-(FOLDER / "stdin").write_text("\n".join(shown) + "\n")
-(FOLDER / "stdout").write_text("ok\n" * len(shown))
+def host_rows():
+    """The rows of the host, and the lines that are wanted."""
+    tables = [case for name in ("host_rows.txt", "run_rows.txt", "width_rows.txt") for case in parted((TOOLS / name).read_text())]
+    rows = [row for case in [*tables, *run(), *formats(), *large()] for row in rows_of(*case)]
+    shown = ["\n".join(head + [f"= {line}" for line in wanted]) + "\n" + files for head, wanted, files in rows]
+    shown += scripts()
+    return "\n".join(shown) + "\n", "ok\n" * len(shown)
+
+
+def named_rows(table):
+    """The rows of a table, each of which begins with a line `= ` of its name, and the lines that are wanted."""
+    lines = [line for line in (TOOLS / table).read_text().splitlines() if line != "---" and not line.startswith("#")]
+    names = [line[2:] for line in lines if line.startswith("= ")]
+    return "\n".join(lines).strip("\n") + "\n", "".join(f"ok {name}\n" for name in names)
+
+
+def sections():
+    """The sections: the name, the rows, and the lines that are wanted of each."""
+    yield "cells", *cell_rows()
+    yield "splits", *named_rows("split_rows.txt")
+    yield "fabrics", *named_rows("fabric_rows.txt")
+    yield "host", *host_rows()
+
+
+if len(sys.argv) > 1:
+    print("".join(f"### {name}\n{rows}" for name, rows, _ in sections() if name == sys.argv[1]), end="")
+else:
+    made = list(sections())
+    (FOLDER / "stdin").write_text("".join(f"### {name}\n{rows}" for name, rows, _ in made))
+    (FOLDER / "stdout").write_text("".join(wanted for _, _, wanted in made))

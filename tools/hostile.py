@@ -68,6 +68,10 @@ def rows_of(path):
         yield re.sub("[«»]", "", part)
 
 
+# tables that were added since the figures of docs/TESTING.md: without them the same first number gives the same mutations
+LATER = ("cost_rows.txt", "fabric_rows.txt", "split_rows.txt")
+
+
 def sources_of(folder):
     """Sources of the examples and of the tables."""
     found = []
@@ -75,6 +79,8 @@ def sources_of(folder):
         with open(path, "rb") as it:
             found.append(it.read())
     for path in sorted(glob.glob(os.path.join(folder, "tools", "*.txt"))):
+        if os.path.basename(path) in LATER:
+            continue
         for part in rows_of(path):
             at = part.find("module ")
             if at >= 0:

@@ -1,10 +1,15 @@
-"""Makes the input and the wanted output of crates/parse_rows from the table tools/parse_rows.txt."""
+"""Makes the section `parse` of the input and of the wanted output of crates/check_rows from the table tools/parse_rows.txt; the other
+sections stay as they are."""
 
 import pathlib
 import re
+import sys
+
+sys.dont_write_bytecode = True
+
+import sections
 
 TOOLS = pathlib.Path(__file__).resolve().parent
-FOLDER = TOOLS.parent / "crates" / "parse_rows"
 
 # What stands before and behind a row's text, and around its tree.
 FRAMES = {
@@ -91,5 +96,5 @@ def rows(table):
 
 
 asked = [answer(*row) for row in rows((TOOLS / "parse_rows.txt").read_text())]
-(FOLDER / "stdin").write_text("".join(f"= {question}\n{text}\n" for question, text, _ in asked))
-(FOLDER / "stdout").write_text("".join(wanted + "\n" for _, _, wanted in asked))
+lines = [line for question, text, _ in asked for line in [f"= {question}", *text.split("\n")]]
+sections.write("parse", lines, [wanted for _, _, wanted in asked])

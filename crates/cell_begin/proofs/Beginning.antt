@@ -1,5 +1,5 @@
 -- Shapes that have the registers and memories of all places.
-use Rattle.std.proofs.Common.{◌≡◌, ℕ, zero, suc, ◌+◌, ◌<◌, ◌≤◌, List, [], ◌∷◌, get_or, arith}
+use Rattle.std.proofs.Common.{ℕ, zero, suc, ◌+◌, ◌≤◌, List, [], ◌∷◌, get_or, arith}
 use Rattle.vl_design.specs.Width.{Names}
 use Rattle.cell_form.specs.Sound.{Shape}
 use Rattle.cell_form.specs.Data.{ListData}

@@ -1,6 +1,6 @@
 -- Entries of computed signals beside those of others.
-use Rattle.std.proofs.Common.{◌≡◌, ℕ, ◌+◌, ◌-◌, ◌<◌, ◌≤◌, Bool, true, false, true≢false, List, length, get_or, set, map, refl, sym, ap, ◌∙◌, arith, subst, Option, Some, None}
-use Rattle.std.specs.Prelude.{nat_lt, slice_get, slice_index_or, if◌then◌else◌, option_map}
+use Rattle.std.proofs.Common.{◌≡◌, ℕ, ◌+◌, ◌-◌, ◌<◌, ◌≤◌, Bool, true, false, List, length, get_or, set, map, refl, sym, ap, ◌∙◌, arith, subst, Option, Some, None}
+use Rattle.std.specs.Prelude.{nat_lt, slice_get, if◌then◌else◌, option_map}
 use Rattle.std.proofs.lemmas.Bool.{ltb-true, ltb-false}
 use Rattle.std.proofs.lemmas.List.{length-set, get_or-set_same, get_or-set_other}
 use Rattle.std.proofs.lemmas.Option.{slice_get_past, slice_get-map, slice_get-get_or}
@@ -10,7 +10,7 @@ use Rattle.vl_design.specs.declared.design.Signal.{Signal}
 use Rattle.vl_design.specs.Trees.{row_of}
 use Rattle.vl_design.specs.Syntax.{Row}
 use Rattle.vl_design.specs.State.{State, sample}
-use Rattle.vl_design.specs.Value.{Sample, words_of, value_of}
+use Rattle.vl_design.specs.Value.{words_of, value_of}
 use Rattle.vl_design.specs.Width.{Names, signal_form}
 use Rattle.vl_design.specs.Sound.{IsOf, IsMem, IsSignal, IsMemory}
 use Rattle.cell_form.specs.Data.{ListData, BankData}

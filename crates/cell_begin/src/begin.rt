@@ -15,6 +15,7 @@ ghost use Rattle.cell_form.specs.Sound.{Shape};
 ghost use Rattle.cell_form.specs.Views.{list_of};
 ghost use Rattle.cell_steps.specs.Slots.{AreSound, Grows, Longer};
 ghost use Rattle.cell_paths.specs.Envs.{env_of, Fits, HasMemories, Stands};
+ghost use Rattle.cell_reads.specs.Entries.{read_count};
 ghost use Rattle.cell_reads.specs.Reads.{IsRead};
 ghost use Rattle.cell_expr.specs.Bodies.{IsCellFun};
 ghost use Rattle.cell_nets.specs.Passes.{pass_count};
@@ -80,7 +81,7 @@ pub fn begin(
     ensures first { IfOk result (λ at. at.first ≡ 0) }
     ensures fits { IfOk result (λ at. Fits (names_of (flat_of design.now)) (list_of cells.new) (env_of at)) }
     ensures longer { IfOk result (λ at. Longer (s.HasCopies (names_of (flat_of design.now)) values.now works.now time answer)
-        (length design.now.signals + 4 + pass_count (flat_of design.now) order.now + (length design.now.signals + 4)) (list_of cells.old) (list_of cells.new)) }
+        (read_count (flat_of design.now).rows + 4 + pass_count (flat_of design.now) order.now + (read_count (flat_of design.now).rows + 4)) (list_of cells.old) (list_of cells.new)) }
     ensures memories { IfOk result (λ at. (z : Shape) → s.HasCopies (names_of (flat_of design.now)) values.now works.now time answer z → HasMemories (names_of (flat_of design.now)) (env_of at) z) }
     ensures stands { IfOk result (λ at. (files : List File) (z : Shape) (b : BankData) (t : State) (w x : List (List ℕ)) → AreSound z (list_of cells.old) → t.finished ≡ false →
         IsRead (names_of (flat_of design.now)) b values.now time answer (sample t) → IsRead (names_of (flat_of design.now)) b works.now time answer (sample (record t { values = w })) →

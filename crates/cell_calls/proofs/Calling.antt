@@ -23,8 +23,8 @@ use Rattle.cell_steps.proofs.Frames.{longer-same}
 use Rattle.cell_paths.specs.Envs.{Env, HasMemories}
 use Rattle.cell_expr.specs.Counts.{body_cells}
 use Rattle.ten_form.specs.Registers.{answer_register, work_register}
-use Rattle.ten_calls.specs.Asked.{shown, asked, asked_widths, own_widths}
-use Rattle.ten_calls.specs.Traps.{IsCallOf}
+use Rattle.ten_traps.specs.Asked.{shown, asked, asked_widths, own_widths}
+use Rattle.ten_traps.specs.Traps.{IsCallOf}
 use Rattle.cell_calls.specs.Calls.{AsksFile, Traps, slots_in}
 use Rattle.cell_calls.specs.Counts.{asked_count}
 use Rattle.cell_calls.specs.declared.display.Display.{Display}

@@ -10,9 +10,9 @@ use Rattle.vl_design.specs.Width.{Names, form}
 use Rattle.cell_form.specs.declared.table.FormatPart.{FormatPart}
 use Rattle.cell_form.specs.declared.table.FormatPart.TheVariants as part
 use Rattle.trap_runtime.specs.Served.{parts_text}
-use Rattle.ten_calls.specs.Asked.{shown, own_widths}
+use Rattle.ten_traps.specs.Asked.{shown, own_widths}
 use Rattle.cell_calls.specs.Displays.{Extends, Alike}
-use Rattle.ten_calls.specs.Traps.{shown_text, item_widths}
+use Rattle.ten_traps.specs.Traps.{shown_text, item_widths}
 
 pub empty-list : (xs : List ℕ) (ys : List ℕ) → ys ≡ xs → (length ys == 0) ≡ true → xs ≡ []
 empty-list [] ys e h = refl

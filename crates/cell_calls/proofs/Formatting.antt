@@ -7,9 +7,9 @@ use Rattle.vl_design.specs.Syntax.{Exp, Piece, Literal, Shown}
 use Rattle.vl_design.specs.Formats.{Arg, FormatPosition, InText, Percent, PercentZero, operand, with_text, behind_item, with_item, format_pieces, taken, pieces_from}
 use Rattle.vl_design.specs.Width.{Names}
 use Rattle.vl_show.specs.Modes.{position_after}
-use Rattle.ten_calls.specs.Asked.{shown}
+use Rattle.ten_traps.specs.Asked.{shown}
 use Rattle.cell_calls.specs.Displays.{Alike}
-use Rattle.ten_calls.specs.Traps.{shown_text}
+use Rattle.ten_traps.specs.Traps.{shown_text}
 use Rattle.cell_calls.proofs.Extending.{shown-append, taken-shown, line-append}
 
 behind-item-is : (o : Option Format) (e : Exp) (args : List Arg) → behind_item o args ≡ drop (taken (with_item o e [])) args

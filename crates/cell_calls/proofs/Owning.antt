@@ -25,7 +25,7 @@ use Rattle.cell_expr.specs.Compiled.{Holds, Compiles}
 use Rattle.cell_expr.specs.Counts.{exp_count, body_cells}
 use Rattle.cell_expr.proofs.Holding.{resizes-most, holds-wider, holds-node}
 use Rattle.cell_expr.proofs.Nodes.{num-compiles}
-use Rattle.ten_calls.specs.Asked.{own_widths}
+use Rattle.ten_traps.specs.Asked.{own_widths}
 use Rattle.cell_calls.specs.Calls.{AreSlots, AsksFile, slots_in}
 use Rattle.cell_calls.specs.Counts.{own_count}
 use Rattle.cell_calls.specs.declared.own.Own.{Own}

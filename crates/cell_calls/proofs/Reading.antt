@@ -10,7 +10,7 @@ use Rattle.cell_form.specs.Data.{ListData}
 use Rattle.cell_steps.specs.Slots.{Grows}
 use Rattle.cell_steps.proofs.Frames.{grows-same, grows-then}
 use Rattle.cell_paths.specs.Envs.{Env}
-use Rattle.ten_calls.specs.Asked.{shown}
+use Rattle.ten_traps.specs.Asked.{shown}
 use Rattle.cell_calls.specs.declared.display.Display.{Display}
 use Rattle.cell_calls.specs.Displays.{IsReady, Adds}
 use Rattle.cell_calls.proofs.Extending.{shown-append}

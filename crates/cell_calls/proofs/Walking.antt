@@ -10,7 +10,7 @@ use Rattle.vl_design.specs.Formats.{with_item, taken}
 use Rattle.vl_design.specs.Width.{Names, form, names_of}
 use Rattle.cell_form.specs.Data.{ListData}
 use Rattle.cell_paths.specs.Envs.{Env, Fits}
-use Rattle.ten_calls.specs.Asked.{shown}
+use Rattle.ten_traps.specs.Asked.{shown}
 use Rattle.cell_calls.specs.declared.display.Display.{Display}
 use Rattle.cell_calls.specs.declared.own.Own.{Own}
 use Rattle.cell_calls.specs.Displays.{parts_in, Extends, Alike, IsOwn, Adds, Walked}

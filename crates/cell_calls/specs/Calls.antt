@@ -16,9 +16,9 @@ use Rattle.cell_steps.specs.Slots.{held, AreSound, Longer}
 use Rattle.cell_paths.specs.Envs.{Env, IsSlot, HasMemories, Stands}
 use Rattle.cell_expr.specs.Counts.{exp_count, body_cells}
 use Rattle.cell_form.specs.declared.table.Trap.{Trap}
-use Rattle.ten_calls.specs.Traps.{IsTrapOf}
+use Rattle.ten_traps.specs.Traps.{IsTrapOf}
 use Rattle.cell_calls.specs.Counts.{asked_count}
-use Rattle.ten_calls.specs.Asked.{asked, asked_widths}
+use Rattle.ten_traps.specs.Asked.{asked, asked_widths}
 
 -- the call of an instance of this path
 abbrev pub task_in : List ℕ → SysCall → Task

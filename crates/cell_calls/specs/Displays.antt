@@ -18,9 +18,9 @@ use Rattle.trap_runtime.specs.Served.{parts_text}
 use Rattle.cell_calls.specs.declared.display.Display.{Display}
 use Rattle.cell_calls.specs.declared.own.Own.{Own}
 use Rattle.cell_calls.specs.Counts.{own_count}
-use Rattle.ten_calls.specs.Asked.{shown, own_widths}
+use Rattle.ten_traps.specs.Asked.{shown, own_widths}
 use Rattle.cell_calls.specs.Calls.{AreSlots}
-use Rattle.ten_calls.specs.Traps.{shown_text, item_widths}
+use Rattle.ten_traps.specs.Traps.{shown_text, item_widths}
 
 -- expressions of the design can be compiled
 pub record IsReady (d : Flat) (at : Env) (l : ListData) : Type 0 where

@@ -11,7 +11,7 @@ ghost use Rattle.vl_show.specs.Modes.{reading_of};
 ghost use Rattle.cell_form.specs.Views.{list_of};
 ghost use Rattle.cell_steps.specs.Slots.{Grows};
 ghost use Rattle.cell_paths.specs.Envs.{env_of};
-ghost use Rattle.ten_calls.specs.Asked.{shown};
+ghost use Rattle.ten_traps.specs.Asked.{shown};
 ghost use Rattle.cell_calls.specs.Displays.{IsReady, IsOwn, Adds, Walked};
 
 use crate::display::Display;

@@ -1,6 +1,6 @@
 -- The sums of a design.
 use Rattle.std.proofs.Common.{◌≡◌, ◌≤◌, ◌<◌, ◌+◌, ◌-◌, ◌*◌, ℕ, zero, suc, List, [], ◌∷◌, length, Bool, true, false, refl, sym, ap, ◌∙◌, arith, subst, Some, inl, inr}
-use Rattle.std.specs.Prelude.{◌==◌, ◌⊎◌, cond, All, ◌||◌, ◌&&◌, if◌then◌else◌, slice_get, slice_index_or}
+use Rattle.std.specs.Prelude.{◌==◌, ◌⊎◌, cond, All, if◌then◌else◌, slice_get, slice_index_or}
 use Rattle.std.specs.List.{sum_by, count_by}
 use Rattle.std.proofs.Math.Nat.{suc-mul, mul-le-mul_right}
 use Rattle.std.proofs.lemmas.List.Elements.{All-head, All-tail}
@@ -20,6 +20,8 @@ use Rattle.vl_design.specs.Syntax.{Nop, Row, Proc, Flat}
 use Rattle.vl_design.specs.Width.{Scope, names_of}
 use Rattle.settling.specs.Nets.{AllBelow}
 use Rattle.vl_settle.specs.Nets.{comb_at}
+use Rattle.vl_answers.specs.Others.{is_other, is_other_row}
+use Rattle.cell_reads.specs.Entries.{read_count}
 use Rattle.cell_expr.specs.Counts.{stm_count, body_cells}
 use Rattle.cell_expr.specs.Slack.{stm_slack, bodies_slack}
 use Rattle.cell_expr.proofs.Budget.{bodies-within}
@@ -29,8 +31,8 @@ use Rattle.cell_states.specs.Cells.{stms_count, way_count, update_count, node_co
 use Rattle.sub_facts.specs.Pairs.{ArePaired}
 use Rattle.sub_nodes.specs.Nodes.{Segment, WayOn, Node, Run, Trap, Apply}
 use Rattle.ten_form.specs.Banks.{cell_nodes, stores_in}
-use Rattle.ten_image.specs.Delays.{is_delayed}
-use Rattle.cell_cost.specs.Slack.{proc_slack, is_idle, idle, others, running, idle_delayed, idle_slack, cell_slack}
+use Rattle.ten_image.specs.Delays.{is_delayed, DelaysVariables}
+use Rattle.cell_cost.specs.Slack.{proc_slack, cell_slack}
 use Rattle.cell_cost.proofs.Weights.{stm_most, count-most, most-within}
 use Rattle.cell_cost.proofs.Waves.{kind_most, run-at}
 
@@ -138,7 +140,7 @@ module _ (d : Flat) where
   abbrev s0 : State
   s0 = fresh (zeros d.rows)
 
-  kinds : (x : ProcKind) (m c s : ℕ) → m ≤ c + s → (if is_comb x then m else 0) + (if is_rise x then m else 0) + (if is_fall x then m else 0) + 4 * (if is_init x then 0 else 1) ≤ (if is_init x then 0 else 4 + c) + (if is_init x then 0 else s)
+  kinds : (x : ProcKind) (m c s : ℕ) → m ≤ c + s → (if is_comb x then m else 0) + (if is_rise x then m else 0) + (if is_fall x then m else 0) ≤ (if is_init x then 0 else 4 + c) + (if is_init x then 0 else s)
   kinds Init m c s h = omega arith
   kinds Rise m c s h = omega (arith, h)
   kinds Fall m c s h = omega (arith, h)
@@ -150,7 +152,7 @@ module _ (d : Flat) where
     bodies f = bodies-within scope sound.funs (length d.funs) f
 
     procs-within : (ps : List Proc) → All (IsSoundProc (names_of d)) ps →
-        sum_by (kind_most d is_comb) ps + sum_by (kind_most d is_rise) ps + sum_by (kind_most d is_fall) ps + 4 * running ps ≤ sum_by (proc_cells scope s0) ps + sum_by (proc_slack d) ps
+        sum_by (kind_most d is_comb) ps + sum_by (kind_most d is_rise) ps + sum_by (kind_most d is_fall) ps ≤ sum_by (proc_cells scope s0) ps + sum_by (proc_slack d) ps
     procs-within [] h = omega arith
     procs-within (p ∷ ps) h =
         let one = most-within scope (body_cells d) (cost.body_cells scope) (bodies_slack d) bodies p.body s0 (All-head (IsSoundProc (names_of d)) p ps h).body in
@@ -161,12 +163,11 @@ module _ (d : Flat) where
         let c3 = sum_by-cons (kind_most d is_fall) p ps in
         let c4 = sum_by-cons (proc_cells scope s0) p ps in
         let c5 = sum_by-cons (proc_slack d) p ps in
-        let c6 = sum_by-cons (λ (q : Proc). if is_init q.kind then 0 else 1) p ps in
-        omega (arith, x, y, c1, c2, c3, c4, c5, c6)
+        omega (arith, x, y, c1, c2, c3, c4, c5)
 
 -- ---- signals
 
-row-kinds : (x : SigKind) → row_cells x ≡ 6 * (if is_idle x then 0 else 1)
+row-kinds : (x : SigKind) → row_cells x ≡ 6 * (if is_other x then 0 else 1)
 row-kinds k.Net = refl
 row-kinds k.Var = refl
 row-kinds k.Comb = refl
@@ -174,68 +175,47 @@ row-kinds k.Loop = refl
 row-kinds k.Mem = refl
 row-kinds k.Clock = refl
 
-idle-one : (q : Bool) → (if q then 1 else 0) + (if q then 0 else 1) ≡ 1
-idle-one true = refl
-idle-one false = refl
-
-rows-cells : (rows : List Row) → sum_by (λ r. row_cells r.kind) rows ≡ 6 * others rows
+rows-cells : (rows : List Row) → sum_by (λ r. row_cells r.kind) rows ≡ 6 * read_count rows
 rows-cells [] = refl
 rows-cells (r ∷ rs) =
     let a = sum_by-cons (λ (x : Row). row_cells x.kind) r rs in
-    let b = sum_by-cons (λ (x : Row). if is_idle x.kind then 0 else 1) r rs in
+    let b = sum_by-cons (λ (x : Row). if is_other x.kind then 0 else 1) r rs in
     let e = row-kinds r.kind in
     let i = rows-cells rs in
     omega (arith, a, b, e, i)
 
-rows-many : (rows : List Row) → length rows ≡ idle rows + others rows
-rows-many [] = refl
-rows-many (r ∷ rs) =
-    let a = sum_by-cons (λ (x : Row). if is_idle x.kind then 1 else 0) r rs in
-    let b = sum_by-cons (λ (x : Row). if is_idle x.kind then 0 else 1) r rs in
-    let e = idle-one (is_idle r.kind) in
-    let i = rows-many rs in
-    omega (arith, a, b, e, i)
+one-counted : (p q : Bool) → (q ≡ true → p ≡ false) → (if p then 1 else 0) ≤ (if q then 0 else 1)
+one-counted false q f = omega arith
+one-counted true false f = omega arith
+one-counted true true f = (let z = f refl in let no : ⊥ = cc in absurd no)
 
-delayed-one : (p q : Bool) → (if p then 1 else 0) ≤ (if q then 0 else 1) + (if q && p then 1 else 0)
-delayed-one true true = omega arith
-delayed-one true false = omega arith
-delayed-one false q = omega arith
+-- of the numbers of rows from k on that pass, where those of loop variables and clocks don't
+count-rows : (p : ℕ → Bool) (k n : ℕ) (rows : List Row) → n ≡ k + length rows → ((j m : ℕ) (r : Row) → slice_get rows j ≡ Some r → m ≡ k + j → is_other r.kind ≡ true → p m ≡ false) → count_to p n ≤ count_to p k + read_count rows
+count-rows p k n [] e f = (let s : k ≡ n = omega (arith, e) in subst (λ m. count_to p m ≤ count_to p k + 0) s (omega arith))
+count-rows p k n (r ∷ rs) e f =
+    let b = sum_by-cons (λ (x : Row). if is_other x.kind then 0 else 1) r rs in
+    let one = one-counted (p k) (is_other r.kind) (f 0 k r refl (omega arith)) in
+    let step : count_to p (suc k) ≡ count_to p k + (if p k then 1 else 0) = refl in
+    let i = count-rows p (suc k) n rs (omega (arith, e)) (λ j m x h s. f (suc j) m x h (omega (arith, s))) in
+    omega (arith, b, one, step, i)
 
--- marked numbers, in a list from number k on
-abbrev delayed-from : Flat → ℕ → List Row → ℕ
-delayed-from d k [] = 0
-delayed-from d k (r ∷ rs) = (if is_delayed d k then 1 else 0) + delayed-from d (k + 1) rs
-
-count-from : (d : Flat) (k n : ℕ) (rows : List Row) → n ≡ k + length rows → count_to (is_delayed d) n ≡ count_to (is_delayed d) k + delayed-from d k rows
-count-from d k n [] e = (let s : n ≡ k = omega (arith, e) in subst (λ m. count_to (is_delayed d) m ≡ count_to (is_delayed d) k + 0) (sym s) (omega arith))
-count-from d k n (r ∷ rs) e =
-    let s : k + 1 ≡ suc k = omega arith in
-    let i = count-from d (k + 1) n rs (omega (arith, e)) in
-    let f : count_to (is_delayed d) (k + 1) ≡ count_to (is_delayed d) k + (if is_delayed d k then 1 else 0) = subst (λ m. count_to (is_delayed d) m ≡ count_to (is_delayed d) k + (if is_delayed d k then 1 else 0)) (sym s) refl in
-    omega (arith, i, f)
-
-rows-delayed : (d : Flat) (k : ℕ) (rows : List Row) → delayed-from d k rows ≤ others rows + idle_delayed d k rows
-rows-delayed d k [] = omega arith
-rows-delayed d k (r ∷ rs) =
-    let b = sum_by-cons (λ (x : Row). if is_idle x.kind then 0 else 1) r rs in
-    let e = delayed-one (is_delayed d k) (is_idle r.kind) in
-    let i = rows-delayed d (k + 1) rs in
-    omega (arith, b, e, i)
+delayed-few : (d : Flat) → DelaysVariables d → count_to (is_delayed d) (length d.rows) ≤ read_count d.rows
+delayed-few d variables =
+    let most = count-rows (is_delayed d) 0 (length d.rows) d.rows (omega arith) (λ j m r h s o. (let same : j ≡ m = omega (arith, s) in subst (λ i. is_delayed d i ≡ false) same (variables j (inr (ap is_other_row h ∙ o))))) in
+    omega (arith, most)
 
 -- ---- nodes
 
-pub node-within : (d : Flat) (order : List ℕ) → IsSound d → AllBelow (length d.procs) order → ((j : ℕ) → count_by (λ i. i == j) order ≤ 1) → ArePaired 0 (cell_nodes d) → (n : ℕ) (x : Node) → slice_get (cell_nodes d) n ≡ Some x →
+pub node-within : (d : Flat) (order : List ℕ) → IsSound d → DelaysVariables d → AllBelow (length d.procs) order → ((j : ℕ) → count_by (λ i. i == j) order ≤ 1) → ArePaired 0 (cell_nodes d) → (n : ℕ) (x : Node) → slice_get (cell_nodes d) n ≡ Some x →
     node_count d order (cell_nodes d) x ≤ (cost d).cells + cell_slack d
-node-within d order sound below once paired n (Run g on) h =
+node-within d order sound variables below once paired n (Run g on) h =
     let run = run-at d paired n g on h in
     let pass = pass-most d order below once in
     let procs = procs-within d sound d.procs sound.procs in
     let cells = rows-cells d.rows in
-    let many = rows-many d.rows in
-    omega (arith, run, pass, procs, cells, many)
-node-within d order sound below once paired n (Trap task to) h = omega arith
-node-within d order sound below once paired n (Apply to) h =
+    omega (arith, run, pass, procs, cells)
+node-within d order sound variables below once paired n (Trap task to) h = omega arith
+node-within d order sound variables below once paired n (Apply to) h =
     let cells = rows-cells d.rows in
-    let late = rows-delayed d 0 d.rows in
-    let from = count-from d 0 (length d.rows) d.rows (omega arith) in
-    omega (arith, cells, late, from)
+    let late = delayed-few d variables in
+    omega (arith, cells, late)

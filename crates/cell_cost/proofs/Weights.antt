@@ -14,7 +14,7 @@ use Rattle.cell_expr.specs.Slack.{exp_slack, pieces_slack, task_slack, stm_slack
 use Rattle.cell_expr.proofs.Counting.{own-most}
 use Rattle.cell_expr.proofs.Budget.{own-within, exp-within, source-within, answer-few, labels-within, stm-within}
 use Rattle.cell_calls.specs.Counts.{asked_count}
-use Rattle.ten_calls.specs.Asked.{shown}
+use Rattle.ten_traps.specs.Asked.{shown}
 
 module _ (body : ℕ → ℕ) where
   abbrev pub subject_most : Exp → Items → ℕ

@@ -5,6 +5,7 @@ ghost use Rattle.vl_design.specs.Cost.{cost};
 ghost use Rattle.vl_design.specs.Sound.{IsSound};
 ghost use Rattle.vl_design.specs.Syntax.{Flat};
 ghost use Rattle.settling.specs.Nets.{AllBelow};
+ghost use Rattle.ten_image.specs.Delays.{DelaysVariables};
 ghost use Rattle.cell_cost.specs.Slack.{cell_slack, register_slack};
 ghost use Rattle.cell_states.specs.Cells.{node_count};
 ghost use Rattle.cell_states.specs.Widths.{register_widths};
@@ -15,11 +16,11 @@ ghost use Rattle.ten_form.specs.Banks.{cell_nodes};
 /// The state of a node behind time zero's wave has at most as many cells as the design costs, and its slack, where the order has each
 /// process at most once.
 pub fn nodes_are_within_cost()
-    ensures { (d : Flat) (order : List ℕ) → IsSound d → AllBelow (length d.procs) order → ((j : ℕ) → count_by (λ i. i == j) order ≤ 1) → ArePaired 0 (cell_nodes d) →
+    ensures { (d : Flat) (order : List ℕ) → IsSound d → DelaysVariables d → AllBelow (length d.procs) order → ((j : ℕ) → count_by (λ i. i == j) order ≤ 1) → ArePaired 0 (cell_nodes d) →
         (n : ℕ) (x : Node) → slice_get (cell_nodes d) n ≡ Some x → node_count d order (cell_nodes d) x ≤ (cost d).cells + cell_slack d }
 {}
 
 /// The registers that states set have at most as many bits as the design costs, and its slack.
 pub fn registers_are_within_cost()
-    ensures { (d : Flat) → sum_by (λ w. w) (register_widths d) ≤ (cost d).regs + register_slack d }
+    ensures { (d : Flat) → DelaysVariables d → sum_by (λ w. w) (register_widths d) ≤ (cost d).regs + register_slack d }
 {}

@@ -32,7 +32,7 @@ use Rattle.cell_expr.specs.declared.spot.Spot.{Spot}
 use Rattle.cell_expr.specs.Compiled.{Compiles}
 use Rattle.cell_expr.specs.Counts.{parts_count, part_count}
 use Rattle.cell_expr.specs.Spots.{IsOf, word_in, memory_at, spot_cells, Based, IsSpot, spot_in, bits_of, cells_of, stored_by, Spotted}
-use Rattle.cell_expr.specs.Stored.{target_stored}
+use Rattle.vl_stored.specs.Stored.{target_stored}
 use Rattle.cell_expr.proofs.Spotting.{word-stays, is-of-stays}
 
 -- ---- a target by its node

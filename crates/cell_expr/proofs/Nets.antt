@@ -20,7 +20,7 @@ use Rattle.vl_design.specs.Trees.{exp_of, stm_of, target_of}
 use Rattle.vl_run.proofs.Statements.{if-of, set-of, later-of, for-of, repeat-of, task-of}
 use Rattle.vl_paths.specs.Nets.{AreNetItems, IsPlain, ArePlain, IsBase}
 use Rattle.cell_expr.specs.Bodies.{IsNet, IsSegment, AreSegmentItems, IsAny, assignment}
-use Rattle.cell_expr.specs.Stored.{target_stored, targets_stored}
+use Rattle.vl_stored.specs.Stored.{target_stored, targets_stored}
 
 -- ---- statements with nonblocking assignments, and those without
 

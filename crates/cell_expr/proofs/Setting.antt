@@ -23,7 +23,7 @@ use Rattle.cell_later.proofs.Leaving.{does-later, leaves-later}
 use Rattle.cell_expr.specs.declared.spot.Spot.{Spot}
 use Rattle.cell_expr.specs.Compiled.{Compiles}
 use Rattle.cell_expr.specs.Spots.{memory_at, IsSpot, spot_in, bits_of, cells_of, stored_by, Spotted, Assigned}
-use Rattle.cell_expr.specs.Stored.{target_stored}
+use Rattle.vl_stored.specs.Stored.{target_stored}
 use Rattle.cell_expr.specs.Counts.{parts_count, all_parts_count}
 use Rattle.vl_design.specs.Sound.{IsSoundExp, IsSoundTarget}
 use Rattle.vl_eval.proofs.Widths.{form-width}

@@ -22,7 +22,7 @@ use Rattle.cell_later.proofs.Leaving.{leaves-default, leaves-labelled}
 use Rattle.cell_expr.specs.Bodies.{IsSegment, AreSegmentItems}
 use Rattle.cell_expr.specs.Counts.{labels_count, items_count, stm_count}
 use Rattle.cell_expr.specs.Items.{Item, Tried}
-use Rattle.cell_expr.specs.Stored.{stored_words, items_stored, default_stored}
+use Rattle.vl_stored.specs.Stored.{stored_words, items_stored, default_stored}
 use Rattle.cell_expr.proofs.Labelling.{item-tries}
 use Rattle.cell_expr.proofs.Listing.{none-left, none-right}
 

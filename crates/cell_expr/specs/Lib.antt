@@ -8,6 +8,5 @@ pub mod Items
 pub mod Labels
 pub mod Passes
 pub mod Spots
-pub mod Stored
 pub mod Words
 pub mod Slack

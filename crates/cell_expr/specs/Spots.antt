@@ -15,7 +15,7 @@ use Rattle.cell_expr.specs.declared.address.Address.{Address}
 use Rattle.cell_expr.specs.declared.spot.Spot.{Spot}
 use Rattle.cell_expr.specs.Chosen.{word_named}
 use Rattle.cell_expr.specs.Counts.{is_word, part_count, parts_count}
-use Rattle.cell_expr.specs.Stored.{target_stored}
+use Rattle.vl_stored.specs.Stored.{target_stored}
 
 -- ---- what a spot is of: a signal, or the word of a memory by its address
 

@@ -23,7 +23,7 @@ ghost use Rattle.cell_expr.specs.Callers.{DoesBody};
 ghost use Rattle.cell_expr.specs.Compiled.{Compiles};
 ghost use Rattle.cell_expr.specs.Counts.{exp_count, labels_count, stm_count, body_count};
 ghost use Rattle.cell_expr.specs.Passes.{AreCompiled};
-ghost use Rattle.cell_expr.specs.Stored.{stored_words};
+ghost use Rattle.vl_stored.specs.Stored.{stored_words};
 
 use crate::context::{Context, inner};
 use cell_form::cell::CellList;

@@ -19,7 +19,7 @@ ghost use Rattle.cell_later.specs.Delays.{Leaves};
 ghost use Rattle.cell_expr.specs.Bodies.{IsCellFun, IsCellStm, IsSegment, IsAny, IsSegmentStm, assignment};
 ghost use Rattle.cell_expr.specs.Compiled.{Compiles};
 ghost use Rattle.cell_expr.specs.Counts.{exp_count, labels_count, stm_count, body_cells};
-ghost use Rattle.cell_expr.specs.Stored.{stored_words};
+ghost use Rattle.vl_stored.specs.Stored.{stored_words};
 
 use crate::body::{assignment_at, expression_at, labels_at, segment_at, statement_at};
 use crate::case;

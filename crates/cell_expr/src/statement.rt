@@ -28,7 +28,7 @@ ghost use Rattle.cell_expr.specs.Counts.{exp_count, labels_count, stm_count, ite
 ghost use Rattle.cell_expr.specs.Items.{Item, Tried};
 ghost use Rattle.cell_expr.specs.Callers.{Compilers};
 ghost use Rattle.cell_expr.specs.Spots.{Assigned};
-ghost use Rattle.cell_expr.specs.Stored.{stored_words, items_stored, target_stored};
+ghost use Rattle.vl_stored.specs.Stored.{stored_words, items_stored, target_stored};
 
 use crate::case::{care_of, default_of, items_form};
 use crate::context::Context;

@@ -16,7 +16,7 @@ ghost use Rattle.cell_expr.specs.Contexts.{names_of, scope_of, body_of};
 ghost use Rattle.cell_expr.specs.Counts.{own_count, indices_count, all_indices_count, parts_count, all_parts_count};
 ghost use Rattle.cell_expr.specs.Callers.{Compilers};
 ghost use Rattle.cell_expr.specs.Spots.{Based, Spotted};
-ghost use Rattle.cell_expr.specs.Stored.{target_stored, targets_stored};
+ghost use Rattle.vl_stored.specs.Stored.{target_stored, targets_stored};
 
 use crate::address::Address;
 use crate::context::Context;

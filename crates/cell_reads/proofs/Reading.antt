@@ -1,19 +1,20 @@
 -- What registers give.
-use Rattle.std.proofs.Common.{◌≡◌, ℕ, zero, suc, ◌+◌, ◌<◌, ◌%◌, ◌^◌, List, [], ◌∷◌, ◌++◌, length, Option, Some, None, refl, sym, ap, ◌∙◌, arith, subst, length-append}
-use Rattle.std.specs.Prelude.{slice_index, slice_index_or, slice_get, get_or, map, option_map, ◌⊎◌}
+use Rattle.std.proofs.Common.{◌≡◌, ℕ, zero, suc, ◌+◌, ◌<◌, ◌≤◌, ◌%◌, ◌^◌, List, [], ◌∷◌, ◌++◌, length, get_or, take, take_all, Option, Some, None, refl, sym, ap, ◌∙◌, arith, subst, length-append}
+use Rattle.std.specs.Prelude.{slice_index, slice_index_or, slice_get, map, option_map, if◌then◌else◌, ◌⊎◌}
 use Rattle.std.proofs.Common.{inl, inr}
+use Rattle.std.proofs.lemmas.List.Sums.{sum_by_more}
 use Rattle.std.proofs.lemmas.Option.{slice_get_within, slice_get-map, slice_get-get_or}
 use Rattle.vl_design.specs.declared.design.Signal.{Signal}
 use Rattle.vl_design.specs.Rows.{row_of}
-use Rattle.vl_design.specs.declared.design.SigKind.TheVariants.{Mem}
 use Rattle.vl_design.specs.Syntax.{Row}
-use Rattle.vl_design.specs.Sound.{IsWidth, HasValue, IsMem}
+use Rattle.vl_design.specs.Sound.{IsWidth}
+use Rattle.vl_answers.specs.Others.{is_other}
 use Rattle.cell_form.specs.Data.{ListData}
 use Rattle.cell_form.specs.Sound.{Shape}
 use Rattle.cell_steps.specs.Slots.{Grows, Longer, Gives}
 use Rattle.cell_steps.proofs.Frames.{held-stays, longer-grows, longer-same, longer-then, longer-weaken}
 use Rattle.cell_paths.proofs.Staying.{is-slot-stays, sound-before, gives-slot}
-use Rattle.cell_reads.specs.Entries.{IsCopy, HasCopy, ReadsRow, HasRegister, ReadsRows, HasRegisters}
+use Rattle.cell_reads.specs.Entries.{IsCopy, HasCopy, ReadsRow, HasRegister, ReadsRows, HasRegisters, read_count}
 
 -- ---- one register
 
@@ -37,14 +38,8 @@ copy-stays old new w register (Some r) g h = record {
 
 -- ---- the entry of a signal
 
-pub reads-memory : (l : ListData) (r : Row) (place : ℕ) → r.kind ≡ Mem → ReadsRow l r place (Some place)
-reads-memory l r place e = record { signal = λ h w. absurd (subst HasValue e h); memory = λ h. refl }
-
-pub reads-signal : (l : ListData) (r : Row) (place : ℕ) (e : Option ℕ) → (IsMem r.kind → ⊥) → (IsWidth r.width → HasCopy l r.width place e) → ReadsRow l r place e
-reads-signal l r place e not f = record { signal = λ h w. f w; memory = λ h. absurd (not h) }
-
 pub reads-stays : (old new : ListData) (r : Row) (place : ℕ) (e : Option ℕ) → Grows old new → ReadsRow old r place e → ReadsRow new r place e
-reads-stays old new r place e g h = record { signal = λ k w. copy-stays old new r.width place e g (h.signal k w); memory = h.memory }
+reads-stays old new r place e g h = record { signal = λ k o w. copy-stays old new r.width place e g (h.signal k o w); other = h.other; memory = h.memory }
 
 -- ---- signals one after the other
 
@@ -52,9 +47,22 @@ reads-stays old new r place e g h = record { signal = λ k w. copy-stays old new
 pub row-at : (xs : List Signal) (i : ℕ) (x : Signal) → i < length xs → x ≡ get_or xs i x → slice_get (map row_of xs) i ≡ Some (row_of x)
 row-at xs i x lt e = slice_get-map row_of xs i ∙ ap (option_map row_of) (slice_get-get_or xs i x lt) ∙ ap (λ y. Some (row_of y)) (sym e)
 
+same-row : (a b : Row) → Some a ≡ Some b → a ≡ b
+same-row a b e = grind arith
+
+-- how many of the first signals are read, with one more, and all
+pub read-more : (rows : List Row) (n : ℕ) (r : Row) → slice_get rows n ≡ Some r → read_count (take (n + 1) rows) ≡ read_count (take n rows) + (if is_other r.kind then 0 else 1)
+read-more rows n r is =
+    let lt = slice_get_within rows n r is in
+    let here : get_or rows n r ≡ r = same-row (get_or rows n r) r (sym (slice_get-get_or rows n r lt) ∙ is) in
+    sum_by_more (λ q. if is_other q.kind then 0 else 1) rows n r lt ∙ ap (λ q. read_count (take n rows) + (if is_other q.kind then 0 else 1)) here
+
+pub read-all : (rows : List Row) (n : ℕ) → length rows ≤ n → read_count (take n rows) ≡ read_count rows
+read-all rows n long = ap read_count (take_all n rows long)
+
 -- the first n signals have their entries
 pub record Entered (rows : List Row) (places : List ℕ) (n : ℕ) (old new : ListData) (es : List (Option ℕ)) : Type 0 where
-  pub longer : Longer (HasRegisters rows places) n old new
+  pub longer : Longer (HasRegisters rows places) (read_count (take n rows)) old new
   pub many : length es ≡ n
   pub each : (k : ℕ) (r : Row) → k < n → slice_get rows k ≡ Some r → ReadsRow new r (slice_index places k) (slice_index_or es k None)
 
@@ -69,9 +77,6 @@ others-are : {X : Type 0} (xs : List X) (x d : X) (k : ℕ) → k < length xs �
 others-are [] x d k lt = absurd (omega arith)
 others-are (y ∷ xs) x d zero lt = refl
 others-are (y ∷ xs) x d (suc k) lt = others-are xs x d k (omega arith)
-
-same-row : (a b : Row) → Some a ≡ Some b → a ≡ b
-same-row a b e = grind arith
 
 below-or-at : (k n : ℕ) → k < n + 1 → (k < n) ⊎ (k ≡ n)
 below-or-at k n lt = grind arith
@@ -91,16 +96,17 @@ each-more P d rows n xs x r many at each one k q lt is = of (below-or-at k n lt)
         subst (P k q) (sym here) (subst (λ j. P j q x) (sym e) a)
 
 pub entered-more : (rows : List Row) (places : List ℕ) (n : ℕ) (old mid new : ListData) (es : List (Option ℕ)) (r : Row) (e : Option ℕ) → slice_get rows n ≡ Some r →
-    Entered rows places n old mid es → Longer (HasRegister r (slice_index places n)) 1 mid new → ReadsRow new r (slice_index places n) e → Entered rows places (n + 1) old new (es ++ e ∷ [])
+    Entered rows places n old mid es → Longer (HasRegister r (slice_index places n)) (if is_other r.kind then 0 else 1) mid new → ReadsRow new r (slice_index places n) e → Entered rows places (n + 1) old new (es ++ e ∷ [])
 entered-more rows places n old mid new es r e at h longer reads =
     let H : Shape → Type 0 = HasRegisters rows places in
     let P : ℕ → Row → Option ℕ → Type 0 = λ k q x. ReadsRow new q (slice_index places k) x in
-    let one : Longer H 1 mid new = longer-weaken (HasRegister r (slice_index places n)) H 1 1 mid new (λ s f. f n r at) (omega arith) longer in
-    let grows = longer-grows (HasRegister r (slice_index places n)) 1 mid new longer in
+    let c : ℕ = if is_other r.kind then 0 else 1 in
+    let one : Longer H c mid new = longer-weaken (HasRegister r (slice_index places n)) H c c mid new (λ s f. f n r at) (omega arith) longer in
+    let grows = longer-grows (HasRegister r (slice_index places n)) c mid new longer in
     let many = h.many in
     let long = length-append es (e ∷ []) in
     record {
-      longer = longer-then H n 1 old mid new h.longer one;
+      longer = subst (λ m. Longer H m old new) (sym (read-more rows n r at)) (longer-then H (read_count (take n rows)) c old mid new h.longer one);
       many = omega arith;
       each = each-more P None rows n es e r h.many at (λ k q lt is. reads-stays mid new q (slice_index places k) (slice_index_or es k None) grows (h.each k q lt is)) reads;
     }
@@ -109,10 +115,15 @@ pub entered-all : (rows : List Row) (places : List ℕ) (n : ℕ) (old new : Lis
 entered-all rows places n old new es e h =
     record { many = h.many ∙ e; each = λ k r is. let lt = slice_get_within rows k r is in h.each k r (omega arith) is }
 
+pub entered-longer : (rows : List Row) (places : List ℕ) (n : ℕ) (old new : ListData) (es : List (Option ℕ)) → n ≡ length rows → Entered rows places n old new es →
+    Longer (HasRegisters rows places) (read_count rows) old new
+entered-longer rows places n old new es e h = subst (λ m. Longer (HasRegisters rows places) m old new) (read-all rows n (omega arith)) h.longer
+
 -- said of a list that is the same
-pub longer-of : (xs ys : List Signal) (places : List ℕ) (old new : ListData) → xs ≡ ys → Longer (HasRegisters (map row_of xs) places) (length xs) old new → Longer (HasRegisters (map row_of ys) places) (length ys) old new
+pub longer-of : (xs ys : List Signal) (places : List ℕ) (old new : ListData) → xs ≡ ys → Longer (HasRegisters (map row_of xs) places) (read_count (map row_of xs)) old new →
+    Longer (HasRegisters (map row_of ys) places) (read_count (map row_of ys)) old new
 longer-of xs ys places old new e h =
-    let F : List Signal → Type 0 = λ zs. Longer (HasRegisters (map row_of zs) places) (length zs) old new in
+    let F : List Signal → Type 0 = λ zs. Longer (HasRegisters (map row_of zs) places) (read_count (map row_of zs)) old new in
     subst F e h
 
 pub reads-of : (xs ys : List Signal) (places : List ℕ) (l : ListData) (es : List (Option ℕ)) → xs ≡ ys → ReadsRows l (map row_of xs) places es → ReadsRows l (map row_of ys) places es

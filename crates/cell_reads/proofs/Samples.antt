@@ -6,8 +6,9 @@ use Rattle.std.proofs.lemmas.List.Elements.{All-get_or}
 use Rattle.vl_design.specs.declared.design.SigKind.{SigKind}
 use Rattle.vl_design.specs.Syntax.{Row}
 use Rattle.vl_design.specs.Width.{Names, signal_form, row_form}
-use Rattle.vl_design.specs.Value.{Sample, words_of}
+use Rattle.vl_design.specs.Value.{Sample, words_of, value_of}
 use Rattle.vl_design.specs.Sound.{IsOf, IsWidth, HasValue, IsMem, IsSignal, IsMemory}
+use Rattle.vl_answers.specs.Others.{is_other_row, other_at}
 use Rattle.cell_form.specs.Data.{ListData, BankData}
 use Rattle.cell_form.specs.Sound.{Shape}
 use Rattle.cell_steps.specs.Slots.{AreSound, Grows, Longer, Gives, Nothing}
@@ -82,7 +83,7 @@ otherwise false x y e = refl
 
 -- ---- all that is read
 
-module _ (names : Names) (places : List ℕ) (time answer n : ℕ) (l0 l1 l2 l3 l4 l5 : ListData) (here away ticks last : ℕ) (es : List (Option ℕ)) (many : n ≡ length names.rows)
+module _ (names : Names) (places : List ℕ) (time answer n : ℕ) (l0 l1 l2 l3 l4 l5 : ListData) (here away ticks last : ℕ) (es : List (Option ℕ))
     (g0 : Gives Nothing 1 l0 l1 here 1 (λ b. 0 % 2 ^ 1)) (g1 : Gives Nothing 1 l1 l2 away 1 (λ b. 1 % 2 ^ 1))
     (g2 : Gives (λ s. time < s.regs) 1 l2 l3 ticks 64 (λ b. slice_index b.regs time % 2 ^ 64)) (g3 : Gives (λ s. answer < s.regs) 1 l3 l4 last 32 (λ b. slice_index b.regs answer % 2 ^ 32))
     (g4 : Longer (HasRegisters names.rows places) n l4 l5) (reads : ReadsRows l5 names.rows places es) where
@@ -127,13 +128,23 @@ module _ (names : Names) (places : List ℕ) (time answer n : ℕ) (l0 l1 l2 l3 
       let same : k - 0 ≡ k = omega arith in
       otherwise (nat_lt k 0) None (slice_index_or es (k - 0) None) (none-below k) ∙ ap (λ j. slice_index_or es j None) same
 
-  signal-copied : (k : ℕ) → IsSignal names k → HasCopy l5 (signal_form names.rows k).width (slice_index places k) (entry at k)
-  signal-copied k h =
+  signal-copied : (k : ℕ) → IsSignal names k → other_at names.rows k ≡ false → HasCopy l5 (signal_form names.rows k).width (slice_index places k) (entry at k)
+  signal-copied k h o =
       let x = named HasValue (slice_get names.rows k) h in
       let e : (signal_form names.rows k).width ≡ x.row.width = ap (λ o. (row_form o).width) x.is in
       let F : Option ℕ → Type 0 = λ o. HasCopy l5 (signal_form names.rows k).width (slice_index places k) o in
       let G : ℕ → Type 0 = λ w. HasCopy l5 w (slice_index places k) (slice_index_or es k None) in
-      subst F (sym (entry-is k)) (subst G (sym e) ((reads.each k x.row x.is).signal x.kind x.width))
+      subst F (sym (entry-is k)) (subst G (sym e) ((reads.each k x.row x.is).signal x.kind (sym (ap is_other_row x.is) ∙ o) x.width))
+
+  -- a loop variable or a clock has no entry
+  other-none : (k : ℕ) → IsSignal names k → other_at names.rows k ≡ true → entry at k ≡ None
+  other-none k h o =
+      let x = named HasValue (slice_get names.rows k) h in
+      entry-is k ∙ (reads.each k x.row x.is).other (sym (ap is_other_row x.is) ∙ o)
+
+  signal-fits : (k : ℕ) → IsSignal names k → (o : Bool) → other_at names.rows k ≡ o → IsEntry l5 (signal_form names.rows k).width (entry at k)
+  signal-fits k h true o = subst (IsEntry l5 (signal_form names.rows k).width) (sym (other-none k h o)) tt
+  signal-fits k h false o = copy-entry l5 (signal_form names.rows k).width (slice_index places k) (entry at k) (signal-copied k h o)
 
   memory-named : (m : ℕ) → IsMemory names m → entry at m ≡ Some (slice_index places m)
   memory-named m h =
@@ -148,7 +159,7 @@ module _ (names : Names) (places : List ℕ) (time answer n : ℕ) (l0 l1 l2 l3 
       let last_is = gives-slot (λ s. answer < s.regs) 1 l3 l4 last 32 (λ b. slice_index b.regs answer % 2 ^ 32) g3 in
       record {
         many = let m = reads.many in omega arith;
-        signals = λ k h. copy-entry l5 (signal_form names.rows k).width (slice_index places k) (entry at k) (signal-copied k h);
+        signals = λ k h. signal-fits k h (other_at names.rows k) refl;
         time = is-slot-stays l3 l5 ticks 64 grows3 ticks_is;
         answer = is-slot-stays l4 l5 last 32 grows4 last_is;
         here = is-slot-stays l1 l5 here 1 grows1 here_is;
@@ -160,6 +171,14 @@ module _ (names : Names) (places : List ℕ) (time answer n : ℕ) (l0 l1 l2 l3 
   pub all-memories : (s : Shape) → Has s → HasMemories names at s
   all-memories s h m i = subst (IsThere s) (sym (memory-named m i)) (h.memories m i)
 
+  signal-held : (t : Shape) (b : BankData) (x : Sample) → AreSound t l5 → IsRead names b places time answer x → (k : ℕ) → IsSignal names k → (o : Bool) → other_at names.rows k ≡ o → value_of x.values k ≡ held_or b l5 (entry at k)
+  signal-held t b x sound h k i true o = h.others k i o ∙ ap (held_or b l5) (sym (other-none k i o))
+  signal-held t b x sound h k i false o =
+      let w = (signal_form names.rows k).width in
+      let F : ℕ → Type 0 = λ v. v < 2 ^ w in
+      let lt : slice_index b.regs (slice_index places k) < 2 ^ w = subst F (sym (h.signals k i)) (first-below (words_of x.values k) (2 ^ w) (pow_pos w) (h.fine.range k)) in
+      sym (h.signals k i) ∙ sym (copy-held t b l5 w (slice_index places k) (entry at k) sound (signal-copied k i o) lt)
+
   pub all-stands : (s : Shape) (b : BankData) (x : Sample) → AreSound s l0 → IsRead names b places time answer x → Stands names b l5 at x
   all-stands s b x sound h =
       let t = roomy places time answer s in
@@ -168,11 +187,7 @@ module _ (names : Names) (places : List ℕ) (time answer n : ℕ) (l0 l1 l2 l3 
       let sound3 = sound-before t l3 l5 grows3 sound5 in
       record {
         fine = h.fine;
-        values = λ k i.
-            let w = (signal_form names.rows k).width in
-            let F : ℕ → Type 0 = λ v. v < 2 ^ w in
-            let lt : slice_index b.regs (slice_index places k) < 2 ^ w = subst F (sym (h.signals k i)) (first-below (words_of x.values k) (2 ^ w) (pow_pos w) (h.fine.range k)) in
-            sym (h.signals k i) ∙ sym (copy-held t b l5 w (slice_index places k) (entry at k) sound5 (signal-copied k i) lt);
+        values = λ k i. signal-held t b x sound5 h k i (other_at names.rows k) refl;
         words = λ m j i. ap (λ ws. slice_index ws j) (sym (h.memories m i)) ∙ ap (λ e. word_or b e j) (sym (memory-named m i));
         many = λ m i.
             let F : Option ℕ → Type 0 = λ e. HasWords b e (length (words_of x.values m)) in

@@ -225,7 +225,7 @@ module _ (d : Flat) where
 
       signals : (same : SameWrites d sets all) → HoldsSignals d after done done.values
       signals same =
-          applies.holds b i.state done i.committed l3 all (sound1 (shape_of b) may.shape) may.shape (λ r low high. refl) may.stage.holds.signals may.tidy.fine g23 same (updated files i.state)
+          applies.holds b i.state done i.committed l3 all (sound1 (shape_of b) may.shape) may.shape (λ r low high. refl) may.stage.holds.signals may.others may.tidy.fine g23 same (updated files i.state)
           (λ k j m. may.due.later k (sym (delayed.each k (signal-below (names_of d) k j)) ∙ m)) (may.due.committed to refl)
 
       words-hold : (m : ℕ) → IsMemory (names_of d) m → slice_index_or after.mems m [] ≡ words_of done.values m

@@ -47,9 +47,9 @@ value-of : (copy : ℕ) (k : SigKind) → has_copy copy k ≡ true → HasValue 
 value-of copy Net h = tt
 value-of copy Var h = tt
 value-of copy Comb h = tt
-value-of copy Loop h = tt
+value-of copy Loop h = absurd (true≢false (sym h))
 value-of copy Mem h = absurd (true≢false (sym h))
-value-of copy Clock h = tt
+value-of copy Clock h = absurd (true≢false (sym h))
 
 -- a signal that is written is one
 pub signal-of : (names : Names) (copy k : ℕ) → is_written copy (slice_get names.rows k) ≡ true → IsSignal names k

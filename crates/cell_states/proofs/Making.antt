@@ -8,8 +8,10 @@ use Rattle.vl_design.specs.Functions.{scope_of}
 use Rattle.vl_design.specs.Sound.{IsSignal, IsMemory}
 use Rattle.vl_design.specs.State.{State, Update, sample, counted}
 use Rattle.vl_design.specs.Syntax.{Task, Flat}
-use Rattle.vl_design.specs.Value.{Sample, own_value, words_of}
+use Rattle.vl_design.specs.Value.{Sample, own_value, value_of, words_of}
 use Rattle.vl_design.specs.Width.{Names, names_of}
+use Rattle.vl_settle.specs.Computed.{computed_at}
+use Rattle.vl_answers.specs.Others.{other_at}
 use Rattle.cell_form.specs.declared.cell.Write.{Write}
 use Rattle.cell_form.specs.Cycle.{written}
 use Rattle.cell_form.specs.Data.{ListData, BankData}
@@ -40,9 +42,9 @@ use Rattle.ten_stores.specs.Stores.{all_stored}
 use Rattle.ten_stores.proofs.Cutting.{below-fewer}
 use Rattle.ten_stores.proofs.Same.{all-from}
 use Rattle.ten_form.specs.Registers.{state_register, ticks_register}
-use Rattle.ten_form.specs.Nets.{nets_of}
+use Rattle.ten_form.specs.Nets.{nets_of, HoldsNoOthers}
 use Rattle.ten_form.specs.Banks.{cell_nodes, stores_in, stores_before, stores_after, IsFor, HoldsSignals, HoldsState}
-use Rattle.ten_calls.specs.Asked.{asked}
+use Rattle.ten_traps.specs.Asked.{asked}
 use Rattle.ten_image.specs.States.{idle_before, behind, MayCycle, HoldsStage}
 use Rattle.cell_stores.specs.Reading.{EachHas, HasStore, IsRead, Reads}
 use Rattle.cell_stores.specs.Keeping.{each_written, keep_writes, IsLeft, Keeps, IsSegment}
@@ -57,7 +59,7 @@ use Rattle.cell_states.specs.Marks.{AreDelayed}
 use Rattle.cell_states.specs.Segments.{HoldsTicks, IsTicks, DoesSegment}
 use Rattle.cell_states.specs.Widths.{register_width}
 use Rattle.cell_states.proofs.Narrowing.{HasWidths, stores-widths, keep-within}
-use Rattle.cell_states.proofs.Alone.{pass-keeps}
+use Rattle.cell_states.proofs.Alone.{pass-keeps, other-plain}
 use Rattle.cell_states.proofs.Storing.{all-front, memory-plain, own-memories, of-sites, from, mid, kept-cut, after-disjoint, signals-beside, before-beside, before-within, has-in, has-after}
 use Rattle.cell_states.proofs.Stretching.{segment-ticks}
 use Rattle.cell_states.proofs.Waving.{taken, idle-next}
@@ -103,13 +105,22 @@ module _ (d : Flat) (order : List ℕ) (files : List File) where
   goes-later (Switch e ws other) t committed = refl
   goes-later (Commit to) t committed = refl
 
-  -- nets are no memories
-  goes-memories : ComputesAlone d → (m : ℕ) → IsMemory (names_of d) m → (on : WayOn) (t : State) (committed : List (List ℕ)) →
-      words_of (goes_on d files (nets_of d files order) on t committed).state.values m ≡ words_of t.values m
-  goes-memories alone m i (Go to) t committed = refl
-  goes-memories alone m i (Branch e first second) t committed = refl
-  goes-memories alone m i (Switch e ws other) t committed = refl
-  goes-memories alone m i (Commit to) t committed = pass-keeps d files (counted t) m alone (memory-plain (names_of d) m i) order t.values
+  -- what isn't computed stays
+  goes-words : ComputesAlone d → (k : ℕ) → computed_at d.rows k ≡ false → (on : WayOn) (t : State) (committed : List (List ℕ)) →
+      words_of (goes_on d files (nets_of d files order) on t committed).state.values k ≡ words_of t.values k
+  goes-words alone k plain (Go to) t committed = refl
+  goes-words alone k plain (Branch e first second) t committed = refl
+  goes-words alone k plain (Switch e ws other) t committed = refl
+  goes-words alone k plain (Commit to) t committed = pass-keeps d files (counted t) k alone plain order t.values
+
+  -- loop variables and clocks are 0 behind a segment, where they are behind its way on
+  none-behind : ComputesAlone d → (on : WayOn) (t : State) (committed : List (List ℕ)) → ((k : ℕ) → other_at d.rows k ≡ true → value_of committed k ≡ 0) →
+      (let j = goes_on d files (nets_of d files order) on t committed in HoldsNoOthers d j.state j.committed) → HoldsNoOthers d t committed
+  none-behind alone on t committed before h = record {
+    now = λ k o. sym (ap (λ ws. slice_index ws 0) (goes-words alone k (other-plain d.rows k o) on t committed)) ∙ h.now k o;
+    before = before;
+    later = subst (All (λ (u : Update). other_at d.rows u.signal ≡ false)) (goes-later on t committed) h.later;
+  }
 
   like-settled : ComputesAlone d → (t : State) → IsLike d t (settled d files (nets_of d files order) (counted t))
   like-settled alone t = record {
@@ -226,7 +237,7 @@ module _ (d : Flat) (order : List ℕ) (marks : List Bool) (late : AreDelayed d 
     -- ---- what slots hold
 
     stands0 : Stands names b l0 at0 (sample i.state)
-    stands0 = begins.stands files (shape_of b) b i.state i.committed tt may.alive may.tidy was
+    stands0 = begins.stands files (shape_of b) b i.state i.committed tt may.alive may.tidy may.others was
 
     stands01 : Stands names b l1 at0 (sample i.state)
     stands01 = stands-stays names b l0 l1 at0 (sample i.state) g01 begins.fits stands0
@@ -236,7 +247,7 @@ module _ (d : Flat) (order : List ℕ) (marks : List Bool) (late : AreDelayed d 
 
     pends1 : Pends names b l1 (record p0 { sites = sites }) i.state.later
     pends1 = record {
-      values = settles-stay d b l0 l1 p0 i.state.later g01 begins.pending (begins.pends (shape_of b) b i.state i.committed tt was.signals);
+      values = settles-stay d b l0 l1 p0 i.state.later g01 begins.pending (begins.pends (shape_of b) b i.state i.committed tt may.others was.signals);
       words = reads-words d (shape_of b) b l1 (stores_after d (n + 1)) sites i.state.later a1 read1 words-above;
     }
 
@@ -279,6 +290,8 @@ module _ (d : Flat) (order : List ℕ) (marks : List Bool) (late : AreDelayed d 
       few = few;
       none_before = none-now;
       none_behind = none-then;
+      others = may.others;
+      others_behind = none-behind d order files alone on t i.committed may.others.before may.others_behind;
     }
 
     ticks-held : held_after (held b l3) (last_write sets ticks_register) i.state.ticks ≡ t.ticks
@@ -309,7 +322,7 @@ module _ (d : Flat) (order : List ℕ) (marks : List Bool) (late : AreDelayed d 
     memories : (m : ℕ) → IsMemory names m → slice_index_or end-bank.mems m [] ≡ words_of (goes_on d files (nets_of d files order) on t i.committed).state.values m
     memories m k =
         memories-hold d b l3 at0 at1 i.state t i.committed (held b l3) sets m (keeps.registers end.ends.registers) was stands03 stands3 k (seg.memories m k)
-        ∙ sym (goes-memories d order files alone m k on t i.committed)
+        ∙ sym (goes-words d order files alone m (memory-plain names m k) on t i.committed)
 
     store-memories : AllByRecursion (λ x. IsMemory names x.memory) (stores_in d)
     store-memories = all-from (IsStore d b) (λ x. IsMemory names x.memory) (λ x h. h.memory) (stores_in d) (recursion_from_All (IsStore d b) (stores_in d) was.words.each)

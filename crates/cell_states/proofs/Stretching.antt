@@ -17,7 +17,7 @@ use Rattle.cell_paths.specs.Paths.{on, Does}
 use Rattle.cell_paths.proofs.Staying.{keeps-same, keeps-then, memories-kept, sound-behind, is-slot-stays}
 use Rattle.cell_later.specs.Pendings.{PendingSlots, memories_of, ArePending, Pends}
 use Rattle.cell_expr.specs.Counts.{stm_count, body_cells}
-use Rattle.cell_expr.specs.Stored.{stored_words}
+use Rattle.vl_stored.specs.Stored.{stored_words}
 use Rattle.ten_stores.specs.Stores.{all_stored}
 use Rattle.cell_later.specs.Delays.{Leaves}
 use Rattle.cell_later.proofs.Keeping.{pending-stays, pends-stays}

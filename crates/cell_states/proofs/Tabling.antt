@@ -10,7 +10,7 @@ use Rattle.cell_form.specs.Data.{CellData, StateData}
 use Rattle.sub_nodes.specs.Nodes.{Segment, WayOn, Go, Branch, Switch, Commit, Node, Run, Trap, Apply}
 use Rattle.sub_nodes.specs.Cycles.{is_trap}
 use Rattle.sub_facts.specs.Pairs.{ArePaired}
-use Rattle.ten_calls.specs.Traps.{IsTrapOf}
+use Rattle.ten_traps.specs.Traps.{IsTrapOf}
 use Rattle.ten_form.specs.Banks.{stores_after}
 use Rattle.ten_image.specs.States.{slots_in, Does, HasTrap, IsStateOf, AreStates}
 use Rattle.cell_states.specs.Cells.{node_count, AreCounted}

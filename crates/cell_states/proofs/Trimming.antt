@@ -24,7 +24,7 @@ use Rattle.ten_stores.specs.declared.store.Store.{Store}
 use Rattle.ten_stores.specs.Holding.{enable_register, word_register, value_register, mask_register, IsIdle}
 use Rattle.ten_stores.proofs.Same.{IsSame, all-from, holds-same}
 use Rattle.ten_form.specs.Banks.{stores_in, stores_before, IsFor, HoldsSignals, HoldsState}
-use Rattle.ten_calls.specs.Traps.{IsCallOf, IsTrapOf}
+use Rattle.ten_traps.specs.Traps.{IsCallOf, IsTrapOf}
 use Rattle.ten_image.specs.States.{slots_in, idle_before, behind, MayCycle, HoldsStage, DoesNode, AsksFor}
 use Rattle.cell_states.specs.Mades.{IsMade, AsksBehind}
 use Rattle.cell_states.specs.Trims.{IsTrimmed, Calls}
@@ -125,6 +125,8 @@ may-none d order files n x slots b i h = record {
   there = h.there;
   shape = for-none d slots (shape_of b) h.shape;
   tidy = h.tidy;
+  others = h.others;
+  others_behind = h.others_behind;
   due = h.due;
   alive = h.alive;
   few = h.few;

@@ -7,7 +7,7 @@ use Rattle.vl_design.specs.Sound.{IsMemory, IsSoundBase, IsSoundTarget, AreSound
 use Rattle.vl_design.specs.Syntax.{Target, Whole, WordAt, PickAt, SliceAt, Several, Targets, NoTargets, MoreTargets, Stm, Nop, Then, If, Case, For, Repeat, Set, Later, Sys, Items, NoItems, Labelled, Default, Flat}
 use Rattle.vl_design.specs.Trees.{stm_of, target_of}
 use Rattle.vl_design.specs.Width.{Names, names_of}
-use Rattle.cell_expr.specs.Stored.{target_stored, targets_stored, stored_words, items_stored, default_stored}
+use Rattle.vl_stored.specs.Stored.{target_stored, targets_stored, stored_words, items_stored, default_stored}
 use Rattle.sub_split.specs.Views.{node_view, piece_view}
 use Rattle.sub_split.specs.declared.table.Node.{Node}
 use Rattle.sub_split.specs.declared.table.Node.TheVariants as v

@@ -18,7 +18,7 @@ use Rattle.cell_waves.specs.Begins.{Begins}
 use Rattle.sub_nodes.specs.Nodes.{Segment, WayOn, Commit, Node}
 use Rattle.sub_nodes.specs.Cycles.{Stage, segment_done}
 use Rattle.ten_form.specs.Banks.{cell_nodes, stores_after, IsFor}
-use Rattle.ten_calls.specs.Asked.{asked}
+use Rattle.ten_traps.specs.Asked.{asked}
 use Rattle.ten_image.specs.States.{behind, MayCycle, HoldsStage}
 use Rattle.cell_states.specs.declared.run.Kept.{Kept}
 use Rattle.cell_trim.specs.Widths.{IsWithin}

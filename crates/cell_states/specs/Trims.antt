@@ -10,7 +10,7 @@ use Rattle.cell_form.specs.Values.{slots_of}
 use Rattle.cell_form.specs.Sound.{Shape, IsWrite, IsList}
 use Rattle.cell_steps.specs.Slots.{slot, IsIn, AreSound}
 use Rattle.sub_nodes.specs.Nodes.{Segment, Go, Run}
-use Rattle.ten_calls.specs.Traps.{IsTrapOf}
+use Rattle.ten_traps.specs.Traps.{IsTrapOf}
 use Rattle.ten_image.specs.States.{slots_in, Does, AsksFor}
 use Rattle.cell_trim.specs.Widths.{IsWithin}
 

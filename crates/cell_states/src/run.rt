@@ -20,7 +20,7 @@ ghost use Rattle.cell_next.specs.Next.{next_count, next_node};
 ghost use Rattle.cell_states.specs.Cells.{segment_count};
 ghost use Rattle.ten_stores.specs.Holding.{mask_register};
 ghost use Rattle.ten_form.specs.Banks.{stores_after};
-ghost use Rattle.ten_calls.specs.Traps.{IsTrapOf};
+ghost use Rattle.ten_traps.specs.Traps.{IsTrapOf};
 ghost use Rattle.ten_image.specs.States.{slots_in};
 ghost use Rattle.cell_states.specs.Mades.{is_end, IsMade, Starts, AsksBehind, IsKept};
 ghost use Rattle.cell_states.specs.Designs.{IsCellDesign};

@@ -4,7 +4,7 @@ ghost use Rattle.std.specs.Prelude.{◌≡◌, ◌≤◌, ◌∷◌, [], ℕ, Bo
 ghost use Rattle.vl_design.specs.Syntax as y;
 ghost use Rattle.cell_form.specs.Views.{list_of, state_of};
 ghost use Rattle.sub_nodes.specs.Nodes as n;
-ghost use Rattle.ten_calls.specs.Traps.{IsTrapOf};
+ghost use Rattle.ten_traps.specs.Traps.{IsTrapOf};
 ghost use Rattle.ten_image.specs.States.{slots_in, Does};
 ghost use Rattle.cell_states.specs.Mades.{IsMade, AsksBehind};
 ghost use Rattle.cell_states.specs.Trims.{IsTrimmed, Calls};

@@ -1,5 +1,5 @@
 -- What registers hold of a state that begins, and slots that are read from them.
-use Rattle.std.proofs.Common.{◌≡◌, ℕ, ◌+◌, ◌*◌, ◌<◌, ◌%◌, ◌^◌, false, List, [], length, Option, Some, None, sym, ap, ◌∙◌, arith, subst, mod-eq_of_lt}
+use Rattle.std.proofs.Common.{◌≡◌, ℕ, ◌+◌, ◌*◌, ◌<◌, ◌%◌, ◌^◌, true, false, List, [], length, Option, Some, None, sym, ap, ◌∙◌, arith, subst, mod-eq_of_lt}
 use Rattle.std.specs.Prelude.{slice_get, slice_index, slice_index_or}
 use Rattle.std.proofs.lemmas.Option.{slice_get_within}
 use Rattle.vl_design.specs.Syntax.{Flat}
@@ -9,6 +9,7 @@ use Rattle.vl_design.specs.Sound.{HasValue, IsMem, IsSignal, IsMemory}
 use Rattle.vl_design.specs.Laws.{IsFine}
 use Rattle.vl_design.specs.State.{State, Update, sample}
 use Rattle.vl_settle.specs.Computed.{computed_at}
+use Rattle.vl_answers.specs.Others.{is_other_row, other_at}
 use Rattle.cell_form.specs.Data.{ListData, BankData}
 use Rattle.cell_form.specs.Sound.{Shape}
 use Rattle.cell_steps.specs.Slots.{AreSound, Grows}
@@ -21,12 +22,14 @@ use Rattle.cell_reads.proofs.Samples.{named}
 use Rattle.cell_later.specs.Pendings.{PendingSlots, slot_of, ArePending}
 use Rattle.cell_later.proofs.Keeping.{settled-stays}
 use Rattle.ten_form.specs.Registers.{places, value_register, work_register, register_count}
-use Rattle.ten_form.specs.Nets.{cleared}
+use Rattle.ten_form.specs.Nets.{cleared, HoldsNoOthers}
 use Rattle.ten_form.specs.Banks.{IsFor, HoldsState}
 use Rattle.cell_waves.specs.Copies.{AreCopies}
 use Rattle.cell_waves.specs.Begins.{IsPendingRead, SettlesSignals}
 use Rattle.cell_waves.proofs.Clearing.{cleared-kept, cleared-fine}
+use Rattle.cell_waves.proofs.Ending.{value-kept}
 use Rattle.cell_waves.proofs.Placing.{HasRoom, signal-place, memory-place}
+use Rattle.cell_waves.proofs.Written.{other-kept}
 
 -- ---- copies
 
@@ -38,12 +41,15 @@ pub copy-held : (z : Shape) (b : BankData) (l : ListData) (w register : ℕ) (e 
 copy-held z b l w register None sound h lt = absurd h
 copy-held z b l w register (Some r) sound h lt = h.value z b sound ∙ mod-eq_of_lt lt
 
-pub copy-of : (d : Flat) (copy : ℕ) (l : ListData) (es : List (Option ℕ)) (k : ℕ) → AreCopies d.rows copy l es → IsSignal (names_of d) k → HasCopy l (signal_form d.rows k).width (4 * k + copy) (slot_of es k)
-copy-of d copy l es k h i =
+pub copy-of : (d : Flat) (copy : ℕ) (l : ListData) (es : List (Option ℕ)) (k : ℕ) → AreCopies d.rows copy l es → IsSignal (names_of d) k → other_at d.rows k ≡ false → HasCopy l (signal_form d.rows k).width (4 * k + copy) (slot_of es k)
+copy-of d copy l es k h i o =
     let n = named HasValue (slice_get d.rows k) i in
     let r = n.row in
     let wide : r.width ≡ (signal_form d.rows k).width = sym (ap (λ o. (row_form o).width) n.is) in
-    subst (λ w. HasCopy l w (4 * k + copy) (slot_of es k)) wide (h.each k r n.is n.kind n.width)
+    subst (λ w. HasCopy l w (4 * k + copy) (slot_of es k)) wide (h.each k r n.is n.kind (sym (ap is_other_row n.is) ∙ o) n.width)
+
+pub none-of : (d : Flat) (copy : ℕ) (l : ListData) (es : List (Option ℕ)) (k : ℕ) → AreCopies d.rows copy l es → IsSignal (names_of d) k → other_at d.rows k ≡ true → slot_of es k ≡ None
+none-of d copy l es k h i o = let n = named HasValue (slice_get d.rows k) i in h.others k n.row n.is (sym (ap is_other_row n.is) ∙ o)
 
 -- ---- where there is room
 
@@ -64,7 +70,7 @@ roomy-sound d z l h = sound-wider z (roomy d z) l (omega arith) (omega arith) h
 
 -- ---- what registers hold of a state
 
-module _ (d : Flat) (b : BankData) (s : State) (committed : List (List ℕ)) (h : HoldsState d b s committed) (memory-plain : (m : ℕ) → IsMemory (names_of d) m → computed_at d.rows m ≡ false) where
+module _ (d : Flat) (b : BankData) (s : State) (committed : List (List ℕ)) (h : HoldsState d b s committed) (plain : HoldsNoOthers d s committed) (memory-plain : (m : ℕ) → IsMemory (names_of d) m → computed_at d.rows m ≡ false) where
   ticks-read : slice_index b.regs 2 ≡ s.ticks % 2 ^ 64
   ticks-read = let few = h.signals.few in h.signals.ticks ∙ sym (mod-eq_of_lt (omega (arith, few)))
 
@@ -82,6 +88,7 @@ module _ (d : Flat) (b : BankData) (s : State) (committed : List (List ℕ)) (h 
   works-read fine = record {
     fine = cleared-fine d.rows s.values fine;
     signals = λ k i. ap (slice_index b.regs) (signal-place d work_register k i) ∙ h.signals.works k i;
+    others = λ k i o. value-kept d s.values k i (other-kept (slice_get d.rows k) o) ∙ plain.now k o;
     memories = λ m i. memory-read work_register m i ∙ sym (memory-cleared s.values m i);
     ticks = ticks-read;
     last = h.signals.answer;
@@ -94,6 +101,7 @@ module _ (d : Flat) (b : BankData) (s : State) (committed : List (List ℕ)) (h 
   values-read fine same = record {
     fine = cleared-fine d.rows committed fine;
     signals = λ k i. ap (slice_index b.regs) (signal-place d value_register k i) ∙ h.signals.values k i;
+    others = λ k i o. value-kept d committed k i (other-kept (slice_get d.rows k) o) ∙ plain.before k o;
     memories = λ m i. memory-read value_register m i ∙ sym (same m i) ∙ sym (memory-cleared committed m i);
     ticks = ticks-read;
     last = h.signals.answer;
@@ -104,8 +112,8 @@ module _ (d : Flat) (b : BankData) (s : State) (committed : List (List ℕ)) (h 
 
 pub read-stays : (d : Flat) (b : BankData) (old new : ListData) (p : PendingSlots) → Grows old new → ArePending (names_of d) old p → IsPendingRead d b old p → IsPendingRead d b new p
 read-stays d b old new p g h r = record {
-  update = λ k i. held-or-stays b old new (signal_form d.rows k).width (slot_of p.update k) g (h.update k i) ∙ r.update k i;
-  mask = λ k i. held-or-stays b old new (signal_form d.rows k).width (slot_of p.mask k) g (h.mask k i) ∙ r.mask k i;
+  update = λ k i o. held-or-stays b old new (signal_form d.rows k).width (slot_of p.update k) g (h.update k i) ∙ r.update k i o;
+  mask = λ k i o. held-or-stays b old new (signal_form d.rows k).width (slot_of p.mask k) g (h.mask k i) ∙ r.mask k i o;
 }
 
 pub settles-stay : (d : Flat) (b : BankData) (old new : ListData) (p : PendingSlots) (later : List Update) → Grows old new → ArePending (names_of d) old p → SettlesSignals d b old p later → SettlesSignals d b new p later

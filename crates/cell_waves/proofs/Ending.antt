@@ -1,6 +1,6 @@
 -- What a bank holds behind the writes of a segment, and of a wave.
-use Rattle.std.proofs.Common.{◌≡◌, ◌≢◌, ℕ, ◌+◌, ◌*◌, ◌-◌, ◌<◌, ◌≤◌, ◌^◌, Bool, true, false, List, [], ◌∷◌, length, Option, Some, None, refl, sym, ap, ◌∙◌, arith, subst}
-use Rattle.std.specs.Prelude.{◌==◌, ◌&&◌, not, nat_lt, if◌then◌else◌, slice_get, slice_index, slice_index_or, All}
+use Rattle.std.proofs.Common.{◌≡◌, ◌≢◌, ℕ, ◌+◌, ◌*◌, ◌-◌, ◌<◌, ◌≤◌, ◌^◌, Bool, true, false, List, [], ◌∷◌, length, Option, Some, None, refl, sym, ap, ◌∙◌, arith, subst, inl, inr}
+use Rattle.std.specs.Prelude.{◌⊎◌, ◌==◌, ◌&&◌, not, nat_lt, if◌then◌else◌, slice_get, slice_index, slice_index_or, All}
 use Rattle.std.specs.List.{AllByRecursion}
 use Rattle.std.proofs.Math.Pow.{pow_pos}
 use Rattle.std.proofs.lemmas.Bool.{eqb-true, le-ltb, eq-eqb}
@@ -15,6 +15,7 @@ use Rattle.vl_design.specs.State.{State, Update, all_updated, sample}
 use Rattle.vl_design.specs.Laws.{IsFine}
 use Rattle.vl_design.proofs.Kept.{OfUpdates, updates_keep}
 use Rattle.vl_settle.specs.Computed.{computed_at}
+use Rattle.vl_answers.specs.Others.{other_at}
 use Rattle.cell_form.specs.declared.cell.Write.{Write}
 use Rattle.cell_form.specs.Data.{ListData, BankData}
 use Rattle.cell_form.specs.Cycle.{masked, written}
@@ -33,7 +34,7 @@ use Rattle.cell_waves.specs.Ends.{Ends, Leads, IsLike}
 use Rattle.cell_waves.proofs.Clearing.{cleared-computed, cleared-kept}
 use Rattle.cell_waves.proofs.Lasting.{register-behind, memories-after}
 use Rattle.cell_waves.proofs.Setting.{wanted-some, wanted-not, wanted-left}
-use Rattle.cell_waves.proofs.Written.{written-if, written-signal}
+use Rattle.cell_waves.proofs.Written.{written-if, written-signal, other-unwritten, other-kept}
 
 -- ---- signals
 
@@ -128,6 +129,11 @@ pub value-stays : (rows : List Row) (k : ℕ) (us : List Update) (values : List 
 value-stays rows k us values h =
     sym (ap (λ ws. slice_index ws 0) (updates_keep (λ j. j == k) k (eq-eqb k k refl) rows us (of-others (λ j. j == k) us h) values))
 
+-- so does a loop variable or a clock, of which none ever is
+pub others-stay : (rows : List Row) (k : ℕ) (us : List Update) (values : List (List ℕ)) → other_at rows k ≡ true → All (λ (u : Update). other_at rows u.signal ≡ false) us →
+    value_of (all_updated rows values us) k ≡ value_of values k
+others-stay rows k us values o h = sym (ap (λ ws. slice_index ws 0) (updates_keep (other_at rows) k o rows us (of-others (other_at rows) us h) values))
+
 -- ---- the writes of a segment, and of a wave
 
 module _ (d : Flat) (b : BankData) (l : ListData) (s t : State) (committed : List (List ℕ)) (marks : List Bool) (at0 at1 : Env) (p0 p1 : PendingSlots) (none : ℕ) (commits : Bool) (sets : List Write)
@@ -152,68 +158,104 @@ module _ (d : Flat) (b : BankData) (l : ListData) (s t : State) (committed : Lis
       h.before.works k i ∙ value-kept d s.values k i c ∙ h.stands.values k i
       ∙ ap (held_or b l) (entry-slot at0 k h.first ∙ differs-not (slot_of at0.slots k) (slot_of at1.slots k) same)
 
-  works-hold : (k : ℕ) → IsSignal names k → (c : Bool) → computed_at d.rows k ≡ c → (u : List (List ℕ)) → (computed_at d.rows k ≡ false → value_of u k ≡ value_of t.values k) →
+  works-hold : (k : ℕ) → IsSignal names k → (o c : Bool) → other_at d.rows k ≡ o → computed_at d.rows k ≡ c → (u : List (List ℕ)) → (computed_at d.rows k ≡ false → value_of u k ≡ value_of t.values k) →
       slice_index behind.regs (work_register k) ≡ value_of (cleared d.rows u) k
-  works-hold k i true c u like =
+  works-hold k i true c o e' u like =
       let lt = room k i in
-      after (work_register k) (omega (arith, lt)) ∙ entry-left d.rows 4 (changed at0.slots at1.slots) at1.slots none k b l _ _ (written-if names 4 k true false i c refl) (e.works k (signal-below names k i))
+      let q = other-kept (slice_get d.rows k) o in
+      after (work_register k) (omega (arith, lt)) ∙ entry-left d.rows 4 (changed at0.slots at1.slots) at1.slots none k b l _ _ (other-unwritten 4 (slice_get d.rows k) o) (e.works k (signal-below names k i))
+      ∙ h.before.works k i ∙ value-kept d s.values k i q ∙ h.others.now k o ∙ sym (h.others_behind.now k o) ∙ sym (like q) ∙ sym (value-kept d u k i q)
+  works-hold k i false true o c u like =
+      let lt = room k i in
+      after (work_register k) (omega (arith, lt)) ∙ entry-left d.rows 4 (changed at0.slots at1.slots) at1.slots none k b l _ _ (written-if names 4 k true false i o c refl) (e.works k (signal-below names k i))
       ∙ h.before.works k i ∙ cleared-computed d.rows s.values k c ∙ sym (cleared-computed d.rows u k c)
-  works-hold k i false c u like =
+  works-hold k i false false o c u like =
       let lt = room k i in
-      after (work_register k) (omega (arith, lt)) ∙ entry-written d.rows 4 (changed at0.slots at1.slots) at1.slots none k b l _ _ h.zero (written-if names 4 k false true i c refl) (e.works k (signal-below names k i)) (work-before k i c)
+      after (work_register k) (omega (arith, lt)) ∙ entry-written d.rows 4 (changed at0.slots at1.slots) at1.slots none k b l _ _ h.zero (written-if names 4 k false true i o c refl) (e.works k (signal-below names k i)) (work-before k i c)
       ∙ work-value k i c ∙ sym (like c) ∙ sym (value-kept d u k i c)
 
   -- a register of a signal that is marked holds what its slot does
-  updates-hold : (k : ℕ) → IsSignal names k → marked_one marks k ≡ true → slice_index behind.regs (update_register k) ≡ held_or b l (slot_of p1.update k)
-  updates-hold k i m =
+  updates-hold : (k : ℕ) → IsSignal names k → other_at d.rows k ≡ false → marked_one marks k ≡ true → slice_index behind.regs (update_register k) ≡ held_or b l (slot_of p1.update k)
+  updates-hold k i o m =
       let lt = room k i in
       after (update_register k) (omega (arith, lt))
-      ∙ entry-written d.rows 5 (marked_change marks p0.update p1.update) p1.update none k b l _ _ h.zero (written-if names 5 k (computed_at d.rows k) true i refl refl) (e.updates k (signal-below names k i))
-      (λ same. sym (h.read.update k i) ∙ ap (held_or b l) (differs-not (slot_of p0.update k) (slot_of p1.update k) (sym (ap (λ q. q && changed p0.update p1.update k) m) ∙ same)))
+      ∙ entry-written d.rows 5 (marked_change marks p0.update p1.update) p1.update none k b l _ _ h.zero (written-if names 5 k (computed_at d.rows k) true i o refl refl) (e.updates k (signal-below names k i))
+      (λ same. sym (h.read.update k i o) ∙ ap (held_or b l) (differs-not (slot_of p0.update k) (slot_of p1.update k) (sym (ap (λ q. q && changed p0.update p1.update k) m) ∙ same)))
 
-  masks-hold : (k : ℕ) → IsSignal names k → marked_one marks k ≡ true → slice_index behind.regs (mask_register k) ≡ held_or b l (slot_of p1.mask k)
-  masks-hold k i m =
+  masks-hold : (k : ℕ) → IsSignal names k → other_at d.rows k ≡ false → marked_one marks k ≡ true → slice_index behind.regs (mask_register k) ≡ held_or b l (slot_of p1.mask k)
+  masks-hold k i o m =
       after (mask_register k) (room k i)
-      ∙ entry-written d.rows 6 (marked_change marks p0.mask p1.mask) p1.mask none k b l _ _ h.zero (written-if names 6 k (computed_at d.rows k) true i refl refl) (e.masks k (signal-below names k i))
-      (λ same. sym (h.read.mask k i) ∙ ap (held_or b l) (differs-not (slot_of p0.mask k) (slot_of p1.mask k) (sym (ap (λ q. q && changed p0.mask p1.mask k) m) ∙ same)))
+      ∙ entry-written d.rows 6 (marked_change marks p0.mask p1.mask) p1.mask none k b l _ _ h.zero (written-if names 6 k (computed_at d.rows k) true i o refl refl) (e.masks k (signal-below names k i))
+      (λ same. sym (h.read.mask k i o) ∙ ap (held_or b l) (differs-not (slot_of p0.mask k) (slot_of p1.mask k) (sym (ap (λ q. q && changed p0.mask p1.mask k) m) ∙ same)))
 
-  -- that of another is as it was
-  update-kept : (k : ℕ) → IsSignal names k → marked_one marks k ≡ false → slice_index behind.regs (update_register k) ≡ slice_index b.regs (update_register k)
-  update-kept k i m =
+  -- no update is pending of a loop variable or a clock, or of a signal that isn't marked
+  abbrev Kept : ℕ → Type 0
+  Kept k = (other_at d.rows k ≡ true) ⊎ (marked_one marks k ≡ false)
+
+  abbrev Marked : ℕ → Type 0
+  Marked k = (other_at d.rows k ≡ false) × (marked_one marks k ≡ true)
+
+  which : (k : ℕ) → Kept k ⊎ Marked k
+  which k = of (other_at d.rows k) refl (marked_one marks k) refl
+    where
+      of : (o : Bool) → other_at d.rows k ≡ o → (m : Bool) → marked_one marks k ≡ m → Kept k ⊎ Marked k
+      of true o m e = inl (inl o)
+      of false o false m = inl (inr m)
+      of false o true m = inr (o, m)
+
+  -- such a one keeps its value
+  stays-before : (k : ℕ) (base : List (List ℕ)) → IsSignal names k → Kept k → value_of (all_updated d.rows base s.later) k ≡ value_of base k
+  stays-before k base i (inl o) = others-stay d.rows k s.later base o h.others.later
+  stays-before k base i (inr m) = value-stays d.rows k s.later base (h.none_before k i m)
+
+  stays-behind : (k : ℕ) (base : List (List ℕ)) → IsSignal names k → Kept k → value_of (all_updated d.rows base t.later) k ≡ value_of base k
+  stays-behind k base i (inl o) = others-stay d.rows k t.later base o h.others_behind.later
+  stays-behind k base i (inr m) = value-stays d.rows k t.later base (h.none_behind k i m)
+
+  -- and its registers are as they were
+  update-kept : (k : ℕ) → IsSignal names k → Kept k → slice_index behind.regs (update_register k) ≡ slice_index b.regs (update_register k)
+  update-kept k i (inl o) =
+      let lt = room k i in
+      after (update_register k) (omega (arith, lt))
+      ∙ entry-left d.rows 5 (marked_change marks p0.update p1.update) p1.update none k b l _ _ (other-unwritten 5 (slice_get d.rows k) o) (e.updates k (signal-below names k i))
+  update-kept k i (inr m) =
       let lt = room k i in
       after (update_register k) (omega (arith, lt))
       ∙ ap (λ x. held_after (held b l) x (slice_index b.regs (update_register k)))
       (e.updates k (signal-below names k i) ∙ wanted-left d.rows 5 p1.update none (marked_change marks p0.update p1.update) k (ap (λ q. q && changed p0.update p1.update k) m))
 
-  mask-kept : (k : ℕ) → IsSignal names k → marked_one marks k ≡ false → slice_index behind.regs (mask_register k) ≡ slice_index b.regs (mask_register k)
-  mask-kept k i m =
+  mask-kept : (k : ℕ) → IsSignal names k → Kept k → slice_index behind.regs (mask_register k) ≡ slice_index b.regs (mask_register k)
+  mask-kept k i (inl o) =
+      after (mask_register k) (room k i)
+      ∙ entry-left d.rows 6 (marked_change marks p0.mask p1.mask) p1.mask none k b l _ _ (other-unwritten 6 (slice_get d.rows k) o) (e.masks k (signal-below names k i))
+  mask-kept k i (inr m) =
       after (mask_register k) (room k i)
       ∙ ap (λ x. held_after (held b l) x (slice_index b.regs (mask_register k)))
       (e.masks k (signal-below names k i) ∙ wanted-left d.rows 6 p1.mask none (marked_change marks p0.mask p1.mask) k (ap (λ q. q && changed p0.mask p1.mask k) m))
 
-  updated-hold : (base : List (List ℕ)) (k : ℕ) → IsFine d.rows base → IsSignal names k → (q : Bool) → marked_one marks k ≡ q →
+  updated-hold : (base : List (List ℕ)) (k : ℕ) → IsFine d.rows base → IsSignal names k → Kept k ⊎ Marked k →
       value_of (all_updated d.rows base t.later) k ≡ masked (value_of base k) (slice_index behind.regs (update_register k)) (slice_index behind.regs (mask_register k))
-  updated-hold base k fine i true m =
-      h.pends base k fine i ∙ ap (λ x. masked (value_of base k) x (held_or b l (slot_of p1.mask k))) (sym (updates-hold k i m))
-      ∙ ap (masked (value_of base k) (slice_index behind.regs (update_register k))) (sym (masks-hold k i m))
-  updated-hold base k fine i false m =
-      value-stays d.rows k t.later base (h.none_behind k i m) ∙ sym (value-stays d.rows k s.later base (h.none_before k i m)) ∙ h.before.pending.updates base k fine i
+  updated-hold base k fine i (inr m) =
+      h.pends base k fine i ∙ ap (λ x. masked (value_of base k) x (held_or b l (slot_of p1.mask k))) (sym (updates-hold k i m.0 m.1))
+      ∙ ap (masked (value_of base k) (slice_index behind.regs (update_register k))) (sym (masks-hold k i m.0 m.1))
+  updated-hold base k fine i (inl m) =
+      stays-behind k base i m ∙ sym (stays-before k base i m) ∙ h.before.pending.updates base k fine i
       ∙ ap (λ x. masked (value_of base k) x (slice_index b.regs (mask_register k))) (sym (update-kept k i m))
       ∙ ap (masked (value_of base k) (slice_index behind.regs (update_register k))) (sym (mask-kept k i m))
 
-  update-fits : (k : ℕ) → IsSignal names k → (q : Bool) → marked_one marks k ≡ q → slice_index behind.regs (update_register k) < 2 ^ (signal_form d.rows k).width
-  update-fits k i true m = subst (λ v. v < 2 ^ (signal_form d.rows k).width) (sym (updates-hold k i m)) (entry-fits h.shape b l (signal_form d.rows k).width (slot_of p1.update k) h.sound (h.pending.update k i))
-  update-fits k i false m = subst (λ v. v < 2 ^ (signal_form d.rows k).width) (sym (update-kept k i m)) (h.before.pending.update_fits k i)
+  update-fits : (k : ℕ) → IsSignal names k → Kept k ⊎ Marked k → slice_index behind.regs (update_register k) < 2 ^ (signal_form d.rows k).width
+  update-fits k i (inr m) = subst (λ v. v < 2 ^ (signal_form d.rows k).width) (sym (updates-hold k i m.0 m.1)) (entry-fits h.shape b l (signal_form d.rows k).width (slot_of p1.update k) h.sound (h.pending.update k i))
+  update-fits k i (inl m) = subst (λ v. v < 2 ^ (signal_form d.rows k).width) (sym (update-kept k i m)) (h.before.pending.update_fits k i)
 
-  mask-fits : (k : ℕ) → IsSignal names k → (q : Bool) → marked_one marks k ≡ q → slice_index behind.regs (mask_register k) < 2 ^ (signal_form d.rows k).width
-  mask-fits k i true m = subst (λ v. v < 2 ^ (signal_form d.rows k).width) (sym (masks-hold k i m)) (entry-fits h.shape b l (signal_form d.rows k).width (slot_of p1.mask k) h.sound (h.pending.mask k i))
-  mask-fits k i false m = subst (λ v. v < 2 ^ (signal_form d.rows k).width) (sym (mask-kept k i m)) (h.before.pending.mask_fits k i)
+  mask-fits : (k : ℕ) → IsSignal names k → Kept k ⊎ Marked k → slice_index behind.regs (mask_register k) < 2 ^ (signal_form d.rows k).width
+  mask-fits k i (inr m) = subst (λ v. v < 2 ^ (signal_form d.rows k).width) (sym (masks-hold k i m.0 m.1)) (entry-fits h.shape b l (signal_form d.rows k).width (slot_of p1.mask k) h.sound (h.pending.mask k i))
+  mask-fits k i (inl m) = subst (λ v. v < 2 ^ (signal_form d.rows k).width) (sym (mask-kept k i m)) (h.before.pending.mask_fits k i)
 
   pending-hold : HoldsPending d behind t.later
   pending-hold = record {
-    updates = λ base k fine i. updated-hold base k fine i (marked_one marks k) refl;
-    update_fits = λ k i. update-fits k i (marked_one marks k) refl;
-    mask_fits = λ k i. mask-fits k i (marked_one marks k) refl;
+    updates = λ base k fine i. updated-hold base k fine i (which k);
+    update_fits = λ k i. update-fits k i (which k);
+    mask_fits = λ k i. mask-fits k i (which k);
   }
 
   ticks-hold : held_after (held b l) (last_write sets ticks_register) s.ticks ≡ t.ticks → slice_index behind.regs ticks_register ≡ t.ticks
@@ -231,22 +273,28 @@ module _ (d : Flat) (b : BankData) (l : ListData) (s t : State) (committed : Lis
       after (value_register k) (omega (arith, lt))
       ∙ ap (λ x. held_after (held b l) x (slice_index b.regs (value_register k))) (e.values k (signal-below names k i) ∙ ap (λ q. if q then wanted d.rows 3 each_one at1.slots none k else None) c) ∙ h.before.values k i
 
-  values-done : commits ≡ true → (k : ℕ) → IsSignal names k → (c : Bool) → computed_at d.rows k ≡ c → (u : List (List ℕ)) → (computed_at d.rows k ≡ false → value_of u k ≡ value_of t.values k) →
+  values-done : commits ≡ true → (k : ℕ) → IsSignal names k → (o c : Bool) → other_at d.rows k ≡ o → computed_at d.rows k ≡ c → (u : List (List ℕ)) → (computed_at d.rows k ≡ false → value_of u k ≡ value_of t.values k) →
       slice_index behind.regs (value_register k) ≡ value_of (cleared d.rows u) k
-  values-done all k i true c u like =
+  values-done all k i true c o e' u like =
+      let lt = room k i in
+      let q = other-kept (slice_get d.rows k) o in
+      let is : last_write sets (value_register k) ≡ wanted d.rows 3 each_one at1.slots none k = e.values k (signal-below names k i) ∙ ap (λ q. if q then wanted d.rows 3 each_one at1.slots none k else None) all in
+      after (value_register k) (omega (arith, lt)) ∙ entry-left d.rows 3 each_one at1.slots none k b l _ _ (other-unwritten 3 (slice_get d.rows k) o) is
+      ∙ h.before.values k i ∙ value-kept d committed k i q ∙ h.others.before k o ∙ sym (h.others_behind.now k o) ∙ sym (like q) ∙ sym (value-kept d u k i q)
+  values-done all k i false true o c u like =
       let lt = room k i in
       let is : last_write sets (value_register k) ≡ wanted d.rows 3 each_one at1.slots none k = e.values k (signal-below names k i) ∙ ap (λ q. if q then wanted d.rows 3 each_one at1.slots none k else None) all in
-      after (value_register k) (omega (arith, lt)) ∙ entry-left d.rows 3 each_one at1.slots none k b l _ _ (written-if names 3 k true false i c refl) is
+      after (value_register k) (omega (arith, lt)) ∙ entry-left d.rows 3 each_one at1.slots none k b l _ _ (written-if names 3 k true false i o c refl) is
       ∙ h.before.values k i ∙ cleared-computed d.rows committed k c ∙ sym (cleared-computed d.rows u k c)
-  values-done all k i false c u like =
+  values-done all k i false false o c u like =
       let lt = room k i in
       let is : last_write sets (value_register k) ≡ wanted d.rows 3 each_one at1.slots none k = e.values k (signal-below names k i) ∙ ap (λ q. if q then wanted d.rows 3 each_one at1.slots none k else None) all in
-      after (value_register k) (omega (arith, lt)) ∙ entry-written d.rows 3 each_one at1.slots none k b l _ _ h.zero (written-if names 3 k false true i c refl) is (λ f. absurd (cc))
+      after (value_register k) (omega (arith, lt)) ∙ entry-written d.rows 3 each_one at1.slots none k b l _ _ h.zero (written-if names 3 k false true i o c refl) is (λ f. absurd (cc))
       ∙ work-value k i c ∙ sym (like c) ∙ sym (value-kept d u k i c)
 
   pub segment-writes : commits ≡ false → held_after (held b l) (last_write sets ticks_register) s.ticks ≡ t.ticks → HoldsSignals d (written (held b l) sets b) t committed
   segment-writes c ticks = record {
-    works = λ k i. works-hold k i (computed_at d.rows k) refl t.values (λ z. refl);
+    works = λ k i. works-hold k i (other_at d.rows k) (computed_at d.rows k) refl refl t.values (λ z. refl);
     values = values-kept c;
     pending = pending-hold;
     ticks = ticks-hold ticks;
@@ -257,8 +305,8 @@ module _ (d : Flat) (b : BankData) (l : ListData) (s t : State) (committed : Lis
 
   pub commit-writes : commits ≡ true → held_after (held b l) (last_write sets ticks_register) s.ticks ≡ t.ticks → (u : State) → IsLike d t u → HoldsSignals d (written (held b l) sets b) u u.values
   commit-writes c ticks u like = record {
-    works = λ k i. works-hold k i (computed_at d.rows k) refl u.values (like.values k i);
-    values = λ k i. values-done c k i (computed_at d.rows k) refl u.values (like.values k i);
+    works = λ k i. works-hold k i (other_at d.rows k) (computed_at d.rows k) refl refl u.values (like.values k i);
+    values = λ k i. values-done c k i (other_at d.rows k) (computed_at d.rows k) refl refl u.values (like.values k i);
     pending = subst (HoldsPending d behind) (sym like.later) pending-hold;
     ticks = ticks-hold ticks ∙ sym like.ticks;
     few = subst (λ n. n < 2 ^ 32) (sym like.ticks) h.few;

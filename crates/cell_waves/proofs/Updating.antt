@@ -1,43 +1,42 @@
 -- The update, one signal after the other, and its writes.
 use Rattle.std.proofs.Common.{◌≡◌, ℕ, suc, ◌+◌, ◌*◌, ◌<◌, ◌≤◌, ◌%◌, ◌^◌, Bool, true, false, List, [], ◌∷◌, ◌++◌, length, Option, Some, None, refl, sym, ap, ◌∙◌, arith, subst, length-append, mod-eq_of_lt, inl, inr}
-use Rattle.std.specs.Prelude.{◌⊎◌, ◌==◌, ◌||◌, if◌then◌else◌, nat_lt, slice_get, slice_index, slice_index_or, All}
+use Rattle.std.specs.Prelude.{◌⊎◌, ◌||◌, if◌then◌else◌, nat_lt, slice_get, slice_index, slice_index_or, All}
 use Rattle.std.specs.List.{AllByRecursion}
 use Rattle.std.proofs.Math.Pow.{pow_pos}
-use Rattle.std.proofs.lemmas.Bool.{eq-eqb}
-use Rattle.std.proofs.lemmas.List.Elements.{All-head, All-tail}
+use Rattle.std.proofs.lemmas.List.Elements.{All-head}
 use Rattle.std.proofs.lemmas.Option.{slice_get_within}
 use Rattle.vl_design.specs.Syntax.{Row, Flat}
 use Rattle.vl_design.specs.Rows.{has_width}
 use Rattle.vl_design.specs.Width.{names_of, signal_form, row_form}
 use Rattle.vl_design.specs.Value.{value_of, words_of}
-use Rattle.vl_design.specs.Sound.{IsOf, IsWidth, HasValue, IsSignal}
-use Rattle.vl_design.specs.State.{State, Update, all_updated, sample}
-use Rattle.vl_design.proofs.Kept.{OfUpdates, updates_keep}
+use Rattle.vl_design.specs.Sound.{HasValue, IsSignal}
+use Rattle.vl_design.specs.State.{State, all_updated}
 use Rattle.vl_design.specs.Laws.{IsFine}
 use Rattle.vl_settle.specs.Computed.{is_computed_row, computed_at}
+use Rattle.vl_answers.specs.Others.{other_at}
 use Rattle.cell_form.specs.declared.cell.Write.{Write}
 use Rattle.cell_form.specs.Data.{ListData, BankData}
 use Rattle.cell_form.specs.Cycle.{masked, written}
 use Rattle.cell_form.specs.Sound.{Shape, IsWrite, shape_of}
-use Rattle.cell_steps.specs.Slots.{held, IsIn, AreSound, Grows, Longer, Nothing}
+use Rattle.cell_steps.specs.Slots.{held, IsIn, AreSound, Grows, Longer}
 use Rattle.cell_steps.proofs.Frames.{held-stays, in-stays, grows-then, longer-grows, longer-same, longer-then, longer-weaken, sound-before}
-use Rattle.cell_paths.specs.Envs.{Env, IsEntry, IsSlot, held_or, Fits, Stands}
-use Rattle.cell_paths.proofs.Staying.{is-slot-stays, entry-stays, held-or-stays}
-use Rattle.cell_later.specs.Pendings.{PendingSlots, slot_of, settled, ArePending}
+use Rattle.cell_paths.specs.Envs.{IsSlot, held_or}
+use Rattle.cell_paths.proofs.Staying.{is-slot-stays}
+use Rattle.cell_later.specs.Pendings.{slot_of}
 use Rattle.cell_later.proofs.Masking.{masked-none}
 use Rattle.cell_reads.proofs.Reading.{each-more}
 use Rattle.cell_reads.proofs.Samples.{named}
 use Rattle.ten_form.specs.Registers.{answer_register, ticks_register, work_register, update_register, mask_register, register_count}
-use Rattle.ten_form.specs.Nets.{cleared}
+use Rattle.ten_form.specs.Nets.{cleared, HoldsNoOthers}
 use Rattle.ten_form.specs.Banks.{IsFor, HoldsPending, HoldsSignals}
 use Rattle.cell_waves.specs.Lasts.{last_write, held_after}
 use Rattle.cell_waves.specs.Copies.{HasSignals, count_to, has_copy, is_written, slot_or, wanted, or_before, IsHeld, Sets}
 use Rattle.cell_waves.specs.Applies.{IsUpdated, ArePendingOf, SameWrites, NoWrites, Applies, HasOwn, HoldsUpdate, HasUpdateIf}
 use Rattle.cell_waves.proofs.Clearing.{cleared-computed}
 use Rattle.cell_waves.proofs.Lasting.{register-behind}
-use Rattle.cell_waves.proofs.Setting.{wanted-left, sets-beyond}
-use Rattle.cell_waves.proofs.Written.{both-true, is-width, value-kind, not-computed, written-if}
-use Rattle.cell_waves.proofs.Ending.{signal-below, value-stays, value-kept, entry-slot, entry-written, entry-left, or-none}
+use Rattle.cell_waves.proofs.Setting.{wanted-not, wanted-left, sets-beyond}
+use Rattle.cell_waves.proofs.Written.{both-true, is-width, value-kind, not-computed, written-if, other-unwritten}
+use Rattle.cell_waves.proofs.Ending.{signal-below, value-stays, others-stay, value-kept, entry-written, entry-left, or-none}
 
 -- ---- one signal
 
@@ -145,7 +144,7 @@ module _ (d : Flat) (delayed : ℕ → Bool) (here : ℕ) (old new : ListData) (
       e.sound z new room here-in (λ j w. tt) (c.sound z new room here-in (λ j w. held-if d.rows delayed n 4 old new es j long refl h w) (a.sound z new room here-in (λ j w. held-if d.rows delayed n 3 old new es j long refl h w) k))
 
   module _ (b : BankData) (s t : State) (committed : List (List ℕ)) (l : ListData) (sets : List Write) (sound : AreSound (shape_of b) old) (bank : IsFor d 0 (shape_of b)) (none : NoWrites d s0)
-      (holds : HoldsSignals d b s committed) (fine : IsFine d.rows s.values) (more : Grows new l) (same : SameWrites d s3 sets) (like : IsUpdated d s t)
+      (holds : HoldsSignals d b s committed) (plain : HoldsNoOthers d s committed) (fine : IsFine d.rows s.values) (more : Grows new l) (same : SameWrites d s3 sets) (like : IsUpdated d s t)
       (late : ArePendingOf d delayed s.later) (ready : committed ≡ s.values) where
     abbrev behind : BankData
     behind = written (held b l) sets b
@@ -207,56 +206,82 @@ module _ (d : Flat) (delayed : ℕ → Bool) (here : ℕ) (old new : ListData) (
         of w None u = absurd u
         of w (Some r) u = held-stays b new l r more u.0.there ∙ u.1 (shape_of b) b sound-new
 
-    -- a variable of which no update is pending has kept its value
-    old-value : (k : ℕ) → IsSignal (names_of d) k → delayed k ≡ false → computed_at d.rows k ≡ false → value_of s.values k ≡ value_of t.values k
-    old-value k i q c = sym (value-stays d.rows k s.later s.values (late k i q)) ∙ sym (like.values k i c)
+    -- no update is pending of a loop variable or a clock, or of a signal that isn't marked
+    abbrev Kept : ℕ → Type 0
+    Kept k = (other_at d.rows k ≡ true) ⊎ (delayed k ≡ false)
+
+    abbrev Marked : ℕ → Type 0
+    Marked k = (other_at d.rows k ≡ false) × (delayed k ≡ true)
+
+    which : (k : ℕ) → Kept k ⊎ Marked k
+    which k = of (other_at d.rows k) refl (delayed k) refl
+      where
+        of : (o : Bool) → other_at d.rows k ≡ o → (m : Bool) → delayed k ≡ m → Kept k ⊎ Marked k
+        of true o m e = inl (inl o)
+        of false o false m = inl (inr m)
+        of false o true m = inr (o, m)
+
+    -- such a one keeps its value
+    stays : (k : ℕ) (base : List (List ℕ)) → IsSignal (names_of d) k → Kept k → value_of (all_updated d.rows base s.later) k ≡ value_of base k
+    stays k base i (inl o) = others-stay d.rows k s.later base o plain.later
+    stays k base i (inr q) = value-stays d.rows k s.later base (late k i q)
+
+    old-value : (k : ℕ) → IsSignal (names_of d) k → Kept k → computed_at d.rows k ≡ false → value_of s.values k ≡ value_of t.values k
+    old-value k i q c = sym (stays k s.values i q) ∙ sym (like.values k i c)
+
+    -- and has no writes
+    unwanted : (copy : ℕ) (xs : List (Option ℕ)) (k : ℕ) → Kept k → wanted d.rows copy delayed xs here k ≡ None
+    unwanted copy xs k (inl o) = wanted-not d.rows copy xs here delayed k (other-unwritten copy (slice_get d.rows k) o)
+    unwanted copy xs k (inr m) = wanted-left d.rows copy xs here delayed k m
 
     copy-holds : (copy : ℕ) (k : ℕ) → nat_lt 4 copy ≡ false → 4 * k + copy < register_count (length d.rows) → IsSignal (names_of d) k → last_write sets (4 * k + copy) ≡ wanted d.rows copy delayed es here k →
         slice_index b.regs (4 * k + copy) ≡ value_of (cleared d.rows s.values) k → (q : Bool) → computed_at d.rows k ≡ q → slice_index behind.regs (4 * k + copy) ≡ value_of (cleared d.rows t.values) k
     copy-holds copy k low lt i is was true q =
-        after (4 * k + copy) lt ∙ entry-left d.rows copy delayed es here k b l _ _ (written-if (names_of d) copy k true false i q (ap (λ v. v || false) low)) is
-        ∙ was ∙ cleared-computed d.rows s.values k q ∙ sym (cleared-computed d.rows t.values k q)
-    copy-holds copy k low lt i is was false q = of (delayed k) refl ∙ sym (value-kept d t.values k i q)
+        after (4 * k + copy) lt ∙ entry-left d.rows copy delayed es here k b l _ _ (computed-unwritten (other_at d.rows k) refl) is ∙ was ∙ cleared-computed d.rows s.values k q ∙ sym (cleared-computed d.rows t.values k q)
       where
-        of : (m : Bool) → delayed k ≡ m → slice_index behind.regs (4 * k + copy) ≡ value_of t.values k
-        of true m =
-            after (4 * k + copy) lt ∙ entry-written d.rows copy delayed es here k b l _ _ zero (written-if (names_of d) copy k false true i q (ap (λ v. v || true) low)) is (λ f. absurd (cc))
-            ∙ new-value k i m q
-        of false m =
-            after (4 * k + copy) lt ∙ ap (λ x. held_after (held b l) x (slice_index b.regs (4 * k + copy))) (is ∙ wanted-left d.rows copy es here delayed k m)
-            ∙ was ∙ value-kept d s.values k i q ∙ old-value k i m q
+        computed-unwritten : (o : Bool) → other_at d.rows k ≡ o → is_written copy (slice_get d.rows k) ≡ false
+        computed-unwritten true e = other-unwritten copy (slice_get d.rows k) e
+        computed-unwritten false e = written-if (names_of d) copy k true false i e q (ap (λ v. v || false) low)
+    copy-holds copy k low lt i is was false q = of (which k) ∙ sym (value-kept d t.values k i q)
+      where
+        of : Kept k ⊎ Marked k → slice_index behind.regs (4 * k + copy) ≡ value_of t.values k
+        of (inr m) =
+            after (4 * k + copy) lt ∙ entry-written d.rows copy delayed es here k b l _ _ zero (written-if (names_of d) copy k false true i m.0 q (ap (λ v. v || true) low)) is (λ f. (let g = m.1 in absurd (cc)))
+            ∙ new-value k i m.1 q
+        of (inl m) =
+            after (4 * k + copy) lt ∙ ap (λ x. held_after (held b l) x (slice_index b.regs (4 * k + copy))) (is ∙ unwanted copy es k m) ∙ was ∙ value-kept d s.values k i q ∙ old-value k i m q
 
-    mask-null : (k : ℕ) → IsSignal (names_of d) k → delayed k ≡ true → slice_index behind.regs (mask_register k) ≡ 0
-    mask-null k i m =
+    mask-null : (k : ℕ) → IsSignal (names_of d) k → other_at d.rows k ≡ false → delayed k ≡ true → slice_index behind.regs (mask_register k) ≡ 0
+    mask-null k i o m =
         after (mask_register k) (in-room k 6 i (omega arith))
-        ∙ entry-written d.rows 6 delayed [] here k b l _ _ zero (written-if (names_of d) 6 k (computed_at d.rows k) true i refl refl) (last-mask k i) (λ f. absurd (cc))
+        ∙ entry-written d.rows 6 delayed [] here k b l _ _ zero (written-if (names_of d) 6 k (computed_at d.rows k) true i o refl refl) (last-mask k i) (λ f. absurd (cc))
 
-    mask-kept : (k : ℕ) → IsSignal (names_of d) k → delayed k ≡ false → slice_index behind.regs (mask_register k) ≡ slice_index b.regs (mask_register k)
+    mask-kept : (k : ℕ) → IsSignal (names_of d) k → Kept k → slice_index behind.regs (mask_register k) ≡ slice_index b.regs (mask_register k)
     mask-kept k i m =
         after (mask_register k) (in-room k 6 i (omega arith))
-        ∙ ap (λ x. held_after (held b l) x (slice_index b.regs (mask_register k))) (last-mask k i ∙ wanted-left d.rows 6 [] here delayed k m)
+        ∙ ap (λ x. held_after (held b l) x (slice_index b.regs (mask_register k))) (last-mask k i ∙ unwanted 6 [] k m)
 
     update-kept : (k : ℕ) → IsSignal (names_of d) k → slice_index behind.regs (update_register k) ≡ slice_index b.regs (update_register k)
     update-kept k i = after (update_register k) (in-room k 5 i (omega arith)) ∙ ap (λ x. held_after (held b l) x (slice_index b.regs (update_register k))) (last-update k i)
 
     nothing-replaced : (base : List (List ℕ)) (k : ℕ) → IsFine d.rows base → IsSignal (names_of d) k →
         value_of base k ≡ masked (value_of base k) (slice_index behind.regs (update_register k)) (slice_index behind.regs (mask_register k))
-    nothing-replaced base k fine i = of (delayed k) refl
+    nothing-replaced base k fine i = of (which k)
       where
-        of : (m : Bool) → delayed k ≡ m → value_of base k ≡ masked (value_of base k) (slice_index behind.regs (update_register k)) (slice_index behind.regs (mask_register k))
-        of true m =
-            sym (ap (masked (value_of base k) (slice_index behind.regs (update_register k))) (mask-null k i m) ∙ masked-none (value_of base k) (slice_index behind.regs (update_register k)))
-        of false m =
-            sym (value-stays d.rows k s.later base (late k i m)) ∙ holds.pending.updates base k fine i
+        of : Kept k ⊎ Marked k → value_of base k ≡ masked (value_of base k) (slice_index behind.regs (update_register k)) (slice_index behind.regs (mask_register k))
+        of (inr m) =
+            sym (ap (masked (value_of base k) (slice_index behind.regs (update_register k))) (mask-null k i m.0 m.1) ∙ masked-none (value_of base k) (slice_index behind.regs (update_register k)))
+        of (inl m) =
+            sym (stays k base i m) ∙ holds.pending.updates base k fine i
             ∙ ap (λ v. masked (value_of base k) v (slice_index b.regs (mask_register k))) (sym (update-kept k i))
             ∙ ap (masked (value_of base k) (slice_index behind.regs (update_register k))) (sym (mask-kept k i m))
 
     mask-narrow : (k : ℕ) → IsSignal (names_of d) k → slice_index behind.regs (mask_register k) < 2 ^ (signal_form d.rows k).width
-    mask-narrow k i = of (delayed k) refl
+    mask-narrow k i = of (which k)
       where
-        of : (m : Bool) → delayed k ≡ m → slice_index behind.regs (mask_register k) < 2 ^ (signal_form d.rows k).width
-        of true m = subst (λ v. v < 2 ^ (signal_form d.rows k).width) (sym (mask-null k i m)) (pow_pos (signal_form d.rows k).width)
-        of false m = subst (λ v. v < 2 ^ (signal_form d.rows k).width) (sym (mask-kept k i m)) (holds.pending.mask_fits k i)
+        of : Kept k ⊎ Marked k → slice_index behind.regs (mask_register k) < 2 ^ (signal_form d.rows k).width
+        of (inr m) = subst (λ v. v < 2 ^ (signal_form d.rows k).width) (sym (mask-null k i m.0 m.1)) (pow_pos (signal_form d.rows k).width)
+        of (inl m) = subst (λ v. v < 2 ^ (signal_form d.rows k).width) (sym (mask-kept k i m)) (holds.pending.mask_fits k i)
 
     nothing-pends : HoldsPending d behind []
     nothing-pends = record {

@@ -16,6 +16,7 @@ use Rattle.cell_steps.specs.Slots.{held, width_at, AreSound, Grows, Longer}
 use Rattle.cell_paths.specs.Envs.{IsSlot}
 use Rattle.cell_trim.specs.Widths.{IsWithin}
 use Rattle.ten_form.specs.Banks.{IsFor, HoldsSignals}
+use Rattle.ten_form.specs.Nets.{HoldsNoOthers}
 use Rattle.ten_form.specs.Registers.{register_count, work_register, update_register, mask_register}
 use Rattle.cell_waves.specs.Copies.{HasSignals, is_written, count_to}
 use Rattle.cell_waves.specs.Lasts.{last_write, IsRegister}
@@ -54,7 +55,7 @@ pub record Applies (d : Flat) (delayed : ℕ → Bool) (here : ℕ) (old new : L
   -- no register behind those of signals is written
   pub others : (r : ℕ) → register_count (length d.rows) ≤ r → last_write after r ≡ last_write before r
   pub holds : (b : BankData) (s t : State) (committed : List (List ℕ)) (l : ListData) (sets : List Write) → AreSound (shape_of b) old →
-      IsFor d 0 (shape_of b) → NoWrites d before → HoldsSignals d b s committed → IsFine d.rows s.values → Grows new l → SameWrites d after sets →
+      IsFor d 0 (shape_of b) → NoWrites d before → HoldsSignals d b s committed → HoldsNoOthers d s committed → IsFine d.rows s.values → Grows new l → SameWrites d after sets →
       IsUpdated d s t → ArePendingOf d delayed s.later → committed ≡ s.values → HoldsSignals d (written (held b l) sets b) t t.values
 
 -- ---- one signal

@@ -11,25 +11,28 @@ use Rattle.cell_form.specs.Data.{ListData, BankData}
 use Rattle.cell_form.specs.Sound.{Shape}
 use Rattle.cell_steps.specs.Slots.{AreSound}
 use Rattle.cell_paths.specs.Envs.{Env, held_or, Fits, HasMemories, Stands}
+use Rattle.vl_answers.specs.Others.{other_at}
+use Rattle.cell_reads.specs.Entries.{read_count}
 use Rattle.cell_nets.specs.Passes.{pass_count}
 use Rattle.cell_later.specs.Pendings.{PendingSlots, slot_of, settled, ArePending}
 use Rattle.ten_form.specs.Registers.{update_register, mask_register}
-use Rattle.ten_form.specs.Nets.{IsTidy}
+use Rattle.ten_form.specs.Nets.{IsTidy, HoldsNoOthers}
 use Rattle.ten_form.specs.Banks.{IsFor, HoldsSignals, HoldsState}
 
--- slots hold what the registers of pending updates hold
+-- slots hold what the registers of pending updates hold, but for those of loop variables and clocks
 pub record IsPendingRead (d : Flat) (b : BankData) (l : ListData) (p : PendingSlots) : Type 0 where
-  pub update : (k : ℕ) → IsSignal (names_of d) k → held_or b l (slot_of p.update k) ≡ slice_index b.regs (update_register k)
-  pub mask : (k : ℕ) → IsSignal (names_of d) k → held_or b l (slot_of p.mask k) ≡ slice_index b.regs (mask_register k)
+  pub update : (k : ℕ) → IsSignal (names_of d) k → other_at d.rows k ≡ false → held_or b l (slot_of p.update k) ≡ slice_index b.regs (update_register k)
+  pub mask : (k : ℕ) → IsSignal (names_of d) k → other_at d.rows k ≡ false → held_or b l (slot_of p.mask k) ≡ slice_index b.regs (mask_register k)
 
 -- pending updates make of the values of signals what slots say
 abbrev pub SettlesSignals : Flat → BankData → ListData → PendingSlots → List Update → Type 0
 SettlesSignals d b l p later = (base : List (List ℕ)) (k : ℕ) → IsFine d.rows base → IsSignal (names_of d) k →
     value_of (all_updated d.rows base later) k ≡ settled b l p k (value_of base k)
 
--- at most how many cells a state begins with: each signal is read four times, and four cells twice beside; and one pass over processes
+-- at most how many cells a state begins with: each signal is read four times, but loop variables and clocks never, and four cells twice beside; and one
+-- pass over processes
 abbrev pub begin_count : Flat → List ℕ → ℕ
-begin_count d order = 4 * length d.rows + 8 + pass_count d order
+begin_count d order = 4 * read_count d.rows + 8 + pass_count d order
 
 -- a state begins with these cells; the sites of memory words are for others to add
 pub record Begins (d : Flat) (order : List ℕ) (old new : ListData) (at : Env) (p : PendingSlots) : Type 0 where
@@ -44,7 +47,7 @@ pub record Begins (d : Flat) (order : List ℕ) (old new : ListData) (at : Env) 
   pub memories : (z : Shape) → IsFor d 0 z → HasMemories (names_of d) at z
   -- slots hold the state that the bank holds, and what is pending of signals
   pub stands : (files : List File) (z : Shape) (b : BankData) (s : State) (committed : List (List ℕ)) → AreSound z old → s.finished ≡ false →
-      IsTidy d files order s committed → HoldsState d b s committed → Stands (names_of d) b new at (sample s)
-  pub pends : (z : Shape) (b : BankData) (s : State) (committed : List (List ℕ)) → AreSound z old → HoldsSignals d b s committed →
+      IsTidy d files order s committed → HoldsNoOthers d s committed → HoldsState d b s committed → Stands (names_of d) b new at (sample s)
+  pub pends : (z : Shape) (b : BankData) (s : State) (committed : List (List ℕ)) → AreSound z old → HoldsNoOthers d s committed → HoldsSignals d b s committed →
       SettlesSignals d b new p s.later
   pub read : (z : Shape) (b : BankData) (s : State) (committed : List (List ℕ)) → AreSound z old → HoldsSignals d b s committed → IsPendingRead d b new p

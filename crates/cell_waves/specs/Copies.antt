@@ -2,11 +2,12 @@
 use Rattle.std.specs.Prelude.{◌≡◌, ◌≢◌, ℕ, zero, suc, ◌+◌, ◌*◌, ◌==◌, ◌≤◌, nat_lt, Bool, true, false, not, ◌&&◌, ◌||◌, if◌then◌else◌, List, [], ◌∷◌, ◌++◌, length, slice_get, slice_index_or, Option, Some, None, unwrap_or, ⊤}
 use Rattle.std.specs.List.{AllByRecursion}
 use Rattle.vl_design.specs.declared.design.SigKind.{SigKind}
-use Rattle.vl_design.specs.declared.design.SigKind.TheVariants.{Mem}
+use Rattle.vl_design.specs.declared.design.SigKind.TheVariants.{Loop, Mem, Clock}
 use Rattle.vl_design.specs.Rows.{has_width}
 use Rattle.vl_design.specs.Syntax.{Row}
 use Rattle.vl_design.specs.Sound.{HasValue, IsWidth}
 use Rattle.vl_settle.specs.Computed.{is_computed}
+use Rattle.vl_answers.specs.Others.{is_other}
 use Rattle.cell_form.specs.declared.cell.Write.{Write}
 use Rattle.cell_form.specs.declared.cell.Write.TheVariants as w
 use Rattle.cell_form.specs.Data.{ListData}
@@ -24,17 +25,20 @@ HasSignals n s = register_count n ≤ s.regs
 
 -- ---- reads
 
--- of each signal a slot with what its register of a copy holds
+-- of each signal a slot with what its register of a copy holds; of a loop variable or a clock none
 pub record AreCopies (rows : List Row) (copy : ℕ) (l : ListData) (es : List (Option ℕ)) : Type 0 where
   pub many : length es ≡ length rows
-  pub each : (k : ℕ) (r : Row) → slice_get rows k ≡ Some r → HasValue r.kind → IsWidth r.width → HasCopy l r.width (4 * k + copy) (slot_of es k)
+  pub each : (k : ℕ) (r : Row) → slice_get rows k ≡ Some r → HasValue r.kind → is_other r.kind ≡ false → IsWidth r.width → HasCopy l r.width (4 * k + copy) (slot_of es k)
+  pub others : (k : ℕ) (r : Row) → slice_get rows k ≡ Some r → is_other r.kind ≡ true → slot_of es k ≡ None
 
 -- ---- writes
 
--- a signal of this kind has a register of a copy that writes change: a memory has none, and a signal that is computed only those of
--- what is pending
+-- a signal of this kind has a register of a copy that writes change: a memory, a loop variable and a clock have none, and a signal that
+-- is computed only those of what is pending
 abbrev pub has_copy : ℕ → SigKind → Bool
 has_copy copy Mem = false
+has_copy copy Loop = false
+has_copy copy Clock = false
 has_copy copy kind = nat_lt 4 copy || not (is_computed kind)
 
 abbrev pub is_written : ℕ → Option Row → Bool

@@ -15,6 +15,7 @@ use Rattle.cell_paths.specs.Envs.{Env, Stands}
 use Rattle.cell_later.specs.Pendings.{PendingSlots, ArePending}
 use Rattle.ten_form.specs.Banks.{IsFor, HoldsSignals}
 use Rattle.ten_form.specs.Registers.{answer_register, value_register, work_register, update_register, mask_register}
+use Rattle.ten_form.specs.Nets.{HoldsNoOthers}
 use Rattle.cell_waves.specs.Begins.{IsPendingRead, SettlesSignals}
 use Rattle.cell_waves.specs.Lasts.{last_write, IsRegister}
 use Rattle.cell_waves.specs.Copies.{changed, marked_one, marked_change, each_one, wanted}
@@ -47,6 +48,9 @@ pub record Leads (d : Flat) (b : BankData) (l : ListData) (s t : State) (committ
   -- no update is pending of a signal that isn't marked
   pub none_before : (k : ℕ) → IsSignal (names_of d) k → marked_one marks k ≡ false → All (λ (u : Update). (u.signal == k) ≡ false) s.later
   pub none_behind : (k : ℕ) → IsSignal (names_of d) k → marked_one marks k ≡ false → All (λ (u : Update). (u.signal == k) ≡ false) t.later
+  -- loop variables and clocks stay 0
+  pub others : HoldsNoOthers d s committed
+  pub others_behind : HoldsNoOthers d t committed
   pub answer : t.answer ≡ s.answer
   pub few : t.ticks < 2 ^ 32
 

@@ -1,10 +1,11 @@
 //! Widths of signals.
 
-ghost use Rattle.std.specs.Prelude.{◌≡◌, false, IfSome, Some};
+ghost use Rattle.std.specs.Prelude.{◌≡◌, false, true, IfSome, None, Some};
 ghost use Rattle.vl_design.specs.Rows as rows;
 ghost use Rattle.vl_design.specs.Sound.{IsWidth, HasValue};
 ghost use Rattle.vl_design.specs.Trees.{row_of};
 ghost use Rattle.vl_settle.specs.Computed as c;
+ghost use Rattle.vl_answers.specs.Others.{is_other};
 
 use cell_begin::begin::is_computed;
 use vl_design::design::{SigKind, Signal};
@@ -34,6 +35,18 @@ pub fn value_width(signal: &Signal) -> Option<u8>
 {
     match signal.kind {
         SigKind::Mem => None,
+        _ => width_of(signal),
+    }
+}
+
+/// The width of a value that is read in bits: none of a memory, a loop variable or a clock, and none where it isn't from 1 to 128.
+pub(crate) fn read_width(signal: &Signal) -> Option<u8>
+    ensures there { HasValue (row_of signal.now).kind → is_other (row_of signal.now).kind ≡ false → IsWidth (row_of signal.now).width → result ≡ Some (row_of signal.now).width }
+    ensures others { is_other (row_of signal.now).kind ≡ true → result ≡ None }
+    ensures within { IfSome result (λ w. (w ≡ (row_of signal.now).width) × IsWidth w × HasValue (row_of signal.now).kind) }
+{
+    match signal.kind {
+        SigKind::Mem | SigKind::Loop | SigKind::Clock => None,
         _ => width_of(signal),
     }
 }

@@ -11,13 +11,13 @@ use std::alloc::AllocError;
 use ten_form::places::{WORK, register};
 use vl_design::design::{SigKind, Signal};
 
-/// Whether a signal of a kind has a register of a copy that writes change: a memory has none, and of a computed signal only what is
-/// pending is written.
+/// Whether a signal of a kind has a register of a copy that writes change: a memory, a loop variable and a clock have none, and of a
+/// computed signal only what is pending is written.
 fn has_copy(kind: SigKind, copy: u32) -> bool
     ensures { result ≡ s.has_copy copy kind }
 {
     match kind {
-        SigKind::Mem => false,
+        SigKind::Mem | SigKind::Loop | SigKind::Clock => false,
         _ => copy > WORK || !is_computed(kind),
     }
 }
@@ -86,8 +86,8 @@ fn write_one(
     Ok(())
 }
 
-/// Adds writes to the registers `copy` (`VALUE`, `WORK`, `UPDATE` or `MASK`) of signals whose entry isn't what it was. Memories have
-/// none, and of a computed signal only what is pending is written. An entry without a slot is 0: `here` is a slot that holds 0.
+/// Adds writes to the registers `copy` (`VALUE`, `WORK`, `UPDATE` or `MASK`) of signals whose entry isn't what it was. Memories, loop
+/// variables and clocks have none, and of a computed signal only what is pending is written. An entry without a slot is 0: `here` is a slot that holds 0.
 pub fn write_changed(
     signals: &[Signal],
     copy: u32,

@@ -1,38 +1,31 @@
-//! Reads sources, each behind a line `= ` of what is wanted, and prints whether it is what the front end answers: the first
-//! fault of the tokens, the grammar, the names, the flat design, its uses, the limits of its loops, what it leaves
-//! unassigned, and its loops of processes; or that the source is accepted, or `cost` and the three numbers of its cost.
+//! Reads rows of the front end, and prints what comes of each. A line `### parse` begins a section of rows of the lexer and the
+//! parsers, `### flat` one of elaboration, and `### check` one of the whole front end.
 #![tactic(auto)]
 
-mod judge;
-mod words;
+mod checking;
+mod flat;
+mod parsing;
+mod section;
 
+use section::Section;
 use std::io;
 
-/// Prints what came of a source, unless there is none.
-fn show(rt: &HostRuntime, wanted: &str, source: &str) -> io::Result<()> {
-    if source.is_empty() {
-        return Ok(());
+/// Reads one more line. A name begins another section: then the last row of the one before is shown.
+fn read(rt: &HostRuntime, section: &mut Section, line: &str) -> io::Result<()> {
+    match line.strip_prefix("### ") {
+        None => section.read(rt, line)?,
+        Some(name) => {
+            section.show(rt)?;
+            *section = Section::new(rt.alloc(), name);
+        }
     }
-    let text = judge::compared(rt.alloc(), wanted, source)?;
-    println!(rt; "{text}")
+    Ok(())
 }
 
 fn main(rt: HostRuntime) -> io::Result<()> {
-    let mut wanted = String::new(rt.alloc());
-    let mut source = String::new(rt.alloc());
+    let mut section = Section::Outside;
     for line in rt.lines(rt.alloc()) {
-        let line = line?;
-        match line.as_str().strip_prefix("= ") {
-            Some(next) => {
-                show(&rt, wanted.as_str(), source.as_str())?;
-                wanted = String::from_str(rt.alloc(), next)?;
-                source = String::new(rt.alloc());
-            }
-            None => {
-                source.push_str(line.as_str())?;
-                source.push('\n')?;
-            }
-        }
+        read(&rt, &mut section, line?.as_str())?;
     }
-    show(&rt, wanted.as_str(), source.as_str())
+    section.show(&rt)
 }

@@ -10,8 +10,6 @@ pub mod mem_store;
 pub mod sink;
 pub mod std_sink;
 pub mod store;
-#[cfg(test)]
-mod tests;
 
 pub use dir_store::DirStore;
 pub use gate::NoGate;

@@ -7,5 +7,3 @@ mod numbers;
 mod serving;
 mod span;
 mod stepping;
-#[cfg(test)]
-mod tests;

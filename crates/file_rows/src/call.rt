@@ -9,7 +9,7 @@ use vl_base::files::FileSet;
 use vl_base::items::{Items, Text};
 
 /// The next number of a row, or 0.
-fn number(words: &mut SplitWhitespace) -> u128 {
+pub fn number(words: &mut SplitWhitespace) -> u128 {
     let Some(word) = words.next() else {
         return 0;
     };

@@ -1,30 +1,27 @@
--- What is said of a source that was built, or that was refused.
-use Rattle.std.proofs.Common.{◌≡◌, ℕ, List, Result, Ok, Err, refl, ap, ◌∙◌}
+-- What is said of a source that is accepted, or that was refused.
+use Rattle.std.proofs.Common.{◌≡◌, ℕ, List, Result, Ok, Err, refl}
 use Rattle.std.specs.Prelude.{IfOk}
 use Rattle.vl_base.specs.declared.place.Place.{Place}
 use Rattle.vl_design.specs.Cost as sums
 use Rattle.vl_design.specs.Cost.{cost}
-use Rattle.vl_design.specs.Trees.{flat_of}
 use Rattle.vl_cost.specs.Costs.{saturated_cost}
+use Rattle.vl_cost.specs.declared.capacity.Cost.{Cost}
+use Rattle.cell_accept.specs.declared.accept.Accepted.{Accepted as Design}
 use Rattle.vl_front.specs.declared.fault.Kind.{Kind}
-use Rattle.vl_front.specs.Sources.{IsRefusal}
-use Rattle.ten_core.specs.declared.image.Image.{Image}
-use Rattle.ten_build.specs.Builds.{IsImageOf}
+use Rattle.vl_front.specs.Sources.{IsRefusal, IsAcceptedOf}
+use Rattle.ten_build.specs.Builds.{HasCost}
 use Rattle.host_form.specs.Origins.{Accepted, Faulty}
 use Rattle.host_judge.specs.Judged.{kind_words}
 use Rattle.host_check.specs.declared.check.Checked.{Checked}
 use Rattle.host_check.specs.Checks.{cost_line, refused_line, HasChecked}
 
--- the image's design costs what the text's does
-pub accepted-so : {E : Type 0} (result : Result Checked E) (text : List ℕ) (image : Image) → IsImageOf text image → IfOk result (λ c. c.status ≡ 0)
-    → IfOk result (λ c. (s : sums.Cost) → image.cost ≡ saturated_cost s → c.text.items ≡ cost_line s) → IfOk result (HasChecked text)
-accepted-so (Ok c) text image is status said = record {
-  source = Accepted is.design;
-  is = is.stands;
-  text_is = said (cost (flat_of image.design)) is.image_is.costs ∙ ap cost_line is.runs.cost;
-  status_is = status;
-}
-accepted-so (Err e) text image is status said = status
+-- it costs what the design costs that the text stands for
+pub accepted-all : {E : Type 0} (result : Result Checked E) (a : Design) (told : Cost) → ((text : List ℕ) → IsAcceptedOf text a → HasCost text told) → IfOk result (λ c. c.status ≡ 0)
+    → IfOk result (λ c. (s : sums.Cost) → told ≡ saturated_cost s → c.text.items ≡ cost_line s) → IfOk result (λ c. (text : List ℕ) → IsAcceptedOf text a → HasChecked text c)
+accepted-all (Ok c) a told costs status said = λ text is.
+    let has = costs text is in
+    record { source = Accepted has.design; is = has.stands; text_is = said (cost has.design) has.is; status_is = status }
+accepted-all (Err e) a told costs status said = status
 
 pub refused-so : {E : Type 0} (result : Result Checked E) (text : List ℕ) (place : Place) (kind : Kind) → IsRefusal text place kind → IfOk result (λ c. c.status ≡ 3)
     → IfOk result (λ c. c.text.items ≡ refused_line place (kind_words kind)) → IfOk result (HasChecked text)

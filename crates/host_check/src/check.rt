@@ -3,17 +3,20 @@
 ghost use Rattle.std.specs.Prelude.{◌≡◌, ◌++◌, ℕ, List, codes, IfOk, OnOk};
 ghost use Rattle.vl_cost.specs.Costs.{saturated_cost};
 ghost use Rattle.vl_design.specs.Cost.{Cost as Sums};
+ghost use Rattle.vl_front.specs.Sources.{IsAcceptedOf};
 ghost use Rattle.report_text.specs.Report.{number as number_word};
 ghost use Rattle.host_judge.specs.Judged.{kind_words};
 ghost use Rattle.host_check.specs.Checks.{cost_line, refused_line, HasChecked};
 
+use cell_accept::accept::Accepted;
 use host_judge::kinds::source_text;
 use host_judge::room::is_exact;
 use std::alloc::{AllocError, Global};
-use ten_build::build::build;
+use ten_build::build::cost_of;
 use vl_base::place::Place;
 use vl_cost::capacity::Cost;
 use vl_front::fault::{BuildError, Kind};
+use vl_front::front::front;
 
 /// What is said of a source.
 #[derive(Drop)]
@@ -51,6 +54,15 @@ fn accepted(alloc: Global, cost: Cost) -> Result<Checked, AllocError>
     Ok(Checked { status: 0, text })
 }
 
+/// What is said of a source whose design is accepted: its cost, and nothing is compiled for it.
+fn of_accepted(alloc: Global, design: &Accepted) -> Result<Checked, AllocError>
+    requires { (text : List ℕ) × IsAcceptedOf text design.now }
+    ensures { IfOk result (λ c. (text : List ℕ) → IsAcceptedOf text design.now → HasChecked text c) }
+{
+    let cost = cost_of(alloc, design)?;
+    accepted(alloc, cost)
+}
+
 /// What is said of a source that is refused at a place, for a fault of a kind.
 fn refused(alloc: Global, place: Place, kind: Kind) -> Result<Checked, AllocError>
     ensures status { IfOk result (λ c. c.status ≡ 3) }
@@ -72,8 +84,8 @@ fn refused(alloc: Global, place: Place, kind: Kind) -> Result<Checked, AllocErro
 pub fn check(alloc: Global, bytes: &[u8]) -> Result<Checked, AllocError>
     ensures { IfOk result (HasChecked bytes.now) }
 {
-    match build(alloc, bytes) {
-        Ok(image) => accepted(alloc, image.cost),
+    match front(alloc, bytes) {
+        Ok(design) => of_accepted(alloc, &design),
         Err(BuildError::Refused(place, kind)) => refused(alloc, place, kind),
         Err(BuildError::Memory) => Err(AllocError),
     }

@@ -1,18 +1,18 @@
 -- What is decided of a design, by its cost, its plan and its start.
-use Rattle.std.proofs.Common.{◌≡◌, ℕ, false, true, List, slice_get, Option, Some, Err, refl, sym, ap, ◌∙◌, subst}
+use Rattle.std.proofs.Common.{◌≡◌, ℕ, List, Option, Err, refl, sym, ap, ◌∙◌, subst}
 use Rattle.vl_base.specs.declared.files.File.{File}
 use Rattle.vl_cost.specs.declared.capacity.Cost.{Cost}
 use Rattle.vl_design.specs.Cost as sums
 use Rattle.vl_design.specs.Syntax.{Flat}
 use Rattle.vl_front.specs.declared.fault.BuildError.{BuildError}
 use Rattle.vl_front.specs.declared.fault.BuildError.TheVariants as build
+use Rattle.vl_front.specs.Sources.{IsFront}
 use Rattle.script_text.specs.declared.script.FabricLine.{FabricLine}
 use Rattle.script_text.specs.declared.script.TenantLine.{TenantLine}
 use Rattle.ten_plan.specs.declared.held.Held.{Held}
 use Rattle.ten_plan.specs.declared.plan.Plan.{Plan}
 use Rattle.ten_plan.specs.Plans as known
-use Rattle.ten_build.specs.Builds.{IsBuild}
-use Rattle.host_form.specs.Origins.{Faulty, Tenant, fits, fits_in, plan_of, cost_kind, snapshot_kind, for_its_source, for_its_cost, for_its_snapshot}
+use Rattle.host_form.specs.Origins.{Faulty, Tenant, plan_of, snapshot_kind, for_its_source, for_its_snapshot}
 use Rattle.host_load.specs.declared.loaded.Loaded.{Loaded}
 use Rattle.host_load.specs.Reading.{bytes_in}
 use Rattle.host_judge.specs.declared.judge.Decision.TheVariants as decision
@@ -22,7 +22,7 @@ use Rattle.host_judge.specs.Judged.{kind_words, IsTenantOf}
 use Rattle.host_judge.specs.Deciding.{sums_of, elsewhere, IsStarted, HasRoom, IsDecided, IsVerdict, IsSourceRefused}
 
 -- a tenant whose source is refused
-pub refused-source : (fabrics : List FabricLine) (line : TenantLine) (l : Loaded) (e : BuildError) (v : Verdict) → IsBuild l.source.items (Err e) → IsSourceRefused e v
+pub refused-source : (fabrics : List FabricLine) (line : TenantLine) (l : Loaded) (e : BuildError) (v : Verdict) → IsFront l.source.items (Err e) → IsSourceRefused e v
     → (t : Tenant) × IsTenantOf line l t × IsVerdict fabrics t v
 refused-source fabrics line l (build.Refused place kind) v h e =
     let t : Tenant = record { line = line; source = Faulty place (kind_words kind); files = l.files; snapshot = bytes_in l.snapshot } in (
@@ -41,13 +41,3 @@ module _ (fabrics : List FabricLine) (line : TenantLine) (d : Flat) (files : Lis
   pub misstarted : (fault : ℕ) (kind : List ℕ) → HasRoom fabrics line d → IsStarted d files line.budget bytes (start.Bad fault) → kind ≡ snapshot_kind fault
       → IsDecided fabrics line d files bytes (decision.Refused (elsewhere kind))
   misstarted fault kind room bad is = for_its_snapshot {d = d} {fault = fault} refl room bad refl is
-
-  module _ (c : Cost) (same : sums_of c ≡ sums.cost d) (fabric : FabricLine) (there : slice_get fabrics line.fabric ≡ Some fabric) where
-    pub too-dear : (kind : List ℕ) → fits (sums_of c) fabric.capacity ≡ false → kind ≡ cost_kind (sums_of c) fabric.capacity
-        → IsDecided fabrics line d files bytes (decision.Refused (elsewhere kind))
-    too-dear kind above is =
-        for_its_cost {d = d} {fabric = fabric} refl there (subst (λ (x : sums.Cost). fits x fabric.capacity ≡ false) same above) refl
-        (subst (λ (x : sums.Cost). kind ≡ cost_kind x fabric.capacity) same is)
-
-    pub has-room : fits (sums_of c) fabric.capacity ≡ true → HasRoom fabrics line d
-    has-room e = ap (λ (o : Option FabricLine). fits_in (sums.cost d) o) there ∙ subst (λ (x : sums.Cost). fits x fabric.capacity ≡ true) same e

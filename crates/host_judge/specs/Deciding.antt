@@ -2,12 +2,14 @@
 use Rattle.std.specs.Prelude.{◌≡◌, ℕ, true, List, [], ◌∷◌, ◌++◌, Option, Some, None, option_map, length, take}
 use Rattle.vl_base.specs.declared.files.File.{File}
 use Rattle.vl_cost.specs.declared.capacity.Cost.{Cost}
+use Rattle.vl_cost.specs.Costs.{saturated_cost}
 use Rattle.vl_design.specs.Alone as alone
 use Rattle.vl_design.specs.Cost as sums
 use Rattle.vl_design.specs.Cost.{cost}
 use Rattle.vl_design.specs.Syntax.{Flat}
 use Rattle.vl_front.specs.declared.fault.BuildError.{BuildError}
 use Rattle.vl_front.specs.declared.fault.BuildError.TheVariants as build
+use Rattle.vl_front.specs.Sources.{StandsFor}
 use Rattle.script_text.specs.declared.script.FabricLine.{FabricLine}
 use Rattle.script_text.specs.declared.script.TenantLine.{TenantLine}
 use Rattle.script_text.specs.declared.script.Script.{Script}
@@ -50,6 +52,15 @@ IsStarted d files budget bytes (start.Bad fault) = StartsNot d files budget byte
 abbrev pub HasRoom : List FabricLine → TenantLine → Flat → Type 0
 HasRoom fabrics line d = has_room fabrics (cost d) line.fabric ≡ true
 
+-- the cost of a design fits the tenant's fabric, and its numbers have 64 bits; or it is refused for its cost, whatever its files and its snapshot are
+abbrev pub IsWeighed : List FabricLine → TenantLine → Flat → Option Refusal → Type 0
+IsWeighed fabrics line d None = HasRoom fabrics line d × (sums_of (saturated_cost (cost d)) ≡ cost d)
+IsWeighed fabrics line d (Some r) = (files : List File) (bytes : Option (List ℕ)) → IsRefused fabrics (accepted line d files bytes) r.place r.kind
+
+-- and so is the design that a text stands for
+abbrev pub IsWeighedOf : List ℕ → List FabricLine → TenantLine → Option Refusal → Type 0
+IsWeighedOf text fabrics line r = (d : Flat) × StandsFor text d × IsWeighed fabrics line d r
+
 -- the origin of a design
 abbrev pub origin_by : Flat → List File → Plan → Option Held → alone.Origin
 origin_by d files plan held = record { flat = d; files = files; plan = plan_of plan; resume = option_map (snapshot_of d.rows) held }
@@ -64,7 +75,11 @@ abbrev pub IsVerdict : List FabricLine → Tenant → Verdict → Type 0
 IsVerdict fabrics t (verdict.Runs r) = IsReady fabrics t r
 IsVerdict fabrics t (verdict.Refused r) = IsRefused fabrics t r.place r.kind
 
--- a source that isn't built is refused so
+-- and so is a tenant of the design that a text stands for
+abbrev pub IsVerdictOf : List ℕ → List FabricLine → TenantLine → List File → Option (List ℕ) → Verdict → Type 0
+IsVerdictOf text fabrics line files bytes v = (d : Flat) × StandsFor text d × IsVerdict fabrics (accepted line d files bytes) v
+
+-- a source that isn't accepted is refused so
 abbrev pub IsSourceRefused : BuildError → Verdict → Type 0
 IsSourceRefused (build.Refused place kind) v = v ≡ verdict.Refused (record { place = place; kind = kind_words kind })
 IsSourceRefused build.Memory v = ⊥

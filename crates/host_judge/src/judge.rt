@@ -1,10 +1,12 @@
 //! Tenants judged.
 
-ghost use Rattle.std.specs.Prelude.{◌≡◌, ℕ, ◌<◌, List, [], ◌∷◌, ◌++◌, length, option_map, IfOk, OnOk};
+ghost use Rattle.std.specs.Prelude.{◌≡◌, ℕ, ◌<◌, List, [], ◌∷◌, ◌++◌, None, length, option_map, IfOk, OnOk};
 ghost use Rattle.vl_base.specs.Files.{IsFileSet};
 ghost use Rattle.vl_cost.specs.Costs.{saturated_cost};
 ghost use Rattle.vl_design.specs.Cost as sums;
+ghost use Rattle.vl_design.specs.Syntax.{Flat};
 ghost use Rattle.vl_design.specs.Trees.{flat_of};
+ghost use Rattle.vl_front.specs.Sources.{IsAcceptedOf};
 ghost use Rattle.script_text.specs.Laws.{IsSpelt, IsSpeltTenant, IsTenant as IsTenantAt, IsWithinLimits};
 ghost use Rattle.ten_build.specs.Builds.{IsImageOf};
 ghost use Rattle.host_load.specs.declared.loaded.Loaded.{Loaded as Read};
@@ -19,11 +21,12 @@ use crate::planning::plan_for;
 use crate::room::{fits_in, is_exact};
 use crate::starting::{Start, start_of};
 use crate::verdict::{Judged, Ready, Refusal};
+use cell_accept::accept::Accepted;
 use host_load::loaded::Loaded;
 use script_text::script::{FabricLine, Script, TenantLine};
 use std::alloc::{AllocError, Global};
 use ten_alone::laws::a_tenants_image_can_be_run;
-use ten_build::build::build;
+use ten_build::build::{cost_of, make};
 use ten_core::image::Image;
 use ten_core::origin::Origin;
 use ten_plan::held::Held;
@@ -31,15 +34,18 @@ use ten_plan::plan::Plan;
 use vl_base::files::FileSet;
 use vl_base::items::Text;
 use vl_base::place::Place;
+use vl_cost::capacity::Cost;
 use vl_front::fault::BuildError;
+use vl_front::front::front;
+use vl_front::laws::a_text_is_a_design_or_refused;
 use vl_save_names::laws::an_elaborated_design_names_its_snapshots;
 
-/// What comes of an image that was built.
+/// What comes of an image whose cost fits its fabric.
 #[derive(Drop)]
 enum Decision {
     /// It runs by this plan, from this on; from time zero where it is nothing.
     Runs(Plan, Option<Held>),
-    /// It is refused, for its cost or its snapshot.
+    /// It is refused, for its snapshot.
     Refused(Refusal),
 }
 
@@ -60,6 +66,43 @@ fn elsewhere(kind: Text) -> Refusal
         place: Place { line: 0, column: 0 },
         kind,
     }
+}
+
+/// Why a design of this cost is refused: it doesn't fit the tenant's fabric; nothing where it fits. Costs of 2 ^ 64 - 1 and more, to
+/// which no design within the limits comes, are want of memory.
+fn weigh(
+    alloc: Global,
+    fabrics: &[FabricLine],
+    line: &TenantLine,
+    cost: Cost,
+) -> Result<Option<Refusal>, AllocError>
+    requires { line.now.fabric < length fabrics.now }
+    ensures { IfOk result (λ r. (e : Flat) → cost ≡ saturated_cost (sums.cost e) → d.IsWeighed fabrics.now line.now e r) }
+{
+    if !is_exact(cost) {
+        return Err(AllocError);
+    }
+    let fabric = &fabrics[line.fabric as usize];
+    if fits_in(cost, fabric) {
+        return Ok(None);
+    }
+    let kind = cost_text(alloc, cost, fabric.capacity)?;
+    Ok(Some(elsewhere(kind)))
+}
+
+/// Why an accepted design is refused for its cost, if it is; nothing is compiled for it.
+fn weigh_accepted(
+    alloc: Global,
+    fabrics: &[FabricLine],
+    line: &TenantLine,
+    accepted: &Accepted,
+) -> Result<Option<Refusal>, AllocError>
+    requires accepted { (text : List ℕ) × IsAcceptedOf text accepted.now }
+    requires fabric { line.now.fabric < length fabrics.now }
+    ensures { IfOk result (λ r. (text : List ℕ) → IsAcceptedOf text accepted.now → d.IsWeighedOf text fabrics.now line.now r) }
+{
+    let cost = cost_of(alloc, accepted)?;
+    weigh(alloc, fabrics, line, cost)
 }
 
 /// What comes of an image whose cost fits its fabric: it is refused for the first fault of its snapshot, or it runs.
@@ -89,33 +132,6 @@ fn decide_start(
     }
 }
 
-/// What comes of an image: it is refused if its cost doesn't fit its fabric, else for the first fault of its snapshot; else it runs.
-/// Costs of 2 ^ 64 - 1 and more, to which no design within the limits comes, are want of memory.
-fn decide(
-    alloc: Global,
-    fabrics: &[FabricLine],
-    line: &TenantLine,
-    image: &Image,
-    files: &FileSet,
-    snapshot: Option<&[u8]>,
-) -> Result<Decision, AllocError>
-    requires held { CanBeHeld (flat_of image.now.design) }
-    requires cost { image.now.cost ≡ saturated_cost (sums.cost (flat_of image.now.design)) }
-    requires fabric { line.now.fabric < length fabrics.now }
-    requires spelt { IsSpeltTenant line.now }
-    ensures { IfOk result (d.IsDecided fabrics.now line.now (flat_of image.now.design) files.now (option_map (λ bytes. bytes.now) snapshot.entry)) }
-{
-    if !is_exact(image.cost) {
-        return Err(AllocError);
-    }
-    let fabric = &fabrics[line.fabric as usize];
-    if fits_in(image.cost, fabric) {
-        return decide_start(alloc, fabrics, line, image, files, snapshot);
-    }
-    let kind = cost_text(alloc, image.cost, fabric.capacity)?;
-    Ok(Decision::Refused(elsewhere(kind)))
-}
-
 /// The bytes of a snapshot, if there is one.
 fn bytes_of(snapshot: &Option<Vec<u8>>) -> Option<&[u8]>
     ensures { option_map (λ bytes. bytes.now) result ≡ bytes_in snapshot.now }
@@ -133,7 +149,7 @@ fn are_a_set(files: &FileSet, name: &Text)
     files.number(name);
 }
 
-/// What a tenant is judged to be whose source was built.
+/// What a tenant is judged to be whose image's cost fits its fabric.
 fn judge_image(
     alloc: Global,
     fabrics: &[FabricLine],
@@ -143,6 +159,8 @@ fn judge_image(
     snapshot: &Option<Vec<u8>>,
 ) -> Result<Verdict, AllocError>
     requires image { (text : List ℕ) × IsImageOf text image }
+    requires cost { d.sums_of image.cost ≡ sums.cost (flat_of image.design) }
+    requires room { d.HasRoom fabrics.now line.now (flat_of image.design) }
     requires line { IsTenantAt (length fabrics.now) line.now }
     requires spelt { IsSpeltTenant line.now }
     ensures { IfOk result (λ v. (text : List ℕ) (is : IsImageOf text image) → d.IsVerdict fabrics.now (d.accepted line.now is.design files (bytes_in snapshot.now)) v) }
@@ -150,7 +168,7 @@ fn judge_image(
     a_tenants_image_can_be_run();
     an_elaborated_design_names_its_snapshots();
     are_a_set(&files, &line.name);
-    match decide(alloc, fabrics, line, &image, &files, bytes_of(snapshot))? {
+    match decide_start(alloc, fabrics, line, &image, &files, bytes_of(snapshot))? {
         Decision::Runs(plan, start) => Ok(Verdict::Runs(Ready {
             fabric: line.fabric,
             origin: Origin {
@@ -164,7 +182,47 @@ fn judge_image(
     }
 }
 
-/// The verdict on a source that wasn't built: it is refused at a place, for a fault of a kind.
+/// What a tenant is judged to be whose source is accepted, and whose design's cost fits its fabric.
+fn judge_fitting(
+    alloc: Global,
+    fabrics: &[FabricLine],
+    line: &TenantLine,
+    accepted: Accepted,
+    files: FileSet,
+    snapshot: &Option<Vec<u8>>,
+) -> Result<Verdict, AllocError>
+    requires accepted { (text : List ℕ) × IsAcceptedOf text accepted × d.IsWeighedOf text fabrics.now line.now None }
+    requires line { IsTenantAt (length fabrics.now) line.now }
+    requires spelt { IsSpeltTenant line.now }
+    ensures { IfOk result (λ v. (text : List ℕ) → IsAcceptedOf text accepted → d.IsVerdictOf text fabrics.now line.now files (bytes_in snapshot.now) v) }
+{
+    a_text_is_a_design_or_refused();
+    let image = make(alloc, accepted)?;
+    judge_image(alloc, fabrics, line, image, files, snapshot)
+}
+
+/// What a tenant is judged to be whose source is accepted: it is refused if its cost doesn't fit its fabric, before anything is
+/// compiled; else for its snapshot's first fault; else it is to run.
+fn judge_accepted(
+    alloc: Global,
+    fabrics: &[FabricLine],
+    line: &TenantLine,
+    accepted: Accepted,
+    files: FileSet,
+    snapshot: &Option<Vec<u8>>,
+) -> Result<Verdict, AllocError>
+    requires accepted { (text : List ℕ) × IsAcceptedOf text accepted }
+    requires line { IsTenantAt (length fabrics.now) line.now }
+    requires spelt { IsSpeltTenant line.now }
+    ensures { IfOk result (λ v. (text : List ℕ) → IsAcceptedOf text accepted → d.IsVerdictOf text fabrics.now line.now files (bytes_in snapshot.now) v) }
+{
+    match weigh_accepted(alloc, fabrics, line, &accepted)? {
+        Some(refusal) => Ok(Verdict::Refused(refusal)),
+        None => judge_fitting(alloc, fabrics, line, accepted, files, snapshot),
+    }
+}
+
+/// The verdict on a source that isn't accepted: it is refused at a place, for a fault of a kind.
 fn refused_source(alloc: Global, error: BuildError) -> Result<Verdict, AllocError>
     ensures { IfOk result (d.IsSourceRefused error) }
 {
@@ -194,8 +252,8 @@ fn judge(
         files,
         snapshot,
     } = loaded;
-    match build(alloc, &source) {
-        Ok(image) => judge_image(alloc, fabrics, line, image, files, &snapshot),
+    match front(alloc, &source) {
+        Ok(accepted) => judge_accepted(alloc, fabrics, line, accepted, files, &snapshot),
         Err(error) => refused_source(alloc, error),
     }
 }

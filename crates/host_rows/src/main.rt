@@ -1,81 +1,24 @@
-//! Reads command lines with files and prints whether the host answers what is wanted of each. A row begins with a line `@ ` of the
-//! words. Lines `= ` are the status and what is printed: a word `*` of a tenant's first line, or of that of a stay or a free order, stands
-//! for any, and a line `...` for any lines up to the next that is as wanted; a line `% ` is a part of a last line, and with what stands in a
-//! line `- ` no printed line begins. A line `! ` has
-//! four numbers where the sink takes less than all in a call, a call fails, or blanks stand before the first file; a line `> ` is a file
-//! that is wanted behind the call, with its bytes in hexadecimal, `*` for any, or `-` where no such file is wanted. A line `+ ` begins a file;
-//! its lines, joined by newlines, and lines `^ ` of bytes in hexadecimal follow.
-//!
-//! A line `& F T G U` is of the gate: whoever comes there with the numbers F and T is held until someone has come with G and U. A worker
-//! comes before each turn with the number of its fabric, from 0, and that of the turn, from 1; the operator before each try of an order with
-//! the number of fabrics and that of the order, from 1, among those that are given to tenants, so that one that is answered `small` or
-//! `refused` has none. The rounds of fab_rounds end when their workers and the operator have ended, so neither is held until a later one.
-//! Where someone is held too long, a line `held N` stands behind what is printed.
+//! Reads rows in sections and prints what comes of each row: `ok` where that is what is wanted, else both. A section begins with a line
+//! `### cells`, `### splits`, `### fabrics` or `### host`; how its rows are written stands at the module that reads them.
 #![tactic(auto)]
 
-mod gates;
-mod judge;
-mod lines;
-mod numbers;
-mod row;
+mod cells;
+mod fabrics;
+mod hosts;
+mod section;
+mod splits;
 
-use row::Row;
-use std::alloc::{AllocError, Global};
+use section::{Section, shown};
 use std::io;
-use std::sync::Wait;
-use std::thread::Threads;
-use std::time::Clock;
-
-/// What came of a row, in a line; nothing where there is no row.
-fn answered<R: Threads + Wait + Clock + Sync>(
-    rt: &R,
-    alloc: Global,
-    row: &Row,
-) -> Result<String, AllocError> {
-    if row.words.is_empty() {
-        return Ok(String::new(alloc));
-    }
-    let mut text = judge::compared(rt, alloc, row)?;
-    text.push('\n')?;
-    Ok(text)
-}
-
-/// Adds a line to a row that has begun.
-fn read(alloc: Global, row: &mut Row, line: &str) -> Result<(), AllocError> {
-    if let Some(numbers) = line.strip_prefix("! ") {
-        row.set(numbers);
-        Ok(())
-    } else if let Some(wanted) = line.strip_prefix("= ") {
-        row.want(wanted)
-    } else if let Some(part) = line.strip_prefix("% ") {
-        row.want_part(part)
-    } else if let Some(text) = line.strip_prefix("- ") {
-        row.refuse(text)
-    } else if let Some(numbers) = line.strip_prefix("& ") {
-        row.hold(numbers)
-    } else if let Some(path) = line.strip_prefix("+ ") {
-        row.begin(alloc, path)
-    } else if let Some(saved) = line.strip_prefix("> ") {
-        row.save(alloc, saved)
-    } else if let Some(digits) = line.strip_prefix("^ ") {
-        row.extend_by(digits)
-    } else {
-        row.extend(line)
-    }
-}
 
 fn main(rt: HostRuntime) -> io::Result<()> {
-    let mut row = Row::new(rt.alloc(), "")?;
+    let mut section = Section::Nothing;
     for line in rt.lines(rt.alloc()) {
-        let line = line?;
-        if let Some(words) = line.as_str().strip_prefix("@ ") {
-            let text = answered(&rt, rt.alloc(), &row)?;
+        let text = section::read(&rt, rt.alloc(), &mut section, line?.as_str())?;
+        if !text.is_empty() {
             print!(rt; "{text}")?;
-            row = Row::new(rt.alloc(), words)?;
-        } else {
-            read(rt.alloc(), &mut row, line.as_str())?;
         }
     }
-    let text = answered(&rt, rt.alloc(), &row)?;
+    let text = shown(&rt, rt.alloc(), &section)?;
     print!(rt; "{text}")
 }

@@ -6,6 +6,4 @@ mod fields;
 pub mod laws;
 pub mod reading;
 pub mod snapshot;
-#[cfg(test)]
-mod tests;
 pub mod writing;

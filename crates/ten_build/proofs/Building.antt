@@ -1,9 +1,12 @@
 -- The image of an accepted design of a text is one of the text.
 use Rattle.std.proofs.Common.{◌≡◌, ◌≤◌, List, ℕ, length, refl, sym, ap, ◌∙◌, subst}
-use Rattle.std.specs.Prelude.{Ok, All, map}
+use Rattle.std.specs.Prelude.{Result, Ok, Err, IfOk, All, map}
 use Rattle.vl_source.specs.declared.tree.Source.{Source}
+use Rattle.vl_cost.specs.Costs.{saturated_cost}
+use Rattle.vl_cost.specs.declared.capacity.Cost.{Cost}
 use Rattle.vl_design.specs.Alone.{Origin}
 use Rattle.vl_design.specs.Cost.{cost}
+use Rattle.vl_design.specs.Laws.{IsUnrolled}
 use Rattle.vl_design.specs.Observed.{IsSameRun}
 use Rattle.vl_design.specs.Placed as p
 use Rattle.vl_design.specs.Plainly as plain
@@ -29,10 +32,14 @@ use Rattle.ten_make.specs.Within.{IsWithinCost}
 use Rattle.ten_plan.specs.Written.{HasRows}
 use Rattle.vl_limited.specs.Limited.{IsLimited}
 use Rattle.vl_answers.specs.Answers.{AsksBehindCalls}
-use Rattle.vl_answers.specs.Others.{WritesNoOthers}
 use Rattle.vl_again.specs.Again.{CanGoOn}
-use Rattle.ten_build.specs.Builds.{RunsAs, IsImageOf}
+use Rattle.ten_build.specs.Builds.{RunsAs, IsImageOf, HasCost}
 use Rattle.ten_build.proofs.Resuming.{can-go-on}
+
+-- what two facts of a result say together
+pub both : {T E : Type 0} (r : Result T E) (P Q R : T → Type 0) → ((x : T) → P x → Q x → R x) → IfOk r P → IfOk r Q → IfOk r R
+both (Ok x) P Q R f p q = f x p q
+both (Err e) P Q R f p q = tt
 
 -- the laws that are called
 abbrev pub Fits : Type 0
@@ -53,6 +60,9 @@ Unrolls = (o : Origin) → CanUnroll o.flat → IsSameRun o (record o { flat = u
 abbrev pub Costs : Type 0
 Costs = (d : Flat) → cost (unrolled_flat d) ≡ cost d
 
+abbrev pub Loopless : Type 0
+Loopless = (d : Flat) → IsUnrolled (unrolled_flat d)
+
 abbrev pub Limits : Type 0
 Limits = (s : Source) (d : p.Design) → IsElaboration s (Ok d) → IsLimited d
 
@@ -64,9 +74,6 @@ Asks = (s : Source) (d : p.Design) → IsElaboration s (Ok d) → AsksBehindCall
 
 abbrev pub AsksStill : Type 0
 AsksStill = (d : p.Design) (a : Accepted) → IsFit d → AsksBehindCalls (plain.flat d) → Stands d a → AsksBehindCalls (flat_of a.design)
-
-abbrev pub WritesOwn : Type 0
-WritesOwn = (d : p.Design) (a : Accepted) → IsFit d → Stands d a → WritesNoOthers (flat_of a.design)
 
 module _ (text : List ℕ) (a : Accepted) (is : IsAcceptedOf text a) where
   abbrev d : p.Design
@@ -81,29 +88,45 @@ module _ (text : List ℕ) (a : Accepted) (is : IsAcceptedOf text a) where
       let e = is.of.elaborated in
       lets d a (fits s d e) (owns s d e) (writes s d e) is.stands few
 
-  module _ (fits : Fits) (unroll : Unrolls) (costs : Costs) (limits : Limits) (rows : Rows) (asks : Asks) (still : AsksStill) (own : WritesOwn) where
-    fit : IsFit d
-    fit = fits is.of.tree d is.of.elaborated
+  fit-of : Fits → IsFit d
+  fit-of fits = fits is.of.tree d is.of.elaborated
 
-    same : flat_of a.design ≡ unrolled_flat (plain.flat d)
-    same = ap plain.flat is.stands.design ∙ flat_plain d (unrolls d fit is.stands.accepted.uses)
+  same : Fits → flat_of a.design ≡ unrolled_flat (plain.flat d)
+  same fits = ap plain.flat is.stands.design ∙ flat_plain d (unrolls d (fit-of fits) is.stands.accepted.uses)
+
+  pub is-unrolled : Fits → Loopless → IsUnrolled (flat_of a.design)
+  is-unrolled fits loopless = subst IsUnrolled (sym (same fits)) (loopless (plain.flat d))
+
+  pub has-cost : (c : Cost) → Fits → Costs → c ≡ saturated_cost (cost (flat_of a.design)) → HasCost text c
+  has-cost c fits costs is-cost = record {
+    design = plain.flat d;
+    stands = stands-for;
+    is = is-cost ∙ ap saturated_cost (ap cost (same fits) ∙ costs (plain.flat d));
+  }
+
+  module _ (fits : Fits) (unroll : Unrolls) (costs : Costs) (limits : Limits) (rows : Rows) (asks : Asks) (still : AsksStill) where
+    fit : IsFit d
+    fit = fit-of fits
+
+    flat-same : flat_of a.design ≡ unrolled_flat (plain.flat d)
+    flat-same = same fits
 
     runs : RunsAs (flat_of a.design) (plain.flat d)
     runs =
         let can = unrolls d fit is.stands.accepted.uses in
         record {
-          same = λ o e. subst (λ (x : Flat). IsSameRun o (record o { flat = x })) (ap unrolled_flat e ∙ sym same) (unroll o (subst CanUnroll (sym e) can));
-          rows = ap (λ (x : Flat). x.rows) same;
-          cost = ap cost same ∙ costs (plain.flat d);
+          same = λ o e. subst (λ (x : Flat). IsSameRun o (record o { flat = x })) (ap unrolled_flat e ∙ sym flat-same) (unroll o (subst CanUnroll (sym e) can));
+          rows = ap (λ (x : Flat). x.rows) flat-same;
+          cost = ap cost flat-same ∙ costs (plain.flat d);
         }
 
     names : HasRows (flat_of a.design).rows
     names =
-        subst (λ (xs : List Row). HasRows xs) (sym (ap (λ (x : Flat). x.rows) same)) (rows d (limits is.of.tree d is.of.elaborated) fit.signals)
+        subst (λ (xs : List Row). HasRows xs) (sym (ap (λ (x : Flat). x.rows) flat-same)) (rows d (limits is.of.tree d is.of.elaborated) fit.signals)
 
     goes-on : IsTenantDesign (flat_of a.design) a.order.items → CanGoOn (flat_of a.design) a.order.items
     goes-on tenants =
-        can-go-on (flat_of a.design) a.order.items tenants (still d a fit (asks is.of.tree d is.of.elaborated) is.stands) (own d a fit is.stands)
+        can-go-on (flat_of a.design) a.order.items tenants (still d a fit (asks is.of.tree d is.of.elaborated) is.stands)
 
     pub is-image : (image : Image) → IsImage (flat_of a.design) a.order.items image → IsTenantDesign (flat_of a.design) a.order.items → IsWithinCost (flat_of a.design) image → IsImageOf text image
     is-image image made tenants within = record {

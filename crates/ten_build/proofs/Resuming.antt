@@ -8,7 +8,6 @@ use Rattle.vl_design.specs.Syntax.{Row, Flat}
 use Rattle.vl_settle.specs.Computed.{is_computed, is_computed_row}
 use Rattle.vl_settle.specs.Nets.{is_memory}
 use Rattle.vl_answers.specs.Answers.{AsksBehindCalls}
-use Rattle.vl_answers.specs.Others.{WritesNoOthers}
 use Rattle.vl_again.specs.Again.{CanGoOn}
 use Rattle.sub_nets.specs.Nets.{HasNarrowNets}
 use Rattle.cell_paths.specs.Envs.{HasOneWord}
@@ -31,13 +30,13 @@ narrow-nets d one = record { words = λ k h. at k (slice_get d.rows k) refl h }
     at k None e h = absurd (cc)
     at k (Some r) e h = rw (many-words d.rows k r e ∙ one.one k r e (has-value r.kind h)) refl
 
-pub can-go-on : (d : Flat) (order : List ℕ) → IsTenantDesign d order → AsksBehindCalls d → WritesNoOthers d → CanGoOn d order
-can-go-on d order tenant asks others = record {
+pub can-go-on : (d : Flat) (order : List ℕ) → IsTenantDesign d order → AsksBehindCalls d → CanGoOn d order
+can-go-on d order tenant asks = record {
   unrolled = tenant.unrolled;
   checked = tenant.checked;
   ordered = tenant.ordered;
   nets = tenant.nets;
   narrow = narrow-nets d tenant.words;
   answers = asks;
-  others = others;
+  others = tenant.others;
 }

@@ -1,5 +1,7 @@
 -- What a source is built into (own).
 use Rattle.std.specs.Prelude.{◌≡◌, ℕ, List, ⊤, Result, Ok, Err}
+use Rattle.vl_cost.specs.Costs.{saturated_cost}
+use Rattle.vl_cost.specs.declared.capacity.Cost.{Cost}
 use Rattle.vl_design.specs.Alone.{Origin}
 use Rattle.vl_design.specs.Cost.{cost}
 use Rattle.vl_design.specs.Observed.{IsSameRun}
@@ -33,6 +35,12 @@ pub record IsImageOf (text : List ℕ) (image : Image) : Type 0 where
   pub within : IsWithinCost (flat_of image.design) image
   -- its runs can be resumed from their snapshots
   pub goes_on : CanGoOn (flat_of image.design) order
+
+-- this is the cost of the design that a text stands for, in numbers of 64 bits
+pub record HasCost (text : List ℕ) (c : Cost) : Type 0 where
+  pub design : Flat
+  pub stands : StandsFor text design
+  pub is : c ≡ saturated_cost (cost design)
 
 -- what comes of a text: its image, or where and for what it is refused
 abbrev pub IsBuild : List ℕ → Result Image BuildError → Type 0

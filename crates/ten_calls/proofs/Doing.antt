@@ -35,8 +35,8 @@ use Rattle.trap_runtime.specs.Served.{Works, served, served_call, held, parts_te
 use Rattle.trap_runtime.specs.Traps as traps
 use Rattle.ten_form.specs.Banks.{HoldsState}
 use Rattle.ten_form.specs.Registers.{work_register, register_count}
-use Rattle.ten_calls.specs.Asked.{shown, own_widths, asked}
-use Rattle.ten_calls.specs.Traps.{shown_text, item_widths}
+use Rattle.ten_traps.specs.Asked.{shown, own_widths, asked}
+use Rattle.ten_traps.specs.Traps.{shown_text, item_widths}
 use Rattle.ten_calls.specs.Works.{works_of, HaveBytes, IsBefore, saved, DoesCall}
 use Rattle.ten_calls.proofs.Answering.{opened-small, character-small, count-small, end-small}
 use Rattle.cell_paths.proofs.Below.{value-below}

@@ -1,3 +1,1 @@
-pub mod Asked
-pub mod Traps
 pub mod Works

@@ -18,8 +18,8 @@ use Rattle.trap_runtime.specs.declared.served.Served.TheVariants as w
 use Rattle.trap_runtime.specs.Served.{Works, served, way_of}
 use Rattle.ten_form.specs.Banks.{IsFor, HoldsState}
 use Rattle.ten_form.specs.Registers.{register_count}
-use Rattle.ten_calls.specs.Asked.{asked}
-use Rattle.ten_calls.specs.Traps.{IsTrapOf}
+use Rattle.ten_traps.specs.Asked.{asked}
+use Rattle.ten_traps.specs.Traps.{IsTrapOf}
 
 -- what a call works on, where a run is in a state that a bank holds
 abbrev pub works_of : BankData → State → Works

@@ -16,7 +16,7 @@ use Rattle.sub_nodes.specs.Stands.{at_trap, Comes, cycles}
 use Rattle.sub_facts.specs.Early.{early_from}
 use Rattle.sub_facts.proofs.Leading.{sizes}
 use Rattle.ten_form.specs.Banks.{cell_nodes, IsFor}
-use Rattle.ten_form.specs.Nets.{nets_of, IsTidy}
+use Rattle.ten_form.specs.Nets.{nets_of, IsTidy, HoldsNoOthers}
 use Rattle.ten_form.specs.Registers.{state_register}
 use Rattle.ten_image.specs.Delays.{IsDue}
 use Rattle.ten_image.specs.Paired.{CallsStandApart}
@@ -87,7 +87,9 @@ abbrev pub CycleLaw : Type 0
 CycleLaw =
     (d : Flat) (order : List ℕ) (files : List File) (slots : ℕ) (states : List StateData) (b : BankData) (i : Stage) (x : Node) →
     AreStates d order slots (cell_nodes d) states → CallsStandApart (cell_nodes d) → StandsAt d order files slots (cell_nodes d) states b i →
-    slice_get (cell_nodes d) i.node ≡ Some x → is_trap (Some x) ≡ false → IsTidy d files order i.state i.committed → IsDue d x i →
+    slice_get (cell_nodes d) i.node ≡ Some x → is_trap (Some x) ≡ false → IsTidy d files order i.state i.committed →
+    HoldsNoOthers d i.state i.committed →
+    HoldsNoOthers d (cycle d files (nets_of d files order) (cell_nodes d) i).state (cycle d files (nets_of d files order) (cell_nodes d) i).committed → IsDue d x i →
     i.state.finished ≡ false → (cycle d files (nets_of d files order) (cell_nodes d) i).state.ticks < 2 ^ 32 →
     StandsAt d order files slots (cell_nodes d) states (table_cycled (record { state = state_register; states = states }) b)
     (cycle d files (nets_of d files order) (cell_nodes d) i)
@@ -166,13 +168,22 @@ module _ (o : Origin) (order : List ℕ) (t : TenantData) (c : ℕ) (here : Stag
         subst (λ (i : Stage). i.state.ticks < 2 ^ 32) (sym same-cycle)
         (let e = at.ticks in let l = at-most-one (rises (slice_get (table_of o.flat).nodes here.node)) here.state.ticks in let h = quiet-next.ticks in omega (arith, e, l, h, room))
 
+    -- the stage behind the cycle is one that the run comes to
+    comes-next : Comes o (table_of o.flat) (nets_of o.flat o.files order) (counted_by (at_trap (table_of o.flat) next) c) next
+    comes-next = cycles at.comes alive (sym at.waits ∙ w)
+
+    none-next : HoldsNoOthers o.flat of-cells.state of-cells.committed
+    none-next =
+        subst (λ (i : Stage). HoldsNoOthers o.flat i.state i.committed) (sym same-cycle)
+        (tame.others (counted_by (at_trap (table_of o.flat) next) c) next comes-next)
+
     next-stands : CycleLaw → t.ticks + 1 < 2 ^ 32 → Stands (table_cycled table t.bank) next
     next-stands law room =
         let h = number o.flat order t.image.slots (states_of t.image) here.node at.late at.image.states in
         subst (Stands (table_cycled table t.bank)) same-cycle
         (subst (λ r. Stands (table_cycled (record { state = r; states = states_of t.image }) t.bank) of-cells) (sym at.image.register)
         (law o.flat order o.files t.image.slots (states_of t.image) t.bank here h.node at.image.states at.image.apart at.stands h.is (sym (ap is_trap h.is) ∙ no-trap w) (tame.tidy c here at.comes at.late alive)
-        (tame.due c here h.node at.comes (sym same-node ∙ h.is)) alive (few-next room)))
+        (tame.others c here at.comes) none-next (tame.due c here h.node at.comes (sym same-node ∙ h.is)) alive (few-next room)))
 
     -- the state register names the node that is next
     module _ (law : CycleLaw) (room : t.ticks + 1 < 2 ^ 32) where
@@ -199,13 +210,11 @@ module _ (o : Origin) (order : List ℕ) (t : TenantData) (c : ℕ) (here : Stag
           IsAt o order (record t { bank = table_cycled table t.bank; asked = names; ticks = ticks; cycles = count; next = to; waits = waits }) (counted_by waits c) next
       stepped-at to rise waits count ticks names is up asks counts begun left =
           let there : to ≡ next.node = is ∙ number-next in
-          let comes : Comes o (table_of o.flat) (nets_of o.flat o.files order) (counted_by (at_trap (table_of o.flat) next) c) next
-          = cycles at.comes alive (sym at.waits ∙ w) in
           let trap : waits ≡ at_trap (table_of o.flat) next = asks ∙ (ap (λ n. has_trap (slice_get (states_of t.image) n)) there ∙ waits-at next next-late) in
           record {
             image = at.image;
             files = at.files;
-            comes = subst (λ z. Comes o (table_of o.flat) (nets_of o.flat o.files order) (counted_by z c) next) (sym trap) comes;
+            comes = subst (λ z. Comes o (table_of o.flat) (nets_of o.flat o.files order) (counted_by z c) next) (sym trap) comes-next;
             late = next-late;
             stands = next-stands law room;
             printed = at.printed ∙ sym quiet-next.printed;

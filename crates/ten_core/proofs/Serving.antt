@@ -30,7 +30,7 @@ use Rattle.ten_form.specs.Registers.{value_register, work_register, update_regis
 use Rattle.ten_stores.specs.Holding.{IsIdle}
 use Rattle.ten_stores.specs.Stores.{words_down}
 use Rattle.ten_stores.proofs.Same.{all-from, idle-behind, stores-behind}
-use Rattle.ten_calls.specs.Asked.{asked}
+use Rattle.ten_traps.specs.Asked.{asked}
 use Rattle.ten_calls.specs.Works.{saved, works_of, IsBefore, DoesCall}
 use Rattle.ten_calls.proofs.Doing.{can, does}
 use Rattle.ten_calls.proofs.Serving.{holds-altered}

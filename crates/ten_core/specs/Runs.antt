@@ -14,7 +14,7 @@ use Rattle.sub_nodes.specs.Stands.{Comes, at_trap}
 use Rattle.sub_facts.specs.Early.{early_from}
 use Rattle.ten_files.specs.Tables.{open_files, IsTableOf}
 use Rattle.ten_form.specs.Banks.{cell_nodes}
-use Rattle.ten_form.specs.Nets.{nets_of, IsTidy}
+use Rattle.ten_form.specs.Nets.{nets_of, IsTidy, HoldsNoOthers}
 use Rattle.ten_calls.specs.Works.{IsVariableRead, HaveBytes}
 use Rattle.ten_image.specs.Delays.{IsDue}
 use Rattle.ten_image.specs.States.{StandsAt}
@@ -55,6 +55,8 @@ pub record IsTame (o : Origin) (order : List ℕ) : Type 0 where
       IsSoundTask (names_of o.flat) task × IsVariableRead o.flat task
   pub tidy : (c : ℕ) (i : Stage) → Comes o (table_of o.flat) (nets_of o.flat o.files order) c i → i.node < early_from o.flat → i.state.finished ≡ false →
       IsTidy o.flat o.files order i.state i.committed
+  -- loop variables and clocks are 0
+  pub others : (c : ℕ) (i : Stage) → Comes o (table_of o.flat) (nets_of o.flat o.files order) c i → HoldsNoOthers o.flat i.state i.committed
   pub due : (c : ℕ) (i : Stage) (x : Node) → Comes o (table_of o.flat) (nets_of o.flat o.files order) c i → slice_get (table_of o.flat).nodes i.node ≡ Some x → IsDue o.flat x i
 
 -- the tenant is somewhere in a run of such a design

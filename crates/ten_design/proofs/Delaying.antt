@@ -9,7 +9,7 @@ use Rattle.vl_design.specs.Queue.{proc_at}
 use Rattle.vl_design.specs.Snapshots.{Snapshot}
 use Rattle.vl_design.specs.Alone.{Origin}
 use Rattle.vl_design.proofs.Kept.{OfUpdates}
-use Rattle.sub_nodes.specs.Nodes.{Segment, WayOn, Go, Branch, Switch, Commit, Node, Run, Trap, Apply}
+use Rattle.sub_nodes.specs.Nodes.{WayOn, Go, Branch, Switch, Commit, Node, Run, Trap, Apply}
 use Rattle.sub_nodes.specs.Code.{table_of}
 use Rattle.sub_nodes.specs.Cycles.{Stage, segment_done, goes_on, cycled, served_by}
 use Rattle.sub_nodes.specs.Stands.{first_stage, Comes, cycles, serves}

@@ -16,6 +16,7 @@ use Rattle.ten_image.specs.Delays.{IsDue}
 use Rattle.ten_core.specs.Runs.{IsTame}
 use Rattle.ten_design.specs.Designs.{IsTenantDesign}
 use Rattle.ten_design.proofs.Delaying.{delayed-alone}
+use Rattle.ten_design.proofs.Others.{none-held}
 use Rattle.ten_design.proofs.Parts.{Meets, IsPart, nodes_meet}
 
 module _ (o : Origin) (order : List ℕ) (is : IsTenantDesign o.flat order) where
@@ -42,5 +43,6 @@ module _ (o : Origin) (order : List ℕ) (is : IsTenantDesign o.flat order) wher
     quiet = λ n g on e. All-weaker (λ a. Meets o.flat a × (can_act a ≡ false)) (λ a. can_act a ≡ false) (λ a h. h.1) g.statements (node-at n (Run g on) e).0;
     calls = λ n task to e. node-at n (Trap task to) e;
     tidy = tidy;
+    others = none-held o order is.others;
     due = due-at commits;
   }

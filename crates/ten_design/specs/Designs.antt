@@ -10,9 +10,10 @@ use Rattle.cell_expr.specs.Bodies.{IsCellFun}
 use Rattle.cell_states.specs.Designs.{ComputesAlone}
 use Rattle.sub_nets.specs.Memories.{SetsNoMemories}
 use Rattle.sub_nets.specs.Nets.{WritesNoNets}
+use Rattle.vl_answers.specs.Others.{WritesNoOthers}
 
 -- a sound design without loops that meets the rules of settling, with an order of its processes, each once; combinational processes write
--- computed signals, and no others do; clocked blocks write words of memories by nonblocking assignments alone
+-- computed signals, and no others do; nothing writes loop variables and clocks; clocked blocks write words of memories by nonblocking assignments alone
 pub record IsTenantDesign (d : Flat) (order : List ℕ) : Type 0 where
   pub sound : IsSound d
   pub unrolled : IsUnrolled d
@@ -22,6 +23,7 @@ pub record IsTenantDesign (d : Flat) (order : List ℕ) : Type 0 where
   pub once : (p : ℕ) → count_by (λ i. i == p) order ≤ 1
   pub alone : ComputesAlone d
   pub nets : WritesNoNets d
+  pub others : WritesNoOthers d
   pub words : HasOneWord d.rows
   pub few : length d.rows ≤ 268435456
   pub memories : SetsNoMemories d

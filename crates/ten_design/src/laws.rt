@@ -14,6 +14,7 @@ ghost use Rattle.cell_states.specs.Designs.{IsCellDesign};
 ghost use Rattle.cell_states.specs.Pieces.{IsCellNode};
 ghost use Rattle.ten_form.specs.Banks.{cell_nodes};
 ghost use Rattle.ten_calls.specs.Works.{HaveBytes};
+ghost use Rattle.ten_image.specs.Delays.{DelaysVariables};
 ghost use Rattle.ten_image.specs.Paired.{CallsStandApart};
 ghost use Rattle.ten_core.specs.Runs.{IsTame};
 ghost use Rattle.ten_design.specs.Designs.{IsTenantDesign};
@@ -37,6 +38,11 @@ pub fn nodes_of_a_tenants_design_are_compiled()
 pub fn calls_of_a_table_stand_apart()
     ensures apart { (d : Flat) → CallsStandApart (cell_nodes d) }
     ensures paired { (d : Flat) → ArePaired 0 (cell_nodes d) }
+{}
+
+/// In such a design nonblocking assignments name neither computed signals nor loop variables nor clocks.
+pub fn a_tenants_design_delays_variables()
+    ensures { (d : Flat) (order : List ℕ) → IsTenantDesign d order → DelaysVariables d }
 {}
 
 /// Runs of such a design are tame over files of bytes, from time zero and from a snapshot whose words fit.

@@ -15,6 +15,7 @@ use Rattle.vl_turns.proofs.Bare.{all_bare}
 use Rattle.vl_turns.proofs.Placing.{flat_plain}
 use Rattle.vl_checked.specs.Fit.{IsFit}
 use Rattle.vl_written.specs.Written.{HasWriters}
+use Rattle.vl_answers.specs.Others.{WritesNoOthers}
 use Rattle.vl_settle.specs.Checked.{IsChecked}
 use Rattle.vl_settle.proofs.Orders.{ordered}
 use Rattle.cell_accept.specs.declared.accept.Accepted.{Accepted}
@@ -48,8 +49,8 @@ module _ (d : p.Design) (fit : IsFit d) (w : HasWriters d) (a : Accepted) (s : S
   placed_there : (P : p.Design → Type 0) → P (unrolled_placed d) → P (placed a.design)
   placed_there P h = subst P (sym s.design) h
 
-  pub tenants : All (IsCellFun (names_of (plain.flat (unrolled_placed d)))) (plain.flat (unrolled_placed d)).funs → WritesNoNets next → length a.design.signals ≤ 268435456 → IsTenantDesign (flat_of a.design) a.order.items
-  tenants functions nets few = record {
+  pub tenants : All (IsCellFun (names_of (plain.flat (unrolled_placed d)))) (plain.flat (unrolled_placed d)).funs → WritesNoNets next → WritesNoOthers (flat_of a.design) → length a.design.signals ≤ 268435456 → IsTenantDesign (flat_of a.design) a.order.items
+  tenants functions nets others few = record {
     sound = stays d a.design fit s.accepted.uses s.design;
     unrolled = there IsUnrolled (all_bare (plain.flat d));
     functions = placed_there (λ x. All (IsCellFun (names_of (plain.flat x))) (plain.flat x).funs) functions;
@@ -58,6 +59,7 @@ module _ (d : p.Design) (fit : IsFit d) (w : HasWriters d) (a : Accepted) (s : S
     once = λ k. one-time (nat_lt k (length (flat_of a.design).procs)) _ (s.order.once k);
     alone = there ComputesAlone (alone d fit w s.accepted);
     nets = there WritesNoNets nets;
+    others = others;
     words = there (λ x. HasOneWord x.rows) (one-word d.signals);
     few = rw length-map few;
     memories = there SetsNoMemories (leave_memories d fit w s.accepted);

@@ -12,6 +12,7 @@ ghost use Rattle.ten_design.specs.Designs.{IsTenantDesign};
 
 use cell_functions::laws::functions_of_accepted_designs_can_be_compiled_to_cells;
 use sub_nets::laws::computed_signals_are_written_one_by_one;
+use vl_asked::laws::unrolled_designs_write_no_others;
 
 /// An accepted design of at most 2 ^ 28 signals is, with its loops unrolled, one that tenants run.
 pub fn an_accepted_design_is_a_tenants()
@@ -20,4 +21,5 @@ pub fn an_accepted_design_is_a_tenants()
 {
     functions_of_accepted_designs_can_be_compiled_to_cells();
     computed_signals_are_written_one_by_one();
+    unrolled_designs_write_no_others();
 }

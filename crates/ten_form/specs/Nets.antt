@@ -1,5 +1,5 @@
 -- What nets are over the values committed last (IEEE 1364-2005, clauses 6.1 and 9.7.5; own).
-use Rattle.std.specs.Prelude.{◌≡◌, ℕ, true, List, [], ◌∷◌, map, if◌then◌else◌}
+use Rattle.std.specs.Prelude.{◌≡◌, ℕ, true, false, All, List, [], ◌∷◌, map, if◌then◌else◌}
 use Rattle.vl_base.specs.declared.files.File.{File}
 use Rattle.vl_design.specs.Syntax.{Row, Flat}
 use Rattle.vl_design.specs.Width.{names_of}
@@ -7,6 +7,7 @@ use Rattle.vl_design.specs.Value.{value_of, words_of}
 use Rattle.vl_design.specs.State.{State}
 use Rattle.vl_design.specs.Sound.{IsSignal, IsMemory}
 use Rattle.vl_design.specs.Laws.{IsFine}
+use Rattle.vl_answers.specs.Others.{other_at}
 use Rattle.settling.specs.Nets.{pass}
 use Rattle.vl_settle.specs.Nets.{run}
 use Rattle.vl_settle.specs.Computed.{is_computed, computed_at}
@@ -33,3 +34,9 @@ pub record IsTidy (d : Flat) (files : List File) (order : List ℕ) (s : State) 
   pub nets : NetsHold d files order s committed
   -- waves leave memories as they were
   pub memories : (m : ℕ) → IsMemory (names_of d) m → words_of committed m ≡ words_of s.values m
+
+-- loop variables and clocks are 0, now and in the values committed last, and no pending update is of one
+pub record HoldsNoOthers (d : Flat) (s : State) (committed : List (List ℕ)) : Type 0 where
+  pub now : (k : ℕ) → other_at d.rows k ≡ true → value_of s.values k ≡ 0
+  pub before : (k : ℕ) → other_at d.rows k ≡ true → value_of committed k ≡ 0
+  pub later : All (λ u. other_at d.rows u.signal ≡ false) s.later

@@ -21,9 +21,9 @@ use Rattle.cell_form.specs.States.{table_cycled, state_cycled}
 use Rattle.sub_nodes.specs.Nodes.{Way, Go, Branch, Switch, Commit, Node, Run, Trap, Apply}
 use Rattle.sub_nodes.specs.Cycles.{Stage, cycled, cycle, segment_done, ways_form, way_of, is_trap}
 use Rattle.ten_form.specs.Banks.{cell_nodes, IsFor}
-use Rattle.ten_form.specs.Nets.{nets_of, IsTidy}
+use Rattle.ten_form.specs.Nets.{nets_of, IsTidy, HoldsNoOthers}
 use Rattle.ten_form.specs.Registers.{state_register}
-use Rattle.ten_calls.specs.Asked.{asked}
+use Rattle.ten_traps.specs.Asked.{asked}
 use Rattle.ten_image.specs.Delays.{IsDue}
 use Rattle.ten_image.specs.Paired.{leads, GoesTo, CallsStandApart}
 use Rattle.ten_image.specs.States.{slots_in, behind, MayCycle, Does, LeadsToCall, IsStateOf, AreStates, StandsAt}
@@ -106,10 +106,11 @@ module _ (d : Flat) (order : List ℕ) (files : List File) where
   for-fewer n m z le f = record { regs = f.regs; mems = f.mems; slots = (let h = f.slots in omega (arith, le, h)) }
 
   pub cycled-stands : (slots : ℕ) (states : List StateData) (b : BankData) (i : Stage) (x : Node) → AreStates d order slots (cell_nodes d) states → CallsStandApart (cell_nodes d) →
-      StandsAt d order files slots (cell_nodes d) states b i → slice_get (cell_nodes d) i.node ≡ Some x → is_trap (Some x) ≡ false → IsTidy d files order i.state i.committed → IsDue d x i → i.state.finished ≡ false →
+      StandsAt d order files slots (cell_nodes d) states b i → slice_get (cell_nodes d) i.node ≡ Some x → is_trap (Some x) ≡ false → IsTidy d files order i.state i.committed → HoldsNoOthers d i.state i.committed →
+      HoldsNoOthers d (cycle d files (nets_of d files order) (cell_nodes d) i).state (cycle d files (nets_of d files order) (cell_nodes d) i).committed → IsDue d x i → i.state.finished ≡ false →
       (cycle d files (nets_of d files order) (cell_nodes d) i).state.ticks < 2 ^ 32 →
       StandsAt d order files slots (cell_nodes d) states (table_cycled (record { state = state_register; states = states }) b) (cycle d files (nets_of d files order) (cell_nodes d) i)
-  cycled-stands slots states b i x all apart st is free tidy due alive few =
+  cycled-stands slots states b i x all apart st is free tidy others after due alive few =
       elim ((slice_get_cases states i.node).1) [
         | inl h ↦ subst (λ o. StandsAt d order files slots (cell_nodes d) states (state_cycled o b) (cycle d files (nets_of d files order) (cell_nodes d) i)) (sym (ap (slice_get states) st.stage.node ∙ h.2)) (stands h.0 h.2)
         | inr h ↦ (let lt = slice_get_within (cell_nodes d) i.node x is in let many = all.many in let past = h.0 in absurd (omega (arith, lt, many, past)))
@@ -123,7 +124,7 @@ module _ (d : Flat) (order : List ℕ) (files : List File) where
           let does = does-of i.node slots (cell_nodes d) states x s free of in
           let fits = all.fits i.node s e in
           let shape = for-fewer (slots_in s.cells) slots (shape_of b) fits st.shape in
-          let may : MayCycle d order files i.node x (slots_in s.cells) b i = record { at = refl; there = is; shape = shape; tidy = tidy; due = due; alive = alive; few = subst (λ (k : Stage). k.state.ticks < 2 ^ 32) same few; stage = st.stage } in
+          let may : MayCycle d order files i.node x (slots_in s.cells) b i = record { at = refl; there = is; shape = shape; tidy = tidy; others = others; others_behind = subst (λ (k : Stage). HoldsNoOthers d k.state k.committed) same after; due = due; alive = alive; few = subst (λ (k : Stage). k.state.ticks < 2 ^ 32) same few; stage = st.stage } in
           subst (StandsAt d order files slots (cell_nodes d) states (cells.cycled s.cells b)) (sym same) (record {
             shape = for-bank slots b (cells.cycled s.cells b) (same-shape s.cells b (does.does.runs (shape_of b) shape)) st.shape;
             stage = does.does.does files b i may;

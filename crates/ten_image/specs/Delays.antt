@@ -1,9 +1,11 @@
 -- Signals that nonblocking assignments name: of these alone updates can be pending (IEEE 1364-2005, clause 9.2.2; own).
-use Rattle.std.specs.Prelude.{◌≡◌, ℕ, ◌==◌, Bool, false, ◌||◌, All}
+use Rattle.std.specs.Prelude.{◌≡◌, ◌⊎◌, ℕ, ◌==◌, Bool, true, false, ◌||◌, All}
 use Rattle.std.specs.List.{list_any}
 use Rattle.vl_design.specs.Reads.{target_writes}
 use Rattle.vl_design.specs.State.{Update}
 use Rattle.vl_design.specs.Syntax.{Stm, Nop, Then, If, Case, For, Repeat, Set, Later, Sys, Items, NoItems, Labelled, Default, Proc, Flat}
+use Rattle.vl_settle.specs.Computed.{computed_at}
+use Rattle.vl_answers.specs.Others.{other_at}
 use Rattle.sub_nodes.specs.Cycles.{Stage}
 use Rattle.sub_nodes.specs.Nodes.{Node, Apply}
 
@@ -28,6 +30,10 @@ abbrev mutual
 -- a nonblocking assignment in a process of the design names the signal
 abbrev pub is_delayed : Flat → ℕ → Bool
 is_delayed d k = list_any (λ (a : Proc). stm_delays (λ j. j == k) a.body) d.procs
+
+-- no nonblocking assignment names a signal that is computed, a loop variable or a clock
+abbrev pub DelaysVariables : Flat → Type 0
+DelaysVariables d = (k : ℕ) → (computed_at d.rows k ≡ true) ⊎ (other_at d.rows k ≡ true) → is_delayed d k ≡ false
 
 -- each update that is pending is of such a signal; and where an update is next, the wave that ended has committed all values
 pub record IsDue (d : Flat) (x : Node) (i : Stage) : Type 0 where

@@ -12,11 +12,11 @@ use Rattle.cell_form.specs.declared.table.Trap.{Trap as TrapOf}
 use Rattle.sub_nodes.specs.Nodes.{Go, Node, Run, Trap, Apply}
 use Rattle.sub_nodes.specs.Cycles.{Stage, cycled}
 use Rattle.ten_form.specs.Registers.{state_register}
-use Rattle.ten_form.specs.Nets.{nets_of, IsTidy}
+use Rattle.ten_form.specs.Nets.{nets_of, IsTidy, HoldsNoOthers}
 use Rattle.ten_form.specs.Banks.{cell_nodes, stores_before, IsFor, HoldsState}
 use Rattle.ten_stores.specs.Holding.{IsIdle}
-use Rattle.ten_calls.specs.Asked.{asked}
-use Rattle.ten_calls.specs.Traps.{IsTrapOf}
+use Rattle.ten_traps.specs.Asked.{asked}
+use Rattle.ten_traps.specs.Traps.{IsTrapOf}
 use Rattle.ten_image.specs.Delays.{IsDue}
 
 -- so many slots are there up to the end of a list
@@ -48,6 +48,9 @@ module _ (d : Flat) (order : List ℕ) where
     pub there : slice_get (cell_nodes d) n ≡ Some x
     pub shape : IsFor d slots (shape_of b)
     pub tidy : IsTidy d files order i.state i.committed
+    -- loop variables and clocks are 0, and stay so
+    pub others : HoldsNoOthers d i.state i.committed
+    pub others_behind : HoldsNoOthers d (behind files x i).state (behind files x i).committed
     pub due : IsDue d x i
     pub alive : i.state.finished ≡ false
     pub few : (behind files x i).state.ticks < 2 ^ 32

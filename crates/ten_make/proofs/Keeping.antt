@@ -33,6 +33,7 @@ use Rattle.ten_core.specs.Tenants.{states_of}
 use Rattle.ten_design.specs.Designs.{IsTenantDesign}
 use Rattle.ten_form.specs.Banks.{cell_nodes}
 use Rattle.ten_hold.specs.Ports.{port_of, ports_from, ports_of}
+use Rattle.ten_image.specs.Delays.{DelaysVariables}
 use Rattle.ten_image.specs.States.{AreStates}
 use Rattle.vl_design.specs.Snapshots.{is_kept}
 use Rattle.ten_form.specs.Registers.{answer_register, register_count}
@@ -122,16 +123,16 @@ registers-within d states n h bits = (let a = all-within d states n h in let b =
 
 -- ---- cells
 
-pub within : (d : Flat) (order : List ℕ) (made : States) (places : PortMap) (image : Image) → IsTenantDesign d order →
-    ((e : Flat) → sum_by (λ w. w) (register_widths e) ≤ (cost e).regs + register_slack e) →
-    ((e : Flat) (o : List ℕ) → IsSound e → AllBelow (length e.procs) o → ((j : ℕ) → count_by (λ i. i == j) o ≤ 1) → ArePaired 0 (cell_nodes e) →
+pub within : (d : Flat) (order : List ℕ) (made : States) (places : PortMap) (image : Image) → IsTenantDesign d order → DelaysVariables d →
+    ((e : Flat) → DelaysVariables e → sum_by (λ w. w) (register_widths e) ≤ (cost e).regs + register_slack e) →
+    ((e : Flat) (o : List ℕ) → IsSound e → DelaysVariables e → AllBelow (length e.procs) o → ((j : ℕ) → count_by (λ i. i == j) o ≤ 1) → ArePaired 0 (cell_nodes e) →
     (n : ℕ) (x : Node) → slice_get (cell_nodes e) n ≡ Some x → node_count e o (cell_nodes e) x ≤ (cost e).cells + cell_slack e) →
     ArePaired 0 (cell_nodes d) → places.ports ≡ ports_of d.rows → AreStates d order made.slots (cell_nodes d) (map state_of made.table.states) → AreCounted d order (cell_nodes d) (map state_of made.table.states) → AreNarrow d (map state_of made.table.states) →
     image.table ≡ made.table → image.ports ≡ places → IsWithinCost d image
-within d order made places image is bits law paired kept are counted narrow table-is ports-are = record {
+within d order made places image is delays bits law paired kept are counted narrow table-is ports-are = record {
   registers =
       registers-within d (states_of image) (register_count (length d.rows) + 4 * image.stores)
-      (λ n s e. narrow n s (subst (λ (x : StateTable). slice_get (cells.table_of x).states n ≡ Some s) table-is e)) (bits d);
+      (λ n s e. narrow n s (subst (λ (x : StateTable). slice_get (cells.table_of x).states n ≡ Some s) table-is e)) (bits d delays);
   memory = ap (λ (x : PortMap). sum_by port_bits x.ports) ports-are ∙ ap (sum_by port_bits) kept ∙ ports-bits 0 d.rows;
   cells = λ n s e. at n s (subst (λ (x : StateTable). slice_get (cells.table_of x).states n ≡ Some s) table-is e);
 }
@@ -140,7 +141,7 @@ within d order made places image is bits law paired kept are counted narrow tabl
     at n s e = elim ((slice_get_cases (cell_nodes d) n).1) [
       | inl c ↦ (
           let count = counted n c.0 s c.2 e in
-          let most = law d order is.sound is.ordered.below is.once paired n c.0 c.2 in
+          let most = law d order is.sound delays is.ordered.below is.once paired n c.0 c.2 in
           omega (arith, count, most))
       | inr c ↦ (
           let lt = slice_get_within (map state_of made.table.states) n s e in

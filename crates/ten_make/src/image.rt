@@ -21,8 +21,8 @@ use sub_split::split::split;
 use sub_split::table::Table;
 use ten_core::image::Image;
 use ten_design::laws::{
-    calls_of_a_table_stand_apart, nodes_of_a_tenants_design_are_compiled,
-    tenants_designs_are_compiled,
+    a_tenants_design_delays_variables, calls_of_a_table_stand_apart,
+    nodes_of_a_tenants_design_are_compiled, tenants_designs_are_compiled,
 };
 use ten_hold::ports::ports;
 use ten_hold::sizes::are_sized;
@@ -86,6 +86,7 @@ fn made(alloc: Global, design: &Design, order: &[u32]) -> Result<Parts, AllocErr
     tenants_designs_are_compiled();
     nodes_of_a_tenants_design_are_compiled();
     calls_of_a_table_stand_apart();
+    a_tenants_design_delays_variables();
     nodes_are_within_cost();
     registers_are_within_cost();
     let nodes = few_nodes(alloc, design)?;

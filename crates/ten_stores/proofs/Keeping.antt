@@ -9,7 +9,7 @@ use Rattle.vl_design.specs.Laws.{IsUnrolled, can_act}
 use Rattle.vl_design.specs.Queue.{is_comb}
 use Rattle.vl_design.specs.Sound.{IsMemory, IsSoundBase, IsSoundTarget, AreSoundTargets, IsSoundExp, AreSound, IsSoundStm, AreSoundItems, IsSound}
 use Rattle.vl_design.specs.Width.{Names, names_of}
-use Rattle.cell_expr.specs.Stored.{target_stored, targets_stored, stored_words, items_stored, default_stored}
+use Rattle.vl_stored.specs.Stored.{target_stored, targets_stored, stored_words, items_stored, default_stored}
 use Rattle.sub_nodes.specs.Nodes.{Node, Run, Trap, Apply}
 use Rattle.sub_nodes.specs.Code.{table_of}
 use Rattle.sub_facts.specs.Passing.{ItemsPass, Passes, IsNodeOf}

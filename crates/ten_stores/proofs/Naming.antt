@@ -17,7 +17,7 @@ use Rattle.vl_design.proofs.TreeLemmas.{placed-Seq}
 use Rattle.vl_sites.proofs.Rows.{list-of, case-of}
 use Rattle.sub_split.specs.Items.{items_of}
 use Rattle.sub_split.proofs.Trees as trees
-use Rattle.cell_expr.specs.Stored.{stored_words, items_stored, default_stored}
+use Rattle.vl_stored.specs.Stored.{stored_words, items_stored, default_stored}
 
 joined : {a b x y : List ℕ} → a ≡ b → x ≡ y → a ++ x ≡ b ++ y
 joined {a} {b} {x} {y} e f = ap (λ u. u ++ x) e ∙ ap (λ v. b ++ v) f

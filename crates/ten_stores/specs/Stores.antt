@@ -2,7 +2,7 @@
 use Rattle.std.specs.Prelude.{ℕ, ◌+◌, ◌*◌, ◌<◌, ◌⊎◌, List, [], ◌∷◌, ◌++◌, length, drop, take, ⊤}
 use Rattle.std.specs.List.{AllByRecursion}
 use Rattle.vl_design.specs.Syntax.{Stm}
-use Rattle.cell_expr.specs.Stored.{stored_words}
+use Rattle.vl_stored.specs.Stored.{stored_words}
 use Rattle.sub_nodes.specs.Nodes.{Node, Run, Trap, Apply}
 use Rattle.ten_stores.specs.declared.store.Store.{Store}
 use Rattle.ten_stores.specs.Holding.{mask_register}

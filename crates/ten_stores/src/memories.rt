@@ -1,7 +1,7 @@
 //! The memories whose words nonblocking assignments name (IEEE 1364-2005, clause 9.2.2).
 
 ghost use Rattle.std.specs.Prelude.{◌≡◌, ◌++◌, [], map, IfOk, OnOk};
-ghost use Rattle.cell_expr.specs.Stored.{target_stored, targets_stored, stored_words, items_stored, default_stored};
+ghost use Rattle.vl_stored.specs.Stored.{target_stored, targets_stored, stored_words, items_stored, default_stored};
 ghost use Rattle.vl_design.specs.Plainly as plain;
 ghost use Rattle.vl_design.specs.Seen as seen;
 ghost use Rattle.vl_design.specs.Syntax as y;

@@ -1,5 +1,5 @@
 mod Going
-mod Kept
+pub mod Kept
 mod Others
 mod Starting
 mod Behind

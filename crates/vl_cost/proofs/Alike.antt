@@ -1,5 +1,5 @@
--- Statements without loops count the same up to a cap over bodies that count the same up to it, whatever the scope, the values
--- of signals and the instance's path are.
+-- Statements without loops count the same up to a cap, or one at most the other, over bodies that are so, whatever the scope, the
+-- values of signals and the instance's path are.
 use Rattle.std.proofs.Common.{◌≡◌, refl, sym, ap, ◌∙◌, ℕ, ◌+◌, min, List, [], ◌∷◌}
 use Rattle.vl_base.specs.declared.bits.UnOp.TheVariants.{LogNot}
 use Rattle.vl_design.specs.Calls.{task_of}
@@ -9,101 +9,103 @@ use Rattle.vl_design.specs.Plainly as plain
 use Rattle.vl_design.specs.State.{State}
 use Rattle.vl_design.specs.Syntax.{Exp, Num, Label, Sig, Word, Pick, Slice, Un, Bin, Cond, Cat, Rep, Cast, Call, Time, LastAnswer, Exps, NoExps, MoreExps, Target, Whole, WordAt, PickAt, SliceAt, Several, Targets, NoTargets, MoreTargets, Piece, Literal, Shown, Task, Print, Finish, Save, Fopen, Fread, Fgetc, Feof, Fclose, ReadHex, Stm}
 use Rattle.vl_design.specs.Width.{Scope, signal_form}
-use Rattle.vl_limits.proofs.Alike.{Same, both}
+use Rattle.vl_limits.proofs.Alike.{Keeps}
 use Rattle.vl_cost.specs.Walks.{called_cells, HasNoLoop, HaveNoLoop, ItemsHaveNoLoop}
 use Rattle.vl_cost.proofs.Calling.{task-free, first-cells, first-regs}
 use Rattle.vl_cost.proofs.Counting.{item-cells, item-regs}
 
-module _ (cap : ℕ) (b b' : ℕ → ℕ) (alike : (f : ℕ) → Same cap (b f) (b' f)) where
+module _ (R : ℕ → ℕ → Type 0) (keeps : Keeps R) (b b' : ℕ → ℕ) (alike : (f : ℕ) → R (b f) (b' f)) where
+  across : (x x' y y' : ℕ) → x ≡ x' → y ≡ y' → R x' y' → R x y
+  across x x' y y' e f h = rw (e, f) h
+
   mutual
-    exp_alike : (e : Exp) → Same cap (exp_cells b e) (exp_cells b' e)
-    exp_alike (Num v w s) = refl
-    exp_alike (Label v care w s) = refl
-    exp_alike (Sig k) = refl
-    exp_alike (Word m a) = both cap 2 2 _ _ refl (both cap 2 2 _ _ refl (exp_alike a))
-    exp_alike (Pick a i from w) = both cap 2 2 _ _ refl (both cap _ _ _ _ (exp_alike a) (exp_alike i))
-    exp_alike (Slice a low w) = both cap 2 2 _ _ refl (exp_alike a)
-    exp_alike (Un op a) = both cap 2 2 _ _ refl (exp_alike a)
-    exp_alike (Bin op x y) = both cap 2 2 _ _ refl (both cap _ _ _ _ (exp_alike x) (exp_alike y))
-    exp_alike (Cond t x y) = both cap 2 2 _ _ refl (both cap _ _ _ _ (exp_alike t) (both cap _ _ _ _ (exp_alike x) (exp_alike y)))
-    exp_alike (Cat es) = both cap 2 2 _ _ refl (exps_alike es)
-    exp_alike (Rep n es) = both cap 2 2 _ _ refl (exps_alike es)
+    exp_alike : (e : Exp) → R (exp_cells b e) (exp_cells b' e)
+    exp_alike (Num v w s) = keeps.same _
+    exp_alike (Label v care w s) = keeps.same _
+    exp_alike (Sig k) = keeps.same _
+    exp_alike (Word m a) = keeps.sum 2 2 _ _ (keeps.same _) (keeps.sum 2 2 _ _ (keeps.same _) (exp_alike a))
+    exp_alike (Pick a i from w) = keeps.sum 2 2 _ _ (keeps.same _) (keeps.sum _ _ _ _ (exp_alike a) (exp_alike i))
+    exp_alike (Slice a low w) = keeps.sum 2 2 _ _ (keeps.same _) (exp_alike a)
+    exp_alike (Un op a) = keeps.sum 2 2 _ _ (keeps.same _) (exp_alike a)
+    exp_alike (Bin op x y) = keeps.sum 2 2 _ _ (keeps.same _) (keeps.sum _ _ _ _ (exp_alike x) (exp_alike y))
+    exp_alike (Cond t x y) = keeps.sum 2 2 _ _ (keeps.same _) (keeps.sum _ _ _ _ (exp_alike t) (keeps.sum _ _ _ _ (exp_alike x) (exp_alike y)))
+    exp_alike (Cat es) = keeps.sum 2 2 _ _ (keeps.same _) (exps_alike es)
+    exp_alike (Rep n es) = keeps.sum 2 2 _ _ (keeps.same _) (exps_alike es)
     exp_alike (Cast s a) = exp_alike a
-    exp_alike (Call f es) = both cap 2 2 _ _ refl (both cap _ _ _ _ (arguments_alike es) (alike f))
-    exp_alike Time = refl
-    exp_alike LastAnswer = refl
+    exp_alike (Call f es) = keeps.sum 2 2 _ _ (keeps.same _) (keeps.sum _ _ _ _ (arguments_alike es) (alike f))
+    exp_alike Time = keeps.same _
+    exp_alike LastAnswer = keeps.same _
 
-    exps_alike : (es : Exps) → Same cap (exps_cells b es) (exps_cells b' es)
-    exps_alike NoExps = refl
-    exps_alike (MoreExps e es) = both cap _ _ _ _ (exp_alike e) (exps_alike es)
+    exps_alike : (es : Exps) → R (exps_cells b es) (exps_cells b' es)
+    exps_alike NoExps = keeps.same _
+    exps_alike (MoreExps e es) = keeps.sum _ _ _ _ (exp_alike e) (exps_alike es)
 
-    arguments_alike : (es : Exps) → Same cap (arguments_cells b es) (arguments_cells b' es)
-    arguments_alike NoExps = refl
-    arguments_alike (MoreExps e es) = both cap _ _ _ _ (both cap _ _ 6 6 (exp_alike e) refl) (arguments_alike es)
+    arguments_alike : (es : Exps) → R (arguments_cells b es) (arguments_cells b' es)
+    arguments_alike NoExps = keeps.same _
+    arguments_alike (MoreExps e es) = keeps.sum _ _ _ _ (keeps.sum _ _ 6 6 (exp_alike e) (keeps.same _)) (arguments_alike es)
 
-  labels_alike : (es : Exps) → Same cap (labels_cells b es) (labels_cells b' es)
-  labels_alike NoExps = refl
-  labels_alike (MoreExps e es) = both cap _ _ _ _ (both cap _ _ 3 3 (exp_alike e) refl) (labels_alike es)
+  labels_alike : (es : Exps) → R (labels_cells b es) (labels_cells b' es)
+  labels_alike NoExps = keeps.same _
+  labels_alike (MoreExps e es) = keeps.sum _ _ _ _ (keeps.sum _ _ 3 3 (exp_alike e) (keeps.same _)) (labels_alike es)
 
   mutual
-    target_alike : (t : Target) → Same cap (target_cells b t) (target_cells b' t)
-    target_alike (Whole k) = refl
+    target_alike : (t : Target) → R (target_cells b t) (target_cells b' t)
+    target_alike (Whole k) = keeps.same _
     target_alike (WordAt m a) = exp_alike a
-    target_alike (PickAt t i from w) = both cap _ _ _ _ (target_alike t) (exp_alike i)
+    target_alike (PickAt t i from w) = keeps.sum _ _ _ _ (target_alike t) (exp_alike i)
     target_alike (SliceAt t low w) = target_alike t
     target_alike (Several ts) = targets_alike ts
 
-    targets_alike : (ts : Targets) → Same cap (targets_cells b ts) (targets_cells b' ts)
-    targets_alike NoTargets = refl
-    targets_alike (MoreTargets t ts) = both cap 2 2 _ _ refl (both cap _ _ _ _ (target_alike t) (targets_alike ts))
+    targets_alike : (ts : Targets) → R (targets_cells b ts) (targets_cells b' ts)
+    targets_alike NoTargets = keeps.same _
+    targets_alike (MoreTargets t ts) = keeps.sum 2 2 _ _ (keeps.same _) (keeps.sum _ _ _ _ (target_alike t) (targets_alike ts))
 
-  pieces_alike : (ps : List Piece) → Same cap (pieces_cells b ps) (pieces_cells b' ps)
-  pieces_alike [] = refl
+  pieces_alike : (ps : List Piece) → R (pieces_cells b ps) (pieces_cells b' ps)
+  pieces_alike [] = keeps.same _
   pieces_alike (Literal text ∷ ps) = pieces_alike ps
-  pieces_alike (Shown format e ∷ ps) = both cap _ _ _ _ (exp_alike e) (pieces_alike ps)
+  pieces_alike (Shown format e ∷ ps) = keeps.sum _ _ _ _ (exp_alike e) (pieces_alike ps)
 
-  task_alike : (t : Task) → Same cap (task_cells b t) (task_cells b' t)
-  task_alike (Print ps newline) = both cap 8 8 _ _ refl (pieces_alike ps)
-  task_alike (Finish es) = both cap 8 8 _ _ refl (exps_alike es)
-  task_alike (Save name) = refl
-  task_alike (Fopen name) = refl
-  task_alike (Fread k fd) = both cap 8 8 _ _ refl (both cap 2 2 _ _ refl (exp_alike fd))
-  task_alike (Fgetc fd) = both cap 8 8 _ _ refl (exp_alike fd)
-  task_alike (Feof fd) = both cap 8 8 _ _ refl (exp_alike fd)
-  task_alike (Fclose fd) = both cap 8 8 _ _ refl (exp_alike fd)
-  task_alike (ReadHex name m) = refl
+  task_alike : (t : Task) → R (task_cells b t) (task_cells b' t)
+  task_alike (Print ps newline) = keeps.sum 8 8 _ _ (keeps.same _) (pieces_alike ps)
+  task_alike (Finish es) = keeps.sum 8 8 _ _ (keeps.same _) (exps_alike es)
+  task_alike (Save name) = keeps.same _
+  task_alike (Fopen name) = keeps.same _
+  task_alike (Fread k fd) = keeps.sum 8 8 _ _ (keeps.same _) (keeps.sum 2 2 _ _ (keeps.same _) (exp_alike fd))
+  task_alike (Fgetc fd) = keeps.sum 8 8 _ _ (keeps.same _) (exp_alike fd)
+  task_alike (Feof fd) = keeps.sum 8 8 _ _ (keeps.same _) (exp_alike fd)
+  task_alike (Fclose fd) = keeps.sum 8 8 _ _ (keeps.same _) (exp_alike fd)
+  task_alike (ReadHex name m) = keeps.same _
 
-  called_alike : (e : p.Exp) → Same cap (called_cells b e) (called_cells b' e)
+  called_alike : (e : p.Exp) → R (called_cells b e) (called_cells b' e)
   called_alike (p.Sys at name given) = task_alike (task_of [] name (plain.args given))
   called_alike (p.Un at LogNot (p.Sys q name given)) = task_alike (task_of [] name (plain.args given))
-  called_alike e = refl
+  called_alike e = keeps.same _
 
   module _ (scope scope' : Scope) (s s' : State) (path : List ℕ) where
-    first_alike : (e : p.Exp) (x y : Stm) → Same cap (stm_cells scope b x s) (stm_cells scope' b' y s') → Same cap (stm_cells scope b (plain.called_first path e x) s) (stm_cells scope' b' (plain.called_first [] e y) s')
-    first_alike e x y h = ap (min cap) (first-cells scope b path e x s) ∙ (both cap _ _ _ _ (called_alike e) h ∙ sym (ap (min cap) (first-cells scope' b' [] e y s')))
+    first_alike : (e : p.Exp) (x y : Stm) → R (stm_cells scope b x s) (stm_cells scope' b' y s') → R (stm_cells scope b (plain.called_first path e x) s) (stm_cells scope' b' (plain.called_first [] e y) s')
+    first_alike e x y h = across _ _ _ _ (first-cells scope b path e x s) (first-cells scope' b' [] e y s') (keeps.sum _ _ _ _ (called_alike e) h)
 
     mutual
-      pub stm_alike : (a : p.Stm) → HasNoLoop a → Same cap (stm_cells scope b (plain.stm path a) s) (stm_cells scope' b' (plain.stm [] a) s')
-      stm_alike (p.Nop at) l = refl
+      pub stm_alike : (a : p.Stm) → HasNoLoop a → R (stm_cells scope b (plain.stm path a) s) (stm_cells scope' b' (plain.stm [] a) s')
+      stm_alike (p.Nop at) l = keeps.same _
       stm_alike (p.Seq at as') l = stms_alike as' l
-      stm_alike (p.If at t x y) l = first_alike t _ _ (both cap _ _ _ _ (both cap _ _ 4 4 (exp_alike (plain.exp t)) refl) (both cap _ _ _ _ (stm_alike x l.0) (stm_alike y l.1)))
-      stm_alike (p.Case at x is wild) l = both cap _ _ _ _ (exp_alike (plain.exp x)) (items_alike is l)
+      stm_alike (p.If at t x y) l = first_alike t _ _ (keeps.sum _ _ _ _ (keeps.sum _ _ 4 4 (exp_alike (plain.exp t)) (keeps.same _)) (keeps.sum _ _ _ _ (stm_alike x l.0) (stm_alike y l.1)))
+      stm_alike (p.Case at x is wild) l = keeps.sum _ _ _ _ (exp_alike (plain.exp x)) (items_alike is l)
       stm_alike (p.For at j start test step a) l = absurd l
       stm_alike (p.Repeat at n a) l = absurd l
-      stm_alike (p.Set at t x) l = first_alike x _ _ (both cap _ _ _ _ (exp_alike (plain.exp x)) (both cap _ _ 6 6 (target_alike (plain.target t)) refl))
-      stm_alike (p.Later at t x) l = first_alike x _ _ (both cap _ _ _ _ (exp_alike (plain.exp x)) (both cap _ _ 6 6 (target_alike (plain.target t)) refl))
-      stm_alike (p.Task at name given) l = ap (min cap) (task-free b path name (plain.args given)) ∙ task_alike (task_of [] name (plain.args given))
+      stm_alike (p.Set at t x) l = first_alike x _ _ (keeps.sum _ _ _ _ (exp_alike (plain.exp x)) (keeps.sum _ _ 6 6 (target_alike (plain.target t)) (keeps.same _)))
+      stm_alike (p.Later at t x) l = first_alike x _ _ (keeps.sum _ _ _ _ (exp_alike (plain.exp x)) (keeps.sum _ _ 6 6 (target_alike (plain.target t)) (keeps.same _)))
+      stm_alike (p.Task at name given) l = across _ _ _ _ (task-free b path name (plain.args given)) refl (task_alike (task_of [] name (plain.args given)))
 
-      stms_alike : (as' : p.Stms) → HaveNoLoop as' → Same cap (stm_cells scope b (plain.stms path as') s) (stm_cells scope' b' (plain.stms [] as') s')
-      stms_alike p.NoStms l = refl
-      stms_alike (p.MoreStms a as') l = both cap _ _ _ _ (stm_alike a l.0) (stms_alike as' l.1)
+      stms_alike : (as' : p.Stms) → HaveNoLoop as' → R (stm_cells scope b (plain.stms path as') s) (stm_cells scope' b' (plain.stms [] as') s')
+      stms_alike p.NoStms l = keeps.same _
+      stms_alike (p.MoreStms a as') l = keeps.sum _ _ _ _ (stm_alike a l.0) (stms_alike as' l.1)
 
-      items_alike : (is : p.Items) → ItemsHaveNoLoop is → Same cap (items_cells scope b (plain.items path is) s) (items_cells scope' b' (plain.items [] is) s')
-      items_alike p.NoItems l = refl
+      items_alike : (is : p.Items) → ItemsHaveNoLoop is → R (items_cells scope b (plain.items path is) s) (items_cells scope' b' (plain.items [] is) s')
+      items_alike p.NoItems l = keeps.same _
       items_alike (p.MoreItems es a others) l =
-          ap (min cap) (item-cells scope b es (plain.stm path a) (plain.items path others) s)
-          ∙ (both cap 4 4 _ _ refl (both cap _ _ _ _ (labels_alike (plain.exps es)) (both cap _ _ _ _ (stm_alike a l.0) (items_alike others l.1)))
-          ∙ sym (ap (min cap) (item-cells scope' b' es (plain.stm [] a) (plain.items [] others) s')))
+          across _ _ _ _ (item-cells scope b es (plain.stm path a) (plain.items path others) s) (item-cells scope' b' es (plain.stm [] a) (plain.items [] others) s')
+          (keeps.sum 4 4 _ _ (keeps.same _) (keeps.sum _ _ _ _ (labels_alike (plain.exps es)) (keeps.sum _ _ _ _ (stm_alike a l.0) (items_alike others l.1))))
 
 -- register bits are the same over the same signals
 module _ (scope scope' : Scope) (same : scope.names.rows ≡ scope'.names.rows) (b b' : ℕ → ℕ) (s s' : State) (path : List ℕ) where

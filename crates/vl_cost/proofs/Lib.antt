@@ -6,3 +6,4 @@ pub mod Alike
 pub mod Loopless
 pub mod Rounds
 pub mod Summing
+pub mod Settled

@@ -14,6 +14,7 @@ use Rattle.vl_design.specs.Seen as seen
 use Rattle.vl_design.specs.Syntax.{Fun}
 use Rattle.vl_design.specs.Trees.{flat_of}
 use Rattle.vl_design.specs.Width.{Scope}
+use Rattle.vl_limits.proofs.Alike.{Same, sames}
 use Rattle.vl_limits.proofs.Rounds.{capped}
 use Rattle.vl_cost.specs.Costs.{saturated}
 use Rattle.vl_cost.specs.Walks.{next_cells, AreBodies, HasNoLoop}
@@ -29,7 +30,7 @@ module _ (design : Design) (u : IsUnrolled (flat_of design)) where
     where
       one : (g : Func) → HasNoLoop (seen.stm_of g.body) →
           next_cells bodies g ≡ saturated (stm_cells (inner scope (plain.fun (seen.func_of g))) (body_within scope n) (plain.fun (seen.func_of g)).body (fresh (zeros (inner scope (plain.fun (seen.func_of g))).names.rows)))
-      one g h = sym (stm_alike 18446744073709551615 (body_within scope n) (λ i. slice_index bodies i) (λ i. capped 18446744073709551615 (slice_index bodies i) (body_within scope n i) (are i))
+      one g h = sym (stm_alike (Same 18446744073709551615) (sames 18446744073709551615) (body_within scope n) (λ i. slice_index bodies i) (λ i. capped 18446744073709551615 (slice_index bodies i) (body_within scope n i) (are i))
           (inner scope (plain.fun (seen.func_of g))) (plain_scope []) (fresh (zeros (inner scope (plain.fun (seen.func_of g))).names.rows)) (fresh []) [] (seen.stm_of g.body) h)
 
       go : (gs : List Func) → AllByRecursion (λ g. HasNoLoop (seen.stm_of g.body)) gs → (f : ℕ) →

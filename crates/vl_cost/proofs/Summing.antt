@@ -18,7 +18,7 @@ use Rattle.vl_design.specs.State.{State}
 use Rattle.vl_design.specs.Syntax.{Proc, Flat, Row}
 use Rattle.vl_design.specs.Trees.{flat_of}
 use Rattle.vl_design.specs.Width.{Scope}
-use Rattle.vl_limits.proofs.Alike.{Same, both}
+use Rattle.vl_limits.proofs.Alike.{Same, both, sames}
 use Rattle.vl_limits.proofs.Rounds.{capped}
 use Rattle.vl_cost.specs.Costs.{saturated, statement_cells}
 use Rattle.vl_cost.specs.Walks.{block_cells, process_cells, process_regs, AreBodies, HasNoLoop}
@@ -47,7 +47,7 @@ module _ (design : Design) (u : IsUnrolled (flat_of design)) where
     one-cells : (a : Process) → HasNoLoop (seen.stm_of a.body) → Same 18446744073709551615 (proc_cells scope s (plain.proc (seen.process_of a))) (process_cells bodies a)
     one-cells a h =
         unless 18446744073709551615 (is_init a.kind) _ _ (both 18446744073709551615 4 4 _ _ refl
-        (stm_alike 18446744073709551615 (body_cells scope) (λ i. slice_index bodies i) (λ i. capped 18446744073709551615 (slice_index bodies i) (body_cells scope i) (are i)) scope (plain_scope []) s (fresh []) a.path (seen.stm_of a.body) h))
+        (stm_alike (Same 18446744073709551615) (sames 18446744073709551615) (body_cells scope) (λ i. slice_index bodies i) (λ i. capped 18446744073709551615 (slice_index bodies i) (body_cells scope i) (are i)) scope (plain_scope []) s (fresh []) a.path (seen.stm_of a.body) h))
 
     all-cells : (as' : List Process) → AllByRecursion (λ a. HasNoLoop (seen.stm_of a.body)) as' →
         Same 18446744073709551615 (sum_by (proc_cells scope s) (map plain.proc (map seen.process_of as'))) (sum_by (process_cells bodies) as')
@@ -62,7 +62,7 @@ module _ (design : Design) (u : IsUnrolled (flat_of design)) where
 
     block-same : (a : Process) → HasNoLoop (seen.stm_of a.body) → Same 18446744073709551615 (block_of (plain.proc (seen.process_of a))) (block_cells bodies a)
     block-same a h =
-        stm_alike 18446744073709551615 (body_cells scope) (λ i. slice_index bodies i) (λ i. capped 18446744073709551615 (slice_index bodies i) (body_cells scope i) (are i)) scope (plain_scope []) s (fresh []) a.path (seen.stm_of a.body) h
+        stm_alike (Same 18446744073709551615) (sames 18446744073709551615) (body_cells scope) (λ i. slice_index bodies i) (λ i. capped 18446744073709551615 (slice_index bodies i) (body_cells scope i) (are i)) scope (plain_scope []) s (fresh []) a.path (seen.stm_of a.body) h
 
     blocks-same : (as' : List Process) → AllByRecursion (λ a. HasNoLoop (seen.stm_of a.body)) as' →
         Same 18446744073709551615 (sum_by block_of (map plain.proc (map seen.process_of as'))) (sum_by (block_cells bodies) as')

@@ -7,8 +7,10 @@ ghost use Rattle.vl_design.specs.Seen as seen;
 ghost use Rattle.vl_design.specs.Trees.{flat_of};
 ghost use Rattle.vl_cost.specs.Walks.{next_cells, AreBodies, HasNoLoop};
 
+use crate::passes::passed;
 use crate::statements::stm_cells;
 use std::alloc::{AllocError, Global};
+use vl_call_order::order::call_order;
 use vl_design::design::{Design, Func};
 
 /// What bodies count where calls nest one deeper.
@@ -32,7 +34,7 @@ fn is_same(a: &[u64], b: &[u64]) -> bool
 }
 
 /// What the body of each function of a design counts: in each round calls nest one deeper, until nothing changes.
-pub(crate) fn bodies_of(alloc: Global, design: &Design) -> Result<Vec<u64>, AllocError>
+fn rounds_of(alloc: Global, design: &Design) -> Result<Vec<u64>, AllocError>
     requires { IsUnrolled (flat_of design.now) }
     ensures { IfOk result (λ v. AreBodies (flat_of design.now) (length (flat_of design.now).funs) v.items) }
 {
@@ -46,4 +48,19 @@ pub(crate) fn bodies_of(alloc: Global, design: &Design) -> Result<Vec<u64>, Allo
         all = next;
     }
     Ok(all)
+}
+
+/// What the body of each function of a design counts. If functions lead to no circle of calls, one pass finds it.
+pub(crate) fn bodies_of(alloc: Global, design: &Design) -> Result<Vec<u64>, AllocError>
+    requires { IsUnrolled (flat_of design.now) }
+    ensures { IfOk result (λ v. AreBodies (flat_of design.now) (length (flat_of design.now).funs) v.items) }
+{
+    let funcs = design.funcs.as_slice();
+    let order = call_order(alloc, funcs)?;
+    let all = passed(alloc, funcs, order.as_slice())?;
+    let next = next_bodies(alloc, funcs, &all)?;
+    if is_same(&next, &all) {
+        return Ok(all);
+    }
+    rounds_of(alloc, design)
 }

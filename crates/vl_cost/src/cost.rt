@@ -102,8 +102,9 @@ fn design_mem(design: &Design) -> u64
 }
 
 /// The cost of a design whose loops are unrolled, without its `initial` blocks: bits of registers, cells, and bits of memories;
-/// the greatest number of 64 bits in the place of a greater one. Each round over the bodies of functions reads each of them once,
-/// and there are as many rounds as calls nest deep, and one.
+/// the greatest number of 64 bits in the place of a greater one. If functions lead to no circle of calls, the body of each is read
+/// three times: for the order of calls, in that order, and to see that nothing changes. Else there are as many rounds over all
+/// of them as calls nest deep, at most as many as there are functions.
 pub fn cost(alloc: Global, design: &Design) -> Result<Cost, AllocError>
     requires { IsUnrolled (flat_of design.now) }
     ensures { IfOk result (λ c. c ≡ saturated_cost (cost (flat_of design.now))) }

@@ -6,6 +6,7 @@ pub mod capacity;
 pub mod cost;
 mod displays;
 mod expressions;
+mod passes;
 mod registers;
 mod signals;
 mod statements;

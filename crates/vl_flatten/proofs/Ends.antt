@@ -1,6 +1,6 @@
 -- From what is made to the design.
 use Rattle.std.proofs.Common.{◌≡◌, ap, sym, ◌∙◌, subst, ℕ, List}
-use Rattle.std.specs.Prelude.{Result, Ok, Err, IfOk, None, Some}
+use Rattle.std.specs.Prelude.{Result, Ok, Err, IfOk, None, Some, All}
 use Rattle.std.specs.Result.{IsErr, IsErrAnd}
 use Rattle.vl_source.specs.declared.tree.Source.{Source}
 use Rattle.vl_base.specs.declared.place.Place.{Place}
@@ -19,6 +19,9 @@ use Rattle.vl_design.specs.Placed as p
 use Rattle.vl_flat.specs.Flat.{parts_from, design_of}
 use Rattle.vl_flat.specs.Outcome as o
 use Rattle.vl_flat.specs.Outcome.{◌>>=◌}
+use Rattle.vl_flat.specs.Declarations.{modules}
+use Rattle.vl_laws.specs.Apart.{AreApart}
+use Rattle.vl_laws.proofs.Declared.{all-apart}
 use Rattle.vl_sound.specs.Inputs.{NoLoopInputs}
 use Rattle.vl_sound.proofs.Whole.{source-sound}
 use Rattle.vl_flatten.specs.Growing.{Makes}
@@ -39,6 +42,10 @@ ends Memory ms m h = tt
 pub met : {P : Stop → Type 0} (r : Result Design Stop) (s : Stop) (of : Result p.Design Stop) → IsErr r × IsErrAnd r P → ((e : Stop) → P e → e ≡ s) → Meets (Err s) of → Meets r of
 met (Ok d) s of h k m = absurd h.1
 met (Err e) s of h k m = subst (λ z. Meets (Err z) of) (sym (k e h.1)) m
+
+-- where names have no fault, no parameter and no function has a signal's name
+pub apart-modules : (s : Source) → IsFirst (IsNameFault s) None → All AreApart (modules s)
+apart-modules s none = all-apart s (λ f z. none f (of_declaration f z))
 
 pub elaborated : (s : Source) (r : Result Design Stop) → IsFirst (IsNameFault s) None → Meets r (o.flattened s) → Elaborates s r
 elaborated s (Ok d) none h = subst (IsElaboration s) h (named none)

@@ -4,19 +4,20 @@ use Rattle.vl_flat.specs.Items.{Module, Instances, NamedUnit}
 use Rattle.vl_flat.specs.Processes.{Here}
 use Rattle.vl_flat.specs.Environments.{Counts}
 use Rattle.vl_flat.specs.Connections.{given}
-use Rattle.vl_flat.specs.Flat.{beginning, instance}
+use Rattle.vl_flat.specs.Flat.{beginning}
+use Rattle.vl_alike.specs.Sized.{Sizes, instance_by}
 use Rattle.vl_flatten.specs.Insides.{contents}
 
-pub no-level : (d : ℕ) (ms : List Module) (above : Here) (base : Counts) (us : Instances) (u : NamedUnit) (m : Module) → d ≡ 0 → instance d ms above base us u m ≡ []
-unfolding instance
-no-level d ms above base us u m h = ap (λ z. instance z ms above base us u m) h
+pub no-level : (sizes : Sizes) (d : ℕ) (ms : List Module) (above : Here) (base : Counts) (us : Instances) (u : NamedUnit) (m : Module) → d ≡ 0 → instance_by sizes d ms above base us u m ≡ []
+unfolding instance_by
+no-level sizes d ms above base us u m h = ap (λ z. instance_by sizes z ms above base us u m) h
 
 before : (n : ℕ) → suc n - 1 ≡ n
 before n = omega arith
 
-pub one-level : (d : ℕ) (ms : List Module) (above : Here) (base : Counts) (us : Instances) (u : NamedUnit) (m : Module) → (d ≡ 0 → ⊥)
-    → instance d ms above base us u m ≡ (beginning above.env (given above base us u m) us ∷ []) ++ contents (d - 1) ms above base us u m
-unfolding instance
-one-level zero ms above base us u m h = absurd (h refl)
-one-level (suc n) ms above base us u m h =
-    sym (ap (λ k. (beginning above.env (given above base us u m) us ∷ []) ++ contents k ms above base us u m) (before n))
+pub one-level : (sizes : Sizes) (d : ℕ) (ms : List Module) (above : Here) (base : Counts) (us : Instances) (u : NamedUnit) (m : Module) → (d ≡ 0 → ⊥)
+    → instance_by sizes d ms above base us u m ≡ (beginning above.env (given above base us u m) us ∷ []) ++ contents sizes (d - 1) ms above base us u m
+unfolding instance_by
+one-level sizes zero ms above base us u m h = absurd (h refl)
+one-level sizes (suc n) ms above base us u m h =
+    sym (ap (λ k. (beginning above.env (given above base us u m) us ∷ []) ++ contents sizes k ms above base us u m) (before n))

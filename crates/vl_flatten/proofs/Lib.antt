@@ -12,3 +12,4 @@ pub mod Tops
 pub mod Ends
 pub mod Once
 pub mod Bound
+pub mod Unnumbered

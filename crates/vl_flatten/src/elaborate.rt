@@ -1,21 +1,22 @@
 //! From a source to its flat design (IEEE 1364-2005, clause 12).
 
-ghost use Rattle.std.specs.Prelude.{◌≡◌, ◌<◌, length, map, slice_get, Some, IfOk};
+ghost use Rattle.std.specs.Prelude.{◌≡◌, ◌<◌, length, map, slice_get, All, Some, IfOk, true, false};
 ghost use Rattle.vl_design.specs.Sound.{IsSound};
 ghost use Rattle.vl_design.specs.Trees.{flat_of};
 ghost use Rattle.vl_flat.specs.Items as x;
 ghost use Rattle.vl_flat.specs.Declarations.{modules};
-ghost use Rattle.vl_flat.specs.Flat as f;
 ghost use Rattle.vl_flat.specs.Outcome as o;
 ghost use Rattle.vl_items.specs.SeenItems.{seen_module};
+ghost use Rattle.vl_laws.specs.Apart.{AreApart};
+ghost use Rattle.vl_alike.specs.Sized.{parts_by};
 ghost use Rattle.vl_sound.specs.Inputs.{NoLoopInputs};
 ghost use Rattle.vl_flatten.specs.Growing.{Makes};
-ghost use Rattle.vl_flatten.specs.Libraries.{IsLibrary, modules_of};
+ghost use Rattle.vl_flatten.specs.Libraries.{IsLibrary, modules_of, sizes_by, sizes_in};
 ghost use Rattle.vl_flatten.specs.Meeting.{Meets, Elaborates, stop_of};
 
 use crate::here::Here;
 use crate::instances::add_items;
-use crate::library::{Library, definition_at, library_of, roles_at};
+use crate::library::{Library, definition_at, library_of, roles_at, unnumbered_library};
 use crate::making::{Making, nothing_yet};
 use std::alloc::Global;
 use vl_base::items::Items;
@@ -27,7 +28,7 @@ use vl_instance::given::Above;
 use vl_items::items::Module;
 use vl_items::modules::prepare;
 use vl_kinds::counts::Counts;
-use vl_kinds::sizes::module_size;
+use vl_kinds::sizes::{is_vast, module_size};
 use vl_names::hierarchy::top_number;
 use vl_names::names::{NamesFault, names};
 use vl_source::tree::Source;
@@ -36,7 +37,7 @@ use vl_source::tree::Source;
 fn made(alloc: Global, library: &Library<'_>, number: usize) -> Result<Making, Stop>
     requires library { IsLibrary library.now }
     requires number { number < length library.now.modules.now }
-    ensures { (m : x.Module) → slice_get (modules_of library.now) number ≡ Some m → Makes (f.parts_from (modules_of library.now) m) result }
+    ensures { (m : x.Module) → slice_get (modules_of library.now) number ≡ Some m → Makes (parts_by (sizes_in library.now) (modules_of library.now) m) result }
 {
     let top = definition_at(library, number);
     let name = top.name.name.as_slice();
@@ -66,14 +67,15 @@ fn made(alloc: Global, library: &Library<'_>, number: usize) -> Result<Making, S
     Ok(making)
 }
 
-/// The flat design of modules from the one of this number.
-fn flatten_from(alloc: Global, modules: &[Module], number: usize) -> Result<Design, Stop>
-    requires { number < length modules.now }
-    ensures { (m : x.Module) → slice_get (map seen_module modules.now) number ≡ Some m → Meets result (o.flattened_from (map seen_module modules.now) m) }
+/// The flat design of modules whose signals are numbered, from the one of this number.
+fn design_from(alloc: Global, library: &Library<'_>, number: usize) -> Result<Design, Stop>
+    requires library { IsLibrary library.now }
+    requires numbered { library.now.numbered ≡ true }
+    requires number { number < length library.now.modules.now }
+    ensures { (m : x.Module) → slice_get (modules_of library.now) number ≡ Some m → Meets result (o.flattened_from (modules_of library.now) m) }
 {
-    let library = library_of(alloc, modules)?;
-    let making = made(alloc, &library, number)?;
-    let top = copied(alloc, &definition_at(&library, number).name.name)?;
+    let making = made(alloc, library, number)?;
+    let top = copied(alloc, &definition_at(library, number).name.name)?;
     Ok(Design {
         top,
         signals: Items::from_vec(making.signals),
@@ -82,18 +84,49 @@ fn flatten_from(alloc: Global, modules: &[Module], number: usize) -> Result<Desi
     })
 }
 
+/// What modules stand for from the one of this number, where no signal and no function is numbered.
+fn made_unnumbered(alloc: Global, modules: &[Module], number: usize) -> Result<Making, Stop>
+    requires { number < length modules.now }
+    ensures { (m : x.Module) → slice_get (map seen_module modules.now) number ≡ Some m → Makes (parts_by (sizes_by false (map seen_module modules.now)) (map seen_module modules.now) m) result }
+{
+    let library = unnumbered_library(alloc, modules)?;
+    made(alloc, &library, number)
+}
+
+/// The first fault of modules from the one of this number, of which there are too many instances: it doesn't depend on numbers.
+fn vast_fault(alloc: Global, modules: &[Module], number: usize) -> Result<Design, Stop>
+    requires { number < length modules.now }
+    ensures { (m : x.Module) → slice_get (map seen_module modules.now) number ≡ Some m → All AreApart (map seen_module modules.now) → Meets result (o.flattened_from (map seen_module modules.now) m) }
+{
+    made_unnumbered(alloc, modules, number)?;
+    Err(Stop::Memory)
+}
+
+/// The flat design of modules from the one of this number.
+fn flatten_from(alloc: Global, modules: &[Module], number: usize) -> Result<Design, Stop>
+    requires { number < length modules.now }
+    ensures { (m : x.Module) → slice_get (map seen_module modules.now) number ≡ Some m → All AreApart (map seen_module modules.now) → Meets result (o.flattened_from (map seen_module modules.now) m) }
+{
+    let library = library_of(alloc, modules)?;
+    if is_vast(alloc, &library.sizes, 128, definition_at(&library, number))? {
+        vast_fault(alloc, modules, number)
+    } else {
+        design_from(alloc, &library, number)
+    }
+}
+
 /// The flat design of a source from the module of this number.
 fn flatten_top(alloc: Global, source: &Source, number: usize) -> Result<Design, Stop>
     requires { number < length source.now.modules }
-    ensures { (m : x.Module) → slice_get (modules source.now) number ≡ Some m → Meets result (o.flattened_from (modules source.now) m) }
+    ensures { (m : x.Module) → slice_get (modules source.now) number ≡ Some m → All AreApart (modules source.now) → Meets result (o.flattened_from (modules source.now) m) }
 {
     let modules = prepare(alloc, source)?;
     flatten_from(alloc, modules.as_slice(), number)
 }
 
 /// The flat design of a source whose names have no fault, or its first fault.
-pub fn flatten(alloc: Global, source: &Source) -> Result<Design, Stop>
-    ensures { Meets result (o.flattened source.now) }
+fn flatten(alloc: Global, source: &Source) -> Result<Design, Stop>
+    ensures { All AreApart (modules source.now) → Meets result (o.flattened source.now) }
 {
     let top = top_number(alloc, source)?;
     match top {

@@ -12,7 +12,7 @@ ghost use Rattle.vl_flat.specs.Functions.{dotted as dotted_name};
 ghost use Rattle.vl_flatten.specs.Standing.{seen_here};
 ghost use Rattle.vl_flatten.specs.Insides.{IsInside, contents};
 ghost use Rattle.vl_flatten.specs.Growing.{Adds};
-ghost use Rattle.vl_flatten.specs.Libraries.{IsLibrary, modules_of};
+ghost use Rattle.vl_flatten.specs.Libraries.{IsLibrary, modules_of, sizes_in, instance_in};
 ghost use Rattle.vl_flatten.specs.Parts.{IsNoInstance};
 ghost use Rattle.vl_constant.specs.Seen.{look};
 
@@ -77,7 +77,7 @@ fn behind_instances(
 ) -> Result<Counts, AllocError>
     requires depth { depth ≤ 129 }
     requires library { IsLibrary library.now }
-    ensures { IfOk result (λ c. counts_of c ≡ e.plus (e.plus (counts_of next) e.no_more) (e.item_counts (e.size depth (modules_of library.now)) (x.Instantiates (seen_instances instances.now)))) }
+    ensures { IfOk result (λ c. counts_of c ≡ e.plus (e.plus (counts_of next) e.no_more) (e.item_counts (sizes_in library.now depth) (x.Instantiates (seen_instances instances.now)))) }
 {
     let size = instances_size(&library.sizes, depth, instances)?;
     Ok(sum(next, size)?)
@@ -128,7 +128,7 @@ fn inside_of<'m>(
     requires library { IsLibrary library.now }
     requires number { number < length library.now.modules.now }
     ensures { IfOk result (λ a. (m : x.Module) → slice_get (modules_of library.now) number ≡ Some m →
-        IsInside a depth (modules_of library.now) (seen_here above.entry) (counts_of base) (seen_instances instances.entry.now) (seen_unit unit.entry.now) m) }
+        IsInside a (sizes_in library.now) depth (seen_here above.entry) (counts_of base) (seen_instances instances.entry.now) (seen_unit unit.entry.now) m) }
 {
     let definition = definition_at(library, number);
     let roles = roles_at(library, number);
@@ -174,8 +174,8 @@ fn add_contents<'m>(
     requires library { IsLibrary library.now }
     requires number { number < length library.now.modules.now }
     ensures { (m : x.Module) (us : x.Instances) → slice_get (modules_of library.now) number ≡ Some m → path.now ≡ dotted_name (seen_here above.entry).path (seen_unit unit.entry.now).name.name →
-        IsInside inside.now depth (modules_of library.now) (seen_here above.entry) (counts_of base) us (seen_unit unit.entry.now) m →
-        Adds making.old making.new (contents depth (modules_of library.now) (seen_here above.entry) (counts_of base) us (seen_unit unit.entry.now) m) result }
+        IsInside inside.now (sizes_in library.now) depth (seen_here above.entry) (counts_of base) us (seen_unit unit.entry.now) m →
+        Adds making.old making.new (contents (sizes_in library.now) depth (modules_of library.now) (seen_here above.entry) (counts_of base) us (seen_unit unit.entry.now) m) result }
 {
     let definition = definition_at(library, number);
     let roles = roles_at(library, number);
@@ -228,7 +228,7 @@ fn add_inside<'m>(
     requires library { IsLibrary library.now }
     requires number { number < length library.now.modules.now }
     ensures { (m : x.Module) → slice_get (modules_of library.now) number ≡ Some m → path.now ≡ dotted_name (seen_here above.entry).path (seen_unit unit.entry.now).name.name →
-        Adds making.old making.new (contents depth (modules_of library.now) (seen_here above.entry) (counts_of base) (seen_instances instances.entry.now) (seen_unit unit.entry.now) m) result }
+        Adds making.old making.new (contents (sizes_in library.now) depth (modules_of library.now) (seen_here above.entry) (counts_of base) (seen_instances instances.entry.now) (seen_unit unit.entry.now) m) result }
 {
     let inside = inside_of(alloc, library, depth, above, base, instances, unit, number)?;
     add_contents(
@@ -253,7 +253,7 @@ fn add_instance<'m>(
     requires library { IsLibrary library.now }
     requires number { number < length library.now.modules.now }
     ensures { (m : x.Module) → slice_get (modules_of library.now) number ≡ Some m →
-        Adds making.old making.new (f.instance depth (modules_of library.now) (seen_here above.entry) (counts_of base) (seen_instances instances.entry.now) (seen_unit unit.entry.now) m) result }
+        Adds making.old making.new (instance_in library.now depth (seen_here above.entry) (counts_of base) (seen_instances instances.entry.now) (seen_unit unit.entry.now) m) result }
 {
     if depth == 0 {
         return Ok(());
@@ -291,7 +291,7 @@ fn add_units<'m>(
     requires library { IsLibrary library.now }
     requires number { number < length library.now.modules.now }
     ensures { (m : x.Module) → slice_get (modules_of library.now) number ≡ Some m →
-        Adds making.old making.new (f.instances (f.instance depth (modules_of library.now)) (seen_here here.entry) (counts_of next) (seen_instances instances.entry.now) m (counts_of size) (map seen_unit instances.entry.now.units.items)) result }
+        Adds making.old making.new (f.instances (instance_in library.now depth) (seen_here here.entry) (counts_of next) (seen_instances instances.entry.now) m (counts_of size) (map seen_unit instances.entry.now.units.items)) result }
 {
     let mut base = next;
     for unit in instances.units.as_slice() {
@@ -316,7 +316,7 @@ fn add_instances<'m>(
 ) -> Result<(), Stop>
     requires depth { depth ≤ 128 }
     requires library { IsLibrary library.now }
-    ensures { (g : e.Given) → Adds making.old making.new (f.item_parts (f.instance depth (modules_of library.now)) (e.size depth (modules_of library.now)) (modules_of library.now) (seen_here here.entry) g (counts_of next) (x.Instantiates (seen_instances instances.entry.now))) result }
+    ensures { (g : e.Given) → Adds making.old making.new (f.item_parts (instance_in library.now depth) (sizes_in library.now depth) (modules_of library.now) (seen_here here.entry) g (counts_of next) (x.Instantiates (seen_instances instances.entry.now))) result }
 {
     let name = instances.definition.as_slice();
     match module_at(&library.index, name) {
@@ -363,8 +363,8 @@ fn add_parts<'m>(
 ) -> Result<Counts, Stop>
     requires depth { depth ≤ 128 }
     requires library { IsLibrary library.now }
-    ensures adds { (g : e.Given) → g.overrides ≡ overrides_of above.now → Adds making.old making.new (f.item_parts (f.instance depth (modules_of library.now)) (e.size depth (modules_of library.now)) (modules_of library.now) (seen_here here.entry) g (counts_of next) (seen_item item.entry.now)) result }
-    ensures behind { IfOk result (λ n. counts_of n ≡ f.behind_item (e.size depth (modules_of library.now)) (seen_here here.entry) (counts_of next) (seen_item item.entry.now)) }
+    ensures adds { (g : e.Given) → g.overrides ≡ overrides_of above.now → Adds making.old making.new (f.item_parts (instance_in library.now depth) (sizes_in library.now depth) (modules_of library.now) (seen_here here.entry) g (counts_of next) (seen_item item.entry.now)) result }
+    ensures behind { IfOk result (λ n. counts_of n ≡ f.behind_item (sizes_in library.now depth) (seen_here here.entry) (counts_of next) (seen_item item.entry.now)) }
 {
     match instances_in(item) {
         Some(instances) => {
@@ -389,7 +389,7 @@ pub fn add_items<'m>(
 ) -> Result<(), Stop>
     requires depth { depth ≤ 128 }
     requires library { IsLibrary library.now }
-    ensures { (g : e.Given) → g.overrides ≡ overrides_of above.now → Adds making.old making.new (f.items_parts (f.instance depth (modules_of library.now)) (e.size depth (modules_of library.now)) (modules_of library.now) (seen_here here.entry) g (counts_of base) (map seen_item items.entry.now)) result }
+    ensures { (g : e.Given) → g.overrides ≡ overrides_of above.now → Adds making.old making.new (f.items_parts (instance_in library.now depth) (sizes_in library.now depth) (modules_of library.now) (seen_here here.entry) g (counts_of base) (map seen_item items.entry.now)) result }
 {
     let mut next = base;
     for item in items {

@@ -1,16 +1,17 @@
 //! The modules of a source, and what is known of each.
 
-ghost use Rattle.std.specs.Prelude.{◌≡◌, ◌<◌, map, length, slice_get, Some, IfOk};
+ghost use Rattle.std.specs.Prelude.{◌≡◌, ◌<◌, map, length, slice_get, Some, IfOk, true, false};
 ghost use Rattle.vl_flat.specs.Items as x;
 ghost use Rattle.vl_items.specs.SeenItems.{seen_module};
 ghost use Rattle.vl_kinds.specs.Facts.{facts, facts_of};
-ghost use Rattle.vl_flatten.specs.Libraries.{IsLibrary, modules_of};
+ghost use Rattle.vl_kinds.specs.Sized.{Tells};
+ghost use Rattle.vl_flatten.specs.Libraries.{IsLibrary, modules_of, sizes_by};
 
 use std::alloc::{AllocError, Global};
 use vl_items::items::Module;
 use vl_kinds::index::{Index, index_of};
 use vl_kinds::roles::{Roles, make_roles};
-use vl_kinds::sizes::{Sizes, sizes_of};
+use vl_kinds::sizes::{Sizes, no_sizes, sizes_of};
 
 /// The modules of a source, and what is known of each.
 #[derive(Drop)]
@@ -23,6 +24,8 @@ pub struct Library<'m> {
     pub index: Index<'m>,
     /// How many signals and functions each has.
     pub sizes: Sizes<'m>,
+    /// Signals and functions are numbered: else sizes tell of none, and only faults are right.
+    pub numbered: bool,
 }
 
 /// What names are in each module.
@@ -36,20 +39,50 @@ fn all_roles<'m>(alloc: Global, modules: &'m [Module]) -> Result<Vec<Roles<'m>>,
     Ok(all)
 }
 
-/// What is known of modules.
-pub fn library_of<'m>(alloc: Global, modules: &'m [Module]) -> Result<Library<'m>, AllocError>
+/// What is known of modules whose sizes are these.
+fn library_with<'m>(
+    alloc: Global,
+    modules: &'m [Module],
+    sizes: Sizes<'m>,
+    numbered: bool,
+) -> Result<Library<'m>, AllocError>
+    requires { Tells sizes (sizes_by numbered (map seen_module modules.now)) }
     ensures modules { IfOk result (λ l. l.modules.now ≡ modules.entry.now) }
+    ensures numbered { IfOk result (λ l. l.numbered ≡ numbered) }
     ensures known { IfOk result IsLibrary }
 {
     let roles = all_roles(alloc, modules)?;
     let index = index_of(alloc, modules)?;
-    let sizes = sizes_of(alloc, modules)?;
     Ok(Library {
         modules,
         roles,
         index,
         sizes,
+        numbered,
     })
+}
+
+/// What is known of modules.
+pub fn library_of<'m>(alloc: Global, modules: &'m [Module]) -> Result<Library<'m>, AllocError>
+    ensures modules { IfOk result (λ l. l.modules.now ≡ modules.entry.now) }
+    ensures numbered { IfOk result (λ l. l.numbered ≡ true) }
+    ensures known { IfOk result IsLibrary }
+{
+    let sizes = sizes_of(alloc, modules)?;
+    library_with(alloc, modules, sizes, true)
+}
+
+/// What is known of modules whose signals and functions aren't numbered.
+pub fn unnumbered_library<'m>(
+    alloc: Global,
+    modules: &'m [Module],
+) -> Result<Library<'m>, AllocError>
+    ensures modules { IfOk result (λ l. l.modules.now ≡ modules.entry.now) }
+    ensures numbered { IfOk result (λ l. l.numbered ≡ false) }
+    ensures known { IfOk result IsLibrary }
+{
+    let sizes = no_sizes(alloc, modules)?;
+    library_with(alloc, modules, sizes, false)
 }
 
 /// The module of this number.

@@ -6,7 +6,7 @@ ghost use Rattle.vl_flat.specs.Environments as e;
 ghost use Rattle.vl_items.specs.SeenItems.{seen_function, seen_item, seen_module};
 ghost use Rattle.vl_constant.specs.Seen.{look};
 ghost use Rattle.vl_kinds.specs.Facts.{facts, facts_of};
-ghost use Rattle.vl_kinds.specs.Sized.{IsSizes, size_of};
+ghost use Rattle.vl_kinds.specs.Sized.{Tells, size_of};
 ghost use Rattle.vl_instance.specs.Given.{given_of, overrides_of};
 ghost use Rattle.vl_instance.specs.Known as spec;
 
@@ -60,8 +60,8 @@ fn add_item<'m>(
     item: &'m Item,
 ) -> Result<Counts, AllocError>
     ensures table { IfOk result (λ after. spec.known names.new after ≡ spec.with_item (size_of sizes.now depth) (overrides_of above.now) (spec.kinds_by (facts_of roles.now) above.now) (spec.known names.old next) (seen_item item.entry.now)) }
-    ensures module { IfOk result (λ after. (ms : List x.Module) (m : x.Module) (path : List ℕ) (base : e.Counts) → IsSizes sizes.now ms → depth ≤ 129 → facts_of roles.now ≡ facts m →
-        spec.known names.new after ≡ e.with_item (e.size depth ms) (given_of m above.now path base) m (spec.known names.old next) (seen_item item.entry.now)) }
+    ensures module { IfOk result (λ after. (told : ℕ → List ℕ → e.Counts) (m : x.Module) (path : List ℕ) (base : e.Counts) → Tells sizes.now told → depth ≤ 129 → facts_of roles.now ≡ facts m →
+        spec.known names.new after ≡ e.with_item (told depth) (given_of m above.now path base) m (spec.known names.old next) (seen_item item.entry.now)) }
 {
     match item {
         Item::Parameters(kind, parameters) => {
@@ -94,8 +94,8 @@ pub fn environment<'m>(
     definition: &'m Module,
 ) -> Result<Names<'m>, AllocError>
     ensures table { IfOk result (λ names. look names ≡ spec.names_by (size_of sizes.now depth) (overrides_of above.now) (spec.kinds_by (facts_of roles.now) above.now) base (map seen_item definition.entry.now.items.items)) }
-    ensures module { IfOk result (λ names. (ms : List x.Module) (path : List ℕ) → IsSizes sizes.now ms → depth ≤ 129 → facts_of roles.now ≡ facts (seen_module definition.entry.now) →
-        look names ≡ e.environment (e.size depth ms) (given_of (seen_module definition.entry.now) above.now path (spec.counts_of base)) (seen_module definition.entry.now)) }
+    ensures module { IfOk result (λ names. (told : ℕ → List ℕ → e.Counts) (path : List ℕ) → Tells sizes.now told → depth ≤ 129 → facts_of roles.now ≡ facts (seen_module definition.entry.now) →
+        look names ≡ e.environment (told depth) (given_of (seen_module definition.entry.now) above.now path (spec.counts_of base)) (seen_module definition.entry.now)) }
 {
     let mut names = IndexMap::new(alloc);
     let mut next = base;

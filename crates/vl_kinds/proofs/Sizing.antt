@@ -1,6 +1,7 @@
 -- The sizes of modules, round by round.
 use Rattle.std.proofs.Common.{◌≡◌, refl, sym, ap, ◌∙◌, subst, ℕ, zero, suc, ◌+◌, ◌-◌, ◌<◌, ◌≤◌, min, Bool, true, false, List, [], ◌∷◌, ◌++◌, map, length, get_or, take, Option, Some, None, arith}
-use Rattle.std.specs.Prelude.{if◌then◌else◌, option_map, slice_get}
+use Rattle.std.specs.Prelude.{if◌then◌else◌, option_map, slice_get, nat_lt, ◌||◌}
+use Rattle.std.proofs.lemmas.Bool.Decides.{nat_tests}
 use Rattle.std.specs.Option.{option_map_or}
 use Rattle.std.specs.Str.{bytes_eq}
 use Rattle.std.specs.declared.alloc.Global.{Global}
@@ -16,8 +17,8 @@ use Rattle.vl_items.specs.SeenItems.{seen_module}
 use Rattle.vl_kinds.specs.declared.counts.Counts.{Counts}
 use Rattle.vl_kinds.specs.declared.index.Index.{Index}
 use Rattle.vl_kinds.specs.Places.{place_named, place_of}
-use Rattle.vl_kinds.specs.Sized.{counts_of, counts_at, kept, kept_size, told, own_signals, round_at, next_counts, Grows}
-use Rattle.vl_kinds.proofs.Keeping.{kept-twice, module-kept}
+use Rattle.vl_kinds.specs.Sized.{counts_of, counts_at, kept, kept_number, kept_size, told, own_signals, round_at, next_counts, Grows, most_numbered, are_vast}
+use Rattle.vl_kinds.proofs.Keeping.{counts-same, kept-twice, module-kept}
 
 -- ---- one round
 
@@ -200,3 +201,21 @@ next-more f ms i y all new v l at before grown is =
     ∙ (ap (λ z. z ++ counts_of v ∷ []) before
     ∙ (ap (λ z. map f (map seen_module (take i ms)) ++ z ∷ []) (is ∙ ap (λ z. f (seen_module z)) at)
     ∙ sym (ap (λ z. map f (map seen_module z)) (take_more ms i y l) ∙ (ap (map f) (map_push seen_module (take i ms) (get_or ms i y)) ∙ map_push f (map seen_module (take i ms)) (seen_module (get_or ms i y)))))))
+
+-- without rounds no module has any signal or function
+none-at : (index : Index) (t : List ℕ) (o : Option ℕ) → option_map_or (counts_at []) o no_more ≡ kept no_more
+none-at index t None = counts-same no_more (kept no_more) (omega arith) (omega arith)
+none-at index t (Some p) = counts-same no_more (kept no_more) (omega arith) (omega arith)
+
+pub untold : (index : Index) (n : ℕ) → told index (round_at [] n) ≡ (λ t. kept no_more)
+untold index zero = λ i t. none-at index t (place_of index t) i
+untold index (suc n) = λ i t. none-at index t (place_of index t) i
+
+vast-kept : (n : ℕ) → nat_lt most_numbered (kept_number n) ≡ nat_lt most_numbered n
+vast-kept n = grind (arith, nat_tests)
+
+-- many are many also where they are kept
+pub are-vast : (a c : Numbers) → a ≡ kept c → (nat_lt most_numbered a.signals || nat_lt most_numbered a.functions) ≡ are_vast c
+are-vast a c h =
+    ap (λ (z : Numbers). nat_lt most_numbered z.signals || nat_lt most_numbered z.functions) h
+    ∙ (λ i. vast-kept c.signals i || vast-kept c.functions i)

@@ -1,5 +1,5 @@
 -- Counts, and tables of the sizes of modules.
-use Rattle.std.specs.Prelude.{◌≡◌, ℕ, zero, suc, ◌-◌, ◌+◌, ◌^◌, ◌≤◌, min, Bool, true, false, ◌||◌, List, [], ◌∷◌, ◌++◌, map, fold, length, slice_get, if◌then◌else◌}
+use Rattle.std.specs.Prelude.{◌≡◌, ℕ, zero, suc, ◌-◌, ◌+◌, ◌^◌, ◌≤◌, nat_lt, min, Bool, true, false, ◌||◌, List, [], ◌∷◌, ◌++◌, map, fold, length, slice_get, if◌then◌else◌}
 use Rattle.std.specs.Option.{option_map_or}
 use Rattle.std.specs.Str.{bytes_eq}
 use Rattle.std.specs.declared.alloc.Global.{Global}
@@ -70,6 +70,18 @@ Grows index ms old new false = (new ≡ old) × (map counts_of (round_at old (le
 abbrev pub size_of : Sizes → ℕ → List ℕ → e.Counts
 size_of s n t = told s.index (round_at s.rounds.items n) t
 
--- the tables have what is kept of the sizes of these modules, up to the deepest level
+-- the tables have what is kept of these sizes, up to the deepest level
+abbrev pub Tells : Sizes → (ℕ → List ℕ → e.Counts) → Type 0
+Tells s sizes = (n : ℕ) → n ≤ 129 → size_of s n ≡ (λ t. kept (sizes n t))
+
+-- the tables have what is kept of the sizes of these modules
 abbrev pub IsSizes : Sizes → List x.Module → Type 0
-IsSizes s ms = (n : ℕ) → n ≤ 129 → size_of s n ≡ kept_size n ms
+IsSizes s ms = Tells s (λ n. e.size n ms)
+
+-- the most signals, and the most functions, that are numbered
+abbrev pub most_numbered : ℕ
+most_numbered = 2 ^ 30
+
+-- more are not
+abbrev pub are_vast : e.Counts → Bool
+are_vast c = nat_lt most_numbered c.signals || nat_lt most_numbered c.functions

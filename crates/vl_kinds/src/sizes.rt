@@ -13,6 +13,9 @@ use crate::own::{own_count, own_counts};
 use std::alloc::{AllocError, Global};
 use vl_items::items::{Instances, Item, Module};
 
+/// The most signals, and the most functions, that are numbered.
+const MOST_NUMBERED: u32 = 1073741824;
+
 /// The sizes of modules by depth.
 #[derive(Drop)]
 pub struct Sizes<'m> {
@@ -185,6 +188,15 @@ pub fn sizes_of(alloc: Global, modules: &[Module]) -> Result<Sizes<'_>, AllocErr
     Ok(Sizes { index, rounds })
 }
 
+/// Tables by which no module has any signal or function.
+pub fn no_sizes(alloc: Global, modules: &[Module]) -> Result<Sizes<'_>, AllocError>
+    ensures { IfOk result (λ s. spec.Tells s (λ n t. e.no_more)) }
+{
+    let index = index_of(alloc, modules)?;
+    let rounds = Vec::new(alloc);
+    Ok(Sizes { index, rounds })
+}
+
 /// The round for a depth.
 fn round_at(rounds: &[Vec<Counts>], depth: u8) -> &[Counts]
     ensures { result.now ≡ spec.round_at rounds.entry.now depth }
@@ -208,7 +220,7 @@ fn kept_size_at(sizes: &Sizes<'_>, depth: u8, name: &[u8]) -> Counts
 
 /// The size of a module of this name at a depth; want of memory from 2^32 - 1 on.
 pub fn size_at(sizes: &Sizes<'_>, depth: u8, name: &[u8]) -> Result<Counts, AllocError>
-    ensures { IfOk result (λ c. (ms : List x.Module) → spec.IsSizes sizes.now ms → depth ≤ 129 → spec.counts_of c ≡ e.size depth ms name.now) }
+    ensures { IfOk result (λ c. (told : ℕ → List ℕ → e.Counts) → spec.Tells sizes.now told → depth ≤ 129 → spec.counts_of c ≡ told depth name.now) }
 {
     Ok(exactly(kept_size_at(sizes, depth, name))?)
 }
@@ -220,10 +232,24 @@ pub fn instances_size(
     instances: &Instances,
 ) -> Result<Counts, AllocError>
     ensures table { IfOk result (λ c. spec.counts_of c ≡ e.item_counts (spec.size_of sizes.now depth) (x.Instantiates (seen_instances instances.now))) }
-    ensures modules { IfOk result (λ c. (ms : List x.Module) → spec.IsSizes sizes.now ms → depth ≤ 129 → spec.counts_of c ≡ e.item_counts (e.size depth ms) (x.Instantiates (seen_instances instances.now))) }
+    ensures modules { IfOk result (λ c. (told : ℕ → List ℕ → e.Counts) → spec.Tells sizes.now told → depth ≤ 129 → spec.counts_of c ≡ e.item_counts (told depth) (x.Instantiates (seen_instances instances.now))) }
 {
     let round = round_at(sizes.rounds.as_slice(), depth);
     Ok(exactly(instances_counts(&sizes.index, round, instances))?)
+}
+
+/// What is kept of how many signals and functions a module has with what is in it, where instances stand so deep in one another.
+fn kept_module_size(
+    alloc: Global,
+    sizes: &Sizes<'_>,
+    depth: u8,
+    m: &Module,
+) -> Result<Counts, AllocError>
+    ensures { IfOk result (λ c. (told : ℕ → List ℕ → e.Counts) → spec.Tells sizes.now told → depth ≤ 129 → spec.counts_of c ≡ spec.kept (e.module_counts (told depth) (seen_module m.now))) }
+{
+    let own = own_count(alloc, m)?;
+    let round = round_at(sizes.rounds.as_slice(), depth);
+    Ok(module_counts(&sizes.index, round, own, m))
 }
 
 /// How many signals and functions a module has with what is in it, where instances stand so deep in one another; want of
@@ -234,9 +260,23 @@ pub fn module_size(
     depth: u8,
     m: &Module,
 ) -> Result<Counts, AllocError>
-    ensures { IfOk result (λ c. (ms : List x.Module) → spec.IsSizes sizes.now ms → depth ≤ 129 → spec.counts_of c ≡ e.module_counts (e.size depth ms) (seen_module m.now)) }
+    ensures { IfOk result (λ c. (told : ℕ → List ℕ → e.Counts) → spec.Tells sizes.now told → depth ≤ 129 → spec.counts_of c ≡ e.module_counts (told depth) (seen_module m.now)) }
 {
-    let own = own_count(alloc, m)?;
-    let round = round_at(sizes.rounds.as_slice(), depth);
-    Ok(exactly(module_counts(&sizes.index, round, own, m))?)
+    let all = kept_module_size(alloc, sizes, depth, m)?;
+    Ok(exactly(all)?)
+}
+
+/// There are so many that they aren't numbered.
+fn are_many(all: Counts) -> bool
+    ensures { result ≡ spec.are_vast (spec.counts_of all) }
+{
+    all.signals > MOST_NUMBERED || all.functions > MOST_NUMBERED
+}
+
+/// A module has so many signals or functions with what is in it that they aren't numbered.
+pub fn is_vast(alloc: Global, sizes: &Sizes<'_>, depth: u8, m: &Module) -> Result<bool, AllocError>
+    ensures { IfOk result (λ r. (told : ℕ → List ℕ → e.Counts) → spec.Tells sizes.now told → depth ≤ 129 → r ≡ spec.are_vast (e.module_counts (told depth) (seen_module m.now))) }
+{
+    let all = kept_module_size(alloc, sizes, depth, m)?;
+    Ok(are_many(all))
 }

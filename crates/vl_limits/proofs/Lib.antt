@@ -7,3 +7,6 @@ pub mod Counting
 pub mod Alike
 pub mod Rounds
 pub mod Passing
+pub mod Climbing
+pub mod Settled
+pub mod Replacing

@@ -26,7 +26,7 @@ use Rattle.vl_header.specs.Rooms.{state_of}
 use Rattle.vl_header.proofs.Loops.{heads_of}
 use Rattle.vl_header.proofs.Zeros.{none-meets}
 use Rattle.vl_limits.specs.Bodies.{zeros_in, AreBodies, AreAdded}
-use Rattle.vl_limits.proofs.Alike.{Same, both, stm_alike}
+use Rattle.vl_limits.proofs.Alike.{Same, both, sames, stm_alike}
 use Rattle.vl_limits.proofs.Rounds.{capped, below, above, next-is}
 
 -- where no limit is passed the sums are within both
@@ -68,7 +68,7 @@ module _ (design : Design) (few many : List ℕ) (are : AreBodies (placed design
   statements-alike =
       let x = wide (statements deep) (rows ++ []) in
       sym (ap (λ z. min (most_statements + 1) z) (wide-is (statements deep)))
-      ∙ stm_alike (most_statements + 1) (suc x) 1 (most_statements + 1) 0 deep (λ i. slice_index few i) (statements deep) (λ f q. capped (most_statements + 1) (slice_index few f) (deep f) (are.few_statements f))
+      ∙ stm_alike (Same (most_statements + 1)) (sames (most_statements + 1)) (suc x) 1 (most_statements + 1) 0 deep (λ i. slice_index few i) (statements deep) (λ f q. capped (most_statements + 1) (slice_index few f) (deep f) (are.few_statements f))
       (rows ++ []) rows scope.names.funs [] scope.call (stm_of a.body) h (fresh (zeros (rows ++ []))) _ (none-meets design.signals []) (next-is x)
 
   nodes-alike : process_count d statements (process_of a) ≤ most_statements → Same (most_nodes + 1) (process_count d nodes (process_of a)) (bare (nodes (λ i. slice_index many i)))
@@ -77,7 +77,7 @@ module _ (design : Design) (few many : List ℕ) (are : AreBodies (placed design
       let x = wide (statements deep) (rows ++ []) in
       let i : x ≤ most_statements = subst (λ z. z ≤ most_statements) (sym (wide-is (statements deep))) k in
       sym (ap (λ z. min (most_nodes + 1) z) (wide-is (nodes deep')))
-      ∙ stm_alike (most_nodes + 1) (most_statements + 1) 0 0 1 deep' (λ i. slice_index many i) (statements deep) (λ f q. capped (most_nodes + 1) (slice_index many f) (deep' f) (are.few_nodes f (below most_statements (deep f) q)))
+      ∙ stm_alike (Same (most_nodes + 1)) (sames (most_nodes + 1)) (most_statements + 1) 0 0 1 deep' (λ i. slice_index many i) (statements deep) (λ f q. capped (most_nodes + 1) (slice_index many f) (deep' f) (are.few_nodes f (below most_statements (deep f) q)))
       (rows ++ []) rows scope.names.funs [] scope.call (stm_of a.body) h (fresh (zeros (rows ++ []))) _ (none-meets design.signals []) (above most_statements x i)
 
   -- what was counted of the process, behind a sum

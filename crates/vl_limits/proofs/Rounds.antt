@@ -23,7 +23,7 @@ use Rattle.vl_header.specs.Loops.{HasHeads}
 use Rattle.vl_header.proofs.Loops.{heads_of}
 use Rattle.vl_header.proofs.Zeros.{none-meets}
 use Rattle.vl_limits.specs.Bodies.{func_rows, alone_count, next_statements, next_nodes, AreBodies}
-use Rattle.vl_limits.proofs.Alike.{Same, stm_alike}
+use Rattle.vl_limits.proofs.Alike.{Same, sames, stm_alike}
 
 -- ---- the headers of functions
 
@@ -45,13 +45,13 @@ funcs_heads design u =
 not-more : (a x : ℕ) → x ≤ a → nat_lt a x ≡ false
 not-more a x h = grind (arith, nat_tests)
 
-few-if : (a x y : ℕ) → x ≤ a → (if nat_lt a x then 0 else y) ≡ y
+pub few-if : (a x y : ℕ) → x ≤ a → (if nat_lt a x then 0 else y) ≡ y
 few-if a x y h = ap (λ b. if b then 0 else y) (not-more a x h)
 
 pub capped : (cap x y : ℕ) → x ≡ min cap y → Same cap y x
 capped cap x y h = omega arith
 
-capped-few : (cap x y : ℕ) → x ≡ min (cap + 1) y → y ≤ cap → x ≤ cap
+pub capped-few : (cap x y : ℕ) → x ≡ min (cap + 1) y → y ≤ cap → x ≤ cap
 capped-few cap x y h k = omega arith
 
 pub below : (cap x : ℕ) → x < cap + 1 → x ≤ cap
@@ -81,7 +81,7 @@ module _ (design : Design) (n : ℕ) (few many : List ℕ) (are : AreBodies (pla
   statements-one g h =
       let deep = body_within statements scope d.funcs n in
       let x = body_of (statements deep) g in
-      sym (stm_alike (most_statements + 1) (suc x) 1 (most_statements + 1) 0 deep (λ i. slice_index few i) (statements deep) (λ f k. capped (most_statements + 1) (slice_index few f) (deep f) (are.few_statements f))
+      sym (stm_alike (Same (most_statements + 1)) (sames (most_statements + 1)) (suc x) 1 (most_statements + 1) 0 deep (λ i. slice_index few i) (statements deep) (λ f k. capped (most_statements + 1) (slice_index few f) (deep f) (are.few_statements f))
       (func_rows design.signals g) (map row_of design.signals) scope.names.funs [] scope.call (stm_of g.body) h (still (within g)) _ (none-meets design.signals g.locals) (next-is x))
 
   nodes-one : (g : Func) → HasHeads (func_rows design.signals g) (stm_of g.body) → body_of (statements (body_within statements scope d.funcs n)) g ≤ most_statements →
@@ -90,7 +90,7 @@ module _ (design : Design) (n : ℕ) (few many : List ℕ) (are : AreBodies (pla
       let deep = body_within statements scope d.funcs n in
       let all = body_within nodes scope d.funcs n in
       few-if most_statements (next_statements design.signals few g) _ (capped-few most_statements (next_statements design.signals few g) (body_of (statements deep) g) (statements-one g h) k)
-      ∙ sym (stm_alike (most_nodes + 1) (most_statements + 1) 0 0 1 all (λ i. slice_index many i) (statements deep) (λ f q. capped (most_nodes + 1) (slice_index many f) (all f) (are.few_nodes f (below most_statements (deep f) q)))
+      ∙ sym (stm_alike (Same (most_nodes + 1)) (sames (most_nodes + 1)) (most_statements + 1) 0 0 1 all (λ i. slice_index many i) (statements deep) (λ f q. capped (most_nodes + 1) (slice_index many f) (all f) (are.few_nodes f (below most_statements (deep f) q)))
       (func_rows design.signals g) (map row_of design.signals) scope.names.funs [] scope.call (stm_of g.body) h (still (within g)) _ (none-meets design.signals g.locals) (above most_statements _ k))
 
   statements-all : (gs : List Func) → AllByRecursion (λ g. HasHeads (func_rows design.signals g) (stm_of g.body)) gs → (f : ℕ) →

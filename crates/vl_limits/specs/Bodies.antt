@@ -1,5 +1,5 @@
 -- What the bodies of functions count, round by round: in each round calls nest one deeper.
-use Rattle.std.specs.Prelude.{◌≡◌, ◌≤◌, ℕ, ◌+◌, min, if◌then◌else◌, nat_lt, List, [], ◌++◌, map, slice_index}
+use Rattle.std.specs.Prelude.{◌≡◌, ◌≤◌, ℕ, zero, suc, ◌+◌, min, if◌then◌else◌, nat_lt, List, [], ◌++◌, map, slice_index}
 use Rattle.vl_design.specs.declared.design.Signal.{Signal}
 use Rattle.vl_design.specs.declared.design.Func.{Func}
 use Rattle.vl_design.specs.Functions.{scope_of}
@@ -42,3 +42,12 @@ pub record AreBodies (d : p.Design) (n : ℕ) (few many : List ℕ) : Type 0 whe
 pub record AreAdded (d : p.Design) (a : p.Process) (m n m' n' : ℕ) : Type 0 where
   pub few_statements : m' ≡ min (most_statements + 1) (m + process_count d statements a)
   pub few_nodes : m + process_count d statements a ≤ most_statements → n' ≡ min (most_nodes + 1) (n + process_count d nodes a)
+
+-- tables of what bodies count, each made of the one before
+abbrev pub rounds : (List ℕ → Func → ℕ) → List Func → ℕ → List ℕ
+rounds next funcs zero = []
+rounds next funcs (suc n) = map (next (rounds next funcs n)) funcs
+
+-- no entry of a table is greater than the other table's
+abbrev pub AtMost : List ℕ → List ℕ → Type 0
+AtMost a b = (f : ℕ) → slice_index a f ≤ slice_index b f

@@ -11,9 +11,11 @@ ghost use Rattle.vl_header.specs.Rooms.{rows_of, scope_of, state_of, zeros_of};
 ghost use Rattle.vl_limits.specs.Bodies.{func_rows, alone_count, next_statements, next_nodes, AreBodies};
 ghost use Rattle.vl_limits.specs.Tallies.{counted_of};
 
+use crate::passes::passed;
 use crate::statements::stm_sum;
 use crate::sums::Tally;
 use std::alloc::{AllocError, Global};
+use vl_call_order::order::call_order;
 use vl_design::design::{Design, Func, Signal, Stmt};
 use vl_header::room::{Room, zeros};
 
@@ -61,7 +63,7 @@ pub(crate) fn body_sum(
 }
 
 /// What a function's body counts.
-fn func_sum(
+pub(crate) fn func_sum(
     alloc: Global,
     tally: &Tally<'_>,
     signals: &[Signal],
@@ -78,7 +80,7 @@ fn func_sum(
 }
 
 /// What a function's body counts; nothing where it has too many statements.
-fn guarded_sum(
+pub(crate) fn guarded_sum(
     alloc: Global,
     tally: &Tally<'_>,
     signals: &[Signal],
@@ -136,8 +138,8 @@ fn is_same(a: &[u32], b: &[u32]) -> bool
     a == b
 }
 
-/// What the body of each function of a design counts.
-pub(crate) fn bodies_of(alloc: Global, design: &Design) -> Result<Bodies, AllocError>
+/// What the body of each function of a design counts, in rounds until nothing changes.
+fn rounds_of(alloc: Global, design: &Design) -> Result<Bodies, AllocError>
     requires { CanUnroll (flat_of design.now) }
     ensures { IfOk result (λ b. AreBodies (placed design.now) (length (placed design.now).funcs) b.statements.items b.nodes.items) }
 {
@@ -155,4 +157,20 @@ pub(crate) fn bodies_of(alloc: Global, design: &Design) -> Result<Bodies, AllocE
         all = next;
     }
     Ok(all)
+}
+
+/// What the body of each function of a design counts. If functions lead to no circle of calls, one pass finds it.
+pub(crate) fn bodies_of(alloc: Global, design: &Design) -> Result<Bodies, AllocError>
+    requires { CanUnroll (flat_of design.now) }
+    ensures { IfOk result (λ b. AreBodies (placed design.now) (length (placed design.now).funcs) b.statements.items b.nodes.items) }
+{
+    let signals = design.signals.as_slice();
+    let funcs = design.funcs.as_slice();
+    let order = call_order(alloc, funcs)?;
+    let all = passed(alloc, signals, funcs, order.as_slice())?;
+    let next = next_bodies(alloc, signals, funcs, &all)?;
+    if is_same(&next.statements, &all.statements) && is_same(&next.nodes, &all.nodes) {
+        return Ok(all);
+    }
+    rounds_of(alloc, design)
 }

@@ -7,6 +7,7 @@ mod displays;
 mod expressions;
 pub mod formats;
 pub mod limits;
+mod passes;
 mod statements;
 mod sums;
 pub mod tasks;

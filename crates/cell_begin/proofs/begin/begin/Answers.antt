@@ -1,4 +1,4 @@
-use Rattle.std.proofs.Common.{◌≡◌, ◌+◌, length, sym, ap, ◌∙◌, arith}
+use Rattle.std.proofs.Common.{◌+◌, arith}
 use Rattle.vl_design.specs.State.{sample}
 use Rattle.vl_design.specs.Trees.{flat_of}
 use Rattle.vl_design.specs.Width.{names_of}
@@ -8,6 +8,7 @@ use Rattle.cell_form.specs.Views.{list_of}
 use Rattle.cell_steps.proofs.Frames.{longer-then, longer-weaken}
 use Rattle.cell_paths.specs.Envs.{env_of, HasMemories}
 use Rattle.cell_paths.proofs.Staying.{sound-behind}
+use Rattle.cell_reads.specs.Entries.{read_count}
 use Rattle.cell_reads.specs.Reads.{HasPlaces}
 use Rattle.cell_nets.specs.Passes.{pass_count}
 use Rattle.cell_begin.specs.Begins.{HasCopies}
@@ -29,7 +30,7 @@ returns-clause-longer c =
     let works = c.args.works.now in
     let time = c.args.time in
     let answer = c.args.answer in
-    let n = length c.args.design.now.signals + 4 in
+    let n = read_count d.rows + 4 in
     let m = pass_count d c.args.order.now in
     let l0 = list_of c.args.cells.now in
     let l1 = list_of c.reads.new.cells in
@@ -61,7 +62,7 @@ returns-clause-stands c =
     let p = c.in_ok-pass.ensures.passes in
     let j = rw c.as_slice.ensures at c.join.ensures in
     λ files z b t w x sound alive first second mix.
-    let one = sound-reads names c.args.values.now c.args.time c.args.answer (length c.args.design.now.signals + 4) z l0 l1 c.in_ok-nets.ensures.longer sound in
+    let one = sound-reads names c.args.values.now c.args.time c.args.answer (read_count d.rows + 4) z l0 l1 c.in_ok-nets.ensures.longer sound in
     let two = sound-behind names nets (pass_count d order) one.shape l1 l2 p.longer one.sound in
     let st1 = c.in_ok-nets.ensures.stands z b (sample t) sound first in
     let st2 = p.stands files one.shape b t one.sound alive st1 in

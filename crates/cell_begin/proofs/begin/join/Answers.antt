@@ -1,5 +1,4 @@
-use Rattle.std.proofs.Common.{◌≡◌, ◌+◌, length, map, get_or, sym, ap, ◌∙◌, refl, None, arith, subst}
-use Rattle.std.specs.Prelude.{if◌then◌else◌}
+use Rattle.std.proofs.Common.{◌≡◌, map, get_or, ◌∙◌, refl, None, arith}
 use Rattle.std.proofs.lemmas.List.{length-map, get_or_default}
 use Rattle.vl_design.specs.Trees.{row_of}
 use Rattle.cell_paths.specs.Envs.{env_of}

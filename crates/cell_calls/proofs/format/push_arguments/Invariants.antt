@@ -7,7 +7,7 @@ use Rattle.vl_design.specs.Width.{names_of}
 use Rattle.cell_form.specs.Views.{list_of}
 use Rattle.cell_steps.specs.Slots.{Grows}
 use Rattle.cell_paths.specs.Envs.{env_of}
-use Rattle.ten_calls.specs.Asked.{shown}
+use Rattle.ten_traps.specs.Asked.{shown}
 use Rattle.cell_calls.specs.Displays.{IsReady, Walked}
 use Rattle.cell_calls.proofs.format.push_arguments.Given as goal
 

@@ -2,4 +2,4 @@ use Rattle.cell_cost.proofs.Bits.{registers-within}
 use Rattle.cell_cost.proofs.laws.registers_are_within_cost.Goals as goal
 
 pub returns : goal.returns
-returns c = λ d. registers-within d
+returns c = λ d variables. registers-within d variables

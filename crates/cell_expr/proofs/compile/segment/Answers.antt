@@ -11,7 +11,7 @@ use Rattle.cell_paths.specs.Envs.{env_of}
 use Rattle.cell_later.specs.Pendings.{slots_of, memories_of}
 use Rattle.cell_expr.specs.Bodies.{IsSegment, IsAny, CanWait}
 use Rattle.cell_expr.specs.Counts.{body_cells}
-use Rattle.cell_expr.specs.Stored.{stored_words}
+use Rattle.vl_stored.specs.Stored.{stored_words}
 use Rattle.cell_expr.proofs.Outside.{statement-outside, pending-outside, outer-scope, outer-body, outer-compiled}
 use Rattle.cell_expr.proofs.Nets.{any-path, segment-apart, segment-weaker}
 use Rattle.cell_expr.proofs.compile.segment.Goals as goal

@@ -2,7 +2,7 @@ use Rattle.std.proofs.Common.{◌+◌, ◌<◌, sym, map, length, arith, subst, 
 use Rattle.std.proofs.lemmas.List.{length-map}
 use Rattle.vl_design.specs.Trees.{row_of}
 use Rattle.cell_form.specs.Views.{list_of}
-use Rattle.cell_reads.proofs.Reading.{Entered, row-at, entered-more, entered-all}
+use Rattle.cell_reads.proofs.Reading.{Entered, row-at, entered-more, entered-longer, entered-all}
 use Rattle.cell_reads.proofs.reads.entries.Goals as goal
 
 pub loop-number-preserved : goal.loop-number-preserved
@@ -24,3 +24,9 @@ returns-clause-reads c =
     let signals = c.args.signals.now in
     let long = length-map signals row_of in
     entered-all (map row_of signals) c.args.places.now c.loop-number.number (list_of c.args.cells.now) (list_of c.loop-number.cells) c.loop-number.entries.items (omega arith) c.loop-number.invariant
+
+pub returns-clause-longer : goal.returns-clause-longer
+returns-clause-longer c =
+    let signals = c.args.signals.now in
+    let long = length-map signals row_of in
+    entered-longer (map row_of signals) c.args.places.now c.loop-number.number (list_of c.args.cells.now) (list_of c.loop-number.cells) c.loop-number.entries.items (omega arith) c.loop-number.invariant

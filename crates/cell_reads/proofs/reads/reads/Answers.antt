@@ -1,6 +1,4 @@
-use Rattle.std.proofs.Common.{sym}
-use Rattle.std.proofs.lemmas.List.{length-map}
-use Rattle.vl_design.specs.Trees.{row_of, flat_of}
+use Rattle.vl_design.specs.Trees.{flat_of}
 use Rattle.vl_design.specs.Width.{names_of}
 use Rattle.cell_form.specs.Views.{list_of}
 use Rattle.cell_steps.proofs.Frames.{grows-then}
@@ -20,20 +18,20 @@ returns-clause-grows c =
 
 pub returns-clause-longer : goal.returns-clause-longer
 returns-clause-longer c =
-    all-longer (names_of (flat_of c.args.design.now)) c.args.places.now c.args.time c.args.answer _ _ _ _ _ _ _ c.in_ok-here.here c.in_ok-away.away c.in_ok-ticks.ticks c.in_ok-last.last c.in_ok-slots.slots.items (sym (length-map c.args.design.now.signals row_of))
+    all-longer (names_of (flat_of c.args.design.now)) c.args.places.now c.args.time c.args.answer _ _ _ _ _ _ _ c.in_ok-here.here c.in_ok-away.away c.in_ok-ticks.ticks c.in_ok-last.last c.in_ok-slots.slots.items
     c.in_ok-here.ensures.gives c.in_ok-away.ensures.gives c.in_ok-ticks.ensures.gives c.in_ok-last.ensures.gives (longer-of _ _ _ _ _ c.as_slice.ensures c.in_ok-slots.ensures.longer) (reads-of _ _ _ _ _ c.as_slice.ensures c.in_ok-slots.ensures.reads)
 
 pub returns-clause-fits : goal.returns-clause-fits
 returns-clause-fits c =
-    all-fits (names_of (flat_of c.args.design.now)) c.args.places.now c.args.time c.args.answer _ _ _ _ _ _ _ c.in_ok-here.here c.in_ok-away.away c.in_ok-ticks.ticks c.in_ok-last.last c.in_ok-slots.slots.items (sym (length-map c.args.design.now.signals row_of))
+    all-fits (names_of (flat_of c.args.design.now)) c.args.places.now c.args.time c.args.answer _ _ _ _ _ _ _ c.in_ok-here.here c.in_ok-away.away c.in_ok-ticks.ticks c.in_ok-last.last c.in_ok-slots.slots.items
     c.in_ok-here.ensures.gives c.in_ok-away.ensures.gives c.in_ok-ticks.ensures.gives c.in_ok-last.ensures.gives (longer-of _ _ _ _ _ c.as_slice.ensures c.in_ok-slots.ensures.longer) (reads-of _ _ _ _ _ c.as_slice.ensures c.in_ok-slots.ensures.reads)
 
 pub returns-clause-memories : goal.returns-clause-memories
 returns-clause-memories c =
-    all-memories (names_of (flat_of c.args.design.now)) c.args.places.now c.args.time c.args.answer _ _ _ _ _ _ _ c.in_ok-here.here c.in_ok-away.away c.in_ok-ticks.ticks c.in_ok-last.last c.in_ok-slots.slots.items (sym (length-map c.args.design.now.signals row_of))
+    all-memories (names_of (flat_of c.args.design.now)) c.args.places.now c.args.time c.args.answer _ _ _ _ _ _ _ c.in_ok-here.here c.in_ok-away.away c.in_ok-ticks.ticks c.in_ok-last.last c.in_ok-slots.slots.items
     c.in_ok-here.ensures.gives c.in_ok-away.ensures.gives c.in_ok-ticks.ensures.gives c.in_ok-last.ensures.gives (longer-of _ _ _ _ _ c.as_slice.ensures c.in_ok-slots.ensures.longer) (reads-of _ _ _ _ _ c.as_slice.ensures c.in_ok-slots.ensures.reads)
 
 pub returns-clause-stands : goal.returns-clause-stands
 returns-clause-stands c =
-    all-stands (names_of (flat_of c.args.design.now)) c.args.places.now c.args.time c.args.answer _ _ _ _ _ _ _ c.in_ok-here.here c.in_ok-away.away c.in_ok-ticks.ticks c.in_ok-last.last c.in_ok-slots.slots.items (sym (length-map c.args.design.now.signals row_of))
+    all-stands (names_of (flat_of c.args.design.now)) c.args.places.now c.args.time c.args.answer _ _ _ _ _ _ _ c.in_ok-here.here c.in_ok-away.away c.in_ok-ticks.ticks c.in_ok-last.last c.in_ok-slots.slots.items
     c.in_ok-here.ensures.gives c.in_ok-away.ensures.gives c.in_ok-ticks.ensures.gives c.in_ok-last.ensures.gives (longer-of _ _ _ _ _ c.as_slice.ensures c.in_ok-slots.ensures.longer) (reads-of _ _ _ _ _ c.as_slice.ensures c.in_ok-slots.ensures.reads)

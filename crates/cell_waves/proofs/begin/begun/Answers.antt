@@ -1,10 +1,11 @@
-use Rattle.std.proofs.Common.{◌≡◌, List, length, ap, ◌∙◌, arith}
+use Rattle.std.proofs.Common.{◌≡◌, List, length, map, ap, ◌∙◌, arith}
 use Rattle.std.proofs.lemmas.List.{length-map}
 use Rattle.vl_design.specs.declared.design.Signal.{Signal}
 use Rattle.vl_design.specs.Trees.{flat_of, row_of}
 use Rattle.cell_form.specs.Views.{list_of}
 use Rattle.cell_steps.proofs.Frames.{grows-then}
 use Rattle.cell_paths.specs.Envs.{env_of}
+use Rattle.cell_reads.specs.Entries.{read_count}
 use Rattle.cell_later.specs.Pendings.{slots_of}
 use Rattle.cell_waves.proofs.Placing.{places-of, places-many, copies-of}
 use Rattle.cell_waves.proofs.Starting.{begins}
@@ -39,9 +40,10 @@ returns-clause-begins c =
     let e = c.in_ok-pending.ensures in
     let long = length-map xs row_of in
     let size = ap (λ (ys : List Signal). length ys) same in
+    let reads = ap (λ (ys : List Signal). read_count (map row_of ys)) same in
     let many : length signals ≡ length d.rows = omega (arith, long, size) in
     let is-vs = places-of xs signals c.as_slice.result.now 3 same (c.as_slice.ensures.value ∙ c.in_ok-values.ensures) in
     let is-ws = places-of xs signals c.as_slice-2.result.now 4 same (c.as_slice-2.ensures.value ∙ c.in_ok-works.ensures) in
     begins d c.args.order.now old l1 l2 (env_of c.in_ok-at.at) (length signals) _ _ (slots_of p) e.sites many c.in_ok-at.ensures.first c.in_ok-at.ensures.fits
     e.longer (copies-of xs signals 5 l2 p.update.items same e.update) (copies-of xs signals 6 l2 p.mask.items same e.mask)
-    c.as_slice.result.now c.as_slice-2.result.now is-vs is-ws c.in_ok-at.ensures.longer c.in_ok-at.ensures.memories c.in_ok-at.ensures.stands (omega (arith, long, size))
+    c.as_slice.result.now c.as_slice-2.result.now is-vs is-ws c.in_ok-at.ensures.longer c.in_ok-at.ensures.memories c.in_ok-at.ensures.stands (omega (arith, reads))

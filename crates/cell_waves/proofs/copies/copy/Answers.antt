@@ -4,6 +4,6 @@ use Rattle.cell_reads.proofs.Reading.{copy-gives}
 use Rattle.cell_waves.proofs.copies.copy.Goals as goal
 
 pub returns-in_ok-slot-in-Some-clause-copies : goal.returns-in_ok-slot-in-Some-clause-copies
-returns-in_ok-slot-in-Some-clause-copies c v w =
+returns-in_ok-slot-in-Some-clause-copies c v o w =
     copy-gives (list_of c.args.cells.now) (list_of c.register.new.cells) c.in-Some.width (row_of c.args.signal.now).width c.args.register c.in_ok-slot-in-Some.slot
     c.in-Some.ensures.within.0 c.in_ok-slot-in-Some.ensures.gives

@@ -2,6 +2,7 @@ use Rattle.std.proofs.Common.{length, map}
 use Rattle.vl_design.specs.Trees.{row_of}
 use Rattle.cell_form.specs.Views.{list_of}
 use Rattle.cell_steps.proofs.Frames.{grows-then, longer-then}
+use Rattle.cell_reads.specs.Entries.{read_count}
 use Rattle.cell_waves.specs.Copies.{HasSignals}
 use Rattle.cell_waves.proofs.Copying.{copies-stay}
 use Rattle.cell_waves.proofs.copies.pending.Goals as goal
@@ -12,8 +13,8 @@ returns-clause-grows c =
 
 pub returns-clause-longer : goal.returns-clause-longer
 returns-clause-longer c =
-    let n = length c.args.signals.now in
-    longer-then (HasSignals n) n n (list_of c.args.cells.now) (list_of c.copies.new.cells) (list_of c.copies-2.new.cells) c.in_ok-update.ensures.longer c.in_ok-mask.ensures.longer
+    let n = read_count (map row_of c.args.signals.now) in
+    longer-then (HasSignals (length c.args.signals.now)) n n (list_of c.args.cells.now) (list_of c.copies.new.cells) (list_of c.copies-2.new.cells) c.in_ok-update.ensures.longer c.in_ok-mask.ensures.longer
 
 pub returns-clause-update : goal.returns-clause-update
 returns-clause-update c =

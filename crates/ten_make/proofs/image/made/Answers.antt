@@ -26,4 +26,4 @@ returns-clause-image c image design-is order-is table-is begins-at slots-are sto
 pub returns-clause-within : goal.returns-clause-within
 returns-clause-within c image table-is ports-are =
     let d = flat_of c.args.design.now in
-    within d c.args.order.now c.in_ok-states.states c.in_ok-ports.ports image c.requires c.registers_are_within_cost.ensures c.nodes_are_within_cost.ensures (c.calls_of_a_table_stand_apart.ensures.paired d) c.in_ok-ports.ensures.ports c.in_ok-states.ensures.states c.in_ok-states.ensures.few c.in_ok-states.ensures.narrow table-is ports-are
+    within d c.args.order.now c.in_ok-states.states c.in_ok-ports.ports image c.requires (c.a_tenants_design_delays_variables.ensures d c.args.order.now c.requires) c.registers_are_within_cost.ensures c.nodes_are_within_cost.ensures (c.calls_of_a_table_stand_apart.ensures.paired d) c.in_ok-ports.ensures.ports c.in_ok-states.ensures.states c.in_ok-states.ensures.few c.in_ok-states.ensures.narrow table-is ports-are

@@ -1,6 +1,6 @@
 use Rattle.std.proofs.Common.{◌≡◌, [], drop}
 use Rattle.std.specs.Prelude.{◌++◌}
-use Rattle.cell_expr.specs.Stored.{stored_words, items_stored, default_stored}
+use Rattle.vl_stored.specs.Stored.{stored_words, items_stored, default_stored}
 use Rattle.vl_design.specs.Trees.{then_of}
 use Rattle.sub_split.specs.Items.{items_of}
 use Rattle.ten_stores.proofs.memories.+statements.Given as goal

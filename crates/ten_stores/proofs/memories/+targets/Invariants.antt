@@ -1,6 +1,6 @@
 use Rattle.std.proofs.Common.{◌≡◌, drop}
 use Rattle.std.specs.Prelude.{◌++◌}
-use Rattle.cell_expr.specs.Stored.{targets_stored}
+use Rattle.vl_stored.specs.Stored.{targets_stored}
 use Rattle.vl_design.specs.Plainly as plain
 use Rattle.vl_sites.specs.Lists.{targets_of}
 use Rattle.ten_stores.proofs.memories.+targets.Given as goal

@@ -1,5 +1,5 @@
 use Rattle.std.proofs.Common.{◌≡◌, ◌++◌, ℕ, List, OnOk, subst, sym, ap, ◌∙◌}
-use Rattle.cell_expr.specs.Stored.{stored_words}
+use Rattle.vl_stored.specs.Stored.{stored_words}
 use Rattle.sub_split.specs.Views.{piece_view}
 use Rattle.ten_stores.proofs.Naming.{any-path}
 use Rattle.ten_stores.proofs.memories.piece.Goals as goal

@@ -10,7 +10,7 @@ use Rattle.vl_kinds.specs.Sized.{counts_of}
 use Rattle.vl_kinds.specs.Places.{IsPlaceOf}
 use Rattle.vl_flatten.specs.Standing.{seen_here}
 use Rattle.vl_flatten.specs.Growing.{Grows, Stops, Adds}
-use Rattle.vl_flatten.specs.Libraries.{modules_of}
+use Rattle.vl_flatten.specs.Libraries.{modules_of, sizes_in, instance_in}
 use Rattle.vl_flat.specs.Connections as k
 use Rattle.vl_flat.specs.Functions.{dotted}
 use Rattle.vl_constant.specs.Seen.{look}
@@ -28,8 +28,8 @@ use Rattle.vl_flatten.proofs.instances.+instance.Goals as goal
 pub add_items-loop-item-preserved : goal.add_items-loop-item-preserved
 add_items-loop-item-preserved t c = λ g same.
     let ms = modules_of c.args.library.now in
-    let inner = f.instance c.args.depth ms in
-    let sizes = e.size c.args.depth ms in
+    let inner = instance_in c.args.library.now c.args.depth in
+    let sizes = sizes_in c.args.library.now c.args.depth in
     let here = seen_here c.args.here in
     let item = c.item-item.result in
     let next = counts_of c.loop-item.next in
@@ -47,8 +47,8 @@ add_items-loop-item-preserved t c = λ g same.
 pub add_items-returns-in_err-next : goal.add_items-returns-in_err-next
 add_items-returns-in_err-next t c = λ g same.
     let ms = modules_of c.args.library.now in
-    let inner = f.instance c.args.depth ms in
-    let sizes = e.size c.args.depth ms in
+    let inner = instance_in c.args.library.now c.args.depth in
+    let sizes = sizes_in c.args.library.now c.args.depth in
     let here = seen_here c.args.here in
     let item = c.item-item.result in
     let next = counts_of c.loop-item.next in
@@ -67,7 +67,7 @@ add_items-returns-in_err-next t c = λ g same.
 
 pub add_units-loop-unit-preserved : goal.add_units-loop-unit-preserved
 add_units-loop-unit-preserved t c = λ m there.
-    let inner = f.instance c.args.depth (modules_of c.args.library.now) in
+    let inner = instance_in c.args.library.now c.args.depth in
     let here = seen_here c.args.here in
     let us = seen_instances c.args.instances.now in
     let size = counts_of c.args.size in
@@ -86,7 +86,7 @@ add_units-loop-unit-preserved t c = λ m there.
 
 pub add_units-returns-in_err-add_instance : goal.add_units-returns-in_err-add_instance
 add_units-returns-in_err-add_instance t c = λ m there.
-    let inner = f.instance c.args.depth (modules_of c.args.library.now) in
+    let inner = instance_in c.args.library.now c.args.depth in
     let here = seen_here c.args.here in
     let us = seen_instances c.args.instances.now in
     let size = counts_of c.args.size in
@@ -109,7 +109,7 @@ add_units-returns-in_err-add_instance t c = λ m there.
 pub add_instance-returns-then-depth-eq0 : goal.add_instance-returns-then-depth-eq0
 add_instance-returns-then-depth-eq0 t c = λ m there.
     subst (Grows c.args.making.now c.args.making.now)
-    (sym (no-level c.args.depth (modules_of c.args.library.now) (seen_here c.args.above) (counts_of c.args.base) (seen_instances c.args.instances.now) (seen_unit c.args.unit.now) m c.if-depth-eq0.true))
+    (sym (no-level (sizes_in c.args.library.now) c.args.depth (modules_of c.args.library.now) (seen_here c.args.above) (counts_of c.args.base) (seen_instances c.args.instances.now) (seen_unit c.args.unit.now) m c.if-depth-eq0.true))
     (grows-nothing c.args.making.now)
 
 pub add_instance-returns-in_err-begin : goal.add_instance-returns-in_err-begin
@@ -123,7 +123,7 @@ add_instance-returns-in_err-begin t c = λ m there.
     let at-path = sym (c.as_slice-2.ensures ∙ (c.in_ok-path.ensures ∙ ap (dotted here.path) c.as_slice.ensures)) in
     let stop = c.in_err-begin.field-0.0 in
     handed-on c.from_residual-in_err-begin.result stop c.args.making.now _ _ c.from_residual-in_err-begin.ensures (λ e h. h)
-    (subst (Stops stop c.args.making.now.totals) (sym (one-level c.args.depth ms here base us u m c.if-depth-eq0.false))
+    (subst (Stops stop c.args.making.now.totals) (sym (one-level (sizes_in c.args.library.now) c.args.depth ms here base us u m c.if-depth-eq0.false))
     (stops-left stop c.args.making.now.totals (f.beginning here.env g us ∷ []) _ (c.in_err-begin.ensures g at-path)))
 
 pub add_instance-returns : goal.add_instance-returns
@@ -136,10 +136,10 @@ add_instance-returns t c = λ m there.
     let g = k.given here base us u m in
     let named = c.in_ok-path.ensures ∙ ap (dotted here.path) c.as_slice.ensures in
     let beg = f.beginning here.env g us ∷ [] in
-    let rest = contents (c.args.depth - 1) ms here base us u m in
+    let rest = contents (sizes_in c.args.library.now) (c.args.depth - 1) ms here base us u m in
     let begun = done-more c.args.making.now c.args.making.now c.begin.new.making (beg ++ rest) beg rest
     (done-start c.args.making.now (beg ++ rest)) (c.in_ok-begin.ensures g (sym (c.as_slice-2.ensures ∙ named))) in
-    subst (λ z. Adds c.args.making.now c.add_inside.new.making z c.add_inside.result) (sym (one-level c.args.depth ms here base us u m c.if-depth-eq0.false))
+    subst (λ z. Adds c.args.making.now c.add_inside.new.making z c.add_inside.result) (sym (one-level (sizes_in c.args.library.now) c.args.depth ms here base us u m c.if-depth-eq0.false))
     (done-last c.args.making.now c.begin.new.making c.add_inside.new.making (beg ++ rest) rest c.add_inside.result begun (c.add_inside.ensures m there (c.as_slice-3.ensures ∙ named)))
 
 pub add_inside-returns : goal.add_inside-returns
@@ -157,9 +157,9 @@ add_contents-returns-in_err-add_inputs t c = λ m us there named known.
     let base = counts_of c.args.base in
     let n = c.args.depth in
     let own = look c.args.inside.now.names in
-    let env = names_in n ms here base us u m in
+    let env = names_in (sizes_in c.args.library.now) n here base us u m in
     let ins = flat_map (λ t. f.input_part here env m u t.name) m.ports in
-    let bod = f.body (f.instance n ms) (e.size n ms) ms here.behind env (k.given here base us u m) m in
+    let bod = f.body (instance_in c.args.library.now n) (sizes_in c.args.library.now n) ms here.behind env (k.given here base us u m) m in
     let outs = flat_map (λ t. f.output_part here env m u t.name) m.ports in
     let facts-are = c.roles_at-roles.ensures m there in
     let stop = c.in_err-add_inputs.field-0.0 in
@@ -178,10 +178,10 @@ add_contents-returns-in_err-add_items t c = λ m us there named known.
     let base = counts_of c.args.base in
     let n = c.args.depth in
     let own = look c.args.inside.now.names in
-    let env = names_in n ms here base us u m in
+    let env = names_in (sizes_in c.args.library.now) n here base us u m in
     let g = k.given here base us u m in
     let ins = flat_map (λ t. f.input_part here env m u t.name) m.ports in
-    let bod = f.body (f.instance n ms) (e.size n ms) ms here.behind env g m in
+    let bod = f.body (instance_in c.args.library.now n) (sizes_in c.args.library.now n) ms here.behind env g m in
     let outs = flat_map (λ t. f.output_part here env m u t.name) m.ports in
     let whole = ins ++ (bod ++ outs) in
     let facts-are = c.roles_at-roles.ensures m there in
@@ -195,7 +195,7 @@ add_contents-returns-in_err-add_items t c = λ m us there named known.
       ports = record { ref_ptr = c.args.unit.ref_ptr; now = c.args.inside.now.ports };
     } in
     let same = ap (λ z. z.overrides) (sym (given-same here base us u m around refl known.overrides known.ports)) in
-    let parts = f.items_parts (f.instance n ms) (e.size n ms) ms in
+    let parts = f.items_parts (instance_in c.args.library.now n) (sizes_in c.args.library.now n) ms in
     let items = ap (λ z. parts (record { env = z; path = c.args.path.now; behind = here.behind }) g base (map seen_item c.as_slice-2.result.now)) known.names
     ∙ (ap (λ z. parts (record { env = env; path = z; behind = here.behind }) g base (map seen_item c.as_slice-2.result.now)) named
     ∙ ap (λ z. parts (record { env = env; path = g.path; behind = here.behind }) g base z) (ap (map seen_item) c.as_slice-2.ensures.value ∙ ap (λ z. z.items) is)) in
@@ -213,10 +213,10 @@ add_contents-returns t c = λ m us there named known.
     let base = counts_of c.args.base in
     let n = c.args.depth in
     let own = look c.args.inside.now.names in
-    let env = names_in n ms here base us u m in
+    let env = names_in (sizes_in c.args.library.now) n here base us u m in
     let g = k.given here base us u m in
     let ins = flat_map (λ t. f.input_part here env m u t.name) m.ports in
-    let bod = f.body (f.instance n ms) (e.size n ms) ms here.behind env g m in
+    let bod = f.body (instance_in c.args.library.now n) (sizes_in c.args.library.now n) ms here.behind env g m in
     let outs = flat_map (λ t. f.output_part here env m u t.name) m.ports in
     let whole = ins ++ (bod ++ outs) in
     let facts-are = c.roles_at-roles.ensures m there in
@@ -230,7 +230,7 @@ add_contents-returns t c = λ m us there named known.
       ports = record { ref_ptr = c.args.unit.ref_ptr; now = c.args.inside.now.ports };
     } in
     let same = ap (λ z. z.overrides) (sym (given-same here base us u m around refl known.overrides known.ports)) in
-    let parts = f.items_parts (f.instance n ms) (e.size n ms) ms in
+    let parts = f.items_parts (instance_in c.args.library.now n) (sizes_in c.args.library.now n) ms in
     let items = ap (λ z. parts (record { env = z; path = c.args.path.now; behind = here.behind }) g base (map seen_item c.as_slice-2.result.now)) known.names
     ∙ (ap (λ z. parts (record { env = env; path = z; behind = here.behind }) g base (map seen_item c.as_slice-2.result.now)) named
     ∙ ap (λ z. parts (record { env = env; path = g.path; behind = here.behind }) g base z) (ap (map seen_item) c.as_slice-2.ensures.value ∙ ap (λ z. z.items) is)) in
@@ -244,15 +244,15 @@ add_contents-returns t c = λ m us there named known.
 pub add_instances-returns-in_ok-size-in-Some : goal.add_instances-returns-in_ok-size-in-Some
 add_instances-returns-in_ok-size-in-Some t c = λ g.
     let ms = modules_of c.args.library.now in
-    let inner = f.instance c.args.depth ms in
-    let sizes = e.size c.args.depth ms in
+    let inner = instance_in c.args.library.now c.args.depth in
+    let sizes = sizes_in c.args.library.now c.args.depth in
     let here = seen_here c.args.here in
     let us = seen_instances c.args.instances.now in
     let next = counts_of c.args.next in
     let place = subst (IsPlaceOf ms c.as_slice-name.result.now) c.in-Some.is (c.module_at.ensures.module ms c.requires.library.index) in
     let there = named-there ms c.as_slice-name.result.now c.in-Some.number place in
     let called = ap (λ t. module_named ms t) (sym c.as_slice-name.ensures) ∙ there.named in
-    let size = c.in_ok-size-in-Some.ensures ms c.requires.library.sizes (omega (arith, c.requires.depth)) ∙ ap sizes c.as_slice-name.ensures in
+    let size = c.in_ok-size-in-Some.ensures (sizes_in c.args.library.now) c.requires.library.sizes (omega (arith, c.requires.depth)) ∙ ap sizes c.as_slice-name.ensures in
     subst (λ o. Adds c.args.making.now c.add_units.new.making (option_map_or (λ m. f.instances inner here next us m (sizes us.definition) us.units) o []) c.add_units.result) (sym called)
     (subst (λ z. Adds c.args.making.now c.add_units.new.making (f.instances inner here next us there.found z us.units) c.add_units.result) size
     (c.add_units.ensures there.found there.at))
@@ -262,8 +262,8 @@ add_instances-returns-in_ok-size-in-Some t c = λ g.
 pub add_parts-returns-in_err-add_instances-in-Some-clause-adds : goal.add_parts-returns-in_err-add_instances-in-Some-clause-adds
 add_parts-returns-in_err-add_instances-in-Some-clause-adds t c = λ g same.
     let ms = modules_of c.args.library.now in
-    let inner = f.instance c.args.depth ms in
-    let sizes = e.size c.args.depth ms in
+    let inner = instance_in c.args.library.now c.args.depth in
+    let sizes = sizes_in c.args.library.now c.args.depth in
     let here = seen_here c.args.here in
     let next = counts_of c.args.next in
     let stop = c.in_err-add_instances-in-Some.field-0.0 in
@@ -273,8 +273,8 @@ add_parts-returns-in_err-add_instances-in-Some-clause-adds t c = λ g same.
 pub add_parts-returns-in_ok-behind_instances-in-Some-clause-adds : goal.add_parts-returns-in_ok-behind_instances-in-Some-clause-adds
 add_parts-returns-in_ok-behind_instances-in-Some-clause-adds t c = λ g same.
     let ms = modules_of c.args.library.now in
-    let inner = f.instance c.args.depth ms in
-    let sizes = e.size c.args.depth ms in
+    let inner = instance_in c.args.library.now c.args.depth in
+    let sizes = sizes_in c.args.library.now c.args.depth in
     let here = seen_here c.args.here in
     let next = counts_of c.args.next in
     subst (λ z. Grows c.args.making.now c.add_instances.new.making (f.item_parts inner sizes ms here g next z)) (sym (ap seen_item c.in-Some.ensures.some))
@@ -283,8 +283,8 @@ add_parts-returns-in_ok-behind_instances-in-Some-clause-adds t c = λ g same.
 pub add_parts-returns-in-None-clause-adds : goal.add_parts-returns-in-None-clause-adds
 add_parts-returns-in-None-clause-adds t c = λ g same.
     let ms = modules_of c.args.library.now in
-    let inner = f.instance c.args.depth ms in
-    let sizes = e.size c.args.depth ms in
+    let inner = instance_in c.args.library.now c.args.depth in
+    let sizes = sizes_in c.args.library.now c.args.depth in
     let here = seen_here c.args.here in
     let next = counts_of c.args.next in
     subst (λ z. Adds c.args.making.now c.add_own.new.making z c.add_own.result) (sym (own-part inner sizes ms here g next (seen_item c.args.item.now) c.in-None.ensures.none))

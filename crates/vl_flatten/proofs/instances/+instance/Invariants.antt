@@ -7,7 +7,7 @@ use Rattle.vl_items.specs.SeenItems.{seen_item, seen_unit, seen_instances}
 use Rattle.vl_kinds.specs.Sized.{counts_of}
 use Rattle.vl_instance.specs.Given.{overrides_of}
 use Rattle.vl_flatten.specs.Standing.{seen_here}
-use Rattle.vl_flatten.specs.Libraries.{modules_of}
+use Rattle.vl_flatten.specs.Libraries.{modules_of, sizes_in, instance_in}
 use Rattle.vl_flatten.proofs.Growth.{Done}
 use Rattle.vl_flatten.proofs.instances.+instance.Given as goal
 
@@ -35,11 +35,11 @@ decreases-add_inside l = 8 * l.depth + 6
 abbrev pub invariant-add_items-loop-item : goal.invariant-add_items-loop-item
 invariant-add_items-loop-item l = (g : e.Given) → g.overrides ≡ overrides_of l.above →
     Done l.initial.making l.making
-    (f.items_parts (f.instance l.depth (modules_of l.library)) (e.size l.depth (modules_of l.library)) (modules_of l.library) (seen_here l.here) g (counts_of l.fn.base) (map seen_item l.items))
-    (f.items_parts (f.instance l.depth (modules_of l.library)) (e.size l.depth (modules_of l.library)) (modules_of l.library) (seen_here l.here) g (counts_of l.next) (map seen_item (drop l.item-index l.items)))
+    (f.items_parts (instance_in l.library l.depth) (sizes_in l.library l.depth) (modules_of l.library) (seen_here l.here) g (counts_of l.fn.base) (map seen_item l.items))
+    (f.items_parts (instance_in l.library l.depth) (sizes_in l.library l.depth) (modules_of l.library) (seen_here l.here) g (counts_of l.next) (map seen_item (drop l.item-index l.items)))
 
 abbrev pub invariant-add_units-loop-unit : goal.invariant-add_units-loop-unit
 invariant-add_units-loop-unit l = (m : x.Module) → slice_get (modules_of l.library) l.number ≡ Some m →
     Done l.initial.making l.making
-    (f.instances (f.instance l.depth (modules_of l.library)) (seen_here l.here) (counts_of l.fn.next) (seen_instances l.instances) m (counts_of l.size) (map seen_unit l.unit-items))
-    (f.instances (f.instance l.depth (modules_of l.library)) (seen_here l.here) (counts_of l.base) (seen_instances l.instances) m (counts_of l.size) (map seen_unit (drop l.unit-index l.unit-items)))
+    (f.instances (instance_in l.library l.depth) (seen_here l.here) (counts_of l.fn.next) (seen_instances l.instances) m (counts_of l.size) (map seen_unit l.unit-items))
+    (f.instances (instance_in l.library l.depth) (seen_here l.here) (counts_of l.base) (seen_instances l.instances) m (counts_of l.size) (map seen_unit (drop l.unit-index l.unit-items)))

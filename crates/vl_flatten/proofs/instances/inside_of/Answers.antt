@@ -8,7 +8,7 @@ use Rattle.vl_instance.specs.declared.given.Surroundings.{Surroundings}
 use Rattle.vl_instance.proofs.Givens.{given-same}
 use Rattle.vl_flatten.specs.declared.instances.Inside.{Inside}
 use Rattle.vl_flatten.specs.Standing.{seen_here}
-use Rattle.vl_flatten.specs.Libraries.{modules_of}
+use Rattle.vl_flatten.specs.Libraries.{modules_of, sizes_in, instance_in}
 use Rattle.vl_flatten.specs.Insides.{IsInside}
 use Rattle.vl_flatten.proofs.instances.inside_of.Goals as goal
 
@@ -30,9 +30,9 @@ returns c = λ m there.
     let given-is = given-same here base us u md around refl c.in_ok-overrides.ensures c.in_ok-ports.ensures in
     let facts-are = c.roles_at-roles.ensures m there ∙ ap facts (sym is) in
     let made : Inside = record { overrides = c.in_ok-overrides.overrides; ports = c.in_ok-ports.ports; names = c.in_ok-names.names } in
-    subst (λ z. IsInside made n ms here base us u z) is (record {
+    subst (λ z. IsInside made (sizes_in c.args.library.now) n here base us u z) is (record {
       overrides = c.in_ok-overrides.ensures;
       ports = c.in_ok-ports.ensures;
-      names = c.in_ok-names.ensures.module ms (dotted here.path u.name.name) c.requires.library.sizes (omega (arith, c.requires.depth)) facts-are
-          ∙ ap (λ z. e.environment (e.size n ms) z md) given-is;
+      names = c.in_ok-names.ensures.module (sizes_in c.args.library.now) (dotted here.path u.name.name) c.requires.library.sizes (omega (arith, c.requires.depth)) facts-are
+          ∙ ap (λ z. e.environment (sizes_in c.args.library.now n) z md) given-is;
     })

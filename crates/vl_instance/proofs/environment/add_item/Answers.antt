@@ -6,7 +6,7 @@ use Rattle.vl_items.specs.SeenItems.{seen_declared, seen_item, seen_parameter, s
 use Rattle.vl_constant.specs.Seen.{look}
 use Rattle.vl_kinds.specs.declared.counts.Counts.{Counts}
 use Rattle.vl_kinds.specs.Facts.{Facts, facts, facts_of}
-use Rattle.vl_kinds.specs.Sized.{IsSizes, size_of}
+use Rattle.vl_kinds.specs.Sized.{Tells, size_of}
 use Rattle.vl_instance.specs.Given.{given_of, overrides_of}
 use Rattle.vl_instance.specs.Known.{counts_of, kinds_by, known, with_item, with_parameter, with_signal}
 use Rattle.vl_instance.proofs.Steps.{if-ok-map, item-parameters, item-same, item-signals}
@@ -23,11 +23,11 @@ returns-in_ok-add_parameters-in-Parameters-clause-table c =
 pub returns-in_ok-add_parameters-in-Parameters-clause-module : goal.returns-in_ok-add_parameters-in-Parameters-clause-module
 returns-in_ok-add_parameters-in-Parameters-clause-module c =
     let above = c.args.above.now in
-    λ ms m path base s l h. item-parameters (e.size c.args.depth ms) (overrides_of above) (kinds_by (facts m) above) (look c.args.names.now) (look c.add_parameters.new.names) (counts_of c.args.next)
+    λ told m path base s l h. item-parameters (told c.args.depth) (overrides_of above) (kinds_by (facts m) above) (look c.args.names.now) (look c.add_parameters.new.names) (counts_of c.args.next)
     c.args.item.now c.in-Parameters.kind c.in-Parameters.parameters c.in-Parameters.is
     (c.in_ok-add_parameters-in-Parameters.ensures
     ∙ ap (λ ps. fold (with_parameter (overrides_of above) (seen_type c.in-Parameters.kind)) (look c.args.names.now) (map seen_parameter ps)) c.as_slice.ensures.value)
-    ∙ item-same (e.size c.args.depth ms) m above path base (known c.args.names.now c.args.next) (seen_item c.args.item.now)
+    ∙ item-same (told c.args.depth) m above path base (known c.args.names.now c.args.next) (seen_item c.args.item.now)
 
 pub returns-in-Signals-clause-table : goal.returns-in-Signals-clause-table
 returns-in-Signals-clause-table c =
@@ -52,11 +52,11 @@ returns-in-Signals-clause-module c =
     let ds = c.as_slice-in-Signals.result.now in
     if-ok-map
     (λ (after : Counts). known c.add_signals.new.names after ≡ fold (with_signal (kinds_by (facts_of c.args.roles.now) above)) old (map (seen_declared (seen_type kind)) ds))
-    (λ (after : Counts). (ms : List x.Module) (m : x.Module) (path : List ℕ) (base : e.Counts) → IsSizes c.args.sizes.now ms → c.args.depth ≤ 129 → facts_of c.args.roles.now ≡ facts m
-    → known c.add_signals.new.names after ≡ e.with_item (e.size c.args.depth ms) (given_of m above path base) m old (seen_item c.args.item.now))
+    (λ (after : Counts). (told : ℕ → List ℕ → e.Counts) (m : x.Module) (path : List ℕ) (base : e.Counts) → Tells c.args.sizes.now told → c.args.depth ≤ 129 → facts_of c.args.roles.now ≡ facts m
+    → known c.add_signals.new.names after ≡ e.with_item (told c.args.depth) (given_of m above path base) m old (seen_item c.args.item.now))
     c.add_signals.result
-    (λ after f ms m path base s l h. item-signals (e.size c.args.depth ms) (overrides_of above) (kinds_by (facts m) above) old (known c.add_signals.new.names after) c.args.item.now kind c.in-Signals.declared c.in-Signals.is
+    (λ after f told m path base s l h. item-signals (told c.args.depth) (overrides_of above) (kinds_by (facts m) above) old (known c.add_signals.new.names after) c.args.item.now kind c.in-Signals.declared c.in-Signals.is
     (f ∙ ap (λ (z : List ℕ → Facts). fold (with_signal (kinds_by z above)) old (map (seen_declared (seen_type kind)) ds)) h
     ∙ ap (λ ds. fold (with_signal (kinds_by (facts m) above)) old (map (seen_declared (seen_type kind)) ds)) c.as_slice-in-Signals.ensures.value)
-    ∙ item-same (e.size c.args.depth ms) m above path base old (seen_item c.args.item.now))
+    ∙ item-same (told c.args.depth) m above path base old (seen_item c.args.item.now))
     c.add_signals.ensures

@@ -12,7 +12,7 @@ use Rattle.vl_instance.proofs.Turns.{fold-turn}
 use Rattle.vl_instance.proofs.environment.environment.Goals as goal
 
 pub loop-item-init : goal.loop-item-init
-loop-item-init c = (start-known c.new-names.result c.args.base c.new-names.ensures.empty, λ ms path s l h. start-known c.new-names.result c.args.base c.new-names.ensures.empty)
+loop-item-init c = (start-known c.new-names.result c.args.base c.new-names.ensures.empty, λ told path s l h. start-known c.new-names.result c.args.base c.new-names.ensures.empty)
 
 pub loop-item-preserved : goal.loop-item-preserved
 loop-item-preserved c =
@@ -23,9 +23,9 @@ loop-item-preserved c =
       fold-turn (with_item (size_of c.args.sizes.now c.args.depth) (overrides_of c.args.above.now) (kinds_by (facts_of c.args.roles.now) c.args.above.now)) seen_item (nothing_known c.args.base)
           (known c.loop-item.names c.loop-item.next) (known c.add_item.new.names c.in_ok-next.next) items i c.item-item.result below c.item-item.is
           c.loop-item.invariant.0 c.in_ok-next.ensures.table,
-      λ ms path s l h. fold-turn (e.with_item (e.size c.args.depth ms) (given_of m c.args.above.now path (counts_of c.args.base)) m) seen_item (nothing_known c.args.base)
+      λ told path s l h. fold-turn (e.with_item (told c.args.depth) (given_of m c.args.above.now path (counts_of c.args.base)) m) seen_item (nothing_known c.args.base)
           (known c.loop-item.names c.loop-item.next) (known c.add_item.new.names c.in_ok-next.next) items i c.item-item.result below c.item-item.is
-          (c.loop-item.invariant.1 ms path s l h) (c.in_ok-next.ensures.module ms m path (counts_of c.args.base) s l h),
+          (c.loop-item.invariant.1 told path s l h) (c.in_ok-next.ensures.module told m path (counts_of c.args.base) s l h),
     )
 
 pub returns-clause-table : goal.returns-clause-table
@@ -43,5 +43,5 @@ returns-clause-module c =
     let i = c.loop-item.item-index in
     let m = seen_module c.args.definition.now in
     let all : length items ≤ i = omega arith in
-    λ ms path s l h. ap (λ k. k.env) (c.loop-item.invariant.1 ms path s l h
-    ∙ ap (λ xs. fold (e.with_item (e.size c.args.depth ms) (given_of m c.args.above.now path (counts_of c.args.base)) m) (nothing_known c.args.base) (map seen_item xs)) (take_all i items all ∙ c.as_slice-item-items.ensures.value))
+    λ told path s l h. ap (λ k. k.env) (c.loop-item.invariant.1 told path s l h
+    ∙ ap (λ xs. fold (e.with_item (told c.args.depth) (given_of m c.args.above.now path (counts_of c.args.base)) m) (nothing_known c.args.base) (map seen_item xs)) (take_all i items all ∙ c.as_slice-item-items.ensures.value))

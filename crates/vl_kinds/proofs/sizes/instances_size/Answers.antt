@@ -16,11 +16,11 @@ returns-clause-table c =
     ∙ ap (λ k. e.times k (told index (round_at c.args.sizes.now.rounds.items c.args.depth) t)) (sym (length-map units seen_unit))
 
 pub returns-clause-modules : goal.returns-clause-modules
-returns-clause-modules c = λ ms sized deep.
+returns-clause-modules c = λ sizes sized deep.
     let units = c.args.instances.now.units.items in
     let n = length units in
     let t = c.args.instances.now.definition in
-    let size = e.size c.args.depth ms t in
+    let size = sizes c.args.depth t in
     let known = told c.args.sizes.now.index c.round_at-round.result.now t in
     let one = ap (λ z. told c.args.sizes.now.index z t) (c.round_at-round.ensures ∙ ap (λ z. round_at z c.args.depth) c.as_slice.ensures.value) ∙ (λ i. sized c.args.depth deep i t) in
     c.in_ok-exactly.ensures (e.times n size) (c.instances_counts.ensures ∙ kept-times n known size (ap kept one ∙ kept-twice size))

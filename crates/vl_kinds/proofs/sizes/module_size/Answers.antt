@@ -1,15 +1,6 @@
-use Rattle.std.proofs.Common.{ap, ◌∙◌}
 use Rattle.vl_flat.specs.Environments as e
 use Rattle.vl_items.specs.SeenItems.{seen_module}
-use Rattle.vl_kinds.specs.Sized.{kept, told, round_at}
-use Rattle.vl_kinds.proofs.Keeping.{kept-twice, module-kept}
 use Rattle.vl_kinds.proofs.sizes.module_size.Goals as goal
 
 pub returns : goal.returns
-returns c = λ ms sized deep.
-    let m = seen_module c.args.m.now in
-    let sizes = e.size c.args.depth ms in
-    let known = told c.args.sizes.now.index c.round_at-round.result.now in
-    let one = ap (told c.args.sizes.now.index) (c.round_at-round.ensures ∙ ap (λ z. round_at z c.args.depth) c.as_slice.ensures.value) ∙ sized c.args.depth deep in
-    c.in_ok-exactly.ensures (e.module_counts sizes m)
-    (c.module_counts.ensures c.in_ok-own.ensures ∙ module-kept known sizes (λ t. ap kept (λ i. one i t) ∙ kept-twice (sizes t)) m)
+returns c = λ told sized deep. c.in_ok-exactly.ensures (e.module_counts (told c.args.depth) (seen_module c.args.m.now)) (c.in_ok-all.ensures told sized deep)

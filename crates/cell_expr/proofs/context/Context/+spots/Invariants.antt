@@ -2,7 +2,7 @@ use Rattle.cell_expr.proofs.Sizes.{target_size, targets_size}
 use Rattle.cell_expr.specs.Contexts.{names_of, scope_of, body_of}
 use Rattle.cell_expr.specs.Counts.{all_indices_count, all_parts_count}
 use Rattle.cell_expr.specs.Spots.{Spotted}
-use Rattle.cell_expr.specs.Stored.{targets_stored}
+use Rattle.vl_stored.specs.Stored.{targets_stored}
 use Rattle.cell_expr.specs.declared.spot.Spot.{Spot}
 use Rattle.cell_form.specs.Data.{ListData}
 use Rattle.cell_form.specs.Views.{list_of}

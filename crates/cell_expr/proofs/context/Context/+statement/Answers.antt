@@ -6,7 +6,7 @@ use Rattle.cell_expr.proofs.Trying.{tried-default, tried-item, item-sound, item-
 use Rattle.cell_expr.specs.Bodies.{IsSegment, CanWait}
 use Rattle.cell_expr.specs.Contexts.{names_of, scope_of, body_of}
 use Rattle.cell_expr.specs.Counts.{own_count, stm_count}
-use Rattle.cell_expr.specs.Stored.{stored_words, items_stored, default_stored}
+use Rattle.vl_stored.specs.Stored.{stored_words, items_stored, default_stored}
 use Rattle.cell_form.specs.Views.{list_of}
 use Rattle.cell_later.proofs.Keeping.{pending-stays}
 use Rattle.cell_later.proofs.Leaving.{leaves-nop, leaves-set, leaves-then, leaves-if, leaves-no-items}

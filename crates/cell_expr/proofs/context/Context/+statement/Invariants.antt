@@ -2,7 +2,7 @@ use Rattle.cell_expr.proofs.Sizes.{exp_size, stm_size, items_size}
 use Rattle.cell_expr.specs.Bodies.{IsSegment, AreSegmentItems, CanWait}
 use Rattle.cell_expr.specs.Contexts.{names_of, scope_of, body_of}
 use Rattle.cell_expr.specs.Counts.{items_count, stm_count}
-use Rattle.cell_expr.specs.Stored.{stored_words, items_stored}
+use Rattle.vl_stored.specs.Stored.{stored_words, items_stored}
 use Rattle.cell_form.specs.Data.{ListData}
 use Rattle.cell_form.specs.Views.{list_of}
 use Rattle.cell_later.specs.Delays.{Leaves, LeavesItems}

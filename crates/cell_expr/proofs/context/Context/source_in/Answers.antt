@@ -10,7 +10,7 @@ use Rattle.cell_paths.proofs.Staying.{fits-stays}
 use Rattle.cell_expr.specs.Contexts.{names_of, scope_of, body_of}
 use Rattle.cell_expr.specs.Counts.{exp_count, indices_count, parts_count, in_count}
 use Rattle.cell_expr.specs.Compiled.{Compiles}
-use Rattle.cell_expr.specs.Stored.{target_stored}
+use Rattle.vl_stored.specs.Stored.{target_stored}
 use Rattle.cell_expr.proofs.Adding.{spotted-first, assigned-narrow}
 use Rattle.cell_expr.proofs.Setting.{are-assigned}
 use Rattle.cell_expr.proofs.Spotting.{target-width}

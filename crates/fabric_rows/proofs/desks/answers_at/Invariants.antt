@@ -1,5 +1,0 @@
-use Rattle.fabric_rows.specs.Desks.{IsAt}
-use Rattle.fabric_rows.proofs.desks.answers_at.Given as goal
-
-abbrev pub invariant-orders : goal.invariant-orders
-invariant-orders g l = IsAt l.wanted l.desk l.seat

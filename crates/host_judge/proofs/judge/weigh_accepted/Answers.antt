@@ -1,0 +1,18 @@
+use Rattle.std.proofs.Common.{◌≡◌, ℕ, List, Option}
+use Rattle.std.proofs.lemmas.Result.{IfOk-weaker}
+use Rattle.vl_cost.specs.Costs.{saturated_cost}
+use Rattle.vl_design.specs.Cost.{cost}
+use Rattle.vl_design.specs.Syntax.{Flat}
+use Rattle.vl_front.specs.Sources.{IsAcceptedOf}
+use Rattle.host_judge.specs.declared.verdict.Refusal.{Refusal}
+use Rattle.host_judge.specs.Deciding.{IsWeighed, IsWeighedOf}
+use Rattle.host_judge.proofs.judge.weigh_accepted.Goals as goal
+
+pub returns : goal.returns
+returns c =
+    let fabrics = c.args.fabrics.now in
+    let line = c.args.line.now in
+    IfOk-weaker c.weigh.result (λ (r : Option Refusal). (e : Flat) → c.in_ok-cost.cost ≡ saturated_cost (cost e) → IsWeighed fabrics line e r)
+    (λ (r : Option Refusal). (text : List ℕ) → IsAcceptedOf text c.args.accepted.now → IsWeighedOf text fabrics line r)
+    (λ r h text is. let told = c.in_ok-cost.ensures text is in (told.design, told.stands, h told.design told.is))
+    c.weigh.ensures

@@ -1,0 +1,4 @@
+pub mod Ends
+pub mod Outs
+pub mod Placing
+pub mod Walking

@@ -14,5 +14,6 @@ mod Asking
 mod Noding
 mod Wording
 pub mod Marking
+pub mod Fronting
 pub mod Lengths
 pub mod Counts

@@ -1,8 +1,9 @@
 -- The cells and writes of a segment's state.
-use Rattle.std.proofs.Common.{◌≡◌, ℕ, ◌+◌, ◌<◌, ◌≤◌, ◌^◌, Bool, true, false, List, [], ◌++◌, map, Option, Some, None, refl, sym, ap, ◌∙◌, arith, subst}
+use Rattle.std.proofs.Common.{◌≡◌, ℕ, ◌+◌, ◌<◌, ◌≤◌, ◌^◌, Bool, true, false, List, [], ◌++◌, length, map, take, drop, Option, Some, None, refl, sym, ap, ◌∙◌, arith, subst, inl, inr}
 use Rattle.std.specs.Prelude.{◌==◌, All, not, if◌then◌else◌, slice_get, slice_index, slice_index_or}
 use Rattle.std.specs.List.{AllByRecursion}
-use Rattle.std.proofs.lemmas.List.Elements.{recursion_from_All}
+use Rattle.std.proofs.lemmas.List.{take-append-le}
+use Rattle.std.proofs.lemmas.List.Elements.{recursion_from_All, All-from_recursion}
 use Rattle.vl_base.specs.declared.files.File.{File}
 use Rattle.vl_design.specs.Functions.{scope_of}
 use Rattle.vl_design.specs.Sound.{IsSignal, IsMemory}
@@ -38,19 +39,22 @@ use Rattle.sub_nodes.specs.Code.{table_of}
 use Rattle.sub_nodes.specs.Cycles.{Stage, goes_on, segment_done, settled}
 use Rattle.ten_stores.specs.declared.store.Store.{Store}
 use Rattle.ten_stores.specs.Holding.{IsStore, IsIdle, HoldsWords}
-use Rattle.ten_stores.specs.Stores.{all_stored}
+use Rattle.ten_stores.specs.Stores.{all_stored, AreApart, IsBeside}
 use Rattle.ten_stores.proofs.Cutting.{below-fewer}
-use Rattle.ten_stores.proofs.Same.{all-from}
+use Rattle.ten_stores.proofs.Apart as places
+use Rattle.ten_stores.proofs.Same.{all-from, all-with}
 use Rattle.ten_form.specs.Registers.{state_register, ticks_register}
 use Rattle.ten_form.specs.Nets.{nets_of, HoldsNoOthers}
 use Rattle.ten_form.specs.Banks.{cell_nodes, stores_in, stores_before, stores_after, IsFor, HoldsSignals, HoldsState}
 use Rattle.ten_traps.specs.Asked.{asked}
 use Rattle.ten_image.specs.States.{idle_before, behind, MayCycle, HoldsStage}
 use Rattle.cell_stores.specs.Reading.{EachHas, HasStore, IsRead, Reads}
-use Rattle.cell_stores.specs.Keeping.{each_written, keep_writes, IsLeft, Keeps, IsSegment}
-use Rattle.cell_stores.proofs.Listing.{all-both}
+use Rattle.cell_stores.specs.Keeping.{each_written, keep_writes, IsHeld, IsKept, IsLeft, Keeps, IsSegment}
+use Rattle.cell_stores.proofs.Keeping.{beside-other}
+use Rattle.cell_stores.proofs.Listing.{all-both, each-from, each-long, each-with}
 use Rattle.cell_trim.specs.Widths.{IsWithin}
 use Rattle.cell_stores.proofs.Leaving.{idle-yet, holds-more, holds-fewer}
+use Rattle.cell_stores.proofs.Reading as reading
 use Rattle.cell_stores.proofs.Reading.{reads-memories, reads-words}
 use Rattle.cell_states.specs.Designs.{ComputesAlone}
 use Rattle.cell_states.specs.Ended.{IsEnd}
@@ -60,7 +64,8 @@ use Rattle.cell_states.specs.Segments.{HoldsTicks, IsTicks, DoesSegment}
 use Rattle.cell_states.specs.Widths.{register_width}
 use Rattle.cell_states.proofs.Narrowing.{HasWidths, stores-widths, keep-within}
 use Rattle.cell_states.proofs.Alone.{pass-keeps, other-plain}
-use Rattle.cell_states.proofs.Storing.{all-front, memory-plain, own-memories, of-sites, from, mid, kept-cut, after-disjoint, signals-beside, before-beside, before-within, has-in, has-after}
+use Rattle.cell_states.proofs.Storing.{all-front, memory-plain, own-memories, of-sites, from, top, mid, kept-cut, own-cut, after-disjoint, after-within, signals-beside, before-beside, before-within, has-in, has-after}
+use Rattle.cell_states.proofs.Fronting.{all-take, all-drop, each-take, each-parts, front-apart, drop-disjoint, drop-same}
 use Rattle.cell_states.proofs.Stretching.{segment-ticks}
 use Rattle.cell_states.proofs.Waving.{taken, idle-next}
 use Rattle.cell_states.proofs.Delaying.{segment-late}
@@ -133,16 +138,16 @@ module _ (d : Flat) (order : List ℕ) (files : List File) where
 -- ---- a segment's state
 
 -- the sites behind a segment are of the stores that its state keeps
-pub starts-same : (d : Flat) (order : List ℕ) (n : ℕ) (g : Segment) (on : WayOn) (l : ListData) (at at' : Env) (p p' : PendingSlots) (ticks : Option ℕ) → slice_get (cell_nodes d) n ≡ Some (Run g on) →
-    Starts d order (n + 1) g l at at' p p' ticks → map (λ (x : Store). x.memory) (stores_after d n) ≡ memories_of p'.sites
-starts-same d order n g on l at at' p p' ticks there st =
+pub starts-same : (d : Flat) (order : List ℕ) (n : ℕ) (g : Segment) (on : WayOn) (l : ListData) (at at' : Env) (p p' : PendingSlots) (sites : List Site) (ticks : Option ℕ) → slice_get (cell_nodes d) n ≡ Some (Run g on) →
+    Starts d order (n + 1) g l at at' p p' sites ticks → map (λ (x : Store). x.memory) (stores_after d n) ≡ memories_of p'.sites
+starts-same d order n g on l at at' p p' sites ticks there st =
     own-memories d n (Run g on) there
-    ∙ (ap (λ ms. ms ++ all_stored g.statements) (sym (reads-memories d.rows (stores_after d (n + 1)) st.first st.second [] st.sites st.reads)) ∙ sym st.does.sites)
+    ∙ (ap (λ ms. ms ++ all_stored g.statements) (sym (reads-memories d.rows (stores_after d (n + 1)) st.first st.second [] sites st.reads)) ∙ sym st.does.sites)
 
 module _ (d : Flat) (order : List ℕ) (marks : List Bool) (late : AreDelayed d marks) (n : ℕ) (g : Segment) (on : WayOn) (l0 l1 l2 l3 : ListData) (at0 at1 : Env) (p0 p1 : PendingSlots) (sites : List Site) (ticks : Option ℕ) (next count : ℕ) (ends sets : List Write)
     (begins : Begins d order (record { first = 0; cells = []; sets = [] }) l0 at0 p0) (reads : Reads d.rows (stores_after d (n + 1)) l0 l1 [] sites)
     (seg : DoesSegment d g at0 at1 (record p0 { sites = sites }) p1 l1 l2 ticks) (goes : (files : List File) → Holds (names_of d) count at1 l2 l3 next 32 (λ x. next_node (scope_of d files) x on))
-    (end : IsEnd d (is_end on) marks at0 at1 p0 p1 ticks next ends) (keeps : Keeps (stores_after d n) p1.sites ends sets) (same : map (λ (x : Store). x.memory) (stores_after d n) ≡ memories_of p1.sites)
+    (end : IsEnd d (is_end on) marks at0 at1 p0 p1 ticks next ends) (front : ℕ) (front-few : front ≤ length sites) (front-same : take front sites ≡ take front p1.sites) (keeps : Keeps (drop front (stores_after d n)) (drop front p1.sites) ends sets) (same : map (λ (x : Store). x.memory) (stores_after d n) ≡ memories_of p1.sites)
     (above : AllByRecursion (λ x. IsMemory (names_of d) x.memory) (stores_after d (n + 1))) (alone : ComputesAlone d) where
   abbrev names : Names
   names = names_of d
@@ -187,7 +192,7 @@ module _ (d : Flat) (order : List ℕ) (marks : List Bool) (late : AreDelayed d 
   -- ---- the writes
 
   signal-write : (r : ℕ) → r < from d → last_write sets r ≡ last_write ends r
-  signal-write r lt = keeps.others r (signals-beside d n r lt)
+  signal-write r lt = keeps.others r (all-drop (IsBeside r) front (stores_after d n) (signals-beside d n r lt))
 
   all-ends : Ends d.rows (is_end on) marks at0 at1 p0 p1 at1.here sets
   all-ends = ends-beside d.rows (is_end on) marks at0 at1 p0 p1 at1.here ends sets end.ends (keeps.registers end.ends.registers) (λ r h k lt. signal-write r lt)
@@ -200,10 +205,40 @@ module _ (d : Flat) (order : List ℕ) (marks : List Bool) (late : AreDelayed d 
 
   -- the stores before the node aren't written
   left-one : (x : Store) → mid d n ≤ x.first → IsLeft sets x
-  left-one x h r low high = keeps.others r (before-beside d n r (omega (arith, h, low))) ∙ end.beside r (omega (arith, h, low))
+  left-one x h r low high = keeps.others r (all-drop (IsBeside r) front (stores_after d n) (before-beside d n r (omega (arith, h, low)))) ∙ end.beside r (omega (arith, h, low))
 
   left : AllByRecursion (IsLeft sets) (stores_before d n)
   left = all-from (λ x. mid d n ≤ x.first) (IsLeft sets) left-one (stores_before d n) (before-within d n)
+
+  -- nor are those whose sites are the ones that were read
+  front-one : (x : Store) → AllByRecursion (AreApart x) (drop front (stores_after d n)) → places.IsWithin (from d) (top d) x → IsLeft sets x
+  front-one x apart within r low high =
+      keeps.others r (all-from (AreApart x) (IsBeside r) (λ y a. beside-other x y r low high a) (drop front (stores_after d n)) apart) ∙ end.beside r (let a = within.0 in omega (arith, a, low))
+
+  front-left : AllByRecursion (IsLeft sets) (take front (stores_after d n))
+  front-left =
+      all-with (λ x. AllByRecursion (AreApart x) (drop front (stores_after d n))) (places.IsWithin (from d) (top d)) (IsLeft sets) front-one (take front (stores_after d n))
+      (front-apart front (stores_after d n) (after-disjoint d n)) (all-take (places.IsWithin (from d) (top d)) front (stores_after d n) (after-within d n))
+
+  read1 : EachHas (IsRead d.rows l1) (stores_after d (n + 1)) sites
+  read1 = subst (EachHas (IsRead d.rows l1) (stores_after d (n + 1))) (sym reads.are) reads.read
+
+  read3 : EachHas (IsRead d.rows l3) (stores_after d (n + 1)) sites
+  read3 = each-from (IsRead d.rows l1) (IsRead d.rows l3) (λ x s. reading.read-stays d.rows l1 l3 x s g13) (stores_after d (n + 1)) sites read1
+
+  front-read : slice_get (cell_nodes d) n ≡ Some (Run g on) → EachHas (IsRead d.rows l3) (take front (stores_after d n)) (take front p1.sites)
+  front-read there =
+      let long = each-long (IsRead d.rows l3) (stores_after d (n + 1)) sites read3 in
+      let cut = own-cut d n (Run g on) there in
+      let firsts = ap (take front) cut ∙ take-append-le front (stores_after d (n + 1)) _ (omega (arith, long, front-few)) in
+      subst (λ xs. EachHas (IsRead d.rows l3) xs (take front p1.sites)) (sym firsts)
+      (subst (EachHas (IsRead d.rows l3) (take front (stores_after d (n + 1)))) front-same (each-take (IsRead d.rows l3) front (stores_after d (n + 1)) sites read3))
+
+  each-held : slice_get (cell_nodes d) n ≡ Some (Run g on) → EachHas (IsHeld d l3 sets) (stores_after d n) p1.sites
+  each-held there =
+      each-parts (IsHeld d l3 sets) front (stores_after d n) p1.sites
+      (each-with (IsLeft sets) (IsRead d.rows l3) (IsHeld d l3 sets) (λ x s a k. inr (a, k)) (take front (stores_after d n)) (take front p1.sites) front-left (front-read there))
+      (each-from (IsKept sets) (IsHeld d l3 sets) (λ x s k. inl k) (drop front (stores_after d n)) (drop front p1.sites) (keeps.each (drop-disjoint front (stores_after d n) (after-disjoint d n))))
 
   module _ (files : List File) (b : BankData) (i : Stage) (may : MayCycle d order files n (Run g on) 0 b i) where
     abbrev t : State
@@ -241,9 +276,6 @@ module _ (d : Flat) (order : List ℕ) (marks : List Bool) (late : AreDelayed d 
 
     stands01 : Stands names b l1 at0 (sample i.state)
     stands01 = stands-stays names b l0 l1 at0 (sample i.state) g01 begins.fits stands0
-
-    read1 : EachHas (IsRead d.rows l1) (stores_after d (n + 1)) sites
-    read1 = subst (EachHas (IsRead d.rows l1) (stores_after d (n + 1))) (sym reads.are) reads.read
 
     pends1 : Pends names b l1 (record p0 { sites = sites }) i.state.later
     pends1 = record {
@@ -333,7 +365,7 @@ module _ (d : Flat) (order : List ℕ) (marks : List Bool) (late : AreDelayed d 
       sound = sound3 (shape_of b) may.shape;
       there = subst (AllByRecursion (HasStore (shape_of b))) (kept-cut d n) (has-in d (shape_of b) may.shape store-memories);
       slots = pending3.sites;
-      each = keeps.each (after-disjoint d n);
+      each = each-held may.there;
       left = left;
       idle = below-fewer (IsIdle b) (from d) (cell_nodes d) (n + 1) n idle-now (omega arith);
       words = pends3.words;
@@ -368,17 +400,20 @@ module _ (d : Flat) (order : List ℕ) (marks : List Bool) (late : AreDelayed d 
   is-made = record {
     sound = sound3;
     writes = λ z h.
-        keeps.sound names z l3 (has-after d n z h kept-memories) pending3.sites (end.sound z l3 h fits3 (seg.first ∙ begins.first) pending3 (ticks-stay ticks seg.slot) (goes []).slot);
+        keeps.sound names z l3 (all-drop (HasStore z) front (stores_after d n) (has-after d n z h kept-memories)) (All-from_recursion (IsSite names l3) (drop front p1.sites) back-sites) (end.sound z l3 h fits3 (seg.first ∙ begins.first) pending3 (ticks-stay ticks seg.slot) (goes []).slot);
     narrow =
         let Narrow : List Write → Type 0 = λ ws. AllByRecursion (IsWithin (register_width d) l3) ws in
         let kept = all-front (HasWidths d) (stores_after d n) (stores_before d n) (subst (AllByRecursion (HasWidths d)) (kept-cut d n) (stores-widths d)) in
         subst Narrow (sym keeps.are)
-        (all-both (IsWithin (register_width d) l3) ends (each_written keep_writes (stores_after d n) p1.sites)
+        (all-both (IsWithin (register_width d) l3) ends (each_written keep_writes (drop front (stores_after d n)) (drop front p1.sites))
         (end.narrow late l3 fits3 (seg.first ∙ begins.first) pending3 (ticks-stay ticks seg.slot) (goes []).slot)
-        (keep-within d l3 (stores_after d n) p1.sites kept same (recursion_from_All (IsSite names l3) p1.sites pending3.sites)));
+        (keep-within d l3 (drop front (stores_after d n)) (drop front p1.sites) (all-drop (HasWidths d) front (stores_after d n) kept) (drop-same front (stores_after d n) p1.sites same) back-sites));
     does = stage-held;
   }
     where
+      back-sites : AllByRecursion (IsSite names l3) (drop front p1.sites)
+      back-sites = all-drop (IsSite names l3) front p1.sites (recursion_from_All (IsSite names l3) p1.sites pending3.sites)
+
       ticks-stay : (o : Option ℕ) → IsTicks l2 o → IsTicks l3 o
       ticks-stay None h = tt
       ticks-stay (Some r) h = is-slot-stays l2 l3 r 32 g23 h

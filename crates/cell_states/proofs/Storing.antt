@@ -123,7 +123,7 @@ module _ (d : Flat) where
   all-within : AllByRecursion (IsWithin from top) (stores_in d)
   all-within = within-from from (words_down (cell_nodes d))
 
-  after-within : (n : ℕ) → AllByRecursion (IsWithin from top) (stores_after d n)
+  pub after-within : (n : ℕ) → AllByRecursion (IsWithin from top) (stores_after d n)
   after-within n = all-front (IsWithin from top) (stores_after d n) (stores_before d n) (subst (AllByRecursion (IsWithin from top)) (kept-cut n) all-within)
 
   -- a bank for the design has the stores of memories
@@ -147,7 +147,7 @@ module _ (d : Flat) where
     above = words_down (drop (n + 1) (cell_nodes d))
 
     -- those from a node on are those behind it, and its own
-    own-cut : stores_after d n ≡ stores_after d (n + 1) ++ stores_from (from + 4 * length above) (node_words x)
+    pub own-cut : stores_after d n ≡ stores_after d (n + 1) ++ stores_from (from + 4 * length above) (node_words x)
     own-cut = ap (λ xs. stores_from from (words_down xs)) (dropped (cell_nodes d) n x there) ∙ both-from from above (node_words x)
 
     pub own-memories : map (λ (s : Store). s.memory) (stores_after d n) ≡ map (λ (s : Store). s.memory) (stores_after d (n + 1)) ++ node_words x

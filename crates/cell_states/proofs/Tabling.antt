@@ -13,7 +13,7 @@ use Rattle.sub_facts.specs.Pairs.{ArePaired}
 use Rattle.ten_traps.specs.Traps.{IsTrapOf}
 use Rattle.ten_form.specs.Banks.{stores_after}
 use Rattle.ten_image.specs.States.{slots_in, Does, HasTrap, IsStateOf, AreStates}
-use Rattle.cell_states.specs.Cells.{node_count, AreCounted}
+use Rattle.cell_states.specs.Cells.{node_count}
 use Rattle.cell_states.specs.Trims.{Calls}
 use Rattle.cell_states.specs.Tables.{go_of, AreFirst}
 use Rattle.cell_states.specs.Widths.{register_width, IsNarrow}

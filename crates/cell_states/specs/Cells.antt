@@ -1,5 +1,5 @@
 -- At most how many cells the states of nodes have (own).
-use Rattle.std.specs.Prelude.{◌≡◌, ℕ, ◌+◌, ◌*◌, ◌≤◌, List, [], ◌∷◌, length, slice_get, Option, Some, None}
+use Rattle.std.specs.Prelude.{◌≡◌, ℕ, ◌+◌, ◌*◌, ◌≤◌, List, [], ◌∷◌, length, slice_get, Option, Some}
 use Rattle.vl_design.specs.Syntax.{Stm, Flat}
 use Rattle.cell_form.specs.Data.{StateData}
 use Rattle.cell_expr.specs.Counts.{stm_count, body_cells}

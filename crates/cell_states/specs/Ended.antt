@@ -1,5 +1,5 @@
 -- The writes at the end of a state (own).
-use Rattle.std.specs.Prelude.{◌≡◌, ℕ, ◌≤◌, Bool, true, false, List, [], ◌∷◌, ◌++◌, length, Option, Some, None}
+use Rattle.std.specs.Prelude.{◌≡◌, ℕ, ◌≤◌, Bool, true, false, List, [], ◌∷◌, ◌++◌, length, take, drop, Option, Some, None}
 use Rattle.std.specs.List.{AllByRecursion}
 use Rattle.vl_design.specs.Syntax.{Row, Flat}
 use Rattle.vl_design.specs.Width.{names_of}
@@ -8,6 +8,7 @@ use Rattle.cell_form.specs.declared.cell.Write.TheVariants as w
 use Rattle.cell_form.specs.Data.{ListData}
 use Rattle.cell_form.specs.Sound.{Shape, IsWrite}
 use Rattle.cell_paths.specs.Envs.{Env, IsSlot, Fits}
+use Rattle.cell_later.specs.declared.pending.Site.{Site}
 use Rattle.cell_later.specs.Pendings.{PendingSlots, ArePending}
 use Rattle.ten_stores.specs.declared.store.Store.{Store}
 use Rattle.ten_form.specs.Registers.{state_register, ticks_register, register_count}
@@ -51,8 +52,13 @@ pub record IsEnd (d : Flat) (commits : Bool) (marks : List Bool) (at at' : Env) 
   pub sound : (z : Shape) (l : ListData) → IsFor d 0 z → Fits (names_of d) l at' → at'.first ≡ 0 → ArePending (names_of d) l p' → IsTicks l ticks → IsSlot l next 32 →
       AllByRecursion (IsWrite z l.first (length l.cells)) sets
 
--- and behind them the registers of stores, from the slots of the sites that are pending
-pub record IsKeptEnd (d : Flat) (commits : Bool) (marks : List Bool) (at at' : Env) (p p' : PendingSlots) (ticks : Option ℕ) (next : ℕ) (stores : List Store) (sets : List Write) : Type 0 where
+-- and behind them the registers of stores, from the slots of the sites that are pending; but for the first ones, whose sites are those
+-- that were read of them
+pub record IsKeptEnd (d : Flat) (commits : Bool) (marks : List Bool) (at at' : Env) (p p' : PendingSlots) (ticks : Option ℕ) (next : ℕ) (stores : List Store) (earlier : List Site) (sets : List Write) : Type 0 where
   pub before : List Write
+  pub count : ℕ
+  pub few : count ≤ length earlier
+  pub there : count ≤ length p'.sites
+  pub same : take count earlier ≡ take count p'.sites
   pub end : IsEnd d commits marks at at' p p' ticks next before
-  pub keeps : Keeps stores p'.sites before sets
+  pub keeps : Keeps (drop count stores) (drop count p'.sites) before sets

@@ -38,13 +38,16 @@ pub record IsMade (d : Flat) (order : List ℕ) (n : ℕ) (x : Node) (l : ListDa
   pub narrow : AllByRecursion (IsWithin (register_width d) l) sets
   pub does : (files : List File) (b : BankData) (i : Stage) → MayCycle d order files n x 0 b i → HoldsStage d (written (held b l) sets b) (behind d order files x i)
 
--- cells from slot 0 on do what a state begins with, read what is pending in the stores of the nodes from this number on, and then do a
--- segment
-pub record Starts (d : Flat) (order : List ℕ) (n : ℕ) (g : Segment) (l : ListData) (at at' : Env) (p p' : PendingSlots) (ticks : Option ℕ) : Type 0 where
+-- cells from slot 0 on, and their slots, are what a state begins with
+abbrev pub IsBase : Flat → List ℕ → ListData → Env → PendingSlots → Type 0
+IsBase d order l at p = Begins d order (record { first = 0; cells = []; sets = [] }) l at p
+
+-- cells from slot 0 on do what a state begins with, read what is pending in the stores of the nodes from this number on as sites, and then
+-- do a segment
+pub record Starts (d : Flat) (order : List ℕ) (n : ℕ) (g : Segment) (l : ListData) (at at' : Env) (p p' : PendingSlots) (sites : List Site) (ticks : Option ℕ) : Type 0 where
   pub first : ListData
   pub second : ListData
-  pub sites : List Site
-  pub begins : Begins d order (record { first = 0; cells = []; sets = [] }) first at p
+  pub begins : IsBase d order first at p
   pub reads : Reads d.rows (stores_after d n) first second [] sites
   pub does : DoesSegment d g at at' (record p { sites = sites }) p' second l ticks
   pub few : length l.cells ≤ segment_count d order (length (stores_after d n)) g

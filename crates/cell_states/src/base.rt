@@ -1,7 +1,8 @@
 //! What the states of a design begin with (IEEE 1364-2005, clauses 6.1 and 11.3).
 
-ghost use Rattle.std.specs.Prelude.{◌≡◌, [], IfOk};
+ghost use Rattle.std.specs.Prelude.{◌≡◌, [], length, IfOk};
 ghost use Rattle.vl_design.specs.Trees.{flat_of};
+ghost use Rattle.cell_form.specs.Data.{ListData};
 ghost use Rattle.cell_form.specs.Views.{list_of};
 ghost use Rattle.cell_steps.specs.Slots.{Grows};
 ghost use Rattle.cell_paths.specs.Envs.{env_of};
@@ -17,6 +18,15 @@ use cell_waves::begun::Begun;
 use std::alloc::{AllocError, Global};
 use vl_base::items::Items;
 use vl_design::design::Design;
+
+/// What each segment's state begins with.
+#[derive(Drop)]
+pub struct Base<'a> {
+    /// The order in which nets and combinational variables are computed.
+    pub order: &'a [u32],
+    /// The slots of its cells.
+    pub begun: Begun,
+}
 
 /// A list without cells, from this slot on.
 pub fn no_cells(alloc: Global, first: u32) -> CellList
@@ -67,4 +77,11 @@ pub fn copied(alloc: Global, from: &Begun) -> Result<Begun, AllocError>
         sites,
     };
     Ok(Begun { at, pending })
+}
+
+/// Drops the cells that a list has behind its first ones.
+pub fn cut(cells: &mut CellList, count: usize)
+    ensures { (l : ListData) → length l.cells ≡ count → Grows l (list_of cells.old) → list_of cells.new ≡ l }
+{
+    cells.cells.truncate(count);
 }

@@ -1,6 +1,6 @@
 //! The writes at the end of a state.
 
-ghost use Rattle.std.specs.Prelude.{◌≡◌, ◌≤◌, ◌<◌, ◌^◌, All, length, map, IfOk, OnOk};
+ghost use Rattle.std.specs.Prelude.{◌≡◌, ◌≤◌, ◌<◌, ◌^◌, All, length, map, take, IfOk, OnOk};
 ghost use Rattle.vl_design.specs.Trees.{flat_of, row_of};
 ghost use Rattle.cell_paths.specs.Envs.{env_of};
 ghost use Rattle.cell_later.specs.Pendings.{memories_of, slots_of};
@@ -9,6 +9,7 @@ ghost use Rattle.ten_stores.specs.Holding.{mask_register};
 ghost use Rattle.cell_states.specs.Ended.{AreChanges, Commits, with_ticks, IsEnd, IsKeptEnd};
 
 use cell_form::cell::Write;
+use cell_later::pending::Site;
 use cell_paths::at::At;
 use cell_stores::keep::keep;
 use cell_waves::begun::Begun;
@@ -112,11 +113,27 @@ fn ends(
     Ok(sets)
 }
 
-/// The same, and behind them those of the registers of stores: what is pending in them is kept.
+/// How many of the first sites are those that were read.
+fn unchanged(read: &[Site], sites: &[Site]) -> usize
+    ensures few { result ≤ length read.now }
+    ensures there { result ≤ length sites.now }
+    ensures same { take result read.now ≡ take result sites.now }
+{
+    for number in 0..read.len() {
+        if number >= sites.len() || read[number] != sites[number] {
+            return number;
+        }
+    }
+    read.len()
+}
+
+/// The same, and behind them those of the registers of stores: what is pending in them is kept. The registers of stores whose sites are
+/// those that were read stay as they are.
 pub(crate) fn writes(
     alloc: Global,
     design: &Design,
     stores: &[Store],
+    earlier: &[Site],
     delayed: &[bool],
     before: &Begun,
     after: &Begun,
@@ -127,9 +144,11 @@ pub(crate) fn writes(
     requires few { length (flat_of design.now).rows ≤ 268435456 }
     requires registers { All (λ x. mask_register x < 2 ^ 32) stores.now }
     requires same { map (λ (x : Store). x.memory) stores.now ≡ memories_of after.now.pending.sites.items }
-    ensures { IfOk result (λ sets. IsKeptEnd (flat_of design.now) commits delayed.now (env_of before.now.at) (env_of after.now.at) (slots_of before.now.pending) (slots_of after.now.pending) ticks next stores.now sets.items) }
+    ensures { IfOk result (λ sets. IsKeptEnd (flat_of design.now) commits delayed.now (env_of before.now.at) (env_of after.now.at) (slots_of before.now.pending) (slots_of after.now.pending) ticks next stores.now earlier.now sets.items) }
 {
     let mut sets = ends(alloc, design, delayed, before, after, commits, ticks, next)?;
-    keep(stores, after.pending.sites.as_slice(), &mut sets)?;
+    let sites = after.pending.sites.as_slice();
+    let same = unchanged(earlier, sites);
+    keep(&stores[same..], &sites[same..], &mut sets)?;
     Ok(sets)
 }

@@ -22,18 +22,18 @@ ghost use Rattle.ten_stores.specs.Holding.{mask_register};
 ghost use Rattle.ten_form.specs.Banks.{stores_after};
 ghost use Rattle.ten_traps.specs.Traps.{IsTrapOf};
 ghost use Rattle.ten_image.specs.States.{slots_in};
-ghost use Rattle.cell_states.specs.Mades.{is_end, IsMade, Starts, AsksBehind, IsKept};
+ghost use Rattle.cell_states.specs.Mades.{is_end, IsBase, IsMade, Starts, AsksBehind, IsKept};
 ghost use Rattle.cell_states.specs.Designs.{IsCellDesign};
 ghost use Rattle.cell_states.specs.Marks.{AreDelayed};
 ghost use Rattle.cell_states.specs.Pieces.{IsCellPiece, IsCellWay};
 
-use crate::base::{begin_in, copied, no_cells};
+use crate::base::{Base, copied};
 use crate::ends::writes;
-use crate::made::Made;
 use crate::stretch::segment_in;
 use cell_calls::call::call_of;
-use cell_form::cell::CellList;
+use cell_form::cell::{CellList, Write};
 use cell_form::table::Trap;
+use cell_later::pending::Site;
 use cell_next::next::{branch, number, switch};
 use cell_paths::at::At;
 use cell_stores::read::read;
@@ -44,14 +44,12 @@ use ten_stores::store::Store;
 use vl_base::items::Text;
 use vl_design::design::{Design, SysCall};
 
-/// The cells of a state up to the end of its segment.
+/// What stands at the end of a segment.
 #[derive(Drop)]
-struct Started {
-    /// The cells, from slot 0 on.
-    cells: CellList,
-    /// The slots that the state begins with.
-    before: Begun,
-    /// Those behind the segment.
+struct Ended {
+    /// The sites that were read of the stores of the nodes behind it in the table.
+    earlier: Vec<Site>,
+    /// The slots.
     after: Begun,
     /// The slot of the new number of ticks, where the clock rises.
     ticks: Option<u32>,
@@ -102,122 +100,137 @@ fn commits(on: &WayOn<'_>) -> bool
     matches!(on, WayOn::Commit(_))
 }
 
-/// The cells of a state up to the end of its segment, before which it reads what is pending in the stores of the nodes behind it.
+/// Adds the cells of a state up to the end of its segment to those that it begins with: first it reads what is pending in the stores of
+/// the nodes behind it.
 fn up_to_segment(
     alloc: Global,
+    cells: &mut CellList,
+    base: &Base<'_>,
     design: &Design,
-    order: &[u32],
     above: &[Store],
     segment: &Segment<'_>,
-) -> Result<Started, AllocError>
-    requires design { IsCellDesign (flat_of design.now) order.now }
+) -> Result<Ended, AllocError>
+    requires sound { IsSound (flat_of design.now) }
+    requires functions { All (IsCellFun (names_of (flat_of design.now))) (flat_of design.now).funs }
+    requires base { IsBase (flat_of design.now) base.now.order.now (list_of cells.old) (env_of base.now.begun.at) (slots_of base.now.begun.pending) }
     requires memories { All (λ x. IsMemory (names_of (flat_of design.now)) x.memory) above.now }
     requires few { All (λ x. mask_register x < 2 ^ 32) above.now }
     requires pieces { All (IsCellPiece (names_of (flat_of design.now))) segment.now.statements.items }
-    ensures { IfOk result (λ x. (n : ℕ) → above.now ≡ stores_after (flat_of design.now) (n + 1) → Starts (flat_of design.now) order.now (n + 1) (segment_view segment.now) (list_of x.cells) (env_of x.before.at) (env_of x.after.at) (slots_of x.before.pending) (slots_of x.after.pending) x.ticks) }
+    ensures grows { Grows (list_of cells.old) (list_of cells.new) }
+    ensures starts { IfOk result (λ x. (n : ℕ) → above.now ≡ stores_after (flat_of design.now) (n + 1) →
+        Starts (flat_of design.now) base.now.order.now (n + 1) (segment_view segment.now) (list_of cells.new) (env_of base.now.begun.at) (env_of x.after.at) (slots_of base.now.begun.pending) (slots_of x.after.pending) x.earlier.items x.ticks) }
 {
-    let mut cells = no_cells(alloc, 0);
-    let before = begin_in(alloc, &mut cells, design, order)?;
-    let mut after = copied(alloc, &before)?;
+    let mut after = copied(alloc, &base.begun)?;
     read(
         alloc,
-        &mut cells,
+        cells,
         above,
         design.signals.as_slice(),
         &mut after.pending.sites,
     )?;
-    let ticks = segment_in(alloc, &mut cells, design, &mut after, segment)?;
-    Ok(Started {
-        cells,
-        before,
+    let earlier = Vec::from_slice(alloc, after.pending.sites.as_slice())?;
+    let ticks = segment_in(alloc, cells, design, &mut after, segment)?;
+    Ok(Ended {
+        earlier,
         after,
         ticks,
     })
 }
 
-/// The cells and writes of a segment's state: what is pending in the stores of the nodes behind it, and by its own statements, it keeps
-/// in those and in its own. An `Err` is want of memory.
+/// Adds the cells of a segment's state to those that it begins with, and gives its writes: what is pending in the stores of the nodes
+/// behind it, and by its own statements, it keeps in those and in its own. An `Err` is want of memory.
 pub fn made(
     alloc: Global,
+    cells: &mut CellList,
+    base: &Base<'_>,
     design: &Design,
-    order: &[u32],
     kept: Kept<'_>,
     delayed: &[bool],
     segment: &Segment<'_>,
     on: &WayOn<'_>,
-) -> Result<Made, AllocError>
-    requires design { IsCellDesign (flat_of design.now) order.now }
+) -> Result<Vec<Write>, AllocError>
+    requires design { IsCellDesign (flat_of design.now) base.now.order.now }
     requires stores { (number : ℕ) × IsKept (flat_of design.now) number kept (n.Run (segment_view segment.now) (way_on_view on.now)) }
     requires memories { All (λ x. IsMemory (names_of (flat_of design.now)) x.memory) kept.above.now }
     requires few { All (λ x. mask_register x < 2 ^ 32) kept.all.now }
     requires delayed { AreDelayed (flat_of design.now) delayed.now }
     requires pieces { All (IsCellPiece (names_of (flat_of design.now))) segment.now.statements.items }
     requires way { IsCellWay (names_of (flat_of design.now)) on.now }
-    ensures made { IfOk result (λ m. (number : ℕ) → IsKept (flat_of design.now) number kept.entry (n.Run (segment_view segment.now) (way_on_view on.now)) →
-        IsMade (flat_of design.now) order.now number (n.Run (segment_view segment.now) (way_on_view on.now)) (list_of m.cells) m.sets.items) }
-    ensures few { IfOk result (λ m. (number : ℕ) → IsKept (flat_of design.now) number kept.entry (n.Run (segment_view segment.now) (way_on_view on.now)) →
-        length (list_of m.cells).cells ≤ segment_count (flat_of design.now) order.now (length kept.entry.above.now) (segment_view segment.now) + next_count (body_cells (flat_of design.now)) (way_on_view on.now)) }
+    requires base { IsBase (flat_of design.now) base.now.order.now (list_of cells.old) (env_of base.now.begun.at) (slots_of base.now.begun.pending) }
+    ensures grows { Grows (list_of cells.old) (list_of cells.new) }
+    ensures made { IfOk result (λ sets. (number : ℕ) → IsKept (flat_of design.now) number kept.entry (n.Run (segment_view segment.now) (way_on_view on.now)) →
+        IsMade (flat_of design.now) base.now.order.now number (n.Run (segment_view segment.now) (way_on_view on.now)) (list_of cells.new) sets.items) }
+    ensures few { IfOk result (λ sets. (number : ℕ) → IsKept (flat_of design.now) number kept.entry (n.Run (segment_view segment.now) (way_on_view on.now)) →
+        length (list_of cells.new).cells ≤ segment_count (flat_of design.now) base.now.order.now (length kept.entry.above.now) (segment_view segment.now) + next_count (body_cells (flat_of design.now)) (way_on_view on.now)) }
 {
-    let Started {
-        mut cells,
-        before,
+    let Ended {
+        earlier,
         after,
         ticks,
-    } = up_to_segment(alloc, design, order, kept.above, segment)?;
-    let next = next_in(alloc, &mut cells, design, &after.at, on)?;
-    let sets = writes(
+    } = up_to_segment(alloc, cells, base, design, kept.above, segment)?;
+    let next = next_in(alloc, cells, design, &after.at, on)?;
+    writes(
         alloc,
         design,
         kept.all,
+        earlier.as_slice(),
         delayed,
-        &before,
+        &base.begun,
         &after,
         commits(on),
         ticks,
         next,
-    )?;
-    Ok(Made { cells, sets })
+    )
 }
 
-/// The cells and writes of the state of a segment that comes to a call, whose trap is the state `trap`, as `made`, and the call with the
-/// slots of what it is given.
+/// The same of a segment that comes to a call, whose trap is the state `trap`: the writes, and the call with the slots of what it is given.
 pub fn made_call(
     alloc: Global,
+    cells: &mut CellList,
+    base: &Base<'_>,
     design: &Design,
-    order: &[u32],
     kept: Kept<'_>,
     delayed: &[bool],
     segment: &Segment<'_>,
     trap: u32,
     path: &Text,
     call: &SysCall,
-) -> Result<(Made, Trap), AllocError>
-    requires design { IsCellDesign (flat_of design.now) order.now }
+) -> Result<(Vec<Write>, Trap), AllocError>
+    requires design { IsCellDesign (flat_of design.now) base.now.order.now }
     requires stores { (number : ℕ) × IsKept (flat_of design.now) number kept (n.Run (segment_view segment.now) (n.Go trap)) }
     requires memories { All (λ x. IsMemory (names_of (flat_of design.now)) x.memory) kept.above.now }
     requires few { All (λ x. mask_register x < 2 ^ 32) kept.all.now }
     requires delayed { AreDelayed (flat_of design.now) delayed.now }
     requires pieces { All (IsCellPiece (names_of (flat_of design.now))) segment.now.statements.items }
     requires task { IsSoundTask (names_of (flat_of design.now)) (call_view path.now call.now) }
+    requires base { IsBase (flat_of design.now) base.now.order.now (list_of cells.old) (env_of base.now.begun.at) (slots_of base.now.begun.pending) }
+    ensures grows { Grows (list_of cells.old) (list_of cells.new) }
     ensures made { IfOk result (λ m. (number : ℕ) → IsKept (flat_of design.now) number kept.entry (n.Run (segment_view segment.now) (n.Go trap)) →
-        IsMade (flat_of design.now) order.now number (n.Run (segment_view segment.now) (n.Go trap)) (list_of m.0.cells) m.0.sets.items) }
+        IsMade (flat_of design.now) base.now.order.now number (n.Run (segment_view segment.now) (n.Go trap)) (list_of cells.new) m.0.items) }
     ensures few { IfOk result (λ m. (number : ℕ) → IsKept (flat_of design.now) number kept.entry (n.Run (segment_view segment.now) (n.Go trap)) →
-        length (list_of m.0.cells).cells ≤ segment_count (flat_of design.now) order.now (length kept.entry.above.now) (segment_view segment.now) + (1 + asked_count (body_cells (flat_of design.now)) (call_view path.now call.now))) }
-    ensures call { IfOk result (λ m. IsTrapOf (flat_of design.now) (call_view path.now call.now) (slots_in (list_of m.0.cells)) m.1) }
+        length (list_of cells.new).cells ≤ segment_count (flat_of design.now) base.now.order.now (length kept.entry.above.now) (segment_view segment.now) + (1 + asked_count (body_cells (flat_of design.now)) (call_view path.now call.now))) }
+    ensures call { IfOk result (λ m. IsTrapOf (flat_of design.now) (call_view path.now call.now) (slots_in (list_of cells.new)) m.1) }
     ensures asks { IfOk result (λ m. (number : ℕ) → IsKept (flat_of design.now) number kept.entry (n.Run (segment_view segment.now) (n.Go trap)) →
-        AsksBehind (flat_of design.now) order.now number (segment_view segment.now) (n.Run (segment_view segment.now) (n.Go trap)) (list_of m.0.cells) (call_view path.now call.now) m.1.args) }
+        AsksBehind (flat_of design.now) base.now.order.now number (segment_view segment.now) (n.Run (segment_view segment.now) (n.Go trap)) (list_of cells.new) (call_view path.now call.now) m.1.args) }
 {
-    let Started {
-        mut cells,
-        before,
+    let Ended {
+        earlier,
         after,
         ticks,
-    } = up_to_segment(alloc, design, order, kept.above, segment)?;
-    let next = number(alloc, &mut cells, trap)?;
-    let asked = call_of(alloc, &mut cells, design, path, &after.at, call)?;
+    } = up_to_segment(alloc, cells, base, design, kept.above, segment)?;
+    let next = number(alloc, cells, trap)?;
+    let asked = call_of(alloc, cells, design, path, &after.at, call)?;
     let sets = writes(
-        alloc, design, kept.all, delayed, &before, &after, false, ticks, next,
+        alloc,
+        design,
+        kept.all,
+        earlier.as_slice(),
+        delayed,
+        &base.begun,
+        &after,
+        false,
+        ticks,
+        next,
     )?;
-    let made = Made { cells, sets };
-    Ok((made, asked))
+    Ok((sets, asked))
 }

@@ -11,8 +11,7 @@ ghost use Rattle.cell_states.specs.Trims.{IsTrimmed, Calls};
 ghost use Rattle.cell_states.specs.Widths.{IsNarrow};
 
 use crate::base::no_cells;
-use crate::made::Made;
-use cell_form::cell::CellList;
+use cell_form::cell::{CellList, Write};
 use cell_form::table::{State, Trap};
 use cell_trim::trim::{Trimmed, trim};
 use std::alloc::{AllocError, Global};
@@ -21,25 +20,37 @@ use vl_base::items::Nums;
 /// The cells of a state that its writes and the wanted slots need, with slots from `first` on. A number of a slot that would be too long
 /// is want of memory.
 #[tactic(auto, using(crate::proofs::Lengths::lengths))]
-fn trimmed(alloc: Global, made: &Made, wanted: &[u32], first: u32) -> Result<Trimmed, AllocError>
-    ensures trimmed { IfOk result (λ t. IsTrimmed (list_of made.now.cells) made.now.sets.items wanted.now first (list_of t.cells) t.slots.items) }
-    ensures few { IfOk result (λ t. length (list_of t.cells).cells ≤ length (list_of made.now.cells).cells) }
+fn trimmed(
+    alloc: Global,
+    cells: &CellList,
+    sets: &[Write],
+    wanted: &[u32],
+    first: u32,
+) -> Result<Trimmed, AllocError>
+    ensures trimmed { IfOk result (λ t. IsTrimmed (list_of cells.now) sets.now wanted.now first (list_of t.cells) t.slots.items) }
+    ensures few { IfOk result (λ t. length (list_of t.cells).cells ≤ length (list_of cells.now).cells) }
 {
-    let count = made.cells.cells.as_slice().len();
+    let count = cells.cells.as_slice().len();
     if count >= (u32::MAX - first) as usize {
         return Err(AllocError);
     }
-    trim(alloc, &made.cells, &made.sets, wanted, first)
+    trim(alloc, cells, sets, wanted, first)
 }
 
 /// The state of cells that come to no call, with slots from `first` on, and the states that it leads to.
-pub fn plain_state(alloc: Global, made: &Made, nexts: Nums, first: u32) -> Result<State, AllocError>
+pub fn plain_state(
+    alloc: Global,
+    cells: &CellList,
+    sets: &[Write],
+    nexts: Nums,
+    first: u32,
+) -> Result<State, AllocError>
     ensures first { IfOk result (λ s. s.cells.first ≡ first) }
-    ensures few { IfOk result (λ s. length (list_of s.cells).cells ≤ length (list_of made.now.cells).cells) }
-    ensures narrow { IfOk result (λ s. (d : y.Flat) (order : List ℕ) (k : ℕ) (x : n.Node) → IsMade d order k x (list_of made.now.cells) made.now.sets.items → IsNarrow d (state_of s)) }
-    ensures does { IfOk result (λ s. (d : y.Flat) (order : List ℕ) (k : ℕ) (x : n.Node) → IsMade d order k x (list_of made.now.cells) made.now.sets.items → Does d order k x (state_of s)) }
+    ensures few { IfOk result (λ s. length (list_of s.cells).cells ≤ length (list_of cells.now).cells) }
+    ensures narrow { IfOk result (λ s. (d : y.Flat) (order : List ℕ) (k : ℕ) (x : n.Node) → IsMade d order k x (list_of cells.now) sets.now → IsNarrow d (state_of s)) }
+    ensures does { IfOk result (λ s. (d : y.Flat) (order : List ℕ) (k : ℕ) (x : n.Node) → IsMade d order k x (list_of cells.now) sets.now → Does d order k x (state_of s)) }
 {
-    let trimmed = trimmed(alloc, made, &[], first)?;
+    let trimmed = trimmed(alloc, cells, sets, &[], first)?;
     Ok(State {
         cells: trimmed.cells,
         trap: None,
@@ -73,21 +84,22 @@ pub fn one(alloc: Global, to: u32) -> Result<Nums, AllocError>
 /// it the state `to` is next.
 pub fn call_states(
     alloc: Global,
-    made: &Made,
+    cells: &CellList,
+    sets: &[Write],
     call: Trap,
     number: u32,
     to: u32,
     first: u32,
 ) -> Result<(State, State), AllocError>
     ensures first { IfOk result (λ s. s.0.cells.first ≡ first) }
-    ensures few { IfOk result (λ s. length (list_of s.0.cells).cells ≤ length (list_of made.now.cells).cells) }
-    ensures narrow { IfOk result (λ s. (d : y.Flat) (order : List ℕ) (k : ℕ) (x : n.Node) → IsMade d order k x (list_of made.now.cells) made.now.sets.items → IsNarrow d (state_of s.0)) }
+    ensures few { IfOk result (λ s. length (list_of s.0.cells).cells ≤ length (list_of cells.now).cells) }
+    ensures narrow { IfOk result (λ s. (d : y.Flat) (order : List ℕ) (k : ℕ) (x : n.Node) → IsMade d order k x (list_of cells.now) sets.now → IsNarrow d (state_of s.0)) }
     ensures behind { IfOk result (λ s. slots_in (list_of s.1.cells) ≡ slots_in (list_of s.0.cells)) }
-    ensures calls { IfOk result (λ s. (d : y.Flat) (order : List ℕ) (k : ℕ) (g : n.Segment) (task : y.Task) → IsMade d order k (n.Run g (n.Go number)) (list_of made.now.cells) made.now.sets.items →
-        IsTrapOf d task (slots_in (list_of made.now.cells)) call → AsksBehind d order k g (n.Run g (n.Go number)) (list_of made.now.cells) task call.args →
+    ensures calls { IfOk result (λ s. (d : y.Flat) (order : List ℕ) (k : ℕ) (g : n.Segment) (task : y.Task) → IsMade d order k (n.Run g (n.Go number)) (list_of cells.now) sets.now →
+        IsTrapOf d task (slots_in (list_of cells.now)) call → AsksBehind d order k g (n.Run g (n.Go number)) (list_of cells.now) task call.args →
         Calls d order k g number task to (state_of s.0) (state_of s.1)) }
 {
-    let trimmed = trimmed(alloc, made, call.args.as_slice(), first)?;
+    let trimmed = trimmed(alloc, cells, sets, call.args.as_slice(), first)?;
     let nexts = one(alloc, number)?;
     let behind = slots_behind(&trimmed.cells)?;
     let trap = Trap {

@@ -4,7 +4,9 @@ ghost use Rattle.std.specs.Prelude.{◌≡◌, ◌<◌, ◌≤◌, ◌+◌, ◌-
 ghost use Rattle.vl_design.specs.Sound.{IsMemory, IsSoundTask};
 ghost use Rattle.vl_design.specs.Trees.{flat_of};
 ghost use Rattle.vl_design.specs.Width.{names_of};
-ghost use Rattle.cell_form.specs.Views.{state_of};
+ghost use Rattle.cell_form.specs.Views.{list_of, state_of};
+ghost use Rattle.cell_later.specs.Pendings.{slots_of};
+ghost use Rattle.cell_paths.specs.Envs.{env_of};
 ghost use Rattle.sub_facts.specs.Early.{early_from};
 ghost use Rattle.sub_facts.specs.Pairs.{ArePaired};
 ghost use Rattle.sub_nodes.specs.Code.{table_of};
@@ -20,17 +22,19 @@ ghost use Rattle.cell_expr.specs.Counts.{body_cells};
 ghost use Rattle.cell_next.specs.Next.{next_count};
 ghost use Rattle.cell_states.specs.Cells.{segment_count, update_count, AreCounted};
 ghost use Rattle.cell_states.specs.Designs.{ComputesAlone, IsCellDesign};
-ghost use Rattle.cell_states.specs.Mades.{IsKept};
+ghost use Rattle.cell_states.specs.Mades.{IsBase, IsKept};
 ghost use Rattle.cell_states.specs.Marks.{AreDelayed};
 ghost use Rattle.cell_states.specs.Pieces.{IsCellNode, IsCellPiece, IsCellWay};
 ghost use Rattle.cell_states.specs.Tables as s;
 ghost use Rattle.cell_states.specs.Widths.{AreNarrow};
 
+use crate::base::{Base, begin_in, cut, no_cells};
 use crate::delays::delayed;
 use crate::made::States;
 use crate::run::{Kept, made, made_call};
 use crate::state::{call_states, one, plain_state, slots_behind};
 use crate::update::made_update;
+use cell_form::cell::CellList;
 use cell_form::table::{State, StateTable};
 use std::alloc::{AllocError, Global};
 use sub_split::table::{Node, Segment, Table, WayOn};
@@ -128,29 +132,34 @@ fn kept_of(stores: &[Store], left: usize, own: usize) -> Kept<'_>
 /// Adds the state of a segment that comes to no call.
 fn add_run(
     alloc: Global,
+    cells: &mut CellList,
+    base: &Base<'_>,
     design: &Design,
-    order: &[u32],
     kept: Kept<'_>,
     delayed: &[bool],
     segment: &Segment<'_>,
     on: &WayOn<'_>,
     built: &mut Built,
 ) -> Result<(), AllocError>
-    requires design { IsCellDesign (flat_of design.now) order.now }
+    requires design { IsCellDesign (flat_of design.now) base.now.order.now }
     requires stores { (number : ℕ) × IsKept (flat_of design.now) number kept (n.Run (segment_view segment.now) (way_on_view on.now)) }
     requires memories { All (λ x. IsMemory (names_of (flat_of design.now)) x.memory) kept.above.now }
     requires few { All (λ x. mask_register x < 2 ^ 32) kept.all.now }
     requires delayed { AreDelayed (flat_of design.now) delayed.now }
     requires pieces { All (IsCellPiece (names_of (flat_of design.now))) segment.now.statements.items }
     requires way { IsCellWay (names_of (flat_of design.now)) on.now }
+    requires base { IsBase (flat_of design.now) base.now.order.now (list_of cells.old) (env_of base.now.begun.at) (slots_of base.now.begun.pending) }
     ensures more { OnOk result ((number : ℕ) → IsKept (flat_of design.now) number kept.entry (n.Run (segment_view segment.now) (way_on_view on.now)) →
-        s.HasOneMore (flat_of design.now) order.now number (n.Run (segment_view segment.now) (way_on_view on.now))
-        (segment_count (flat_of design.now) order.now (length kept.entry.above.now) (segment_view segment.now) + next_count (body_cells (flat_of design.now)) (way_on_view on.now)) (map state_of built.old.states) built.old.slots (map state_of built.new.states) built.new.slots) }
+        s.HasOneMore (flat_of design.now) base.now.order.now number (n.Run (segment_view segment.now) (way_on_view on.now))
+        (segment_count (flat_of design.now) base.now.order.now (length kept.entry.above.now) (segment_view segment.now) + next_count (body_cells (flat_of design.now)) (way_on_view on.now)) (map state_of built.old.states) built.old.slots (map state_of built.new.states) built.new.slots) }
     ensures left { OnOk result (built.new.left ≡ length kept.entry.above.now) }
+    ensures cells { OnOk result (list_of cells.new ≡ list_of cells.old) }
 {
-    let made = made(alloc, design, order, kept, delayed, segment, on)?;
+    let count = cells.cells.as_slice().len();
+    let sets = made(alloc, cells, base, design, kept, delayed, segment, on)?;
     let nexts = nexts_of(alloc, on)?;
-    let state = plain_state(alloc, &made, nexts, built.slots)?;
+    let state = plain_state(alloc, cells, &sets, nexts, built.slots)?;
+    cut(cells, count);
     built.add(state, kept.above.len())
 }
 
@@ -174,7 +183,7 @@ fn add_update(
 {
     let made = made_update(alloc, design, stores, delayed, to)?;
     let nexts = one(alloc, to)?;
-    let state = plain_state(alloc, &made, nexts, built.slots)?;
+    let state = plain_state(alloc, &made.cells, &made.sets, nexts, built.slots)?;
     let left = built.left;
     built.add(state, left)
 }
@@ -183,8 +192,9 @@ fn add_update(
 /// next.
 fn add_call(
     alloc: Global,
+    cells: &mut CellList,
+    base: &Base<'_>,
     design: &Design,
-    order: &[u32],
     kept: Kept<'_>,
     delayed: &[bool],
     segment: &Segment<'_>,
@@ -194,22 +204,26 @@ fn add_call(
     to: u32,
     built: &mut Built,
 ) -> Result<(), AllocError>
-    requires design { IsCellDesign (flat_of design.now) order.now }
+    requires design { IsCellDesign (flat_of design.now) base.now.order.now }
     requires stores { (number : ℕ) × IsKept (flat_of design.now) number kept (n.Run (segment_view segment.now) (n.Go trap)) }
     requires memories { All (λ x. IsMemory (names_of (flat_of design.now)) x.memory) kept.above.now }
     requires few { All (λ x. mask_register x < 2 ^ 32) kept.all.now }
     requires delayed { AreDelayed (flat_of design.now) delayed.now }
     requires pieces { All (IsCellPiece (names_of (flat_of design.now))) segment.now.statements.items }
     requires task { IsSoundTask (names_of (flat_of design.now)) (call_view path.now call.now) }
+    requires base { IsBase (flat_of design.now) base.now.order.now (list_of cells.old) (env_of base.now.begun.at) (slots_of base.now.begun.pending) }
     ensures more { OnOk result ((number : ℕ) → IsKept (flat_of design.now) number kept.entry (n.Run (segment_view segment.now) (n.Go trap)) →
-        s.HasTwoMore (flat_of design.now) order.now number (segment_view segment.now) trap (call_view path.now call.now) to
-        (segment_count (flat_of design.now) order.now (length kept.entry.above.now) (segment_view segment.now) + (1 + asked_count (body_cells (flat_of design.now)) (call_view path.now call.now))) (map state_of built.old.states) built.old.slots (map state_of built.new.states) built.new.slots) }
+        s.HasTwoMore (flat_of design.now) base.now.order.now number (segment_view segment.now) trap (call_view path.now call.now) to
+        (segment_count (flat_of design.now) base.now.order.now (length kept.entry.above.now) (segment_view segment.now) + (1 + asked_count (body_cells (flat_of design.now)) (call_view path.now call.now))) (map state_of built.old.states) built.old.slots (map state_of built.new.states) built.new.slots) }
     ensures left { OnOk result (built.new.left ≡ length kept.entry.above.now) }
+    ensures cells { OnOk result (list_of cells.new ≡ list_of cells.old) }
 {
-    let (made, asked) = made_call(
-        alloc, design, order, kept, delayed, segment, trap, path, call,
+    let count = cells.cells.as_slice().len();
+    let (sets, asked) = made_call(
+        alloc, cells, base, design, kept, delayed, segment, trap, path, call,
     )?;
-    let (run, wait) = call_states(alloc, &made, asked, trap, to, built.slots)?;
+    let (run, wait) = call_states(alloc, cells, &sets, asked, trap, to, built.slots)?;
+    cut(cells, count);
     let left = kept.above.len();
     built.add(run, left)?;
     built.add(wait, left)
@@ -218,23 +232,26 @@ fn add_call(
 /// Adds the state of the next node, and where that comes to a call, the call's too. The stores are those of all nodes.
 fn add_node(
     alloc: Global,
+    cells: &mut CellList,
+    base: &Base<'_>,
     design: &Design,
-    order: &[u32],
     nodes: &[Node<'_>],
     stores: &[Store],
     delayed: &[bool],
     built: &mut Built,
 ) -> Result<(), AllocError>
-    requires design { IsCellDesign (flat_of design.now) order.now }
+    requires design { IsCellDesign (flat_of design.now) base.now.order.now }
     requires nodes { All (IsCellNode (names_of (flat_of design.now))) nodes.now }
     requires table { map node_view nodes.now ≡ cell_nodes (flat_of design.now) }
     requires stores { stores.now ≡ stores_in (flat_of design.now) }
     requires few { All (λ x. mask_register x < 2 ^ 32) stores.now }
     requires delayed { AreDelayed (flat_of design.now) delayed.now }
-    requires first { s.AreFirst (flat_of design.now) order.now (cell_nodes (flat_of design.now)) (map state_of built.old.states) built.old.slots built.old.left }
+    requires first { s.AreFirst (flat_of design.now) base.now.order.now (cell_nodes (flat_of design.now)) (map state_of built.old.states) built.old.slots built.old.left }
     requires more { length built.old.states < length nodes.now }
-    ensures first { OnOk result (s.AreFirst (flat_of design.now) order.now (cell_nodes (flat_of design.now)) (map state_of built.new.states) built.new.slots built.new.left) }
+    requires base { IsBase (flat_of design.now) base.now.order.now (list_of cells.old) (env_of base.now.begun.at) (slots_of base.now.begun.pending) }
+    ensures first { OnOk result (s.AreFirst (flat_of design.now) base.now.order.now (cell_nodes (flat_of design.now)) (map state_of built.new.states) built.new.slots built.new.left) }
     ensures more { OnOk result (length built.old.states < length built.new.states) }
+    ensures cells { OnOk result (list_of cells.new ≡ list_of cells.old) }
 {
     let number = built.states.as_slice().len();
     match &nodes[number] {
@@ -242,10 +259,13 @@ fn add_node(
             let own = own_stores(alloc, nodes, number)?;
             let kept = kept_of(stores, built.left, own);
             match go_of(on) {
-                None => add_run(alloc, design, order, kept, delayed, segment, on, built),
+                None => add_run(
+                    alloc, cells, base, design, kept, delayed, segment, on, built,
+                ),
                 Some(trap) => match &nodes[number + 1] {
                     Node::Trap(path, call, to) => add_call(
-                        alloc, design, order, kept, delayed, segment, trap, path, call, *to, built,
+                        alloc, cells, base, design, kept, delayed, segment, trap, path, call, *to,
+                        built,
                     ),
                     Node::Run(_, _) => unreachable!(),
                     Node::Apply(_) => unreachable!(),
@@ -257,7 +277,7 @@ fn add_node(
     }
 }
 
-/// The states of nodes. The stores are those of all of them.
+/// The states of nodes. The stores are those of all of them. What each begins with is made once.
 fn all_built(
     alloc: Global,
     design: &Design,
@@ -276,6 +296,9 @@ fn all_built(
     ensures narrow { IfOk result (λ r. AreNarrow (flat_of design.now) (map state_of r.states)) }
 {
     let delayed = delayed(alloc, design)?;
+    let mut cells = no_cells(alloc, 0);
+    let begun = begin_in(alloc, &mut cells, design, order)?;
+    let base = Base { order, begun };
     let mut built = Built {
         states: Items::new(alloc),
         slots: 0,
@@ -284,8 +307,9 @@ fn all_built(
     while built.states.as_slice().len() < nodes.len() {
         add_node(
             alloc,
+            &mut cells,
+            &base,
             design,
-            order,
             nodes,
             stores,
             delayed.as_slice(),

@@ -104,7 +104,7 @@ kept-behind before sets x s h = record {
 }
 
 -- a register of a store is none of another's
-beside-other : (x y : Store) (r : ℕ) → x.first ≤ r → r ≤ mask_register x → AreApart x y → IsBeside r y
+pub beside-other : (x y : Store) (r : ℕ) → x.first ≤ r → r ≤ mask_register x → AreApart x y → IsBeside r y
 beside-other x y r low high (inl h) = inl (omega arith)
 beside-other x y r low high (inr h) = inr (omega arith)
 

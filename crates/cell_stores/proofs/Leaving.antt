@@ -1,5 +1,6 @@
 -- What stores hold behind writes of registers.
-use Rattle.std.proofs.Common.{◌≡◌, ℕ, ◌^◌, ◌<◌, List, [], ◌++◌, length, Some, None, sym, ap, ◌∙◌, arith, subst}
+use Rattle.std.proofs.Common.{◌≡◌, ℕ, ◌^◌, ◌<◌, List, [], ◌++◌, length, Some, None, sym, ap, ◌∙◌, arith, subst, inl, inr}
+use Rattle.std.proofs.Math.Nat.{mod-eq_of_lt}
 use Rattle.std.specs.Prelude.{slice_index}
 use Rattle.std.specs.List.{AllByRecursion}
 use Rattle.std.proofs.Math.Pow.{pow_pos}
@@ -16,13 +17,14 @@ use Rattle.cell_form.specs.Sound.{shape_of}
 use Rattle.cell_steps.specs.Slots.{held}
 use Rattle.cell_steps.proofs.Frames.{held-fits}
 use Rattle.cell_paths.specs.Envs.{IsSlot}
+use Rattle.cell_reads.specs.Entries.{IsCopy}
 use Rattle.cell_later.specs.declared.pending.Site.{Site}
 use Rattle.cell_later.specs.Pendings.{IsSite}
 use Rattle.cell_waves.specs.Lasts.{last_write, held_after}
 use Rattle.ten_stores.specs.declared.store.Store.{Store}
 use Rattle.ten_stores.specs.Holding.{enable_register, word_register, value_register, mask_register, stored_by, IsStore, IsIdle, HoldsWords}
 use Rattle.cell_stores.specs.Reading.{EachHas, HasStore}
-use Rattle.cell_stores.specs.Keeping.{IsKept, IsLeft, IsZero, IsSegment}
+use Rattle.cell_stores.specs.Keeping.{IsHeld, IsLeft, IsZero, IsSegment}
 use Rattle.cell_waves.proofs.Lasting.{register-behind}
 use Rattle.cell_stores.proofs.Listing.{all-front, all-back, all-both, all-from, all-with, each-with, each-store}
 use Rattle.cell_stores.proofs.Holding.{IsSame, IsOf, by-more, by-idle, by-sites, below-as, store-same, holds-same}
@@ -92,15 +94,28 @@ module _ (d : Flat) (b : BankData) (l : ListData) (kept behind : List Store) (si
   slot-below : (r w : ℕ) → IsSlot l r w → held b l r < 2 ^ w
   slot-below r w k = subst (λ n. held b l r < 2 ^ n) k.width (held-fits h.shape b l r h.sound k.there)
 
-  kept-of : (x : Store) (s : Site) → Has x → IsKept sets x s → IsOf b l after x s
-  kept-of x s there k =
-      let room = there.0 in
+  -- a register that is left holds what a copy of it holds
+  copied : (r w s : ℕ) → r < length b.regs → last_write sets r ≡ None → IsCopy l w r s → slice_index b.regs r < 2 ^ w → slice_index after.regs r ≡ held b l s
+  copied r w s lt left copy small = register-left (held b l) sets b r lt left ∙ sym (copy.value h.shape b h.sound ∙ mod-eq_of_lt small)
+
+  held-of : (x : Store) (s : Site) → Has x × IsStore d b x → IsHeld d l sets x s → IsOf b l after x s
+  held-of x s there (inl k) =
+      let room = there.0.0 in
       record {
         memory = k.memory;
         enable = register-from (held b l) sets b (enable_register x) s.enable (omega arith) k.enable;
         word = register-from (held b l) sets b (word_register x) s.word (omega arith) k.word;
         value = register-from (held b l) sets b (value_register x) s.value (omega arith) k.value;
         mask = register-from (held b l) sets b (mask_register x) s.mask (omega arith) k.mask;
+      }
+  held-of x s there (inr k) =
+      let room = there.0.0 in
+      record {
+        memory = sym k.1.memory;
+        enable = copied (enable_register x) 1 s.enable (omega arith) (k.0 (enable_register x) (omega arith) (omega arith)) k.1.enable there.1.enable;
+        word = copied (word_register x) 32 s.word (omega arith) (k.0 (word_register x) (omega arith) (omega arith)) k.1.word there.1.word;
+        value = copied (value_register x) (signal_form d.rows x.memory).width s.value (omega arith) (k.0 (value_register x) (omega arith) (omega arith)) k.1.value there.1.value;
+        mask = copied (mask_register x) (signal_form d.rows x.memory).width s.mask (omega arith) (k.0 (mask_register x) (omega arith) (omega arith)) k.1.mask there.1.mask;
       }
 
   store-of : (x : Store) (s : Site) → IsSite (names_of d) l s → IsOf b l after x s → IsStore d after x
@@ -118,8 +133,10 @@ module _ (d : Flat) (b : BankData) (l : ListData) (kept behind : List Store) (si
   same-behind : AllByRecursion (IsSame b after) behind
   same-behind = stores-left (held b l) sets b behind (all-back Has kept behind h.there) h.left
 
-  kept-each : EachHas (IsOf b l after) kept sites
-  kept-each = each-with Has (IsKept sets) (IsOf b l after) kept-of kept sites (all-front Has kept behind h.there) h.each
+  held-each : AllByRecursion (IsStore d b) (kept ++ behind) → EachHas (IsOf b l after) kept sites
+  held-each k =
+      each-with (λ x. Has x × IsStore d b x) (IsHeld d l sets) (IsOf b l after) held-of kept sites
+      (all-with Has (IsStore d b) (λ x. Has x × IsStore d b x) (λ x a c. (a, c)) kept (all-front Has kept behind h.there) (all-front (IsStore d b) kept behind k)) h.each
 
   pub idle-yet : AllByRecursion (IsIdle after) behind
   idle-yet = all-with (IsSame b after) (IsIdle b) (IsIdle after) (λ x s i. s.enable ∙ i) behind same-behind h.idle
@@ -127,7 +144,7 @@ module _ (d : Flat) (b : BankData) (l : ListData) (kept behind : List Store) (si
   are-stores : AllByRecursion (IsStore d b) (kept ++ behind) → AllByRecursion (IsStore d after) (kept ++ behind)
   are-stores k =
       all-both (IsStore d after) kept behind
-      (each-store (IsSite (names_of d) l) (IsOf b l after) (IsStore d after) store-of kept sites (recursion_from_All (IsSite (names_of d) l) sites h.slots) kept-each)
+      (each-store (IsSite (names_of d) l) (IsOf b l after) (IsStore d after) store-of kept sites (recursion_from_All (IsSite (names_of d) l) sites h.slots) (held-each k))
       (all-with (IsSame b after) (IsStore d b) (IsStore d after) (λ x e i. store-same d b after x e i) behind same-behind (all-back (IsStore d b) kept behind k))
 
   pub holds-more : (earlier : List Update) → HoldsWords d b (kept ++ behind) earlier → HoldsWords d after (kept ++ behind) later
@@ -136,7 +153,7 @@ module _ (d : Flat) (b : BankData) (l : ListData) (kept behind : List Store) (si
     words = λ base m j fine i lt.
         let v = slice_index (words_of base m) j in
         h.words base m j fine i lt
-        ∙ sym (by-more after kept behind m j v ∙ (by-idle after behind m j (stored_by after kept m j v) idle-yet ∙ by-sites b l after kept sites m j v kept-each));
+        ∙ sym (by-more after kept behind m j v ∙ (by-idle after behind m j (stored_by after kept m j v) idle-yet ∙ by-sites b l after kept sites m j v (held-each (recursion_from_All (IsStore d b) (kept ++ behind) k.each))));
   }
 
 -- ---- idle stores

@@ -1,5 +1,5 @@
 -- What sites write kept in the registers of stores (IEEE 1364-2005, clause 9.2.2; own).
-use Rattle.std.specs.Prelude.{◌≡◌, ℕ, ◌<◌, ◌≤◌, List, [], ◌∷◌, ◌++◌, length, slice_index, All, Some, None}
+use Rattle.std.specs.Prelude.{◌≡◌, ℕ, ◌<◌, ◌≤◌, ◌⊎◌, List, [], ◌∷◌, ◌++◌, length, slice_index, All, Some, None}
 use Rattle.std.specs.List.{AllByRecursion}
 use Rattle.vl_design.specs.Syntax.{Flat}
 use Rattle.vl_design.specs.Width.{Names, names_of}
@@ -18,7 +18,7 @@ use Rattle.cell_waves.specs.Lasts.{last_write, IsRegister}
 use Rattle.ten_stores.specs.declared.store.Store.{Store}
 use Rattle.ten_stores.specs.Stores.{IsBeside, AreDisjoint}
 use Rattle.ten_stores.specs.Holding.{enable_register, word_register, value_register, mask_register, IsIdle}
-use Rattle.cell_stores.specs.Reading.{EachHas, HasStore}
+use Rattle.cell_stores.specs.Reading.{EachHas, HasStore, IsRead}
 
 -- writes of each store and its site, in order
 abbrev pub each_written : (Store → Site → List Write) → List Store → List Site → List Write
@@ -63,14 +63,18 @@ pub record Keeps (stores : List Store) (sites : List Site) (old new : List Write
 
 -- ---- what they leave
 
+-- behind these writes the registers of a store hold what a site says: they are set from its slots, or left where these are a copy of them
+abbrev pub IsHeld : Flat → ListData → List Write → Store → Site → Type 0
+IsHeld d l sets x s = IsKept sets x s ⊎ (IsLeft sets x × IsRead d.rows l x s)
+
 -- the writes of a segment on a bank, behind which `later` is pending. It reads the registers of the stores of segments before it as
--- sites, adds its own sites behind them, and keeps all of these. The stores of the segments behind it are left, and idle yet
+-- sites, adds its own sites behind them, and all of these are held. The stores of the segments behind it are left, and idle yet
 pub record IsSegment (d : Flat) (b : BankData) (l : ListData) (kept behind : List Store) (sites : List Site) (sets : List Write) (later : List Update) : Type 0 where
   pub shape : Shape
   pub sound : AreSound shape l
   pub there : AllByRecursion (HasStore (shape_of b)) (kept ++ behind)
   pub slots : All (IsSite (names_of d) l) sites
-  pub each : EachHas (IsKept sets) kept sites
+  pub each : EachHas (IsHeld d l sets) kept sites
   pub left : AllByRecursion (IsLeft sets) behind
   pub idle : AllByRecursion (IsIdle b) behind
   -- what the pending updates make of words, the slots of the sites say

@@ -1,4 +1,4 @@
-use Rattle.std.proofs.Common.{◌+◌, ◌<◌, ◌^◌, List, length, map, sym, ap, ◌∙◌, arith, subst}
+use Rattle.std.proofs.Common.{◌+◌, ◌<◌, ◌^◌, List, length, map, drop, sym, ap, ◌∙◌, arith, subst}
 use Rattle.std.specs.Prelude.{All}
 use Rattle.std.specs.List.{AllByRecursion}
 use Rattle.std.proofs.lemmas.List.Elements.{recursion_from_All}
@@ -40,12 +40,12 @@ up_to_segment-requires-clause-few c =
 
 pub call_of-requires-clause-fits : goal.call_of-requires-clause-fits
 call_of-requires-clause-fits c =
-    let st = c.in_ok-cells.ensures c.requires.stores.0 c.requires.stores.1.above in
-    fits-stays (names_of (flat_of c.args.design.now)) (list_of c.in_ok-cells.field-0.cells) (list_of c.number.new.cells) (env_of c.in_ok-cells.field-0.after.at) c.in_ok-next.ensures.grows st.does.fits
+    let st = c.in_ok-earlier.ensures.starts c.requires.stores.0 c.requires.stores.1.above in
+    fits-stays (names_of (flat_of c.args.design.now)) (list_of c.up_to_segment.new.cells) (list_of c.number.new.cells) (env_of c.in_ok-earlier.field-0.after.at) c.in_ok-next.ensures.grows st.does.fits
 
 pub call_of-requires-clause-first : goal.call_of-requires-clause-first
 call_of-requires-clause-first c =
-    let st = c.in_ok-cells.ensures c.requires.stores.0 c.requires.stores.1.above in
+    let st = c.in_ok-earlier.ensures.starts c.requires.stores.0 c.requires.stores.1.above in
     st.does.first ∙ st.begins.first
 
 pub writes-requires-clause-same : goal.writes-requires-clause-same
@@ -53,18 +53,18 @@ writes-requires-clause-same c =
     let d = flat_of c.args.design.now in
     let number = c.requires.stores.0 in
     let kept = c.requires.stores.1 in
-    let x = c.in_ok-cells.field-0 in
+    let x = c.in_ok-earlier.field-0 in
     ap (map (λ (s : Store). s.memory)) kept.all
-    ∙ starts-same d c.args.order.now number (segment_view c.args.segment.now) (n.Go c.args.trap) (list_of x.cells) (env_of x.before.at) (env_of x.after.at) (slots_of x.before.pending) (slots_of x.after.pending) x.ticks kept.there
-    (c.in_ok-cells.ensures number kept.above)
+    ∙ starts-same d c.args.base.now.order.now number (segment_view c.args.segment.now) (n.Go c.args.trap) (list_of c.up_to_segment.new.cells) (env_of c.args.base.now.begun.at) (env_of x.after.at) (slots_of c.args.base.now.begun.pending) (slots_of x.after.pending) x.earlier.items x.ticks kept.there
+    (c.in_ok-earlier.ensures.starts number kept.above)
 
 pub returns-clause-made : goal.returns-clause-made
 returns-clause-made c number kept =
     let d = flat_of c.args.design.now in
     let names = names_of d in
-    let x = c.in_ok-cells.field-0 in
-    let st = c.in_ok-cells.ensures number kept.above in
-    let l2 = list_of x.cells in
+    let x = c.in_ok-earlier.field-0 in
+    let st = c.in_ok-earlier.ensures.starts number kept.above in
+    let l2 = list_of c.up_to_segment.new.cells in
     let l3 = list_of c.number.new.cells in
     let l4 = list_of c.call_of.new.cells in
     let at = env_of x.after.at in
@@ -75,23 +75,23 @@ returns-clause-made c number kept =
     let goes : (files : List File) → Holds names (1 + m) at l2 l4 c.in_ok-next.next 32 (λ y. next_node (scope_of d files) y (n.Go c.args.trap)) =
     λ files. holds-then names at 1 m l2 l3 l4 c.in_ok-next.next 32 (λ y. c.args.trap) asks.longer
     (holds-number names at 0 c.args.trap l2 l2 l3 c.in_ok-next.next st.does.fits (longer-same (HasMemories names at) l2) num) in
-    let end = c.in_ok-sets.ensures in
+    let end = rw c.as_slice.ensures.value at c.in_ok-sets.ensures in
     let g = segment_view c.args.segment.now in
     let on = n.Go c.args.trap in
     let sets = c.in_ok-sets.sets.items in
     let Above : List Store → Type 0 = λ xs. AllByRecursion (λ (s : Store). IsMemory (names_of d) s.memory) xs in
-    is-made d c.args.order.now c.args.delayed.now c.requires.delayed number g on st.first st.second l2 l4 (env_of x.before.at) at (slots_of x.before.pending) (slots_of x.after.pending) st.sites x.ticks c.in_ok-next.next (1 + m)
-    end.before sets st.begins st.reads st.does goes end.end (subst (λ xs. Keeps xs (slots_of x.after.pending).sites end.before sets) kept.all end.keeps)
-    (starts-same d c.args.order.now number g on l2 (env_of x.before.at) at (slots_of x.before.pending) (slots_of x.after.pending) x.ticks kept.there st)
+    is-made d c.args.base.now.order.now c.args.delayed.now c.requires.delayed number g on st.first st.second l2 l4 (env_of c.args.base.now.begun.at) at (slots_of c.args.base.now.begun.pending) (slots_of x.after.pending) x.earlier.items x.ticks c.in_ok-next.next (1 + m)
+    end.before sets st.begins st.reads st.does goes end.end end.count end.few end.same (subst (λ xs. Keeps (drop end.count xs) (drop end.count (slots_of x.after.pending).sites) end.before sets) kept.all end.keeps)
+    (starts-same d c.args.base.now.order.now number g on l2 (env_of c.args.base.now.begun.at) at (slots_of c.args.base.now.begun.pending) (slots_of x.after.pending) x.earlier.items x.ticks kept.there st)
     (subst Above kept.above (recursion_from_All (λ (s : Store). IsMemory (names_of d) s.memory) c.args.kept.above.now c.requires.memories)) c.requires.design.alone
 
 pub returns-clause-asks : goal.returns-clause-asks
 returns-clause-asks c number kept =
     let d = flat_of c.args.design.now in
     let names = names_of d in
-    let x = c.in_ok-cells.field-0 in
-    let st = c.in_ok-cells.ensures number kept.above in
-    let l2 = list_of x.cells in
+    let x = c.in_ok-earlier.field-0 in
+    let st = c.in_ok-earlier.ensures.starts number kept.above in
+    let l2 = list_of c.up_to_segment.new.cells in
     let l3 = list_of c.number.new.cells in
     let l4 = list_of c.call_of.new.cells in
     let at = env_of x.after.at in
@@ -102,26 +102,26 @@ returns-clause-asks c number kept =
     let goes : (files : List File) → Holds names (1 + m) at l2 l4 c.in_ok-next.next 32 (λ y. next_node (scope_of d files) y (n.Go c.args.trap)) =
     λ files. holds-then names at 1 m l2 l3 l4 c.in_ok-next.next 32 (λ y. c.args.trap) asks.longer
     (holds-number names at 0 c.args.trap l2 l2 l3 c.in_ok-next.next st.does.fits (longer-same (HasMemories names at) l2) num) in
-    let end = c.in_ok-sets.ensures in
+    let end = rw c.as_slice.ensures.value at c.in_ok-sets.ensures in
     let g = segment_view c.args.segment.now in
     let on = n.Go c.args.trap in
     let sets = c.in_ok-sets.sets.items in
     let Above : List Store → Type 0 = λ xs. AllByRecursion (λ (s : Store). IsMemory (names_of d) s.memory) xs in
     let g23 = longer-grows Nothing 1 l2 l3 num.longer in
-    asks-behind d c.args.order.now c.args.delayed.now c.requires.delayed number g on st.first st.second l2 l4 (env_of x.before.at) at (slots_of x.before.pending) (slots_of x.after.pending) st.sites x.ticks c.in_ok-next.next (1 + m)
-    end.before sets st.begins st.reads st.does goes end.end (subst (λ xs. Keeps xs (slots_of x.after.pending).sites end.before sets) kept.all end.keeps)
-    (starts-same d c.args.order.now number g on l2 (env_of x.before.at) at (slots_of x.before.pending) (slots_of x.after.pending) x.ticks kept.there st)
+    asks-behind d c.args.base.now.order.now c.args.delayed.now c.requires.delayed number g on st.first st.second l2 l4 (env_of c.args.base.now.begun.at) at (slots_of c.args.base.now.begun.pending) (slots_of x.after.pending) x.earlier.items x.ticks c.in_ok-next.next (1 + m)
+    end.before sets st.begins st.reads st.does goes end.end end.count end.few end.same (subst (λ xs. Keeps (drop end.count xs) (drop end.count (slots_of x.after.pending).sites) end.before sets) kept.all end.keeps)
+    (starts-same d c.args.base.now.order.now number g on l2 (env_of c.args.base.now.begun.at) at (slots_of c.args.base.now.begun.pending) (slots_of x.after.pending) x.earlier.items x.ticks kept.there st)
     (subst Above kept.above (recursion_from_All (λ (s : Store). IsMemory (names_of d) s.memory) c.args.kept.above.now c.requires.memories)) c.requires.design.alone task c.in_ok-asked.asked.args (slots-there l4 _ _ asks.slots)
     (λ files z b y sound stands. asks.values files z b y (num.longer.sound z tt sound) (stands-stays names b l2 l3 at y g23 st.does.fits stands))
 
 pub returns-clause-few : goal.returns-clause-few
 returns-clause-few c number kept =
     let d = flat_of c.args.design.now in
-    let x = c.in_ok-cells.field-0 in
-    let st = c.in_ok-cells.ensures number kept.above in
+    let x = c.in_ok-earlier.field-0 in
+    let st = c.in_ok-earlier.ensures.starts number kept.above in
     let task = call_view c.args.path.now c.args.call.now in
     let few = st.few in
-    let l2 = list_of x.cells in
+    let l2 = list_of c.up_to_segment.new.cells in
     let l3 = list_of c.number.new.cells in
     let one = longer-few Nothing 1 l2 l3 c.in_ok-next.ensures.gives.longer in
     let more = longer-few (HasMemories (names_of d) (env_of x.after.at)) (asked_count (body_cells d) task) l3 (list_of c.call_of.new.cells) c.in_ok-asked.ensures.traps.asks.longer in

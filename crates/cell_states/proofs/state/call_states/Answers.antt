@@ -12,6 +12,6 @@ pub returns-clause-calls : goal.returns-clause-calls
 returns-clause-calls c d order n g task made call asks =
     let trim = rw c.as_slice.ensures at c.in_ok-trimmed.ensures.trimmed in
     rw c.from_vec.ensures
-    (calls-trimmed d order n g c.args.number c.args.to task (list_of c.args.made.now.cells) c.args.made.now.sets.items c.args.call c.args.first (list_of c.in_ok-trimmed.trimmed.cells) _ c.in_ok-trimmed.trimmed.slots.items c.in_ok-nexts.nexts c.in_ok-one.field-0
+    (calls-trimmed d order n g c.args.number c.args.to task (list_of c.args.cells.now) c.args.sets.now c.args.call c.args.first (list_of c.in_ok-trimmed.trimmed.cells) _ c.in_ok-trimmed.trimmed.slots.items c.in_ok-nexts.nexts c.in_ok-one.field-0
     trim made call asks c.in_ok-one.ensures
     (ap (λ (l : ListData). l.cells) c.no_cells.ensures) (ap (λ (l : ListData). l.sets) c.no_cells.ensures))

@@ -11,5 +11,5 @@ pub returns-clause-does : goal.returns-clause-does
 returns-clause-does c d order n x made =
     record {
       none = refl;
-      does = does-trimmed d order n x (list_of c.args.made.now.cells) c.args.made.now.sets.items [] c.args.first (list_of c.in_ok-trimmed.trimmed.cells) c.in_ok-trimmed.trimmed.slots.items c.in_ok-trimmed.ensures.trimmed made;
+      does = does-trimmed d order n x (list_of c.args.cells.now) c.args.sets.now [] c.args.first (list_of c.in_ok-trimmed.trimmed.cells) c.in_ok-trimmed.trimmed.slots.items c.in_ok-trimmed.ensures.trimmed made;
     }

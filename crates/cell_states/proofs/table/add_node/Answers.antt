@@ -76,7 +76,7 @@ add_call-requires-clause-stores c =
     let y = v.Run c.in-Run.segment c.in-Run.on in
     let there = node-at d nodes built.states k x y c.requires.table same lt c.index-nodes-number.is c.in-Run.is in
     let go = sym c.go_of.ensures ∙ c.in-Some.is in
-    let kept = subst (λ w. IsKept d (length (map state_of built.states)) c.kept_of-kept.result (n.Run (segment_view c.in-Run.segment) w)) (go-is d c.args.order.now (cell_nodes d) (way_on_view c.in-Run.on) c.in-Some.trap go)
+    let kept = subst (λ w. IsKept d (length (map state_of built.states)) c.kept_of-kept.result (n.Run (segment_view c.in-Run.segment) w)) (go-is d c.args.base.now.order.now (cell_nodes d) (way_on_view c.in-Run.on) c.in-Some.trap go)
     (kept-at d nodes built.states k x y c.requires.table same lt c.index-nodes-number.is c.in-Run.is c.in_ok-own-in-Run.own built.left c.in_ok-own-in-Run.ensures c.requires.first.left
     c.kept_of-kept.result c.args.stores.now c.requires.stores c.kept_of-kept.ensures.above c.kept_of-kept.ensures.all) in
     (length (map state_of built.states), kept)
@@ -100,7 +100,7 @@ add_call-requires-clause-task c =
     let y = v.Run c.in-Run.segment c.in-Run.on in
     let there = node-at d nodes built.states k x y c.requires.table same lt c.index-nodes-number.is c.in-Run.is in
     let go = sym c.go_of.ensures ∙ c.in-Some.is in
-    let room = call-room d c.args.order.now (cell_nodes d) (map state_of built.states) built.slots built.left c.requires.first (segment_view c.in-Run.segment) (way_on_view c.in-Run.on) c.in-Some.trap go there in
+    let room = call-room d c.args.base.now.order.now (cell_nodes d) (map state_of built.states) built.slots built.left c.requires.first (segment_view c.in-Run.segment) (way_on_view c.in-Run.on) c.in-Some.trap go there in
     let many = ap (λ (xs : List Node). length xs) c.requires.table in
     let views = length-map nodes node_view in
     let long = length-map built.states state_of in
@@ -122,14 +122,14 @@ unreachable-requires c =
     let y = v.Run c.in-Run.segment c.in-Run.on in
     let there = node-at d nodes built.states k x y c.requires.table same lt c.index-nodes-number.is c.in-Run.is in
     let go = sym c.go_of.ensures ∙ c.in-Some.is in
-    let room = call-room d c.args.order.now (cell_nodes d) (map state_of built.states) built.slots built.left c.requires.first (segment_view c.in-Run.segment) (way_on_view c.in-Run.on) c.in-Some.trap go there in
+    let room = call-room d c.args.base.now.order.now (cell_nodes d) (map state_of built.states) built.slots built.left c.requires.first (segment_view c.in-Run.segment) (way_on_view c.in-Run.on) c.in-Some.trap go there in
     let many = ap (λ (xs : List Node). length xs) c.requires.table in
     let views = length-map nodes node_view in
     let long = length-map built.states state_of in
     let lt2 : k + 1 < length nodes = omega (arith, room, many, views, long, same) in
     let behind = subst (λ (xs : List Node). slice_get xs (length (map state_of built.states) + 1) ≡ Some (node_view c.index-nodes-number-in-Some.result)) c.requires.table
     (node-behind nodes built.states k c.index-nodes-number-in-Some.result same lt2 c.index-nodes-number-in-Some.is) ∙ ap (λ (z : NodeCode). Some (node_view z)) c.in-Run-nodes.is in
-    call-behind d c.args.order.now (cell_nodes d) (map state_of built.states) built.slots built.left c.requires.first (segment_view c.in-Run.segment) (way_on_view c.in-Run.on) c.in-Some.trap _ go there behind refl
+    call-behind d c.args.base.now.order.now (cell_nodes d) (map state_of built.states) built.slots built.left c.requires.first (segment_view c.in-Run.segment) (way_on_view c.in-Run.on) c.in-Some.trap _ go there behind refl
 
 pub unreachable-requires-in-Apply-nodes : goal.unreachable-requires-in-Apply-nodes
 unreachable-requires-in-Apply-nodes c =
@@ -144,14 +144,14 @@ unreachable-requires-in-Apply-nodes c =
     let y = v.Run c.in-Run.segment c.in-Run.on in
     let there = node-at d nodes built.states k x y c.requires.table same lt c.index-nodes-number.is c.in-Run.is in
     let go = sym c.go_of.ensures ∙ c.in-Some.is in
-    let room = call-room d c.args.order.now (cell_nodes d) (map state_of built.states) built.slots built.left c.requires.first (segment_view c.in-Run.segment) (way_on_view c.in-Run.on) c.in-Some.trap go there in
+    let room = call-room d c.args.base.now.order.now (cell_nodes d) (map state_of built.states) built.slots built.left c.requires.first (segment_view c.in-Run.segment) (way_on_view c.in-Run.on) c.in-Some.trap go there in
     let many = ap (λ (xs : List Node). length xs) c.requires.table in
     let views = length-map nodes node_view in
     let long = length-map built.states state_of in
     let lt2 : k + 1 < length nodes = omega (arith, room, many, views, long, same) in
     let behind = subst (λ (xs : List Node). slice_get xs (length (map state_of built.states) + 1) ≡ Some (node_view c.index-nodes-number-in-Some.result)) c.requires.table
     (node-behind nodes built.states k c.index-nodes-number-in-Some.result same lt2 c.index-nodes-number-in-Some.is) ∙ ap (λ (z : NodeCode). Some (node_view z)) c.in-Apply-nodes.is in
-    call-behind d c.args.order.now (cell_nodes d) (map state_of built.states) built.slots built.left c.requires.first (segment_view c.in-Run.segment) (way_on_view c.in-Run.on) c.in-Some.trap _ go there behind refl
+    call-behind d c.args.base.now.order.now (cell_nodes d) (map state_of built.states) built.slots built.left c.requires.first (segment_view c.in-Run.segment) (way_on_view c.in-Run.on) c.in-Some.trap _ go there behind refl
 
 pub add_update-requires-clause-memories : goal.add_update-requires-clause-memories
 add_update-requires-clause-memories c =
@@ -169,7 +169,7 @@ unreachable-requires-in-Trap c =
     let x = c.index-nodes-number.result in
     let y = v.Trap c.in-Trap.field-0 c.in-Trap.field-1 c.in-Trap.field-2 in
     let there = node-at d nodes built.states k x y c.requires.table same lt c.index-nodes-number.is c.in-Trap.is in
-    none-waits d c.args.order.now (cell_nodes d) (length (map state_of built.states)) _ _ there c.requires.first.rest
+    none-waits d c.args.base.now.order.now (cell_nodes d) (length (map state_of built.states)) _ _ there c.requires.first.rest
 
 pub returns-in-None-clause-first : goal.returns-in-None-clause-first
 returns-in-None-clause-first c =
@@ -186,9 +186,9 @@ returns-in-None-clause-first c =
     let kept = kept-at d nodes built.states k x y c.requires.table same lt c.index-nodes-number.is c.in-Run.is c.in_ok-own-in-Run.own built.left c.in_ok-own-in-Run.ensures c.requires.first.left
     c.kept_of-kept.result c.args.stores.now c.requires.stores c.kept_of-kept.ensures.above c.kept_of-kept.ensures.all in
     on-both c.add_run.result c.add_run.ensures.more c.add_run.ensures.left (λ h left.
-    add-run-state d c.args.order.now (cell_nodes d) (map state_of built.states) built.slots built.left c.requires.first (segment_view c.in-Run.segment) (way_on_view c.in-Run.on) _ (map state_of c.add_run.new.built.states) c.add_run.new.built.slots
+    add-run-state d c.args.base.now.order.now (cell_nodes d) (map state_of built.states) built.slots built.left c.requires.first (segment_view c.in-Run.segment) (way_on_view c.in-Run.on) _ (map state_of c.add_run.new.built.states) c.add_run.new.built.slots
     c.add_run.new.built.left (sym c.go_of.ensures ∙ c.in-None.is) (h (length (map state_of built.states)) kept)
-    (run-few d c.args.order.now (cell_nodes d) (segment_view c.in-Run.segment) (way_on_view c.in-Run.on) (length c.kept_of-kept.result.above.now) (let most = left-most d (length (map state_of built.states) + 1) in let same = ap (λ (xs : List Store). length xs) kept.above in omega (arith, most, same))) there (left ∙ ap (λ (xs : List Store). length xs) kept.above))
+    (run-few d c.args.base.now.order.now (cell_nodes d) (segment_view c.in-Run.segment) (way_on_view c.in-Run.on) (length c.kept_of-kept.result.above.now) (let most = left-most d (length (map state_of built.states) + 1) in let same = ap (λ (xs : List Store). length xs) kept.above in omega (arith, most, same))) there (left ∙ ap (λ (xs : List Store). length xs) kept.above))
 
 pub returns-in-None-clause-more : goal.returns-in-None-clause-more
 returns-in-None-clause-more c =
@@ -203,7 +203,7 @@ returns-in-None-clause-more c =
     let y = v.Run c.in-Run.segment c.in-Run.on in
     let kept = kept-at d nodes built.states k x y c.requires.table same lt c.index-nodes-number.is c.in-Run.is c.in_ok-own-in-Run.own built.left c.in_ok-own-in-Run.ensures c.requires.first.left
     c.kept_of-kept.result c.args.stores.now c.requires.stores c.kept_of-kept.ensures.above c.kept_of-kept.ensures.all in
-    on_ok_weaker c.add_run.result (λ h. one-longer d c.args.order.now (length (map state_of built.states)) (node_view y) _ built.states c.add_run.new.built.states built.slots c.add_run.new.built.slots (h (length (map state_of built.states)) kept)) c.add_run.ensures.more
+    on_ok_weaker c.add_run.result (λ h. one-longer d c.args.base.now.order.now (length (map state_of built.states)) (node_view y) _ built.states c.add_run.new.built.states built.slots c.add_run.new.built.slots (h (length (map state_of built.states)) kept)) c.add_run.ensures.more
 
 pub returns-in-Trap-nodes-clause-first : goal.returns-in-Trap-nodes-clause-first
 returns-in-Trap-nodes-clause-first c =
@@ -218,20 +218,20 @@ returns-in-Trap-nodes-clause-first c =
     let y = v.Run c.in-Run.segment c.in-Run.on in
     let there = node-at d nodes built.states k x y c.requires.table same lt c.index-nodes-number.is c.in-Run.is in
     let go = sym c.go_of.ensures ∙ c.in-Some.is in
-    let room = call-room d c.args.order.now (cell_nodes d) (map state_of built.states) built.slots built.left c.requires.first (segment_view c.in-Run.segment) (way_on_view c.in-Run.on) c.in-Some.trap go there in
+    let room = call-room d c.args.base.now.order.now (cell_nodes d) (map state_of built.states) built.slots built.left c.requires.first (segment_view c.in-Run.segment) (way_on_view c.in-Run.on) c.in-Some.trap go there in
     let many = ap (λ (xs : List Node). length xs) c.requires.table in
     let views = length-map nodes node_view in
     let long = length-map built.states state_of in
     let lt2 : k + 1 < length nodes = omega (arith, room, many, views, long, same) in
     let behind = subst (λ (xs : List Node). slice_get xs (length (map state_of built.states) + 1) ≡ Some (node_view c.index-nodes-number-in-Some.result)) c.requires.table
     (node-behind nodes built.states k c.index-nodes-number-in-Some.result same lt2 c.index-nodes-number-in-Some.is) ∙ ap (λ (z : NodeCode). Some (node_view z)) c.in-Trap-nodes.is in
-    let kept = subst (λ w. IsKept d (length (map state_of built.states)) c.kept_of-kept.result (n.Run (segment_view c.in-Run.segment) w)) (go-is d c.args.order.now (cell_nodes d) (way_on_view c.in-Run.on) c.in-Some.trap go)
+    let kept = subst (λ w. IsKept d (length (map state_of built.states)) c.kept_of-kept.result (n.Run (segment_view c.in-Run.segment) w)) (go-is d c.args.base.now.order.now (cell_nodes d) (way_on_view c.in-Run.on) c.in-Some.trap go)
     (kept-at d nodes built.states k x y c.requires.table same lt c.index-nodes-number.is c.in-Run.is c.in_ok-own-in-Run.own built.left c.in_ok-own-in-Run.ensures c.requires.first.left
     c.kept_of-kept.result c.args.stores.now c.requires.stores c.kept_of-kept.ensures.above c.kept_of-kept.ensures.all) in
     on-both c.add_call.result c.add_call.ensures.more c.add_call.ensures.left (λ h left.
-    add-call-states d c.args.order.now (cell_nodes d) (map state_of built.states) built.slots built.left c.requires.first (segment_view c.in-Run.segment) (way_on_view c.in-Run.on) c.in-Some.trap c.in-Trap-nodes.to
+    add-call-states d c.args.base.now.order.now (cell_nodes d) (map state_of built.states) built.slots built.left c.requires.first (segment_view c.in-Run.segment) (way_on_view c.in-Run.on) c.in-Some.trap c.in-Trap-nodes.to
     (call_view c.in-Trap-nodes.path.now c.in-Trap-nodes.call.now) _ (map state_of c.add_call.new.built.states) c.add_call.new.built.slots c.add_call.new.built.left go (h (length (map state_of built.states)) kept)
-    (call-few d c.args.order.now (segment_view c.in-Run.segment) (call_view c.in-Trap-nodes.path.now c.in-Trap-nodes.call.now) (length c.kept_of-kept.result.above.now) (let most = left-most d (length (map state_of built.states) + 1) in let same = ap (λ (xs : List Store). length xs) kept.above in omega (arith, most, same))) there behind
+    (call-few d c.args.base.now.order.now (segment_view c.in-Run.segment) (call_view c.in-Trap-nodes.path.now c.in-Trap-nodes.call.now) (length c.kept_of-kept.result.above.now) (let most = left-most d (length (map state_of built.states) + 1) in let same = ap (λ (xs : List Store). length xs) kept.above in omega (arith, most, same))) there behind
     (left ∙ ap (λ (xs : List Store). length xs) kept.above ∙ less-two d (length (map state_of built.states)) _ _ behind))
 
 pub returns-in-Trap-nodes-clause-more : goal.returns-in-Trap-nodes-clause-more
@@ -247,11 +247,11 @@ returns-in-Trap-nodes-clause-more c =
     let y = v.Run c.in-Run.segment c.in-Run.on in
     let there = node-at d nodes built.states k x y c.requires.table same lt c.index-nodes-number.is c.in-Run.is in
     let go = sym c.go_of.ensures ∙ c.in-Some.is in
-    let kept = subst (λ w. IsKept d (length (map state_of built.states)) c.kept_of-kept.result (n.Run (segment_view c.in-Run.segment) w)) (go-is d c.args.order.now (cell_nodes d) (way_on_view c.in-Run.on) c.in-Some.trap go)
+    let kept = subst (λ w. IsKept d (length (map state_of built.states)) c.kept_of-kept.result (n.Run (segment_view c.in-Run.segment) w)) (go-is d c.args.base.now.order.now (cell_nodes d) (way_on_view c.in-Run.on) c.in-Some.trap go)
     (kept-at d nodes built.states k x y c.requires.table same lt c.index-nodes-number.is c.in-Run.is c.in_ok-own-in-Run.own built.left c.in_ok-own-in-Run.ensures c.requires.first.left
     c.kept_of-kept.result c.args.stores.now c.requires.stores c.kept_of-kept.ensures.above c.kept_of-kept.ensures.all) in
     on_ok_weaker c.add_call.result (λ h.
-    two-longer d c.args.order.now (length (map state_of built.states)) (segment_view c.in-Run.segment) c.in-Some.trap (call_view c.in-Trap-nodes.path.now c.in-Trap-nodes.call.now) c.in-Trap-nodes.to _ built.states
+    two-longer d c.args.base.now.order.now (length (map state_of built.states)) (segment_view c.in-Run.segment) c.in-Some.trap (call_view c.in-Trap-nodes.path.now c.in-Trap-nodes.call.now) c.in-Trap-nodes.to _ built.states
     c.add_call.new.built.states built.slots c.add_call.new.built.slots (h (length (map state_of built.states)) kept)) c.add_call.ensures.more
 
 pub returns-in-Apply-clause-first : goal.returns-in-Apply-clause-first
@@ -267,12 +267,12 @@ returns-in-Apply-clause-first c =
     let y = v.Apply c.in-Apply.to in
     let there = node-at d nodes built.states k x y c.requires.table same lt c.index-nodes-number.is c.in-Apply.is in
     on-both c.add_update.result c.add_update.ensures.more c.add_update.ensures.left (λ h left.
-    add-update-state d c.args.order.now (cell_nodes d) (map state_of built.states) built.slots built.left c.requires.first c.in-Apply.to (map state_of c.add_update.new.built.states) c.add_update.new.built.slots c.add_update.new.built.left
-    (h c.args.order.now (length (map state_of built.states))) there (left ∙ c.requires.first.left ∙ less-one d (length (map state_of built.states)) c.in-Apply.to there))
+    add-update-state d c.args.base.now.order.now (cell_nodes d) (map state_of built.states) built.slots built.left c.requires.first c.in-Apply.to (map state_of c.add_update.new.built.states) c.add_update.new.built.slots c.add_update.new.built.left
+    (h c.args.base.now.order.now (length (map state_of built.states))) there (left ∙ c.requires.first.left ∙ less-one d (length (map state_of built.states)) c.in-Apply.to there))
 
 pub returns-in-Apply-clause-more : goal.returns-in-Apply-clause-more
 returns-in-Apply-clause-more c =
     let d = flat_of c.args.design.now in
     let built = c.args.built.now in
     on_ok_weaker c.add_update.result (λ h.
-    one-longer d c.args.order.now (length (map state_of built.states)) (n.Apply c.in-Apply.to) _ built.states c.add_update.new.built.states built.slots c.add_update.new.built.slots (h c.args.order.now (length (map state_of built.states)))) c.add_update.ensures.more
+    one-longer d c.args.base.now.order.now (length (map state_of built.states)) (n.Apply c.in-Apply.to) _ built.states c.add_update.new.built.states built.slots c.add_update.new.built.slots (h c.args.base.now.order.now (length (map state_of built.states)))) c.add_update.ensures.more

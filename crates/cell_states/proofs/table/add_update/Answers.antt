@@ -11,5 +11,5 @@ returns-clause-more c =
     on-both c.add.result c.add.ensures.states c.add.ensures.slots (λ states slots order number.
     has-one d order number x _ c.args.built.now.states c.add.new.self.states c.in_ok-state.state c.args.built.now.slots c.add.new.self.slots states slots c.in_ok-state.ensures.first
     (let a = c.in_ok-state.ensures.few in let b = c.in_ok-made.ensures.few in omega (arith, a, b))
-    (c.in_ok-state.ensures.narrow d order number x (c.in_ok-made.ensures.made order number))
-    (c.in_ok-state.ensures.does d order number x (c.in_ok-made.ensures.made order number)))
+    (c.in_ok-state.ensures.narrow d order number x (rw c.deref.ensures.value (c.in_ok-made.ensures.made order number)))
+    (c.in_ok-state.ensures.does d order number x (rw c.deref.ensures.value (c.in_ok-made.ensures.made order number))))

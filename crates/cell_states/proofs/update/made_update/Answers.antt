@@ -1,9 +1,8 @@
-use Rattle.std.proofs.Common.{◌≡◌, ◌*◌, ℕ, List, [], length, map, subst, sym, ap, ◌∙◌, arith}
+use Rattle.std.proofs.Common.{◌*◌, List, [], length, map, subst, sym, ap, ◌∙◌, arith}
 use Rattle.std.specs.Prelude.{All, slice_get}
 use Rattle.std.specs.List.{AllByRecursion}
 use Rattle.vl_design.specs.Sound.{IsOf, IsMem}
 use Rattle.vl_design.specs.Trees.{flat_of, row_of}
-use Rattle.vl_design.specs.Width.{names_of}
 use Rattle.vl_design.specs.declared.design.Signal.{Signal}
 use Rattle.cell_form.specs.Data.{ListData}
 use Rattle.cell_form.specs.Sound.{Shape}

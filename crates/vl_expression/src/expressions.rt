@@ -33,44 +33,33 @@ pub fn copied(alloc: Global, text: &Text) -> Result<Text, AllocError>
 }
 
 /// So many bits of a value from the one on that an index names.
-fn picked(
-    alloc: Global,
-    at: Place,
-    base: Expr,
-    index: Expr,
-    from: LowestBit,
-    width: u8,
-) -> Result<Expr, AllocError>
-    ensures { IfOk result (λ e. exp_of e ≡ p.Pick at (exp_of base) (exp_of index) from width) }
+fn picked(at: Place, base: Box<Expr>, index: Box<Expr>, from: LowestBit, width: u8) -> Expr
+    ensures { exp_of result ≡ p.Pick at (exp_of base.value) (exp_of index.value) from width }
 {
-    let base = Box::new(alloc, base)?;
-    let index = Box::new(alloc, index)?;
-    Ok(Expr {
+    Expr {
         place: at,
         node: ExprNode::Pick(base, index, from, width),
-    })
+    }
 }
 
 /// So many bits of a value from a constant one on.
-fn sliced(alloc: Global, at: Place, base: Expr, low: i32, width: u8) -> Result<Expr, AllocError>
-    ensures { IfOk result (λ e. exp_of e ≡ p.Slice at (exp_of base) low width) }
+fn sliced(at: Place, base: Box<Expr>, low: i32, width: u8) -> Expr
+    ensures { exp_of result ≡ p.Slice at (exp_of base.value) low width }
 {
-    let base = Box::new(alloc, base)?;
-    Ok(Expr {
+    Expr {
         place: at,
         node: ExprNode::Slice(base, low, width),
-    })
+    }
 }
 
 /// The word of a memory.
-fn word(alloc: Global, at: Place, memory: u32, address: Expr) -> Result<Expr, AllocError>
-    ensures { IfOk result (λ e. exp_of e ≡ p.Word at memory (exp_of address)) }
+fn word(at: Place, memory: u32, address: Box<Expr>) -> Expr
+    ensures { exp_of result ≡ p.Word at memory (exp_of address.value) }
 {
-    let address = Box::new(alloc, address)?;
-    Ok(Expr {
+    Expr {
         place: at,
         node: ExprNode::Word(memory, address),
-    })
+    }
 }
 
 /// An operand behind a mark.
@@ -90,28 +79,23 @@ fn marked(alloc: Global, at: Place, op: Option<UnOp>, a: Expr) -> Result<Expr, A
 }
 
 /// An operator on two operands.
-fn joined(alloc: Global, at: Place, op: BinOp, a: Expr, b: Expr) -> Result<Expr, AllocError>
-    ensures { IfOk result (λ e. exp_of e ≡ p.Bin at op (exp_of a) (exp_of b)) }
+fn joined(at: Place, op: BinOp, a: Box<Expr>, b: Box<Expr>) -> Expr
+    ensures { exp_of result ≡ p.Bin at op (exp_of a.value) (exp_of b.value) }
 {
-    let a = Box::new(alloc, a)?;
-    let b = Box::new(alloc, b)?;
-    Ok(Expr {
+    Expr {
         place: at,
         node: ExprNode::Bin(op, a, b),
-    })
+    }
 }
 
 /// A condition with its two branches.
-fn chosen(alloc: Global, at: Place, test: Expr, a: Expr, b: Expr) -> Result<Expr, AllocError>
-    ensures { IfOk result (λ e. exp_of e ≡ p.Cond at (exp_of test) (exp_of a) (exp_of b)) }
+fn chosen(at: Place, test: Box<Expr>, a: Box<Expr>, b: Box<Expr>) -> Expr
+    ensures { exp_of result ≡ p.Cond at (exp_of test.value) (exp_of a.value) (exp_of b.value) }
 {
-    let test = Box::new(alloc, test)?;
-    let a = Box::new(alloc, a)?;
-    let b = Box::new(alloc, b)?;
-    Ok(Expr {
+    Expr {
         place: at,
         node: ExprNode::Cond(test, a, b),
-    })
+    }
 }
 
 /// `$signed` or `$unsigned`.
@@ -149,15 +133,19 @@ fn parted(
     ensures { IfOk result (λ e. exp_of e ≡ flat.stepped at (exp_of from.base) (flat.part (numbers from.range) mark (flat.exp (seen_scope scope.now) (seen left.now)) (flat.constant (seen_scope scope.now) (seen left.now)) (flat.constant (seen_scope scope.now) (seen right.now)) width)) }
 {
     let Based { base, range } = from;
+    let base = Box::new(alloc, base)?;
     match mark {
-        SelectMark::Range => sliced(alloc, at, base, part_low(range, bound(scope, right)), width),
+        SelectMark::Range => {
+            let low = part_low(range, bound(scope, right));
+            Ok(sliced(at, base, low, width))
+        }
         SelectMark::Up => {
-            let index = exp(alloc, scope, left)?;
-            picked(alloc, at, base, index, from_lowest(range, width), width)
+            let index = boxed(alloc, scope, left)?;
+            Ok(picked(at, base, index, from_lowest(range, width), width))
         }
         SelectMark::Down => {
-            let index = exp(alloc, scope, left)?;
-            picked(alloc, at, base, index, from_highest(range, width), width)
+            let index = boxed(alloc, scope, left)?;
+            Ok(picked(at, base, index, from_highest(range, width), width))
         }
     }
 }
@@ -175,9 +163,10 @@ fn one_selected(
 {
     match one {
         Select::Index(_, i) => {
-            let index = exp(alloc, scope, i)?;
             let Based { base, range } = from;
-            let base = picked(alloc, at, base, index, from_lowest(range, 1), 1)?;
+            let base = Box::new(alloc, base)?;
+            let index = boxed(alloc, scope, i)?;
+            let base = picked(at, base, index, from_lowest(range, 1), 1);
             let range = bits_of(1);
             Ok(Based { base, range })
         }
@@ -225,8 +214,8 @@ fn worded(
         [] => Ok(whole(at, known)),
         [first, rest @ ..] => match first {
             Select::Index(_, i) => {
-                let index = exp(alloc, scope, i)?;
-                let base = word(alloc, at, number_of(known), index)?;
+                let address = boxed(alloc, scope, i)?;
+                let base = word(at, number_of(known), address);
                 selected(alloc, scope, at, Based { base, range }, rest)
             }
             Select::Range(_, _, _, _) => {
@@ -290,15 +279,15 @@ pub fn exp(alloc: Global, scope: &Scope<'_, '_>, e: &Ex) -> Result<Expr, AllocEr
             marked(alloc, *at, mark(*operator), a)
         }
         Ex::Binary(at, operator, a, b) => {
-            let a = exp(alloc, scope, a)?;
-            let b = exp(alloc, scope, b)?;
-            joined(alloc, *at, operated(*operator), a, b)
+            let a = boxed(alloc, scope, a)?;
+            let b = boxed(alloc, scope, b)?;
+            Ok(joined(*at, operated(*operator), a, b))
         }
         Ex::Choice(at, t, a, b) => {
-            let t = exp(alloc, scope, t)?;
-            let a = exp(alloc, scope, a)?;
-            let b = exp(alloc, scope, b)?;
-            chosen(alloc, *at, t, a, b)
+            let t = boxed(alloc, scope, t)?;
+            let a = boxed(alloc, scope, a)?;
+            let b = boxed(alloc, scope, b)?;
+            Ok(chosen(*at, t, a, b))
         }
         Ex::Joined(at, parts) => {
             let parts = exps(alloc, scope, parts.as_slice())?;
@@ -324,6 +313,14 @@ pub fn exp(alloc: Global, scope: &Scope<'_, '_>, e: &Ex) -> Result<Expr, AllocEr
         }
         Ex::System(at, name, given) => system(alloc, scope, *at, name, given.as_slice()),
     }
+}
+
+/// An expression in a place of its own.
+#[cycle(exp)]
+pub(crate) fn boxed(alloc: Global, scope: &Scope<'_, '_>, e: &Ex) -> Result<Box<Expr>, AllocError>
+    ensures { IfOk result (λ a. exp_of a.value ≡ flat.exp (seen_scope scope.now) (seen e.now)) }
+{
+    Ok(Box::new(alloc, exp(alloc, scope, e)?)?)
 }
 
 /// An argument of a system call; a string stays one where the call keeps strings.

@@ -12,7 +12,7 @@ ghost use Rattle.vl_constant.specs.Seen.{seen_scope, binding_of};
 ghost use Rattle.vl_constant.specs.Types.{numbers};
 ghost use Rattle.vl_expression.specs.Walked as n;
 
-use crate::expressions::exp;
+use crate::expressions::boxed;
 use std::alloc::{AllocError, Global};
 use vl_base::place::Place;
 use vl_bind::surface::{Ex, Select};
@@ -35,44 +35,33 @@ fn entire(at: Place, known: Option<Known>) -> Target
 }
 
 /// The word of a memory.
-fn word(alloc: Global, at: Place, memory: u32, address: Expr) -> Result<Target, AllocError>
-    ensures { IfOk result (λ t. target_of t ≡ p.WordAt at memory (exp_of address)) }
+fn word(at: Place, memory: u32, address: Box<Expr>) -> Target
+    ensures { target_of result ≡ p.WordAt at memory (exp_of address.value) }
 {
-    let address = Box::new(alloc, address)?;
-    Ok(Target {
+    Target {
         place: at,
         node: TargetNode::Word(memory, address),
-    })
+    }
 }
 
 /// So many bits from the one on that an index names.
-fn picked(
-    alloc: Global,
-    at: Place,
-    base: Target,
-    index: Expr,
-    from: LowestBit,
-    width: u8,
-) -> Result<Target, AllocError>
-    ensures { IfOk result (λ t. target_of t ≡ p.PickAt at (target_of base) (exp_of index) from width) }
+fn picked(at: Place, base: Box<Target>, index: Box<Expr>, from: LowestBit, width: u8) -> Target
+    ensures { target_of result ≡ p.PickAt at (target_of base.value) (exp_of index.value) from width }
 {
-    let base = Box::new(alloc, base)?;
-    let index = Box::new(alloc, index)?;
-    Ok(Target {
+    Target {
         place: at,
         node: TargetNode::Pick(base, index, from, width),
-    })
+    }
 }
 
 /// So many bits from a constant one on.
-fn sliced(alloc: Global, at: Place, base: Target, low: i32, width: u8) -> Result<Target, AllocError>
-    ensures { IfOk result (λ t. target_of t ≡ p.SliceAt at (target_of base) low width) }
+fn sliced(at: Place, base: Box<Target>, low: i32, width: u8) -> Target
+    ensures { target_of result ≡ p.SliceAt at (target_of base.value) low width }
 {
-    let base = Box::new(alloc, base)?;
-    Ok(Target {
+    Target {
         place: at,
         node: TargetNode::Slice(base, low, width),
-    })
+    }
 }
 
 /// A left side whose bits are numbered.
@@ -98,15 +87,19 @@ fn parted(
     ensures { IfOk result (λ t. target_of t ≡ lefts.stepped at (target_of from.base) (flat.part (numbers from.range) mark (flat.exp (seen_scope scope.now) (seen left.now)) (flat.constant (seen_scope scope.now) (seen left.now)) (flat.constant (seen_scope scope.now) (seen right.now)) width)) }
 {
     let Based { base, range } = from;
+    let base = Box::new(alloc, base)?;
     match mark {
-        SelectMark::Range => sliced(alloc, at, base, part_low(range, bound(scope, right)), width),
+        SelectMark::Range => {
+            let low = part_low(range, bound(scope, right));
+            Ok(sliced(at, base, low, width))
+        }
         SelectMark::Up => {
-            let index = exp(alloc, scope, left)?;
-            picked(alloc, at, base, index, from_lowest(range, width), width)
+            let index = boxed(alloc, scope, left)?;
+            Ok(picked(at, base, index, from_lowest(range, width), width))
         }
         SelectMark::Down => {
-            let index = exp(alloc, scope, left)?;
-            picked(alloc, at, base, index, from_highest(range, width), width)
+            let index = boxed(alloc, scope, left)?;
+            Ok(picked(at, base, index, from_highest(range, width), width))
         }
     }
 }
@@ -123,9 +116,10 @@ fn one_selected(
 {
     match one {
         Select::Index(_, i) => {
-            let index = exp(alloc, scope, i)?;
             let Based { base, range } = from;
-            let base = picked(alloc, at, base, index, from_lowest(range, 1), 1)?;
+            let base = Box::new(alloc, base)?;
+            let index = boxed(alloc, scope, i)?;
+            let base = picked(at, base, index, from_lowest(range, 1), 1);
             let range = bits_of(1);
             Ok(Based { base, range })
         }
@@ -171,8 +165,8 @@ fn worded(
         [] => Ok(entire(at, known)),
         [first, rest @ ..] => match first {
             Select::Index(_, i) => {
-                let index = exp(alloc, scope, i)?;
-                let base = word(alloc, at, number_of(known), index)?;
+                let address = boxed(alloc, scope, i)?;
+                let base = word(at, number_of(known), address);
                 selected(alloc, scope, at, Based { base, range }, rest)
             }
             Select::Range(_, _, _, _) => {

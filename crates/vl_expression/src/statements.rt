@@ -23,7 +23,7 @@ use vl_constant::form::keeps_texts;
 use vl_constant::scope::{Scope, meaning};
 use vl_constant::selects::number_of;
 use vl_constant::whole::repeats;
-use vl_design::design::{CaseItem, Expr, Stmt, StmtNode, SysCall};
+use vl_design::design::{CaseItem, Stmt, StmtNode, SysCall};
 
 /// The place of a left side's first token.
 pub fn left_place(l: &Left) -> Place
@@ -47,16 +47,17 @@ pub fn first_name(l: &Left) -> &[u8]
     }
 }
 
-/// An assignment in the head of a loop.
-fn set(alloc: Global, scope: &Scope<'_, '_>, l: &Left, e: &Ex) -> Result<Stmt, AllocError>
-    ensures { IfOk result (λ s. stm_of s ≡ spec.set (seen_scope scope.now) (seen_left l.now) (seen e.now)) }
+/// An assignment in the head of a loop, in a place of its own.
+fn set(alloc: Global, scope: &Scope<'_, '_>, l: &Left, e: &Ex) -> Result<Box<Stmt>, AllocError>
+    ensures { IfOk result (λ s. stm_of s.value ≡ spec.set (seen_scope scope.now) (seen_left l.now) (seen e.now)) }
 {
     let written = target(alloc, scope, l)?;
     let source = exp(alloc, scope, e)?;
-    Ok(Stmt {
+    let set = Stmt {
         place: left_place(l),
         node: StmtNode::Set(written, source),
-    })
+    };
+    Ok(Box::new(alloc, set)?)
 }
 
 /// An assignment.
@@ -87,15 +88,15 @@ fn assigned(
 /// A condition with its two branches.
 fn branched(
     alloc: Global,
+    scope: &Scope<'_, '_>,
     at: Place,
-    test: Expr,
-    chosen: Stmt,
-    otherwise: Stmt,
+    test: &Ex,
+    chosen: Box<Stmt>,
+    otherwise: Box<Stmt>,
 ) -> Result<Stmt, AllocError>
-    ensures { IfOk result (λ s. stm_of s ≡ p.If at (exp_of test) (stm_of chosen) (stm_of otherwise)) }
+    ensures { IfOk result (λ s. stm_of s ≡ p.If at (flat.exp (seen_scope scope.now) (seen test.now)) (stm_of chosen.value) (stm_of otherwise.value)) }
 {
-    let chosen = Box::new(alloc, chosen)?;
-    let otherwise = Box::new(alloc, otherwise)?;
+    let test = exp(alloc, scope, test)?;
     Ok(Stmt {
         place: at,
         node: StmtNode::If(test, chosen, otherwise),
@@ -109,77 +110,26 @@ fn variable(scope: &Scope<'_, '_>, l: &Left) -> u32
     number_of(meaning(scope, first_name(l)))
 }
 
-/// The head of a loop without its step.
-#[derive(Drop)]
-struct Head {
-    /// The first assignment.
-    start: Stmt,
-    /// The test.
-    test: Expr,
-}
-
-/// The head of a loop without its step.
-fn head_of(
-    alloc: Global,
-    scope: &Scope<'_, '_>,
-    l: &Left,
-    e: &Ex,
-    test: &Ex,
-) -> Result<Head, AllocError>
-    ensures start { IfOk result (λ h. stm_of h.start ≡ spec.set (seen_scope scope.now) (seen_left l.now) (seen e.now)) }
-    ensures test { IfOk result (λ h. exp_of h.test ≡ flat.exp (seen_scope scope.now) (seen test.now)) }
-{
-    let start = set(alloc, scope, l, e)?;
-    let test = exp(alloc, scope, test)?;
-    Ok(Head { start, test })
-}
-
-/// A loop over a variable.
-fn looped(
-    alloc: Global,
-    at: Place,
-    variable: u32,
-    head: Head,
-    step: Stmt,
-    body: Stmt,
-) -> Result<Stmt, AllocError>
-    ensures { IfOk result (λ s. stm_of s ≡ p.For at variable (stm_of head.start) (exp_of head.test) (stm_of step) (stm_of body)) }
-{
-    let Head { start, test } = head;
-    let start = Box::new(alloc, start)?;
-    let step = Box::new(alloc, step)?;
-    let body = Box::new(alloc, body)?;
-    Ok(Stmt {
-        place: at,
-        node: StmtNode::For(variable, start, test, step, body),
-    })
-}
-
-/// A loop with this head and this body.
+/// A loop over a variable, with this body.
 fn counted(
     alloc: Global,
     scope: &Scope<'_, '_>,
     at: Place,
-    variable: u32,
-    head: Head,
-    l: &Left,
-    e: &Ex,
-    body: Stmt,
+    target: &Left,
+    start: &Ex,
+    test: &Ex,
+    stepped: &Left,
+    step: &Ex,
+    body: Box<Stmt>,
 ) -> Result<Stmt, AllocError>
-    ensures { IfOk result (λ s. stm_of s ≡ p.For at variable (stm_of head.start) (exp_of head.test) (spec.set (seen_scope scope.now) (seen_left l.now) (seen e.now)) (stm_of body)) }
+    ensures { IfOk result (λ s. stm_of s ≡ p.For at (scopes.number_of ((seen_scope scope.now).names (spec.first_name (seen_left target.now)))) (spec.set (seen_scope scope.now) (seen_left target.now) (seen start.now)) (flat.exp (seen_scope scope.now) (seen test.now)) (spec.set (seen_scope scope.now) (seen_left stepped.now) (seen step.now)) (stm_of body.value)) }
 {
-    let step = set(alloc, scope, l, e)?;
-    looped(alloc, at, variable, head, step, body)
-}
-
-/// A body so many times.
-fn repeated(alloc: Global, at: Place, count: u32, body: Stmt) -> Result<Stmt, AllocError>
-    ensures { IfOk result (λ s. stm_of s ≡ p.Repeat at count (stm_of body)) }
-{
-    let body = Box::new(alloc, body)?;
+    let start = set(alloc, scope, target, start)?;
+    let step = set(alloc, scope, stepped, step)?;
+    let test = exp(alloc, scope, test)?;
     Ok(Stmt {
         place: at,
-        node: StmtNode::Repeat(count, body),
+        node: StmtNode::For(variable(scope, target), start, test, step, body),
     })
 }
 
@@ -220,42 +170,42 @@ pub fn statement(alloc: Global, scope: &Scope<'_, '_>, a: &Statement) -> Result<
             })
         }
         Statement::If(at, test, chosen, otherwise) => {
-            let test = exp(alloc, scope, test)?;
-            let chosen = statement(alloc, scope, chosen)?;
-            let otherwise = statement(alloc, scope, otherwise)?;
-            branched(alloc, *at, test, chosen, otherwise)
+            let chosen = boxed(alloc, scope, chosen)?;
+            let otherwise = boxed(alloc, scope, otherwise)?;
+            branched(alloc, scope, *at, test, chosen, otherwise)
         }
         Statement::Case(at, wild, subject, items) => {
-            let subject = exp(alloc, scope, subject)?;
             let items = case_items(alloc, scope, *wild, items.as_slice())?;
+            let subject = exp(alloc, scope, subject)?;
             Ok(Stmt {
                 place: *at,
                 node: StmtNode::Case(subject, items, *wild),
             })
         }
         Statement::For(at, target, start, test, stepped, step, body) => {
-            let head = head_of(alloc, scope, target, start, test)?;
-            let body = statement(alloc, scope, body)?;
-            counted(
-                alloc,
-                scope,
-                *at,
-                variable(scope, target),
-                head,
-                stepped,
-                step,
-                body,
-            )
+            let body = boxed(alloc, scope, body)?;
+            counted(alloc, scope, *at, target, start, test, stepped, step, body)
         }
         Statement::Repeat(at, count, body) => {
-            let body = statement(alloc, scope, body)?;
-            repeated(alloc, *at, repeats(scope, count), body)
+            let body = boxed(alloc, scope, body)?;
+            Ok(Stmt {
+                place: *at,
+                node: StmtNode::Repeat(repeats(scope, count), body),
+            })
         }
         Statement::Assign(at, blocking, target, value) => {
             assigned(alloc, scope, *at, *blocking, target, value)
         }
         Statement::Task(at, name, given) => task(alloc, scope, *at, name, given.as_slice()),
     }
+}
+
+/// A statement in a place of its own.
+#[cycle(statement)]
+fn boxed(alloc: Global, scope: &Scope<'_, '_>, a: &Statement) -> Result<Box<Stmt>, AllocError>
+    ensures { IfOk result (λ s. stm_of s.value ≡ spec.statement (seen_scope scope.now) (seen_statement a.now)) }
+{
+    Ok(Box::new(alloc, statement(alloc, scope, a)?)?)
 }
 
 /// Statements one by one.

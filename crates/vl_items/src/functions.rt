@@ -31,8 +31,8 @@ pub(crate) fn copied_names(
 pub(crate) fn bind_inputs(alloc: Global, a: &FunctionPort) -> Result<Locals, AllocError>
     ensures { IfOk result (λ b. s.seen_locals b ≡ d.inputs_in a.now) }
 {
-    let kind = bind_type(alloc, &a.kind)?;
     let names = copied_names(alloc, a.names.as_slice())?;
+    let kind = bind_type(alloc, &a.kind)?;
     Ok(Locals {
         kind,
         is_input: true,
@@ -42,16 +42,15 @@ pub(crate) fn bind_inputs(alloc: Global, a: &FunctionPort) -> Result<Locals, All
 }
 
 /// Variables of this type that are no inputs.
-fn free_locals(alloc: Global, kind: DataType, names: &[Identifier]) -> Result<Locals, AllocError>
-    ensures { IfOk result (λ b. s.seen_locals b ≡ map (d.local false true (s.seen_type kind)) names.now) }
+fn free_locals(kind: DataType, names: Vec<Identifier>) -> Locals
+    ensures { s.seen_locals result ≡ map (d.local false true (s.seen_type kind)) names.items }
 {
-    let names = copied_names(alloc, names)?;
-    Ok(Locals {
+    Locals {
         kind,
         is_input: false,
         is_free: true,
         names,
-    })
+    }
 }
 
 /// What a declaration in a function declares.
@@ -61,11 +60,13 @@ fn bind_locals(alloc: Global, a: &FunctionDeclaration) -> Result<Locals, AllocEr
     match a {
         FunctionDeclaration::Input(port) => bind_inputs(alloc, port),
         FunctionDeclaration::Reg(_, signed, range, names) => {
+            let names = copied_names(alloc, names.as_slice())?;
             let kind = vector(alloc, *signed, range)?;
-            free_locals(alloc, kind, names.as_slice())
+            Ok(free_locals(kind, names))
         }
         FunctionDeclaration::Integer(_, names) => {
-            free_locals(alloc, DataType::Integer, names.as_slice())
+            let names = copied_names(alloc, names.as_slice())?;
+            Ok(free_locals(DataType::Integer, names))
         }
     }
 }
@@ -115,11 +116,11 @@ pub(crate) fn bind_function(alloc: Global, a: &FunctionTree) -> Result<Function,
     let header = bind_header(alloc, &a.ports)?;
     let locals = add_locals(alloc, header, a.declarations.as_slice())?;
     let name = copied_name(alloc, &a.name)?;
-    let kind = bind_type(alloc, &a.kind)?;
+    let kind = Box::new(alloc, bind_type(alloc, &a.kind)?)?;
     let body = bind_statement(alloc, &a.statement)?;
     Ok(Function {
         name,
-        kind,
+        kind: Box::into_inner(kind),
         locals,
         body,
     })

@@ -10,9 +10,9 @@ use crate::headers::{listed, overridable};
 use crate::instances::bind_instances;
 use crate::items::{DataType, Item, Module};
 use crate::parameters::{bind_group, bind_parameters, bind_settings};
-use crate::signals::{assigned_nets, bind_ports, variables};
+use crate::signals::{assigned_nets, bind_ports, variables, vector_signals};
 use crate::triggers::copied_trigger;
-use crate::types::{copied_name, vector};
+use crate::types::copied_name;
 use std::alloc::{AllocError, Global};
 use vl_bind::statements::bind_statement;
 use vl_grammar::parts::Parts;
@@ -30,15 +30,16 @@ fn bind_item(alloc: Global, a: &ItemTree) -> Result<Item, AllocError>
             bind_parameters(alloc, kind, assignments.as_slice())
         }
         ItemTree::Wire(_, signed, range, declared) => {
-            let kind = vector(alloc, *signed, range)?;
-            assigned_nets(alloc, kind, declared.as_slice())
+            let all = assigned_nets(alloc, declared.as_slice())?;
+            vector_signals(alloc, *signed, range, all)
         }
         ItemTree::Reg(_, signed, range, declared) => {
-            let kind = vector(alloc, *signed, range)?;
-            variables(alloc, kind, declared.as_slice())
+            let all = variables(alloc, declared.as_slice())?;
+            vector_signals(alloc, *signed, range, all)
         }
         ItemTree::Integer(_, declared) => {
-            variables(alloc, DataType::Integer, declared.as_slice())
+            let all = variables(alloc, declared.as_slice())?;
+            Ok(Item::Signals(DataType::Integer, all))
         }
         ItemTree::Assign(_, assignments) => {
             let settings = bind_settings(alloc, assignments.as_slice())?;

@@ -5,29 +5,34 @@ ghost use Rattle.vl_flat.specs.Items as x;
 ghost use Rattle.vl_flat.specs.Declarations as d;
 ghost use Rattle.vl_items.specs.SeenItems as s;
 
-use crate::items::{DataType, Item, Parameter, Setting};
+use crate::items::{Item, Parameter, Setting};
 use crate::types::{bind_type, copied_name};
 use std::alloc::{AllocError, Global};
 use vl_bind::expressions::bind;
 use vl_bind::lefts::bind_left;
 use vl_source::tree::{Assignment, ParameterAssignment, ParameterGroup, ParameterType};
 
-/// Parameters of this type.
-fn parameters_of(
+/// A parameter with its default.
+fn bind_parameter(alloc: Global, a: &ParameterAssignment) -> Result<Parameter, AllocError>
+    ensures { IfOk result (λ b. s.seen_parameter b ≡ d.parameter a.now) }
+{
+    let name = copied_name(alloc, &a.name)?;
+    let value = bind(alloc, &a.value)?;
+    Ok(Parameter { name, value })
+}
+
+/// Parameters one by one.
+fn bind_each(
     alloc: Global,
-    kind: DataType,
     assignments: &[ParameterAssignment],
-) -> Result<Item, AllocError>
-    ensures { IfOk result (λ a. s.seen_item a ≡ x.Parameters (s.seen_type kind) (map d.parameter assignments.now)) }
+) -> Result<Vec<Parameter>, AllocError>
+    ensures { IfOk result (λ v. map s.seen_parameter v.items ≡ map d.parameter assignments.now) }
 {
     let mut all = Vec::new(alloc);
     for a in assignments {
-        all.push(Parameter {
-            name: copied_name(alloc, &a.name)?,
-            value: bind(alloc, &a.value)?,
-        })?;
+        all.push(bind_parameter(alloc, a)?)?;
     }
-    Ok(Item::Parameters(kind, all))
+    Ok(all)
 }
 
 /// Parameters with their type (IEEE 1364-2005, clause 4.10).
@@ -38,8 +43,9 @@ pub(crate) fn bind_parameters(
 ) -> Result<Item, AllocError>
     ensures { IfOk result (λ a. s.seen_item a ≡ x.Parameters (d.type kind.now) (map d.parameter assignments.now)) }
 {
+    let all = bind_each(alloc, assignments)?;
     let kind = bind_type(alloc, kind)?;
-    parameters_of(alloc, kind, assignments)
+    Ok(Item::Parameters(kind, all))
 }
 
 /// The parameters of a header's group.
@@ -47,6 +53,15 @@ pub(crate) fn bind_group(alloc: Global, a: &ParameterGroup) -> Result<Item, Allo
     ensures { IfOk result (λ b. s.seen_item b ≡ d.header_parameters a.now) }
 {
     bind_parameters(alloc, &a.kind, a.assignments.as_slice())
+}
+
+/// A left side with its right side.
+fn bind_setting(alloc: Global, a: &Assignment) -> Result<Setting, AllocError>
+    ensures { IfOk result (λ b. s.seen_setting b ≡ s.setting a.now) }
+{
+    let target = bind_left(alloc, &a.target)?;
+    let value = bind(alloc, &a.value)?;
+    Ok(Setting { target, value })
 }
 
 /// Left sides with their right sides.
@@ -58,10 +73,7 @@ pub(crate) fn bind_settings(
 {
     let mut all = Vec::new(alloc);
     for a in assignments {
-        all.push(Setting {
-            target: bind_left(alloc, &a.target)?,
-            value: bind(alloc, &a.value)?,
-        })?;
+        all.push(bind_setting(alloc, a)?)?;
     }
     Ok(all)
 }

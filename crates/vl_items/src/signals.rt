@@ -13,111 +13,140 @@ use vl_bind::expressions::bind;
 use vl_bind::surface::Ex;
 use vl_grammar::tree::Identifier;
 use vl_source::tree::{
-    DeclarationAssignment, Direction, PortDeclaration, VariableMore, VariableType,
+    DeclarationAssignment, Direction, PortDeclaration, Range, VariableMore, VariableType,
 };
 
-/// Ports of this direction and type.
-pub(crate) fn net_ports(
+/// A declaration with these parts, of any type.
+fn declaration(
+    name: Identifier,
+    direction: Option<Direction>,
+    variable: bool,
+    words: Option<Bounds>,
+    value: Option<Ex>,
+) -> Declared
+    ensures { (type : x.DataType) → s.seen_declared type result ≡ record { name = name; direction = direction; variable = variable; type = type; words = option_map s.seen_bounds words; value = option_map seen value } }
+{
+    Declared {
+        name,
+        direction,
+        variable,
+        words,
+        value,
+    }
+}
+
+/// The declaration of a port of this direction.
+fn net_port(alloc: Global, direction: Direction, name: &Identifier) -> Result<Declared, AllocError>
+    ensures { IfOk result (λ a. (type : x.DataType) → s.seen_declared type a ≡ d.net (Some direction) type name.now) }
+{
+    let copy = copied_name(alloc, name)?;
+    Ok(declaration(copy, Some(direction), false, None, None))
+}
+
+/// The declarations of ports of this direction.
+fn net_ports(
     alloc: Global,
-    kind: DataType,
     direction: Direction,
     names: &[Identifier],
-) -> Result<Item, AllocError>
-    ensures { IfOk result (λ a. s.seen_item a ≡ x.Signals (map (d.net (Some direction) (s.seen_type kind)) names.now)) }
+) -> Result<Vec<Declared>, AllocError>
+    ensures { IfOk result (λ v. (type : x.DataType) → map (s.seen_declared type) v.items ≡ map (d.net (Some direction) type) names.now) }
 {
     let mut all = Vec::new(alloc);
     for n in names {
-        all.push(Declared {
-            name: copied_name(alloc, n)?,
-            direction: Some(direction),
-            variable: false,
-            words: None,
-            value: None,
-        })?;
+        all.push(net_port(alloc, direction, n)?)?;
     }
-    Ok(Item::Signals(kind, all))
+    Ok(all)
 }
 
-/// Output variables of this type.
-pub(crate) fn output_variables(
+/// The declaration of an output variable.
+fn output_variable(alloc: Global, a: &DeclarationAssignment) -> Result<Declared, AllocError>
+    ensures { IfOk result (λ b. (type : x.DataType) → s.seen_declared type b ≡ d.output_variable type a.now) }
+{
+    let name = copied_name(alloc, &a.name)?;
+    let value = bind_value(alloc, &a.value)?;
+    let direction = Some(Direction::Output);
+    Ok(declaration(name, direction, true, None, value))
+}
+
+/// The declarations of output variables.
+fn output_variables(
     alloc: Global,
-    kind: DataType,
     declared: &[DeclarationAssignment],
-) -> Result<Item, AllocError>
-    ensures { IfOk result (λ a. s.seen_item a ≡ x.Signals (map (d.output_variable (s.seen_type kind)) declared.now)) }
+) -> Result<Vec<Declared>, AllocError>
+    ensures { IfOk result (λ v. (type : x.DataType) → map (s.seen_declared type) v.items ≡ map (d.output_variable type) declared.now) }
 {
     let mut all = Vec::new(alloc);
     for a in declared {
-        all.push(Declared {
-            name: copied_name(alloc, &a.name)?,
-            direction: Some(Direction::Output),
-            variable: true,
-            words: None,
-            value: bind_value(alloc, &a.value)?,
-        })?;
+        all.push(output_variable(alloc, a)?)?;
     }
-    Ok(Item::Signals(kind, all))
+    Ok(all)
 }
 
-/// Nets of this type.
+/// The declaration of a net.
+fn assigned_net(alloc: Global, a: &DeclarationAssignment) -> Result<Declared, AllocError>
+    ensures { IfOk result (λ b. (type : x.DataType) → s.seen_declared type b ≡ d.assigned_net type a.now) }
+{
+    let name = copied_name(alloc, &a.name)?;
+    let value = bind_value(alloc, &a.value)?;
+    Ok(declaration(name, None, false, None, value))
+}
+
+/// The declarations of nets.
 pub(crate) fn assigned_nets(
     alloc: Global,
-    kind: DataType,
     declared: &[DeclarationAssignment],
-) -> Result<Item, AllocError>
-    ensures { IfOk result (λ a. s.seen_item a ≡ x.Signals (map (d.assigned_net (s.seen_type kind)) declared.now)) }
+) -> Result<Vec<Declared>, AllocError>
+    ensures { IfOk result (λ v. (type : x.DataType) → map (s.seen_declared type) v.items ≡ map (d.assigned_net type) declared.now) }
 {
     let mut all = Vec::new(alloc);
     for a in declared {
-        all.push(Declared {
-            name: copied_name(alloc, &a.name)?,
-            direction: None,
-            variable: false,
-            words: None,
-            value: bind_value(alloc, &a.value)?,
-        })?;
+        all.push(assigned_net(alloc, a)?)?;
     }
-    Ok(Item::Signals(kind, all))
+    Ok(all)
 }
 
-/// The addresses of a memory.
-fn words_in(alloc: Global, more: &Option<VariableMore>) -> Result<Option<Bounds>, AllocError>
-    ensures { IfOk result (λ b. option_map s.seen_bounds b ≡ d.words_in more.now) }
+/// The declaration of a variable.
+fn variable(alloc: Global, a: &VariableType) -> Result<Declared, AllocError>
+    ensures { IfOk result (λ b. (type : x.DataType) → s.seen_declared type b ≡ d.variable type a.now) }
 {
-    match more {
-        Some(VariableMore::Words(range)) => Ok(Some(bind_bounds(alloc, range)?)),
-        Some(VariableMore::Value(_)) | None => Ok(None),
+    let name = copied_name(alloc, &a.name)?;
+    match &a.more {
+        None => Ok(declaration(name, None, true, None, None)),
+        Some(VariableMore::Words(range)) => {
+            let words = bind_bounds(alloc, range)?;
+            Ok(declaration(name, None, true, Some(words), None))
+        }
+        Some(VariableMore::Value(e)) => {
+            let value = bind(alloc, e)?;
+            Ok(declaration(name, None, true, None, Some(value)))
+        }
     }
 }
 
-/// A variable's value.
-fn value_in(alloc: Global, more: &Option<VariableMore>) -> Result<Option<Ex>, AllocError>
-    ensures { IfOk result (λ v. option_map seen v ≡ d.value_in more.now) }
-{
-    match more {
-        Some(VariableMore::Value(e)) => Ok(Some(bind(alloc, e)?)),
-        Some(VariableMore::Words(_)) | None => Ok(None),
-    }
-}
-
-/// Variables of this type.
+/// The declarations of variables.
 pub(crate) fn variables(
     alloc: Global,
-    kind: DataType,
     declared: &[VariableType],
-) -> Result<Item, AllocError>
-    ensures { IfOk result (λ a. s.seen_item a ≡ x.Signals (map (d.variable (s.seen_type kind)) declared.now)) }
+) -> Result<Vec<Declared>, AllocError>
+    ensures { IfOk result (λ v. (type : x.DataType) → map (s.seen_declared type) v.items ≡ map (d.variable type) declared.now) }
 {
     let mut all = Vec::new(alloc);
     for a in declared {
-        all.push(Declared {
-            name: copied_name(alloc, &a.name)?,
-            direction: None,
-            variable: true,
-            words: words_in(alloc, &a.more)?,
-            value: value_in(alloc, &a.more)?,
-        })?;
+        all.push(variable(alloc, a)?)?;
     }
+    Ok(all)
+}
+
+/// Signals of the type with this sign and this range.
+pub(crate) fn vector_signals(
+    alloc: Global,
+    signed: bool,
+    range: &Option<Range>,
+    all: Vec<Declared>,
+) -> Result<Item, AllocError>
+    ensures { IfOk result (λ a. s.seen_item a ≡ x.Signals (map (s.seen_declared (d.vector signed range.now)) all.items)) }
+{
+    let kind = vector(alloc, signed, range)?;
     Ok(Item::Signals(kind, all))
 }
 
@@ -127,15 +156,16 @@ pub(crate) fn bind_ports(alloc: Global, a: &PortDeclaration) -> Result<Item, All
 {
     match a {
         PortDeclaration::Net(_, direction, _, signed, range, names) => {
-            let kind = vector(alloc, *signed, range)?;
-            net_ports(alloc, kind, *direction, names.as_slice())
+            let all = net_ports(alloc, *direction, names.as_slice())?;
+            vector_signals(alloc, *signed, range, all)
         }
         PortDeclaration::Reg(_, signed, range, declared) => {
-            let kind = vector(alloc, *signed, range)?;
-            output_variables(alloc, kind, declared.as_slice())
+            let all = output_variables(alloc, declared.as_slice())?;
+            vector_signals(alloc, *signed, range, all)
         }
         PortDeclaration::Integer(_, declared) => {
-            output_variables(alloc, DataType::Integer, declared.as_slice())
+            let all = output_variables(alloc, declared.as_slice())?;
+            Ok(Item::Signals(DataType::Integer, all))
         }
     }
 }

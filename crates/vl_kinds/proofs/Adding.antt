@@ -1,6 +1,6 @@
 -- Walks that add names to a set.
-use Rattle.std.proofs.Common.{◌≡◌, refl, sym, ap, ◌∙◌, subst, ℕ, ◌+◌, ◌<◌, ◌≤◌, Bool, true, false, cond, List, length, take, get_or}
-use Rattle.std.specs.Prelude.{not, ◌&&◌, ◌||◌}
+use Rattle.std.proofs.Common.{◌≡◌, refl, sym, ap, ◌∙◌, subst, ℕ, ◌+◌, ◌<◌, ◌≤◌, Bool, true, false, cond, List, length, take, get_or, Result}
+use Rattle.std.specs.Prelude.{not, ◌&&◌, ◌||◌, OnOk}
 use Rattle.std.specs.Borrow.{Bor}
 use Rattle.std.specs.List.{list_any}
 use Rattle.std.specs.Str.{bytes_eq}
@@ -9,6 +9,7 @@ use Rattle.std.proofs.lemmas.List.{take_all}
 use Rattle.std.proofs.lemmas.List.Folds.{list_any_more}
 use Rattle.std.proofs.lemmas.Slice.Eq.{bytes_eq-Decides}
 use Rattle.indexmap.specs.IndexSet.{IndexSet, contains}
+use Rattle.indexmap.proofs.MapLemmas.{OnOk-map}
 use Rattle.vl_kinds.specs.Names.{has, nothing, Adds}
 
 abbrev pub Names : Type 0 → Type 0
@@ -188,3 +189,15 @@ as-none a h g {y} d same = adds-none a h (λ t. g t y) (λ t. ap (g t) d ∙ sam
 pub for-made : {S : Type 0} {a b c : Names S} (h k : List ℕ → Bool) (name : List ℕ) (head body whole : List ℕ → Bool) → k ≡ (λ t. h t || bytes_eq t name) → Adds a b k head → Adds b c k body
     → ((t : List ℕ) → (not (bytes_eq t name) && (head t || body t)) ≡ whole t) → Adds a c h whole
 for-made h k name head body whole e p q same = adds-as (adds-deeper k h (λ t. bytes_eq t name) e (adds-then p q)) same
+
+-- ---- nodes: what is added where the walk of the last part ended
+
+-- of one part
+pub ends-one : {S X Y R E : Type 0} (r : Result R E) (a b : Names S) (h : List ℕ → Bool) (f : List ℕ → X → Bool) (g : List ℕ → Y → Bool) {x x' : X} {y y' : Y} → x ≡ x' → y ≡ y' → ((t : List ℕ) → f t x' ≡ g t y')
+    → OnOk r (Adds a b h (λ t. f t x)) → OnOk r (Adds a b h (λ t. g t y))
+ends-one r a b h f g {x} {x'} {y} {y'} e d same = OnOk-map r (Adds a b h (λ t. f t x)) (Adds a b h (λ t. g t y)) (as-one f g e d same)
+
+-- of two parts
+pub ends-two : {S X Z Y R E : Type 0} (r : Result R E) (a b c : Names S) (h : List ℕ → Bool) (f : List ℕ → X → Bool) (k : List ℕ → Z → Bool) (g : List ℕ → Y → Bool) {x x' : X} {z z' : Z} {y y' : Y}
+    → x ≡ x' → z ≡ z' → y ≡ y' → ((t : List ℕ) → (f t x' || k t z') ≡ g t y') → Adds a b h (λ t. f t x) → OnOk r (Adds b c h (λ t. k t z)) → OnOk r (Adds a c h (λ t. g t y))
+ends-two r a b c h f k g {x} {x'} {z} {z'} {y} {y'} e i d same p = OnOk-map r (Adds b c h (λ t. k t z)) (Adds a c h (λ t. g t y)) (as-two f k g e i d same p)

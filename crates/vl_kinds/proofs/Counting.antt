@@ -1,6 +1,7 @@
 -- How many names are new.
-use Rattle.std.proofs.Common.{◌≡◌, refl, sym, ap, ◌∙◌, ℕ, ◌+◌, min, Bool, true, false, List, [], ◌∷◌, length, arith}
-use Rattle.std.specs.Prelude.{not, ◌||◌, if◌then◌else◌}
+use Rattle.std.proofs.Common.{◌≡◌, refl, sym, ap, ◌∙◌, subst, ℕ, ◌+◌, min, Bool, true, false, List, [], ◌∷◌, length, arith, Result, Ok, Err}
+use Rattle.std.specs.Prelude.{not, ◌||◌, if◌then◌else◌, IfOk, OnOk}
+use Rattle.std.specs.Result.{result_and}
 use Rattle.std.specs.List.{list_any}
 use Rattle.std.specs.Str.{bytes_eq}
 use Rattle.std.proofs.lemmas.Slice.Eq.{bytes_eq-Decides}
@@ -47,6 +48,14 @@ new-ones ks h (d ∷ ds) same =
 -- how many signals a module has, of what is known of the names
 pub own-count : (r l k z n m : ℕ) → r ≡ min l 4294967295 → l ≡ k → k ≡ z + n → z ≡ 0 → m ≡ n → r ≡ kept_number m
 own-count r l k z n m a b c d e = omega arith
+
+-- a number, where all were noted
+pub if-noted : {U E : Type 0} (r : Result U E) (w : Result ℕ E) (n m : ℕ) → w ≡ result_and r (Ok n) → OnOk r (n ≡ m) → IfOk w (λ z. z ≡ m)
+if-noted {U} {E} r w n m is p = subst (λ (z : Result ℕ E). IfOk z (λ v. v ≡ m)) (sym is) (go r p)
+  where
+    go : (r : Result U E) → OnOk r (n ≡ m) → IfOk (result_and r (Ok n)) (λ v. v ≡ m)
+    go (Ok x) q = q
+    go (Err x) q = tt
 
 -- one more declaration
 pub note-one : (old new : ℕ) (is_new known : Bool) (rest count : ℕ) → is_new ≡ not known → new ≡ old + (if is_new then 1 else 0) → count ≡ rest → new + count ≡ old + ((if known then 0 else 1) + rest)

@@ -1,6 +1,7 @@
 -- What items do with a name, by the program's lists.
-use Rattle.std.proofs.Common.{◌≡◌, refl, sym, ap, ◌∙◌, ℕ, ◌+◌, ◌<◌, Bool, List, [], ◌∷◌, ◌++◌, map, length, take, get_or, Option, Some, None, append-nil}
-use Rattle.std.specs.Prelude.{◌||◌}
+use Rattle.std.proofs.Common.{◌≡◌, refl, sym, ap, ◌∙◌, subst, ℕ, ◌+◌, ◌<◌, Bool, List, [], ◌∷◌, ◌++◌, map, length, take, get_or, Option, Some, None, append-nil, Result, Ok, Err}
+use Rattle.std.specs.Prelude.{◌||◌, IfOk, OnOk}
+use Rattle.std.specs.Result.{result_and}
 use Rattle.std.specs.Borrow.{Bor}
 use Rattle.std.specs.List.{list_any, flat_map}
 use Rattle.std.specs.Str.{bytes_eq}
@@ -71,6 +72,14 @@ from-empty a b f e p = λ i t. at t i
   where
     at : (t : List ℕ) → has b t ≡ f t
     at t = p.added t ∙ ap (λ ks. list_any (λ k. bytes_eq t k.now) ks || f t) e
+
+-- what a set has that was empty, where all was added
+pub filled : {S U E : Type 0} (r : Result U E) (w : Result (IndexSet (Bor (List ℕ)) S) E) (a b : IndexSet (Bor (List ℕ)) S) (f : List ℕ → Bool) → w ≡ result_and r (Ok b) → a.keys ≡ [] → OnOk r (Adds a b nothing f) → IfOk w (λ s. has s ≡ f)
+filled {S} {U} {E} r w a b f is e p = subst (λ (z : Result (IndexSet (Bor (List ℕ)) S) E). IfOk z (λ s. has s ≡ f)) (sym is) (go r p)
+  where
+    go : (r : Result U E) → OnOk r (Adds a b nothing f) → IfOk (result_and r (Ok b)) (λ s. has s ≡ f)
+    go (Ok x) q = from-empty a b f e q
+    go (Err x) q = tt
 
 -- nothing is hidden by an empty set
 pub empty-hides : {S : Type 0} (a : IndexSet (Bor (List ℕ)) S) → a.keys ≡ [] → has a ≡ nothing

@@ -1,6 +1,7 @@
 -- Where the first module of a name stands.
-use Rattle.std.proofs.Common.{◌≡◌, refl, sym, ap, ◌∙◌, subst, ℕ, suc, ◌+◌, ◌<◌, Bool, true, false, List, [], ◌∷◌, ◌++◌, map, length, take, get_or, Option, Some, None, arith}
-use Rattle.std.specs.Prelude.{if◌then◌else◌, option_map, slice_get, is_some}
+use Rattle.std.proofs.Common.{◌≡◌, refl, sym, ap, ◌∙◌, subst, ℕ, suc, ◌+◌, ◌<◌, Bool, true, false, List, [], ◌∷◌, ◌++◌, map, length, take, get_or, Option, Some, None, arith, Result, Ok, Err}
+use Rattle.std.specs.Prelude.{if◌then◌else◌, option_map, slice_get, is_some, IfOk, OnOk}
+use Rattle.std.specs.Result.{result_and}
 use Rattle.std.proofs.lemmas.Grind.{common_steps}
 use Rattle.std.specs.Borrow.{Bor}
 use Rattle.std.specs.Map.{lookup}
@@ -14,7 +15,8 @@ use Rattle.vl_flat.specs.Items as x
 use Rattle.vl_flat.specs.Environments.{module_named}
 use Rattle.vl_items.specs.declared.items.Module.{Module}
 use Rattle.vl_items.specs.SeenItems.{seen_module}
-use Rattle.vl_kinds.specs.Places.{place_named, place_in, place_after, IsPlaceOf}
+use Rattle.vl_kinds.specs.declared.index.Index.{Index}
+use Rattle.vl_kinds.specs.Places.{place_named, place_in, place_after, place_of, IsPlaceOf}
 
 after-suc : (o : Option ℕ) (same : Bool) (p : ℕ) → option_map (λ n. suc n) (place_after o same p) ≡ place_after (option_map (λ n. suc n) o) same (suc p)
 after-suc (Some q) same p = refl
@@ -79,6 +81,14 @@ length-map-take ms i l = grind (arith, common_steps)
 
 pub place-empty : {S : Type 0} (m : IndexMap (Bor (List ℕ)) ℕ S) (t : List ℕ) → m.entries ≡ [] → place_in m t ≡ None
 place-empty m t e = ap (lookup (λ k. bytes_eq t k.now)) e
+
+-- a table, where all names got their places
+pub all-placed : {U E : Type 0} (r : Result U E) (w : Result Index E) (s : Index) (ms : List x.Module) → w ≡ result_and r (Ok s) → OnOk r (place_of s ≡ place_named ms) → IfOk w (λ z. place_of z ≡ place_named ms)
+all-placed {U} {E} r w s ms is p = subst (λ (z : Result Index E). IfOk z (λ v. place_of v ≡ place_named ms)) (sym is) (go r p)
+  where
+    go : (r : Result U E) → OnOk r (place_of s ≡ place_named ms) → IfOk (result_and r (Ok s)) (λ v. place_of v ≡ place_named ms)
+    go (Ok x) q = q
+    go (Err x) q = tt
 
 -- it is the place of the module that is named so
 abbrev Is : List x.Module → Option x.Module → Option ℕ → Type 0

@@ -1,6 +1,7 @@
 -- What a table of declarations says after one more.
-use Rattle.std.proofs.Common.{◌≡◌, refl, sym, ap, ◌∙◌, ℕ, ◌+◌, ◌<◌, Bool, true, false, List, [], ◌∷◌, ◌++◌, length, take, get_or, Option, Some, None, unwrap_or}
-use Rattle.std.specs.Prelude.{◌&&◌, ◌||◌, if◌then◌else◌, is_some, option_map}
+use Rattle.std.proofs.Common.{◌≡◌, refl, sym, ap, ◌∙◌, subst, ℕ, ◌+◌, ◌<◌, Bool, true, false, List, [], ◌∷◌, ◌++◌, length, take, get_or, Option, Some, None, unwrap_or, Result, Ok, Err}
+use Rattle.std.specs.Prelude.{◌&&◌, ◌||◌, if◌then◌else◌, is_some, option_map, IfOk, OnOk}
+use Rattle.std.specs.Result.{result_and}
 use Rattle.std.specs.Borrow.{Bor}
 use Rattle.std.specs.List.{flat_map}
 use Rattle.std.specs.Str.{bytes_eq}
@@ -105,3 +106,12 @@ said-empty m b ds e p = p ∙ (λ i t. either (at t i) (said ds t))
   where
     at : (t : List ℕ) → declaration_at m t ≡ unsaid
     at t = ap (λ es. unwrap_or (lookup (λ k. bytes_eq t k.now) es) unsaid) e
+
+-- what a table says that was empty, where all was added
+pub all-said : {S U E : Type 0} (r : Result U E) (w : Result (IndexMap (Bor (List ℕ)) Declaration S) E) (m n : IndexMap (Bor (List ℕ)) Declaration S) (ds : List x.Declared) → w ≡ result_and r (Ok n) → m.entries ≡ []
+    → OnOk r (declaration_at n ≡ (λ t. either (declaration_at m t) (said ds t))) → IfOk w (λ z. declaration_at z ≡ said ds)
+all-said {S} {U} {E} r w m n ds is e p = subst (λ (z : Result (IndexMap (Bor (List ℕ)) Declaration S) E). IfOk z (λ v. declaration_at v ≡ said ds)) (sym is) (go r p)
+  where
+    go : (r : Result U E) → OnOk r (declaration_at n ≡ (λ t. either (declaration_at m t) (said ds t))) → IfOk (result_and r (Ok n)) (λ v. declaration_at v ≡ said ds)
+    go (Ok x) q = said-empty m (declaration_at n) ds e q
+    go (Err x) q = tt

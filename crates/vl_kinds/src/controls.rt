@@ -21,28 +21,17 @@ pub(crate) fn add_controls<'m>(
 {
     match a {
         Statement::Null(_) => Ok(()),
-        Statement::Block(_, parts) => {
-            add_all_controls(names, hidden, parts.as_slice())?;
-            Ok(())
-        }
+        Statement::Block(_, parts) => add_all_controls(names, hidden, parts.as_slice()),
         Statement::If(_, _, chosen, other) => {
             add_controls(names, hidden, chosen)?;
-            add_controls(names, hidden, other)?;
-            Ok(())
+            add_controls(names, hidden, other)
         }
-        Statement::Case(_, _, _, items) => {
-            add_case_controls(names, hidden, items.as_slice())?;
-            Ok(())
-        }
+        Statement::Case(_, _, _, items) => add_case_controls(names, hidden, items.as_slice()),
         Statement::For(_, target, _, _, _, _, body) => {
             add_shown(names, hidden, first_name(target))?;
-            add_controls(names, hidden, body)?;
-            Ok(())
+            add_controls(names, hidden, body)
         }
-        Statement::Repeat(_, _, body) => {
-            add_controls(names, hidden, body)?;
-            Ok(())
-        }
+        Statement::Repeat(_, _, body) => add_controls(names, hidden, body),
         Statement::Assign(_, _, _, _) => Ok(()),
         Statement::Task(_, _, _) => Ok(()),
     }
@@ -73,14 +62,8 @@ fn add_item_controls<'m>(
     ensures { OnOk result (Adds names.old names.new (has hidden.now) (λ t. case_controls t one.entry.now)) }
 {
     match one {
-        CaseItem::Labelled(_, body) => {
-            add_controls(names, hidden, body)?;
-            Ok(())
-        }
-        CaseItem::Default(body) => {
-            add_controls(names, hidden, body)?;
-            Ok(())
-        }
+        CaseItem::Labelled(_, body) => add_controls(names, hidden, body),
+        CaseItem::Default(body) => add_controls(names, hidden, body),
     }
 }
 

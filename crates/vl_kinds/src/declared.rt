@@ -98,12 +98,19 @@ fn add_item<'m>(declared: &mut Declarations<'m>, item: &'m Item) -> Result<(), A
     ensures { OnOk result (spec.declaration_at declared.new ≡ (λ t. spec.either (spec.declaration_at declared.old t) (spec.said (signals_in (seen_item item.entry.now)) t))) }
 {
     match item {
-        Item::Signals(_, ds) => {
-            add_declarations(declared, ds.as_slice())?;
-            Ok(())
-        }
+        Item::Signals(_, ds) => add_declarations(declared, ds.as_slice()),
         _ => Ok(()),
     }
+}
+
+/// Adds what the declarations of items say.
+fn add_items<'m>(declared: &mut Declarations<'m>, items: &'m [Item]) -> Result<(), AllocError>
+    ensures { OnOk result (spec.declaration_at declared.new ≡ (λ t. spec.either (spec.declaration_at declared.old t) (spec.said (flat_map signals_in (map seen_item items.entry.now)) t))) }
+{
+    for item in items {
+        add_item(declared, item)?;
+    }
+    Ok(())
 }
 
 /// What the declarations of a module say.
@@ -111,8 +118,5 @@ pub(crate) fn declarations(alloc: Global, items: &[Item]) -> Result<Declarations
     ensures { IfOk result (λ r. spec.declaration_at r ≡ spec.said (flat_map signals_in (map seen_item items.entry.now))) }
 {
     let mut declared = IndexMap::new(alloc);
-    for item in items {
-        add_item(&mut declared, item)?;
-    }
-    Ok(declared)
+    add_items(&mut declared, items).and(Ok(declared))
 }

@@ -1,6 +1,6 @@
 //! Modules by name.
 
-ghost use Rattle.std.specs.Prelude.{◌≡◌, ℕ, List, map, IfOk, OnOk};
+ghost use Rattle.std.specs.Prelude.{◌≡◌, ℕ, List, [], map, IfOk, OnOk};
 ghost use Rattle.std.specs.Str.{bytes_eq};
 ghost use Rattle.vl_flat.specs.Items as x;
 ghost use Rattle.vl_items.specs.SeenItems.{seen_module};
@@ -32,15 +32,26 @@ fn add_place<'m>(
     Ok(())
 }
 
+/// Gives the names of modules their places.
+fn add_places<'m>(
+    places: &mut IndexMap<&'m [u8], usize>,
+    modules: &'m [Module],
+) -> Result<(), AllocError>
+    requires { place_in places.old ≡ place_named [] }
+    ensures { OnOk result (place_in places.new ≡ place_named (map seen_module modules.entry.now)) }
+{
+    for i in 0..modules.len() {
+        add_place(places, modules[i].name.name.as_slice(), i)?;
+    }
+    Ok(())
+}
+
 /// The places of the first modules of their names.
 pub fn index_of(alloc: Global, modules: &[Module]) -> Result<Index<'_>, AllocError>
     ensures { IfOk result (λ s. place_of s ≡ place_named (map seen_module modules.entry.now)) }
 {
     let mut places = IndexMap::new(alloc);
-    for i in 0..modules.len() {
-        add_place(&mut places, modules[i].name.name.as_slice(), i)?;
-    }
-    Ok(Index { places })
+    add_places(&mut places, modules).and(Ok(Index { places }))
 }
 
 /// The place of the first module of this name.

@@ -32,10 +32,7 @@ fn add_optional<'m>(
 {
     match value {
         None => Ok(()),
-        Some(e) => {
-            add_uses(names, hidden, e)?;
-            Ok(())
-        }
+        Some(e) => add_uses(names, hidden, e),
     }
 }
 
@@ -62,8 +59,7 @@ fn add_setting<'m>(
     ensures { OnOk result (Adds names.old names.new (has hidden.now) (λ t. k.setting_uses t (seen_setting a.entry.now))) }
 {
     add_left_uses(names, hidden, &a.target)?;
-    add_uses(names, hidden, &a.value)?;
-    Ok(())
+    add_uses(names, hidden, &a.value)
 }
 
 /// Adds the names in assignments.
@@ -131,10 +127,7 @@ fn add_trigger<'m>(
     ensures { OnOk result (Adds names.old names.new (has hidden.now) (λ t. k.trigger_uses t trigger.entry.now)) }
 {
     match trigger {
-        Trigger::Events(events) => {
-            add_events(names, hidden, events.as_slice())?;
-            Ok(())
-        }
+        Trigger::Events(events) => add_events(names, hidden, events.as_slice()),
         _ => Ok(()),
     }
 }
@@ -162,14 +155,20 @@ fn add_locals<'m>(names: &mut NameSet<'m>, groups: &'m [Locals]) -> Result<(), A
     Ok(())
 }
 
+/// Adds the names that a function declares.
+fn add_own_names<'m>(names: &mut NameSet<'m>, f: &'m Function) -> Result<(), AllocError>
+    ensures { OnOk result (Adds names.old names.new nothing (λ t. k.declares t (seen_function f.entry.now))) }
+{
+    add(names, f.name.name.as_slice())?;
+    add_locals(names, f.locals.as_slice())
+}
+
 /// The names that a function declares.
 fn own_names(alloc: Global, f: &Function) -> Result<NameSet<'_>, AllocError>
     ensures { IfOk result (λ s. has s ≡ (λ t. k.declares t (seen_function f.entry.now))) }
 {
     let mut own = IndexSet::new(alloc);
-    add(&mut own, f.name.name.as_slice())?;
-    add_locals(&mut own, f.locals.as_slice())?;
-    Ok(own)
+    add_own_names(&mut own, f).and(Ok(own))
 }
 
 /// Adds the names that a function names and doesn't declare.
@@ -181,8 +180,7 @@ fn add_function_strays<'m>(
     ensures { OnOk result (Adds names.old names.new nothing (λ t. k.item_strays t (x.Functions (seen_function f.entry.now)))) }
 {
     let mut own = own_names(alloc, f)?;
-    add_strays(names, &mut own, &f.body)?;
-    Ok(())
+    add_strays(names, &mut own, &f.body)
 }
 
 /// Adds the names that control a `for` of a function that doesn't declare them.
@@ -194,8 +192,31 @@ fn add_function_controls<'m>(
     ensures { OnOk result (Adds names.old names.new nothing (λ t. k.item_controls t (x.Functions (seen_function f.entry.now)))) }
 {
     let own = own_names(alloc, f)?;
-    add_controls(names, &own, &f.body)?;
-    Ok(())
+    add_controls(names, &own, &f.body)
+}
+
+/// Adds the names that an item names outside each `for` that they control, where none is hidden.
+fn add_shown_strays<'m>(
+    alloc: Global,
+    names: &mut NameSet<'m>,
+    hidden: &mut NameSet<'m>,
+    item: &'m Item,
+) -> Result<(), AllocError>
+    requires { has hidden.old ≡ nothing }
+    ensures { OnOk result (Adds names.old names.new nothing (λ t. k.item_strays t (seen_item item.entry.now))) }
+{
+    match item {
+        Item::Parameters(_, _) => Ok(()),
+        Item::Signals(_, ds) => add_values(names, &*hidden, ds.as_slice()),
+        Item::Assigns(settings) => add_settings(names, &*hidden, settings.as_slice()),
+        Item::Initial(_, body) => add_strays(names, hidden, body),
+        Item::Always(_, trigger, body) => {
+            add_trigger(names, &*hidden, trigger)?;
+            add_strays(names, hidden, body)
+        }
+        Item::Functions(f) => add_function_strays(alloc, names, f),
+        Item::Instantiates(us) => add_units(names, &*hidden, us.units.as_slice()),
+    }
 }
 
 /// Adds the names that an item names outside each `for` that they control.
@@ -207,17 +228,24 @@ fn add_item_strays<'m>(
     ensures { OnOk result (Adds names.old names.new nothing (λ t. k.item_strays t (seen_item item.entry.now))) }
 {
     let mut hidden = IndexSet::new(alloc);
+    add_shown_strays(alloc, names, &mut hidden, item)
+}
+
+/// Adds the names that control a `for` of an item, where none is hidden.
+fn add_shown_controls<'m>(
+    alloc: Global,
+    names: &mut NameSet<'m>,
+    hidden: &NameSet<'_>,
+    item: &'m Item,
+) -> Result<(), AllocError>
+    requires { has hidden.now ≡ nothing }
+    ensures { OnOk result (Adds names.old names.new nothing (λ t. k.item_controls t (seen_item item.entry.now))) }
+{
     match item {
-        Item::Parameters(_, _) => Ok(()),
-        Item::Signals(_, ds) => add_values(names, &hidden, ds.as_slice()),
-        Item::Assigns(settings) => add_settings(names, &hidden, settings.as_slice()),
-        Item::Initial(_, body) => add_strays(names, &mut hidden, body),
-        Item::Always(_, trigger, body) => {
-            add_trigger(names, &hidden, trigger)?;
-            add_strays(names, &mut hidden, body)
-        }
-        Item::Functions(f) => add_function_strays(alloc, names, f),
-        Item::Instantiates(us) => add_units(names, &hidden, us.units.as_slice()),
+        Item::Initial(_, body) => add_controls(names, hidden, body),
+        Item::Always(_, _, body) => add_controls(names, hidden, body),
+        Item::Functions(f) => add_function_controls(alloc, names, f),
+        _ => Ok(()),
     }
 }
 
@@ -230,12 +258,7 @@ fn add_item_controls<'m>(
     ensures { OnOk result (Adds names.old names.new nothing (λ t. k.item_controls t (seen_item item.entry.now))) }
 {
     let hidden = IndexSet::new(alloc);
-    match item {
-        Item::Initial(_, body) => add_controls(names, &hidden, body),
-        Item::Always(_, _, body) => add_controls(names, &hidden, body),
-        Item::Functions(f) => add_function_controls(alloc, names, f),
-        _ => Ok(()),
-    }
+    add_shown_controls(alloc, names, &hidden, item)
 }
 
 /// One of the events has an edge.
@@ -272,8 +295,7 @@ fn add_process_writes<'m>(
     if has_edge(trigger) {
         return Ok(());
     }
-    add_writes(names, body)?;
-    Ok(())
+    add_writes(names, body)
 }
 
 /// Adds the names that an item writes, if it is a combinational process.
@@ -281,12 +303,23 @@ fn add_item_writes<'m>(names: &mut NameSet<'m>, item: &'m Item) -> Result<(), Al
     ensures { OnOk result (Adds names.old names.new nothing (λ t. k.item_writes t (seen_item item.entry.now))) }
 {
     match item {
-        Item::Always(_, trigger, body) => {
-            add_process_writes(names, trigger, body)?;
-            Ok(())
-        }
+        Item::Always(_, trigger, body) => add_process_writes(names, trigger, body),
         _ => Ok(()),
     }
+}
+
+/// Adds the names that items name outside each `for` that they control.
+fn add_strays_of<'m>(
+    alloc: Global,
+    names: &mut NameSet<'m>,
+    items: &'m [Item],
+) -> Result<(), AllocError>
+    ensures { OnOk result (Adds names.old names.new nothing (λ t. list_any (λ a. k.item_strays t (seen_item a)) items.entry.now)) }
+{
+    for item in items {
+        add_item_strays(alloc, names, item)?;
+    }
+    Ok(())
 }
 
 /// The names that items name outside each `for` that they control.
@@ -294,10 +327,21 @@ pub(crate) fn strays_of(alloc: Global, items: &[Item]) -> Result<NameSet<'_>, Al
     ensures { IfOk result (λ s. has s ≡ (λ t. list_any (k.item_strays t) (map seen_item items.entry.now))) }
 {
     let mut names = IndexSet::new(alloc);
+    add_strays_of(alloc, &mut names, items).and(Ok(names))
+}
+
+/// Adds the names that control a `for` of the items.
+fn add_controls_of<'m>(
+    alloc: Global,
+    names: &mut NameSet<'m>,
+    items: &'m [Item],
+) -> Result<(), AllocError>
+    ensures { OnOk result (Adds names.old names.new nothing (λ t. list_any (λ a. k.item_controls t (seen_item a)) items.entry.now)) }
+{
     for item in items {
-        add_item_strays(alloc, &mut names, item)?;
+        add_item_controls(alloc, names, item)?;
     }
-    Ok(names)
+    Ok(())
 }
 
 /// The names that control a `for` of the items.
@@ -305,10 +349,17 @@ pub(crate) fn controls_of(alloc: Global, items: &[Item]) -> Result<NameSet<'_>, 
     ensures { IfOk result (λ s. has s ≡ (λ t. list_any (k.item_controls t) (map seen_item items.entry.now))) }
 {
     let mut names = IndexSet::new(alloc);
+    add_controls_of(alloc, &mut names, items).and(Ok(names))
+}
+
+/// Adds the names that combinational processes write.
+fn add_writes_of<'m>(names: &mut NameSet<'m>, items: &'m [Item]) -> Result<(), AllocError>
+    ensures { OnOk result (Adds names.old names.new nothing (λ t. list_any (λ a. k.item_writes t (seen_item a)) items.entry.now)) }
+{
     for item in items {
-        add_item_controls(alloc, &mut names, item)?;
+        add_item_writes(names, item)?;
     }
-    Ok(names)
+    Ok(())
 }
 
 /// The names that combinational processes write.
@@ -316,8 +367,5 @@ pub(crate) fn writes_of(alloc: Global, items: &[Item]) -> Result<NameSet<'_>, Al
     ensures { IfOk result (λ s. has s ≡ (λ t. list_any (k.item_writes t) (map seen_item items.entry.now))) }
 {
     let mut names = IndexSet::new(alloc);
-    for item in items {
-        add_item_writes(&mut names, item)?;
-    }
-    Ok(names)
+    add_writes_of(&mut names, items).and(Ok(names))
 }

@@ -38,13 +38,9 @@ pub(crate) fn add_left_uses<'m>(
     match l {
         Left::Name(_, name, selects) => {
             add_shown(names, hidden, name.as_slice())?;
-            add_selects(names, hidden, selects.as_slice())?;
-            Ok(())
+            add_selects(names, hidden, selects.as_slice())
         }
-        Left::List(_, parts) => {
-            add_part_uses(names, hidden, parts.as_slice())?;
-            Ok(())
-        }
+        Left::List(_, parts) => add_part_uses(names, hidden, parts.as_slice()),
     }
 }
 
@@ -69,14 +65,8 @@ pub(crate) fn add_left_writes<'m>(names: &mut NameSet<'m>, l: &'m Left) -> Resul
     ensures { OnOk result (Adds names.old names.new nothing (λ t. target_writes t l.entry.now)) }
 {
     match l {
-        Left::Name(_, name, _) => {
-            add(names, name.as_slice())?;
-            Ok(())
-        }
-        Left::List(_, parts) => {
-            add_part_writes(names, parts.as_slice())?;
-            Ok(())
-        }
+        Left::Name(_, name, _) => add(names, name.as_slice()),
+        Left::List(_, parts) => add_part_writes(names, parts.as_slice()),
     }
 }
 

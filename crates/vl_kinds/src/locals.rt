@@ -31,8 +31,7 @@ fn body_controls(alloc: Global, body: &Statement) -> Result<NameSet<'_>, AllocEr
 {
     let hidden = IndexSet::new(alloc);
     let mut controls = IndexSet::new(alloc);
-    add_controls(&mut controls, &hidden, body)?;
-    Ok(controls)
+    add_controls(&mut controls, &hidden, body).and(Ok(controls))
 }
 
 /// The names that a body names outside each `for` that they control.
@@ -41,8 +40,7 @@ fn body_strays(alloc: Global, body: &Statement) -> Result<NameSet<'_>, AllocErro
 {
     let mut hidden = IndexSet::new(alloc);
     let mut strays = IndexSet::new(alloc);
-    add_strays(&mut strays, &mut hidden, body)?;
-    Ok(strays)
+    add_strays(&mut strays, &mut hidden, body).and(Ok(strays))
 }
 
 /// What a body does with names, in a time that goes with its text.

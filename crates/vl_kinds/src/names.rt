@@ -36,6 +36,5 @@ pub(crate) fn add_shown<'m>(
     if has(hidden, name) {
         return Ok(());
     }
-    add(names, name)?;
-    Ok(())
+    add(names, name)
 }

@@ -39,10 +39,7 @@ fn note_item<'m>(known: &mut NameSet<'m>, item: &'m Item) -> Result<(), AllocErr
         index_set_len known.new + count_new (has known.new) others ≡ index_set_len known.old + count_new (has known.old) (signals_in (seen_item item.entry.now) ++ others)) }
 {
     match item {
-        Item::Signals(_, ds) => {
-            note_all(known, ds.as_slice())?;
-            Ok(())
-        }
+        Item::Signals(_, ds) => note_all(known, ds.as_slice()),
         _ => Ok(()),
     }
 }
@@ -62,8 +59,8 @@ pub(crate) fn own_count(alloc: Global, m: &Module) -> Result<u32, AllocError>
     ensures { IfOk result (λ n. n ≡ own_signals (seen_module m.now)) }
 {
     let mut known = IndexSet::new(alloc);
-    note_items(&mut known, m.items.as_slice())?;
-    Ok(known.len().min(4294967295) as u32)
+    let noted = note_items(&mut known, m.items.as_slice());
+    noted.and(Ok(known.len().min(4294967295) as u32))
 }
 
 /// What is kept of how many signals each module declares.

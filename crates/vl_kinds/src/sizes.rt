@@ -178,13 +178,25 @@ fn rounds(
     Ok(rounds)
 }
 
+/// The rounds by an index of the modules.
+fn rounds_by(
+    alloc: Global,
+    index: &Index<'_>,
+    modules: &[Module],
+) -> Result<Vec<Vec<Counts>>, AllocError>
+    requires { place_of index.now ≡ place_named (map seen_module modules.now) }
+    ensures { IfOk result (λ v. (n : ℕ) → n ≤ 129 → spec.told index.now (spec.round_at v.items n) ≡ spec.kept_size n (map seen_module modules.now)) }
+{
+    let owns = own_counts(alloc, modules)?;
+    rounds(alloc, index, modules, owns.as_slice())
+}
+
 /// The sizes of modules, up to the deepest level.
 pub fn sizes_of(alloc: Global, modules: &[Module]) -> Result<Sizes<'_>, AllocError>
     ensures { IfOk result (λ s. spec.IsSizes s (map seen_module modules.entry.now)) }
 {
     let index = index_of(alloc, modules)?;
-    let owns = own_counts(alloc, modules)?;
-    let rounds = rounds(alloc, &index, modules, owns.as_slice())?;
+    let rounds = rounds_by(alloc, &index, modules)?;
     Ok(Sizes { index, rounds })
 }
 

@@ -47,8 +47,7 @@ fn add_head_uses<'m>(
     add_uses(names, hidden, start)?;
     add_uses(names, hidden, test)?;
     add_left_uses(names, hidden, stepped)?;
-    add_uses(names, hidden, step)?;
-    Ok(())
+    add_uses(names, hidden, step)
 }
 
 /// Adds the names of a statement that aren't hidden, and stand outside each `for` that they control.
@@ -63,20 +62,15 @@ pub(crate) fn add_strays<'m>(
 {
     match a {
         Statement::Null(_) => Ok(()),
-        Statement::Block(_, parts) => {
-            add_all_strays(names, hidden, parts.as_slice())?;
-            Ok(())
-        }
+        Statement::Block(_, parts) => add_all_strays(names, hidden, parts.as_slice()),
         Statement::If(_, test, chosen, other) => {
             add_uses(names, hidden, test)?;
             add_strays(names, hidden, chosen)?;
-            add_strays(names, hidden, other)?;
-            Ok(())
+            add_strays(names, hidden, other)
         }
         Statement::Case(_, _, subject, items) => {
             add_uses(names, hidden, subject)?;
-            add_case_strays(names, hidden, items.as_slice())?;
-            Ok(())
+            add_case_strays(names, hidden, items.as_slice())
         }
         Statement::For(_, target, start, test, stepped, step, body) => {
             let name = first_name(target);
@@ -88,18 +82,13 @@ pub(crate) fn add_strays<'m>(
         }
         Statement::Repeat(_, count, body) => {
             add_uses(names, hidden, count)?;
-            add_strays(names, hidden, body)?;
-            Ok(())
+            add_strays(names, hidden, body)
         }
         Statement::Assign(_, _, target, value) => {
             add_left_uses(names, hidden, target)?;
-            add_uses(names, hidden, value)?;
-            Ok(())
+            add_uses(names, hidden, value)
         }
-        Statement::Task(_, _, given) => {
-            add_argument_uses(names, hidden, given.as_slice())?;
-            Ok(())
-        }
+        Statement::Task(_, _, given) => add_argument_uses(names, hidden, given.as_slice()),
     }
 }
 
@@ -132,13 +121,9 @@ fn add_item_strays<'m>(
     match one {
         CaseItem::Labelled(labels, body) => {
             add_all_uses(names, hidden, labels.as_slice())?;
-            add_strays(names, hidden, body)?;
-            Ok(())
+            add_strays(names, hidden, body)
         }
-        CaseItem::Default(body) => {
-            add_strays(names, hidden, body)?;
-            Ok(())
-        }
+        CaseItem::Default(body) => add_strays(names, hidden, body),
     }
 }
 

@@ -23,45 +23,26 @@ pub(crate) fn add_uses<'m>(
         Ex::Text(_, _) => Ok(()),
         Ex::Named(_, name, selects) => {
             add_shown(names, hidden, name.as_slice())?;
-            add_selects(names, hidden, selects.as_slice())?;
-            Ok(())
+            add_selects(names, hidden, selects.as_slice())
         }
-        Ex::Paren(_, a) => {
-            add_uses(names, hidden, a)?;
-            Ok(())
-        }
-        Ex::Unary(_, _, a) => {
-            add_uses(names, hidden, a)?;
-            Ok(())
-        }
+        Ex::Paren(_, a) => add_uses(names, hidden, a),
+        Ex::Unary(_, _, a) => add_uses(names, hidden, a),
         Ex::Binary(_, _, a, b) => {
             add_uses(names, hidden, a)?;
-            add_uses(names, hidden, b)?;
-            Ok(())
+            add_uses(names, hidden, b)
         }
         Ex::Choice(_, test, a, b) => {
             add_uses(names, hidden, test)?;
             add_uses(names, hidden, a)?;
-            add_uses(names, hidden, b)?;
-            Ok(())
+            add_uses(names, hidden, b)
         }
-        Ex::Joined(_, parts) => {
-            add_all_uses(names, hidden, parts.as_slice())?;
-            Ok(())
-        }
+        Ex::Joined(_, parts) => add_all_uses(names, hidden, parts.as_slice()),
         Ex::Repeated(_, count, parts) => {
             add_uses(names, hidden, count)?;
-            add_all_uses(names, hidden, parts.as_slice())?;
-            Ok(())
+            add_all_uses(names, hidden, parts.as_slice())
         }
-        Ex::Called(_, _, given) => {
-            add_all_uses(names, hidden, given.as_slice())?;
-            Ok(())
-        }
-        Ex::System(_, _, given) => {
-            add_argument_uses(names, hidden, given.as_slice())?;
-            Ok(())
-        }
+        Ex::Called(_, _, given) => add_all_uses(names, hidden, given.as_slice()),
+        Ex::System(_, _, given) => add_argument_uses(names, hidden, given.as_slice()),
     }
 }
 
@@ -90,14 +71,10 @@ fn add_select<'m>(
     ensures { OnOk result (Adds names.old names.new (has hidden.now) (λ t. select_uses t one.entry.now)) }
 {
     match one {
-        Select::Index(_, i) => {
-            add_uses(names, hidden, i)?;
-            Ok(())
-        }
+        Select::Index(_, i) => add_uses(names, hidden, i),
         Select::Range(_, _, left, right) => {
             add_uses(names, hidden, left)?;
-            add_uses(names, hidden, right)?;
-            Ok(())
+            add_uses(names, hidden, right)
         }
     }
 }
@@ -128,10 +105,7 @@ fn add_argument<'m>(
 {
     match one {
         Argument::Null => Ok(()),
-        Argument::Value(e) => {
-            add_uses(names, hidden, e)?;
-            Ok(())
-        }
+        Argument::Value(e) => add_uses(names, hidden, e),
     }
 }
 

@@ -26,10 +26,7 @@ fn add_named<'m>(names: &mut NameSet<'m>, e: &'m Ex) -> Result<(), AllocError>
     ensures { OnOk result (Adds names.old names.new nothing (λ t. first_is t (x.MoreArgs (seen e.entry.now) x.NoArgs))) }
 {
     match e {
-        Ex::Named(_, name, _) => {
-            add(names, name.as_slice())?;
-            Ok(())
-        }
+        Ex::Named(_, name, _) => add(names, name.as_slice()),
         _ => Ok(()),
     }
 }
@@ -39,10 +36,7 @@ fn add_first<'m>(names: &mut NameSet<'m>, given: &'m [Argument]) -> Result<(), A
     ensures { OnOk result (Adds names.old names.new nothing (λ t. first_is t (args_before given.entry.now x.NoArgs))) }
 {
     match given {
-        [Argument::Value(e), ..] => {
-            add_named(names, e)?;
-            Ok(())
-        }
+        [Argument::Value(e), ..] => add_named(names, e),
         _ => Ok(()),
     }
 }
@@ -54,39 +48,24 @@ pub(crate) fn add_writes<'m>(names: &mut NameSet<'m>, a: &'m Statement) -> Resul
 {
     match a {
         Statement::Null(_) => Ok(()),
-        Statement::Block(_, parts) => {
-            add_all_writes(names, parts.as_slice())?;
-            Ok(())
-        }
+        Statement::Block(_, parts) => add_all_writes(names, parts.as_slice()),
         Statement::If(_, _, chosen, other) => {
             add_writes(names, chosen)?;
-            add_writes(names, other)?;
-            Ok(())
+            add_writes(names, other)
         }
-        Statement::Case(_, _, _, items) => {
-            add_case_writes(names, items.as_slice())?;
-            Ok(())
-        }
+        Statement::Case(_, _, _, items) => add_case_writes(names, items.as_slice()),
         Statement::For(_, target, _, _, stepped, _, body) => {
             add_left_writes(names, target)?;
             add_left_writes(names, stepped)?;
-            add_writes(names, body)?;
-            Ok(())
+            add_writes(names, body)
         }
-        Statement::Repeat(_, _, body) => {
-            add_writes(names, body)?;
-            Ok(())
-        }
-        Statement::Assign(_, _, target, _) => {
-            add_left_writes(names, target)?;
-            Ok(())
-        }
+        Statement::Repeat(_, _, body) => add_writes(names, body),
+        Statement::Assign(_, _, target, _) => add_left_writes(names, target),
         Statement::Task(_, name, given) => {
             if !is_fread(name.as_slice()) {
                 return Ok(());
             }
-            add_first(names, given.as_slice())?;
-            Ok(())
+            add_first(names, given.as_slice())
         }
     }
 }
@@ -108,14 +87,8 @@ fn add_item_writes<'m>(names: &mut NameSet<'m>, one: &'m CaseItem) -> Result<(),
     ensures { OnOk result (Adds names.old names.new nothing (λ t. case_writes t one.entry.now)) }
 {
     match one {
-        CaseItem::Labelled(_, body) => {
-            add_writes(names, body)?;
-            Ok(())
-        }
-        CaseItem::Default(body) => {
-            add_writes(names, body)?;
-            Ok(())
-        }
+        CaseItem::Labelled(_, body) => add_writes(names, body),
+        CaseItem::Default(body) => add_writes(names, body),
     }
 }
 

@@ -380,12 +380,15 @@ impl<'a, F: Fn(Reader, &'a [Token], u8) -> Result<(Statement, &'a [Token]), Faul
     {
         let (_, rest) = self.reader.mark(tokens, b"(")?;
         let (start, rest) = self.reader.assignment(rest)?;
+        let start = Boxed::new(self.reader.alloc, start)?;
         let (_, rest) = self.reader.mark(rest, b";")?;
         let (condition, rest) = self.reader.expression(rest)?;
         let (_, rest) = self.reader.mark(rest, b";")?;
         let (step, rest) = self.reader.assignment(rest)?;
+        let step = Boxed::new(self.reader.alloc, step)?;
         let (_, rest) = self.reader.mark(rest, b")")?;
         let (statement, rest) = self.boxed(rest)?;
+        let (start, step) = (start.into_inner(), step.into_inner());
         Ok((
             Statement::For(place, start, condition, step, statement),
             rest,

@@ -28,6 +28,53 @@ fn behind_first<'s, 'a>(declarations: &'s [Declaration<'a>]) -> &'s [Declaration
     }
 }
 
+/// Notes the faults in a function of a module, of whose declarations the scope is known.
+fn note_inner_uses(
+    alloc: Global,
+    outer: &Scope<'_>,
+    inner: &Scope<'_>,
+    declarations: &[Declaration<'_>],
+    parameters: usize,
+    function: &Function,
+    best: Option<Fault>,
+) -> Result<Option<Fault>, AllocError>
+    requires declarations { scope.all_seen declarations.now ≡ scope.function_declarations function.now }
+    requires inner { w.Knows inner.now (scope.function_declarations function.now) }
+    ensures { (as' : List scope.Declared) → w.Knows outer.now as' → IfOk result (λ b. b ≡ earliest best (flat_map (spec.site_faults as') (map (n.site (Some function.now)) (n.function_nodes (k.behind parameters) function.now)))) }
+{
+    let called = Scope::of(alloc, behind_first(declarations))?;
+    let names = Names {
+        outer,
+        inner,
+        called: &called,
+    };
+    Ok(note_function(&names, behind(parameters), function, best))
+}
+
+/// Notes the faults in a function of a module, of which the declarations are known.
+fn note_declared_uses(
+    alloc: Global,
+    outer: &Scope<'_>,
+    declarations: &[Declaration<'_>],
+    parameters: usize,
+    function: &Function,
+    best: Option<Fault>,
+) -> Result<Option<Fault>, AllocError>
+    requires { scope.all_seen declarations.now ≡ scope.function_declarations function.now }
+    ensures { (as' : List scope.Declared) → w.Knows outer.now as' → IfOk result (λ b. b ≡ earliest best (flat_map (spec.site_faults as') (map (n.site (Some function.now)) (n.function_nodes (k.behind parameters) function.now)))) }
+{
+    let inner = Scope::of(alloc, declarations)?;
+    note_inner_uses(
+        alloc,
+        outer,
+        &inner,
+        declarations,
+        parameters,
+        function,
+        best,
+    )
+}
+
 /// Notes the faults in a function of a module, which stands behind so many declared parameters.
 fn note_function_uses(
     alloc: Global,
@@ -39,14 +86,14 @@ fn note_function_uses(
     ensures { (as' : List scope.Declared) → w.Knows outer.now as' → IfOk result (λ b. b ≡ earliest best (flat_map (spec.site_faults as') (map (n.site (Some function.now)) (n.function_nodes (k.behind parameters) function.now)))) }
 {
     let declarations = function_declarations(alloc, function)?;
-    let inner = Scope::of(alloc, declarations.as_slice())?;
-    let called = Scope::of(alloc, behind_first(declarations.as_slice()))?;
-    let names = Names {
+    note_declared_uses(
+        alloc,
         outer,
-        inner: &inner,
-        called: &called,
-    };
-    Ok(note_function(&names, behind(parameters), function, best))
+        declarations.as_slice(),
+        parameters,
+        function,
+        best,
+    )
 }
 
 /// Notes the faults in an item of a module, which stands behind so many declared parameters.
@@ -148,6 +195,43 @@ fn note_header(
     }
 }
 
+/// Notes the faults in a module, of whose declarations the scope is known.
+fn note_module_uses(
+    alloc: Global,
+    outer: &Scope<'_>,
+    none: &Scope<'_>,
+    tree: &Module,
+    best: Option<Fault>,
+) -> Result<Option<Fault>, AllocError>
+    requires { n.header_parameters tree.now.parameters + n.items_parameters tree.now.items < 2 ^ 64 }
+    ensures { w.Knows outer.now (scope.declarations tree.now) → w.Knows none.now [] → IfOk result (λ b. b ≡ earliest best (spec.module_faults tree.now)) }
+{
+    let names = Names {
+        outer,
+        inner: none,
+        called: none,
+    };
+    let parameters = header_parameters(&tree.parameters);
+    let best = note_header(&names, parameters, tree, best);
+    note_items(alloc, outer, none, parameters, tree.items.as_slice(), best)
+}
+
+/// Notes the faults in a module, of which the declarations are known.
+fn note_declared_module(
+    alloc: Global,
+    declarations: &[Declaration<'_>],
+    none: &Scope<'_>,
+    tree: &Module,
+    best: Option<Fault>,
+) -> Result<Option<Fault>, AllocError>
+    requires declared { scope.all_seen declarations.now ≡ scope.declarations tree.now }
+    requires few { n.header_parameters tree.now.parameters + n.items_parameters tree.now.items < 2 ^ 64 }
+    ensures { w.Knows none.now [] → IfOk result (λ b. b ≡ earliest best (spec.module_faults tree.now)) }
+{
+    let outer = Scope::of(alloc, declarations)?;
+    note_module_uses(alloc, &outer, none, tree, best)
+}
+
 /// Notes the faults in a module.
 fn note_module(
     alloc: Global,
@@ -158,22 +242,23 @@ fn note_module(
     ensures { w.Knows none.now [] → IfOk result (λ b. b ≡ earliest best (spec.module_faults tree.now)) }
 {
     let declarations = module_declarations(alloc, tree)?;
-    let outer = Scope::of(alloc, declarations.as_slice())?;
-    let names = Names {
-        outer: &outer,
-        inner: &*none,
-        called: &*none,
-    };
-    let parameters = header_parameters(&tree.parameters);
-    let best = note_header(&names, parameters, tree, best);
-    note_items(
-        alloc,
-        &outer,
-        &*none,
-        parameters,
-        tree.items.as_slice(),
-        best,
-    )
+    note_declared_module(alloc, declarations.as_slice(), none, tree, best)
+}
+
+/// Notes the faults in modules.
+fn note_modules(
+    alloc: Global,
+    none: &Scope<'_>,
+    modules: &[Module],
+    best: Option<Fault>,
+) -> Result<Option<Fault>, AllocError>
+    ensures { w.Knows none.now [] → IfOk result (λ b. b ≡ earliest best (flat_map spec.module_faults modules.now)) }
+{
+    let mut best = best;
+    for tree in modules {
+        best = note_module(alloc, none, tree, best)?;
+    }
+    Ok(best)
 }
 
 /// The earliest of what was found and the faults of uses in a source.
@@ -185,9 +270,5 @@ pub fn first_use_fault(
     ensures { IfOk result (λ b. b ≡ earliest best (spec.use_faults source.now)) }
 {
     let none = Scope::of(alloc, &[])?;
-    let mut best = best;
-    for tree in source.modules.as_slice() {
-        best = note_module(alloc, &none, tree, best)?;
-    }
-    Ok(best)
+    note_modules(alloc, &none, source.modules.as_slice(), best)
 }

@@ -29,8 +29,8 @@ statement-returns-in_ok-parts-in-Block t c =
     ap (p.Seq c.in-Block.at) (row-stms s c.in_ok-parts-in-Block.parts c.in-Block.parts.items (c.in_ok-parts-in-Block.ensures ∙ ap (map (n.seen_stm s)) c.as_slice.ensures.value))
     ∙ sym (ap (spec.statement s) (ap seen_statement c.in-Block.is ∙ block-seen c.in-Block.at c.in-Block.parts))
 
-pub statement-returns-in_ok-items-in-Case : goal.statement-returns-in_ok-items-in-Case
-statement-returns-in_ok-items-in-Case t c =
+pub statement-returns-in_ok-subject-in-Case : goal.statement-returns-in_ok-subject-in-Case
+statement-returns-in_ok-subject-in-Case t c =
     let s = seen_scope c.args.scope.now in
     let at = c.in-Case.at in
     let w = c.in-Case.wild in

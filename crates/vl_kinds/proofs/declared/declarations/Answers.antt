@@ -1,27 +1,10 @@
-use Rattle.std.proofs.Common.{sym, ap, ◌∙◌, List}
+use Rattle.std.proofs.Common.{map}
 use Rattle.std.specs.List.{flat_map}
-use Rattle.std.proofs.lemmas.List.{take_all}
-use Rattle.std.proofs.lemmas.List.Folds.{flat_map-map}
-use Rattle.vl_flat.specs.Items as x
 use Rattle.vl_flat.specs.Kinds.{signals_in}
-use Rattle.vl_items.specs.declared.items.Item.{Item}
 use Rattle.vl_items.specs.SeenItems.{seen_item}
-use Rattle.vl_kinds.specs.Said.{said, declaration_at}
-use Rattle.vl_kinds.proofs.Saying.{said-none, said-more, said-empty}
+use Rattle.vl_kinds.proofs.Saying.{all-said}
 use Rattle.vl_kinds.proofs.declared.declarations.Goals as goal
-
-abbrev views : Item → List x.Declared
-views a = signals_in (seen_item a)
-
-pub loop-item-init : goal.loop-item-init
-loop-item-init c = said-none (declaration_at c.new-declared.result)
-
-pub loop-item-preserved : goal.loop-item-preserved
-loop-item-preserved c =
-    said-more (declaration_at c.new-declared.result) (declaration_at c.loop-item.declared) (declaration_at c.add_item.new.declared) views c.args.items.now c.loop-item.item-index c.item-item.result
-    c.loop-item-test.true c.item-item.is c.loop-item.invariant c.in_ok-add_item.ensures
 
 pub returns : goal.returns
 returns c =
-    said-empty c.new-declared.result (declaration_at c.loop-item.declared) _ c.new-declared.ensures.empty c.loop-item.invariant
-    ∙ ap said (ap (flat_map views) (take_all c.loop-item.item-index c.args.items.now c.loop-item-test.false) ∙ sym (flat_map-map signals_in seen_item c.args.items.now))
+    all-said c.add_items.result c.and.result c.new-declared.result c.add_items.new.declared (flat_map signals_in (map seen_item c.args.items.now)) c.and.ensures c.new-declared.ensures.empty c.add_items.ensures

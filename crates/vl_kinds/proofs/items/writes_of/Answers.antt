@@ -1,17 +1,19 @@
-use Rattle.std.proofs.Common.{sym, ◌∙◌, ℕ, List, Bool}
+use Rattle.std.proofs.Common.{sym, ap, ◌∙◌, map}
 use Rattle.std.specs.List.{list_any}
+use Rattle.indexmap.proofs.MapLemmas.{OnOk-map}
 use Rattle.vl_flat.specs.Kinds.{item_writes}
-use Rattle.vl_items.specs.declared.items.Item.{Item}
 use Rattle.vl_items.specs.SeenItems.{seen_item}
-use Rattle.vl_kinds.proofs.Adding.{adds-all}
-use Rattle.vl_kinds.proofs.Parts.{any-map, from-empty}
+use Rattle.vl_kinds.specs.Names.{nothing, Adds}
+use Rattle.vl_kinds.proofs.Adding.{adds-as}
+use Rattle.vl_kinds.proofs.Parts.{any-map, filled}
 use Rattle.vl_kinds.proofs.items.writes_of.Goals as goal
-
-abbrev in_item : List ℕ → Item → Bool
-in_item t a = item_writes t (seen_item a)
 
 pub returns : goal.returns
 returns c =
-    from-empty c.new-names.result c.loop-item.names (λ t. list_any (in_item t) c.args.items.now) c.new-names.ensures.empty
-    (adds-all in_item c.args.items.now c.loop-item.item-index c.loop-item-test.false c.loop-item.invariant)
-    ∙ (λ i t. sym (any-map (item_writes t) seen_item c.args.items.now) i)
+    let items = c.args.items.now in
+    let old = c.new-names.result in
+    let new = c.add_writes_of.new.names in
+    filled c.add_writes_of.result c.and.result old new (λ t. list_any (item_writes t) (map seen_item items)) c.and.ensures c.new-names.ensures.empty
+    (OnOk-map c.add_writes_of.result (Adds old new nothing (λ t. list_any (λ a. item_writes t (seen_item a)) items)) (Adds old new nothing (λ t. list_any (item_writes t) (map seen_item items)))
+    (λ adds. adds-as adds (λ t. sym (any-map (item_writes t) seen_item items)))
+    c.add_writes_of.ensures)

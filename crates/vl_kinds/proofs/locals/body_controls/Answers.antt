@@ -1,10 +1,15 @@
-use Rattle.vl_kinds.specs.Names.{has}
+use Rattle.indexmap.proofs.MapLemmas.{OnOk-map}
+use Rattle.vl_kinds.specs.Names.{has, nothing, Adds}
 use Rattle.vl_kinds.specs.Parts.{controls_in}
 use Rattle.vl_kinds.proofs.Adding.{adds-under}
-use Rattle.vl_kinds.proofs.Parts.{from-empty, empty-hides}
+use Rattle.vl_kinds.proofs.Parts.{empty-hides, filled}
 use Rattle.vl_kinds.proofs.locals.body_controls.Goals as goal
 
 pub returns : goal.returns
 returns c =
+    let hides = has c.new-hidden.result in
     let shown = empty-hides c.new-hidden.result c.new-hidden.ensures.empty in
-    from-empty c.new-controls.result c.add_controls.new.names (λ t. controls_in t c.args.body.now) c.new-controls.ensures.empty (adds-under (has c.new-hidden.result) shown c.in_ok-add_controls.ensures)
+    let old = c.new-controls.result in
+    let new = c.add_controls.new.names in
+    filled c.add_controls.result c.and.result old new (λ t. controls_in t c.args.body.now) c.and.ensures c.new-controls.ensures.empty
+    (OnOk-map c.add_controls.result (Adds old new hides (λ t. controls_in t c.args.body.now)) (Adds old new nothing (λ t. controls_in t c.args.body.now)) (λ adds. adds-under hides shown adds) c.add_controls.ensures)

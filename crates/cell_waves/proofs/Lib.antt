@@ -11,3 +11,4 @@ pub mod Starting
 pub mod Updating
 pub mod Written
 pub mod Lengths
+pub mod Choosing

@@ -68,6 +68,7 @@ fn is_marked_change(marks: &[bool], number: usize, before: Option<u32>, after: O
 }
 
 /// Adds the write of a signal's register of a copy from a slot, where that is wanted and the register is one that writes change.
+#[tactic(auto, using(crate::proofs::Choosing::unwanted))]
 fn write_one(
     signal: &Signal,
     number: u32,
@@ -80,7 +81,7 @@ fn write_one(
     requires copy { copy ≤ 6 }
     ensures { OnOk result (sets.new.items ≡ s.with_write (s.is_written copy (Some (row_of signal.now)) && chosen) (4 * number + copy) slot sets.old.items) }
 {
-    if is_written(signal, copy) && chosen {
+    if chosen && is_written(signal, copy) {
         sets.push(Write::Reg(register(number, copy), slot))?;
     }
     Ok(())

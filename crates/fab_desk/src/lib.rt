@@ -4,5 +4,3 @@
 pub mod calls;
 pub mod desk;
 pub mod laws;
-#[cfg(test)]
-mod tests;

@@ -39,7 +39,7 @@ pub record CanBeTold (p : Parcel) : Type 0 where
   pub rows : HasRows (run_of p).flat.rows
 
 abbrev pub IsOutcome : Outcome → Type 0
-IsOutcome (o.Parcel p) = CanBeTold p
+IsOutcome (o.Parcel p) = CanBeTold p.value
 IsOutcome (o.Bad kind offset) = ⊤
 IsOutcome o.Unfit = ⊤
 

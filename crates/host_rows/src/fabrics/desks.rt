@@ -156,7 +156,26 @@ fn arrives<R: Wait>(
     }
 }
 
-/// A tenant that left for another fabric comes back.
+/// A tenant that left comes back, unless its run has ended: what comes of that.
+fn back<R: Wait>(
+    rt: &R,
+    alloc: Global,
+    wanted: Wanted,
+    desk: &Desk,
+    seat: &mut DeskSeat,
+    transit: Transit,
+) -> Result<String, AllocError>
+    requires at { IsAt wanted desk.now seat.old }
+    requires parcel { IsParcel transit.parcel }
+    ensures { IsAt wanted desk.now seat.new }
+{
+    if transit.parcel.ended().is_some() {
+        return Ok(String::new(alloc));
+    }
+    comes(rt, alloc, wanted, desk, seat, transit)
+}
+
+/// A tenant that left is told of, and comes back.
 fn again<R: Wait>(
     rt: &R,
     alloc: Global,
@@ -169,36 +188,56 @@ fn again<R: Wait>(
     requires parcel { IsParcel leaving.transit.parcel }
     ensures { IsAt wanted desk.now seat.new }
 {
-    let mut text = leaving_text(alloc, &leaving)?;
-    if leaving.transit.parcel.ended().is_none() {
-        let more = comes(rt, alloc, wanted, desk, seat, leaving.transit)?;
-        text.push_str(more.as_str())?;
-    }
-    Ok(text)
+    let told = leaving_text(alloc, &leaving);
+    let more = back(rt, alloc, wanted, desk, seat, leaving.transit);
+    joined(told?, more?)
 }
 
-/// Tenants that left: each is told of, the last one first, and comes back where it left for another fabric.
+/// The last of the tenants that left is told of, and comes back where it left for another fabric.
+fn leave_last<R: Wait>(
+    rt: &R,
+    alloc: Global,
+    wanted: Wanted,
+    desk: &Desk,
+    seat: &mut DeskSeat,
+    leaving: &mut Vec<Leaving>,
+) -> Result<String, AllocError>
+    requires at { IsAt wanted desk.now seat.old }
+    requires parcels { All (λ l. IsParcel l.transit.parcel) leaving.old.items }
+    ensures at { IsAt wanted desk.now seat.new }
+    ensures parcels { All (λ l. IsParcel l.transit.parcel) leaving.new.items }
+{
+    match leaving.pop() {
+        None => Ok(String::new(alloc)),
+        Some(one) => again(rt, alloc, wanted, desk, seat, one),
+    }
+}
+
+/// Tenants that left: each is told of, the last one first, and comes back where it left for another fabric; none is left.
 fn leave<R: Wait>(
     rt: &R,
     alloc: Global,
     wanted: Wanted,
     desk: &Desk,
     seat: &mut DeskSeat,
-    mut leaving: Vec<Leaving>,
+    leaving: &mut Vec<Leaving>,
 ) -> Result<String, AllocError>
     requires at { IsAt wanted desk.now seat.old }
-    requires parcels { All (λ l. IsParcel l.transit.parcel) leaving.items }
+    requires parcels { All (λ l. IsParcel l.transit.parcel) leaving.old.items }
     ensures { IsAt wanted desk.now seat.new }
 {
     let mut text = String::new(alloc);
     let count = leaving.len();
     'left: for _ in 0..count {
-        let Some(one) = leaving.pop() else {
-            return Ok(text);
-        };
-        let more = again(rt, alloc, wanted, desk, seat, one)?;
+        let more = leave_last(rt, alloc, wanted, desk, seat, leaving)?;
         text.push_str(more.as_str())?;
     }
+    Ok(text)
+}
+
+/// Two texts, one behind the other.
+fn joined(mut text: String, more: String) -> Result<String, AllocError> {
+    text.push_str(more.as_str())?;
     Ok(text)
 }
 
@@ -215,11 +254,17 @@ fn turns<R: Wait>(
     requires some { 1 ≤ most }
     ensures { IsAt wanted desk.now seat.new }
 {
-    let turn = turn(rt, alloc, wanted, desk, seat, most)?;
-    let mut text = turn_text(alloc, &turn)?;
-    let more = leave(rt, alloc, wanted, desk, seat, turn.leaving)?;
-    text.push_str(more.as_str())?;
-    Ok(text)
+    let mut turn = turn(rt, alloc, wanted, desk, seat, most)?;
+    let told = turn_text(alloc, &turn);
+    let more = leave(rt, alloc, wanted, desk, seat, &mut turn.leaving);
+    joined(told?, more?)
+}
+
+/// What was taken out.
+fn taken_text(alloc: Global, taken: &Taken) -> Result<String, AllocError> {
+    let text = entries_text(alloc, &taken.entries)?;
+    let more = found_text(alloc, &taken.found)?;
+    joined(text, more)
 }
 
 /// A tenant is taken out, and what comes of that.
@@ -235,10 +280,7 @@ fn takes<R: Wait>(
     ensures { IsAt wanted desk.now seat.new }
 {
     let taken = take(rt, alloc, wanted, desk, seat, tenant)?;
-    let mut text = entries_text(alloc, &taken.entries)?;
-    let more = found_text(alloc, &taken.found)?;
-    text.push_str(more.as_str())?;
-    Ok(text)
+    taken_text(alloc, &taken)
 }
 
 /// How far a tenant has come by its progress word.
@@ -325,14 +367,25 @@ pub fn wanted_of(orders: &str) -> Wanted
     }
 }
 
+/// A desk is closed: its history.
+fn closed_text<R: Wait>(
+    rt: &R,
+    alloc: Global,
+    wanted: Wanted,
+    desk: Desk,
+    seat: DeskSeat,
+) -> Result<String, AllocError>
+    requires { IsAt wanted desk seat }
+{
+    let bay = desk.close(rt, seat);
+    history_text(alloc, &bay)
+}
+
 /// What the orders of a row come to at a desk, and the history behind them.
 pub fn answers<R: Wait>(rt: &R, alloc: Global, row: &Row) -> Result<String, AllocError> {
     let wanted = wanted_of(row.orders.as_str());
     let (desk, mut seat) = Desk::new(alloc, wanted.label())?;
     let text = answers_at(rt, alloc, wanted, &desk, &mut seat, row);
-    let bay = desk.close(rt, seat);
-    let history = history_text(alloc, &bay)?;
-    let mut text = text?;
-    text.push_str(history.as_str())?;
-    Ok(text)
+    let history = closed_text(rt, alloc, wanted, desk, seat);
+    joined(text?, history?)
 }

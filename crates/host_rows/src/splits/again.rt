@@ -18,12 +18,13 @@ fn run_by(
     ticks: u64,
     errands: &str,
     start: &str,
-) -> Result<Option<Parcel>, AllocError>
-    ensures { IfOk result (λ o. IfSome o CanBeTold) }
+) -> Result<Option<Box<Parcel>>, AllocError>
+    ensures { IfOk result (λ o. IfSome o (λ b. CanBeTold b.value)) }
 {
     let Ok(image) = build(alloc, row.source.as_bytes()) else {
         return Ok(None);
     };
+    let image = Box::new(alloc, image)?;
     let plan = plan_of(alloc, ticks, errands)?;
     match run_row(alloc, image, plan, row.files.as_str(), start)? {
         Outcome::Parcel(parcel) => Ok(Some(parcel)),
@@ -43,12 +44,12 @@ struct Told {
 }
 
 /// What a parcel tells.
-fn told_of(alloc: Global, parcel: Parcel) -> Result<Told, AllocError>
-    requires { CanBeTold parcel }
+fn told_of(alloc: Global, parcel: Box<Parcel>) -> Result<Told, AllocError>
+    requires { CanBeTold parcel.value }
 {
     let printed = Vec::from_slice(alloc, parcel.printed())?;
     let acts = parcel.cycles();
-    let kept = last_kept(alloc, parcel.into_remains(alloc))?;
+    let kept = last_kept(alloc, Box::into_inner(parcel).into_remains(alloc))?;
     Ok(Told {
         printed,
         acts,

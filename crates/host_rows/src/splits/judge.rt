@@ -47,7 +47,7 @@ fn outcome_text(alloc: Global, ticks: u64, outcome: Outcome) -> Result<String, A
     match outcome {
         Outcome::Parcel(parcel) => {
             let mut text = ended_text(alloc, ticks, &parcel)?;
-            let kept = kept_text(alloc, parcel.into_remains(alloc))?;
+            let kept = kept_text(alloc, Box::into_inner(parcel).into_remains(alloc))?;
             text.push_str(kept.as_str())?;
             Ok(text)
         }
@@ -57,8 +57,8 @@ fn outcome_text(alloc: Global, ticks: u64, outcome: Outcome) -> Result<String, A
 }
 
 /// The run of a row's image.
-fn answer_in_acts(alloc: Global, row: &Row, image: Image) -> Result<String, AllocError>
-    requires image { (text : List ℕ) × IsImageOf text image }
+fn answer_in_acts(alloc: Global, row: &Row, image: Box<Image>) -> Result<String, AllocError>
+    requires image { (text : List ℕ) × IsImageOf text image.value }
 {
     let ticks = ticks_of(row.wanted.as_str());
     let plan = plan_of(alloc, ticks, row.errands.as_str())?;
@@ -68,8 +68,8 @@ fn answer_in_acts(alloc: Global, row: &Row, image: Image) -> Result<String, Allo
 }
 
 /// What is wanted of an image: its states, or its run.
-fn answer_of_image(alloc: Global, row: &Row, image: Image) -> Result<String, AllocError>
-    requires image { (text : List ℕ) × IsImageOf text image }
+fn answer_of_image(alloc: Global, row: &Row, image: Box<Image>) -> Result<String, AllocError>
+    requires image { (text : List ℕ) × IsImageOf text image.value }
 {
     if row.wanted.as_str().starts_with("states ") {
         return states_text(alloc, &image);
@@ -78,8 +78,8 @@ fn answer_of_image(alloc: Global, row: &Row, image: Image) -> Result<String, All
 }
 
 /// What is wanted of an image, and of a run also how often it came to the same where it was saved and resumed on its way.
-fn answer_and_again(alloc: Global, row: &Row, image: Image) -> Result<String, AllocError>
-    requires image { (text : List ℕ) × IsImageOf text image }
+fn answer_and_again(alloc: Global, row: &Row, image: Box<Image>) -> Result<String, AllocError>
+    requires image { (text : List ℕ) × IsImageOf text image.value }
 {
     let mut text = answer_of_image(alloc, row, image)?;
     let again = again_text(alloc, row, ticks_of(row.wanted.as_str()))?;
@@ -90,7 +90,7 @@ fn answer_and_again(alloc: Global, row: &Row, image: Image) -> Result<String, Al
 /// The answer to a source in states, or in what its run came to.
 fn answer_in_states(alloc: Global, row: &Row) -> Result<String, AllocError> {
     match build(alloc, row.source.as_bytes()) {
-        Ok(image) => answer_and_again(alloc, row, image),
+        Ok(image) => answer_and_again(alloc, row, Box::new(alloc, image)?),
         Err(BuildError::Memory) => Err(AllocError),
         Err(_) => String::from_str(alloc, "refused\n"),
     }

@@ -1,10 +1,17 @@
 //! The snapshots that a run keeps, in words.
 
+ghost use Rattle.vl_design.specs.Trees.{flat_of};
+ghost use Rattle.snap_form.specs.Spelling.{IsSnapshot};
+ghost use Rattle.ten_hold.specs.Holding.{CanBeHeld};
+ghost use Rattle.ten_plan.specs.Held.{snapshot_of};
+ghost use Rattle.ten_plan.specs.Written.{written};
 ghost use Rattle.host_rows.specs.Starts.{CanBeWritten};
 
 use std::alloc::{AllocError, Global};
 use ten_hold::write::write;
 use ten_parcel::parcel::Remains;
+use ten_plan::held::Saved;
+use vl_design::design::Design;
 
 /// The digit of a number below 16; `?` of another.
 fn digit(number: u8) -> char {
@@ -51,7 +58,18 @@ fn name_text(alloc: Global, name: &[u8]) -> Result<String, AllocError> {
     Ok(text)
 }
 
-/// A line for each snapshot that a run keeps: its name, and its bytes.
+/// A line of a snapshot: its name, and its bytes.
+fn saved_text(alloc: Global, design: &Design, saved: Saved) -> Result<String, AllocError>
+    requires design { CanBeHeld (flat_of design.now) }
+    requires snapshot { IsSnapshot (written (snapshot_of (flat_of design.now).rows saved.held)) }
+{
+    let name = name_text(alloc, saved.name.as_slice())?;
+    let bytes = write(alloc, design, saved.held)?;
+    let digits = digits_of(alloc, bytes.as_slice())?;
+    format!(in alloc; "kept {name} {digits}\n")
+}
+
+/// A line for each snapshot that a run keeps.
 pub fn kept_text(alloc: Global, remains: Remains) -> Result<String, AllocError>
     requires { CanBeWritten remains }
 {
@@ -62,11 +80,7 @@ pub fn kept_text(alloc: Global, remains: Remains) -> Result<String, AllocError>
     } = remains;
     let mut text = String::new(alloc);
     'saves: while !saved.is_empty() {
-        let next = saved.remove(0);
-        let name = name_text(alloc, next.name.as_slice())?;
-        let bytes = write(alloc, &origin.image.design, next.held)?;
-        let digits = digits_of(alloc, bytes.as_slice())?;
-        let line = format!(in alloc; "kept {name} {digits}\n")?;
+        let line = saved_text(alloc, &origin.image.design, saved.remove(0))?;
         text.push_str(line.as_str())?;
     }
     Ok(text)

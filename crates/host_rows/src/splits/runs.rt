@@ -20,7 +20,7 @@ use vl_base::files::FileSet;
 #[derive(Drop)]
 pub enum Outcome {
     /// The parcel at its end.
-    Parcel(Parcel),
+    Parcel(Box<Parcel>),
     /// The kind of a fault of the row's snapshot, and its offset.
     Bad(u8, u64),
     /// The plan is none, or the snapshot is past its ticks.
@@ -40,13 +40,13 @@ fn is_within(start: &Option<Held>, budget: u64) -> bool
 /// The run alone of an image over files, by a plan, from what it is resumed from, if it is.
 fn run_from(
     alloc: Global,
-    image: Image,
+    image: Box<Image>,
     files: FileSet,
     plan: Plan,
-    start: Option<Held>,
+    start: Box<Option<Held>>,
 ) -> Result<Outcome, AllocError>
-    requires image { (text : List ℕ) × IsImageOf text image }
-    requires start { IsFit (flat_of image.design) files start }
+    requires image { (text : List ℕ) × IsImageOf text image.value }
+    requires start { IsFit (flat_of image.value.design) files start.value }
     ensures { IfOk result IsOutcome }
 {
     if !plan.is_in_order() {
@@ -56,28 +56,29 @@ fn run_from(
         return Ok(Outcome::Unfit);
     }
     let origin = Origin {
-        image,
+        image: Box::into_inner(image),
         files,
         plan,
-        start,
+        start: Box::into_inner(start),
     };
-    Ok(Outcome::Parcel(run_alone(alloc, 1, origin)?))
+    let parcel = Box::new(alloc, run_alone(alloc, 1, origin)?)?;
+    Ok(Outcome::Parcel(parcel))
 }
 
 /// The run alone of an image over the files of these lines, by a plan, resumed from the snapshot of this line, if there is one.
 pub fn run_row(
     alloc: Global,
-    image: Image,
+    image: Box<Image>,
     plan: Plan,
     files: &str,
     start: &str,
 ) -> Result<Outcome, AllocError>
-    requires { (text : List ℕ) × IsImageOf text image }
+    requires { (text : List ℕ) × IsImageOf text image.value }
     ensures { IfOk result IsOutcome }
 {
     let files = files_of(alloc, files)?;
     match start_of(alloc, &image.design, &files, start)? {
-        Start::Held(start) => run_from(alloc, image, files, plan, start),
+        Start::Held(start) => run_from(alloc, image, files, plan, Box::new(alloc, start)?),
         Start::Bad(kind, offset) => Ok(Outcome::Bad(kind, offset)),
     }
 }

@@ -28,3 +28,6 @@ pub mod Counting
 pub mod Widening
 pub mod Costing
 pub mod Budget
+pub mod Falling
+pub mod Stepping
+pub mod Answering

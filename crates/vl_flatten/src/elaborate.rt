@@ -5,8 +5,11 @@ ghost use Rattle.vl_design.specs.Sound.{IsSound};
 ghost use Rattle.vl_design.specs.Trees.{flat_of};
 ghost use Rattle.vl_flat.specs.Items as x;
 ghost use Rattle.vl_flat.specs.Declarations.{modules};
+ghost use Rattle.vl_flat.specs.Environments as e;
+ghost use Rattle.vl_flat.specs.Flat as f;
 ghost use Rattle.vl_flat.specs.Outcome as o;
 ghost use Rattle.vl_items.specs.SeenItems.{seen_module};
+ghost use Rattle.vl_constant.specs.Seen.{look};
 ghost use Rattle.vl_laws.specs.Apart.{AreApart};
 ghost use Rattle.vl_alike.specs.Sized.{parts_by};
 ghost use Rattle.vl_sound.specs.Inputs.{NoLoopInputs};
@@ -20,6 +23,7 @@ use crate::library::{Library, definition_at, library_of, roles_at, unnumbered_li
 use crate::making::{Making, nothing_yet};
 use std::alloc::Global;
 use vl_base::items::Items;
+use vl_constant::scope::Names;
 use vl_design::design::Design;
 use vl_design::stop::Stop;
 use vl_expression::expressions::copied;
@@ -33,23 +37,28 @@ use vl_names::hierarchy::top_number;
 use vl_names::names::{NamesFault, names};
 use vl_source::tree::Source;
 
-/// What the modules stand for from the one of this number.
-fn made(alloc: Global, library: &Library<'_>, number: usize) -> Result<Making, Stop>
+/// No signal and no function stand before a top.
+const NOTHING: Counts = Counts {
+    signals: 0,
+    functions: 0,
+};
+
+/// What the modules stand for from the one of this number, in which names stand for this.
+fn made_with(
+    alloc: Global,
+    library: &Library<'_>,
+    number: usize,
+    names: &Names<'_>,
+) -> Result<Making, Stop>
     requires library { IsLibrary library.now }
     requires number { number < length library.now.modules.now }
-    ensures { (m : x.Module) → slice_get (modules_of library.now) number ≡ Some m → Makes (parts_by (sizes_in library.now) (modules_of library.now) m) result }
+    ensures { (m : x.Module) → slice_get (modules_of library.now) number ≡ Some m → look names.now ≡ e.environment (sizes_in library.now 128) (f.top_given m) m → Makes (parts_by (sizes_in library.now) (modules_of library.now) m) result }
 {
     let top = definition_at(library, number);
     let name = top.name.name.as_slice();
-    let base = Counts {
-        signals: 0,
-        functions: 0,
-    };
-    let roles = roles_at(library, number);
-    let names = environment(alloc, &library.sizes, 128, roles, &Above::Top, base, top)?;
     let all = module_size(alloc, &library.sizes, 128, top)?;
     let here = Here {
-        names: &names,
+        names,
         path: name,
         behind: all.signals,
     };
@@ -61,10 +70,22 @@ fn made(alloc: Global, library: &Library<'_>, number: usize) -> Result<Making, S
         128,
         here,
         &Above::Top,
-        base,
+        NOTHING,
         top.items.as_slice(),
     )?;
     Ok(making)
+}
+
+/// What the modules stand for from the one of this number.
+fn made(alloc: Global, library: &Library<'_>, number: usize) -> Result<Making, Stop>
+    requires library { IsLibrary library.now }
+    requires number { number < length library.now.modules.now }
+    ensures { (m : x.Module) → slice_get (modules_of library.now) number ≡ Some m → Makes (parts_by (sizes_in library.now) (modules_of library.now) m) result }
+{
+    let top = definition_at(library, number);
+    let roles = roles_at(library, number);
+    let names = environment(alloc, &library.sizes, 128, roles, &Above::Top, NOTHING, top)?;
+    made_with(alloc, library, number, &names)
 }
 
 /// The flat design of modules whose signals are numbered, from the one of this number.
@@ -102,17 +123,27 @@ fn vast_fault(alloc: Global, modules: &[Module], number: usize) -> Result<Design
     Err(Stop::Memory)
 }
 
+/// The flat design of modules of which this is known, from the one of this number.
+fn flatten_with(alloc: Global, library: &Library<'_>, number: usize) -> Result<Design, Stop>
+    requires library { IsLibrary library.now }
+    requires numbered { library.now.numbered ≡ true }
+    requires number { number < length library.now.modules.now }
+    ensures { (m : x.Module) → slice_get (modules_of library.now) number ≡ Some m → All AreApart (modules_of library.now) → Meets result (o.flattened_from (modules_of library.now) m) }
+{
+    if is_vast(alloc, &library.sizes, 128, definition_at(library, number))? {
+        vast_fault(alloc, library.modules, number)
+    } else {
+        design_from(alloc, library, number)
+    }
+}
+
 /// The flat design of modules from the one of this number.
 fn flatten_from(alloc: Global, modules: &[Module], number: usize) -> Result<Design, Stop>
     requires { number < length modules.now }
     ensures { (m : x.Module) → slice_get (map seen_module modules.now) number ≡ Some m → All AreApart (map seen_module modules.now) → Meets result (o.flattened_from (map seen_module modules.now) m) }
 {
     let library = library_of(alloc, modules)?;
-    if is_vast(alloc, &library.sizes, 128, definition_at(&library, number))? {
-        vast_fault(alloc, modules, number)
-    } else {
-        design_from(alloc, &library, number)
-    }
+    flatten_with(alloc, &library, number)
 }
 
 /// The flat design of a source from the module of this number.

@@ -3,7 +3,9 @@
 ghost use Rattle.std.specs.Prelude.{◌≡◌, map, flat_map, IfOk};
 ghost use Rattle.vl_flat.specs.Functions as f;
 ghost use Rattle.vl_flat.specs.Ranges.{type_faults as spec_type_faults};
-ghost use Rattle.vl_design.specs.Seen.{func_of};
+ghost use Rattle.vl_flat.specs.Statements.{statement as spec_statement};
+ghost use Rattle.vl_design.specs.Seen.{func_of, stm_of};
+ghost use Rattle.vl_bind.specs.SeenStatements.{seen_statement};
 ghost use Rattle.vl_design.specs.Stops.{earliest};
 ghost use Rattle.vl_items.specs.SeenItems.{seen_function};
 ghost use Rattle.vl_constant.specs.Seen.{look};
@@ -14,7 +16,7 @@ use crate::here::Here;
 use std::alloc::{AllocError, Global};
 use vl_base::items::Items;
 use vl_constant::scope::Names;
-use vl_design::design::Func;
+use vl_design::design::{Func, Stmt};
 use vl_design::stop::Stop;
 use vl_expression::statements::statement;
 use vl_instance::functions::{dotted, input_numbers, local_signals, locals};
@@ -23,6 +25,19 @@ use vl_instance::variables::{Frame, Variable};
 use vl_items::items::Function;
 use vl_judge::statements::statement_faults;
 use vl_judge::types::type_faults;
+
+/// What a function of an instance does.
+fn body(
+    alloc: Global,
+    here: Here<'_, '_, '_>,
+    frame: &Frame<'_>,
+    a: &Function,
+) -> Result<Stmt, AllocError>
+    ensures { IfOk result (λ b. IsFrame frame.now (seen_function a.now) → stm_of b ≡ spec_statement (f.function_scope here.entry.behind (look here.entry.names.now) (seen_function a.now)) (seen_statement a.now.body)) }
+{
+    let own = locals(alloc, here.names, here.behind, frame)?;
+    statement(alloc, &function_scope(here.names, &own), &a.body)
+}
 
 /// A function of an instance.
 pub fn function(
@@ -36,8 +51,7 @@ pub fn function(
     let name = dotted(alloc, here.path, a.name.name.as_slice())?;
     let inputs = input_numbers(alloc, here.behind, frame)?;
     let signals = local_signals(alloc, here.names, name.as_slice(), frame)?;
-    let own = locals(alloc, here.names, here.behind, frame)?;
-    let body = statement(alloc, &function_scope(here.names, &own), &a.body)?;
+    let body = body(alloc, here, frame, a)?;
     Ok(Func {
         name,
         place: a.name.place,

@@ -123,20 +123,20 @@ fn inside_of<'m>(
     instances: &'m Instances,
     unit: &'m NamedUnit,
     number: usize,
-) -> Result<Inside<'m>, AllocError>
+) -> Result<Box<Inside<'m>>, AllocError>
     requires depth { depth ≤ 129 }
     requires library { IsLibrary library.now }
     requires number { number < length library.now.modules.now }
     ensures { IfOk result (λ a. (m : x.Module) → slice_get (modules_of library.now) number ≡ Some m →
-        IsInside a (sizes_in library.now) depth (seen_here above.entry) (counts_of base) (seen_instances instances.entry.now) (seen_unit unit.entry.now) m) }
+        IsInside a.value (sizes_in library.now) depth (seen_here above.entry) (counts_of base) (seen_instances instances.entry.now) (seen_unit unit.entry.now) m) }
 {
     let definition = definition_at(library, number);
     let roles = roles_at(library, number);
-    let overrides = overrides(alloc, definition, instances)?;
-    let ports = port_connections(alloc, definition, unit)?;
+    let overridden = Box::new(alloc, overrides(alloc, definition, instances)?)?;
+    let ports = Box::new(alloc, port_connections(alloc, definition, unit)?)?;
     let given = Above::Item(Surroundings {
         names: above.names,
-        overrides: &overrides,
+        overrides: &overridden,
         ports: &ports,
     });
     let names = environment(
@@ -148,11 +148,12 @@ fn inside_of<'m>(
         base,
         definition,
     )?;
-    Ok(Inside {
-        overrides,
-        ports,
+    let inside = Inside {
+        overrides: Box::into_inner(overridden),
+        ports: Box::into_inner(ports),
         names,
-    })
+    };
+    Ok(Box::new(alloc, inside)?)
 }
 
 /// Adds what stands in an instance of the module of this number and this path: the connections of its inputs, its items with

@@ -25,7 +25,7 @@ use crate::functions::{function, function_faults};
 use crate::here::Here;
 use crate::limits::{Counted, signals_limits};
 use crate::making::Making;
-use crate::processes::{add_assignments, add_values, always, initial};
+use crate::processes::{add_assignments, add_values, always, initial, push_made};
 use crate::signals::signals_of;
 use std::alloc::{AllocError, Global};
 use vl_base::place::Place;
@@ -111,7 +111,7 @@ fn add_initial(
     match statement_faults(None, &module_scope(here.names), a) {
         Some(stop) => Err(stop),
         None => {
-            making.processes.push(initial(alloc, here, at, a)?)?;
+            push_made(&mut making.processes, initial(alloc, here, at, a))?;
             Ok(())
         }
     }
@@ -131,7 +131,7 @@ fn add_always(
     match statement_faults(None, &module_scope(here.names), a) {
         Some(stop) => Err(stop),
         None => {
-            making.processes.push(always(alloc, here, at, trigger, a)?)?;
+            push_made(&mut making.processes, always(alloc, here, at, trigger, a))?;
             Ok(())
         }
     }
@@ -152,6 +152,25 @@ fn push_function(
     Ok(())
 }
 
+/// A function whose variables are these.
+fn add_framed(
+    alloc: Global,
+    making: &mut Making,
+    here: Here<'_, '_, '_>,
+    frame: &Frame<'_>,
+    a: &Function,
+) -> Result<(), Stop>
+    ensures { IsFrame frame.now (seen_function a.now) → Adds making.old making.new (part [] (spec_functions.function here.entry.behind (look here.entry.names.now) here.entry.path.now (seen_function a.now) ∷ []) [] (spec_functions.function_faults here.entry.behind (look here.entry.names.now) (seen_function a.now)) ∷ []) result }
+{
+    match function_faults(alloc, None, here, frame, a)? {
+        Some(stop) => Err(stop),
+        None => {
+            push_function(alloc, &mut making.funcs, here, frame, a)?;
+            Ok(())
+        }
+    }
+}
+
 /// A function.
 fn add_function(
     alloc: Global,
@@ -162,13 +181,7 @@ fn add_function(
     ensures { Adds making.old making.new (part [] (spec_functions.function here.entry.behind (look here.entry.names.now) here.entry.path.now (seen_function a.now) ∷ []) [] (spec_functions.function_faults here.entry.behind (look here.entry.names.now) (seen_function a.now)) ∷ []) result }
 {
     let frame = frame_of(alloc, a)?;
-    match function_faults(alloc, None, here, &frame, a)? {
-        Some(stop) => Err(stop),
-        None => {
-            push_function(alloc, &mut making.funcs, here, &frame, a)?;
-            Ok(())
-        }
-    }
+    add_framed(alloc, making, here, &frame, a)
 }
 
 /// Adds an item, whose first signal has the number `next`; instances stand for nothing here.

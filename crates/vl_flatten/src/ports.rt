@@ -13,7 +13,7 @@ ghost use Rattle.vl_flatten.specs.Growing.{Adds};
 
 use crate::here::Here;
 use crate::making::Making;
-use crate::processes::{assigned, whole_target};
+use crate::processes::{assigned, push_made, whole_target};
 use std::alloc::{AllocError, Global};
 use vl_base::place::Place;
 use vl_bind::surface::Ex;
@@ -77,9 +77,10 @@ fn add_source(
     match faults(None, &module_scope(ports.above.names), e) {
         Some(stop) => Err(stop),
         None => {
-            making
-                .processes
-                .push(input_process(alloc, ports, at, name, e)?)?;
+            push_made(
+                &mut making.processes,
+                input_process(alloc, ports, at, name, e),
+            )?;
             Ok(())
         }
     }
@@ -155,9 +156,10 @@ fn add_connected(
     match output_faults(None, ports.above.names, at, e) {
         Some(stop) => Err(stop),
         None => {
-            making
-                .processes
-                .push(output_process(alloc, ports, at, name, e)?)?;
+            push_made(
+                &mut making.processes,
+                output_process(alloc, ports, at, name, e),
+            )?;
             Ok(())
         }
     }

@@ -80,6 +80,22 @@ pub fn whole_target(names: &Names<'_>, at: Place, name: &[u8]) -> Target
     }
 }
 
+/// Adds a process to others, if it was made.
+pub fn push_made(
+    all: &mut Vec<Process>,
+    made: Result<Process, AllocError>,
+) -> Result<(), AllocError>
+    ensures { (p : placed.Process) → IfOk made (λ a. process_of a ≡ p) → OnOk result (map process_of all.new.items ≡ map process_of all.old.items ++ p ∷ []) }
+{
+    match made {
+        Ok(process) => {
+            all.push(process)?;
+            Ok(())
+        }
+        Err(error) => Err(error),
+    }
+}
+
 /// When the process of a declared value runs.
 fn value_kind(variable: bool) -> ProcKind
     ensures { result ≡ p.value_kind variable }
@@ -117,7 +133,7 @@ fn add_value(
         ≡ map process_of all.old.items ++ option_map_or (λ e. p.value_process (seen_here here.entry) (seen_declared type d.now) e ∷ []) (option_map seen d.now.value) []) }
 {
     if let Some(e) = &d.value {
-        all.push(value_process(alloc, here, d, e)?)?;
+        push_made(all, value_process(alloc, here, d, e))?;
     }
     Ok(())
 }
@@ -142,7 +158,7 @@ fn assignment(alloc: Global, here: Here<'_, '_, '_>, a: &Setting) -> Result<Proc
     ensures { IfOk result (λ b. process_of b ≡ p.assignment (seen_here here.entry) (seen_setting a.now)) }
 {
     let scope = module_scope(here.names);
-    let source = exp(alloc, &scope, &a.value)?;
+    let source = Box::new(alloc, exp(alloc, &scope, &a.value)?)?;
     let written = target(alloc, &scope, &a.target)?;
     assigned(
         alloc,
@@ -150,7 +166,7 @@ fn assignment(alloc: Global, here: Here<'_, '_, '_>, a: &Setting) -> Result<Proc
         left_place(&a.target),
         ProcKind::Assign,
         written,
-        source,
+        Box::into_inner(source),
     )
 }
 
@@ -164,7 +180,7 @@ pub fn add_assignments(
     ensures { OnOk result (map process_of all.new.items ≡ map process_of all.old.items ++ map (p.assignment (seen_here here.entry)) (map seen_setting list.now)) }
 {
     for a in list {
-        all.push(assignment(alloc, here, a)?)?;
+        push_made(all, assignment(alloc, here, a))?;
     }
     Ok(())
 }

@@ -1,14 +1,13 @@
 -- Lists, step by step.
 use Rattle.std.specs.Prelude.{IfOk, IfSome, MatchOption}
 use Rattle.std.specs.Borrow.{Bor}
-use Rattle.std.proofs.Common.{◌≡◌, ℕ, zero, suc, ◌<◌, ◌≤◌, length, List, [], ◌∷◌, ◌++◌, Result, Ok, Err, Option, Some, None, Bool, true, false, ◌||◌, codes, refl, sym, ap, arith, ◌∙◌}
+use Rattle.std.proofs.Common.{◌≡◌, ℕ, zero, suc, ◌<◌, ◌≤◌, length, List, [], ◌∷◌, ◌++◌, Result, Ok, Err, Option, Some, None, Bool, true, false, cond, ◌||◌, codes, refl, sym, ap, arith, ◌∙◌}
 use Rattle.vl_base.specs.declared.place.Place.{Place}
 use Rattle.vl_tree.specs.declared.token.Token.{Token}
 use Rattle.vl_grammar.specs.Reading.{next_by, is_next, mark}
 use Rattle.vl_source.specs.declared.fault.Fault.{Fault}
 use Rattle.vl_source.specs.declared.fault.Fault.TheVariants as fault
-use Rattle.vl_source.specs.declared.fault.Cause.TheVariants.{Syntax}
-use Rattle.vl_source.specs.Parsers.{Outcome, Parser, and_then, ◌>>=◌, pure, with_front, next_or, must, optional, list, groups, Fails}
+use Rattle.vl_source.specs.Parsers.{Outcome, Parser, and_then, ◌>>=◌, pure, with_front, next_or, if_ahead, optional, list, groups, Fails}
 use Rattle.vl_pstmt.proofs.Passing.{fails_on, with_front_more, GoesOn, many_turn, many_end, many_fails}
 
 -- a list goes on behind its first item
@@ -69,6 +68,82 @@ module _ {G : Type 0} (opens : Token → Bool) (head : Parser G) (grow : G → P
       let g : Fails e (with_front front (groups opens head grow (suc k) last ts)) = rw (← a, ← b) (fails_on e _ _ (fails_on e _ _ c)) in
       rw q at g
 
+-- ---- parts of equal results
+
+ok_parts : {A E : Type 0} (x y : A) → let l : Result A E = Ok x in l ≡ Ok y → x ≡ y
+ok_parts x y h = cc
+
+some_parts : {A : Type 0} (x y : A) → Some x ≡ Some y → x ≡ y
+some_parts x y h = cc
+
+-- what is read beside something is read
+beside_ok : {A B : Type 0} (o : Outcome A) (k b : B) (a : A) (vs : List Token) → and_then {B = B × A} o (λ x. pure (k, x)) ≡ Ok ((b, a), vs) → (o ≡ Ok (a, vs)) × (k ≡ b)
+beside_ok (Ok (g, us)) k b a vs h =
+    let q = ok_parts ((k, g), us) ((b, a), vs) h in
+    let r : us ≡ vs = ap (λ z. z.1) q in
+    let e : g ≡ a = ap (λ z. z.0.1) q in
+    let f : k ≡ b = ap (λ z. z.0.0) q in
+    (rw (e, r) refl, f)
+beside_ok (Err e) k b a vs h = let z : ⊥ = cc in absurd z
+
+beside_fails : {A B : Type 0} (o : Outcome A) (k : B) (e : Fault) → Fails {A = B × A} e (and_then o (λ x. pure (k, x))) → Fails e o
+beside_fails (Ok x) k (fault.At cause us) h = let z : ⊥ = cc in absurd z
+beside_fails (Err r) k (fault.At cause us) h = let z : r ≡ (cause, us.now) = cc in rw z refl
+beside_fails o k fault.Memory h = tt
+
+module _ {G : Type 0} (opens : Token → Bool) (head : Parser G) (grow : G → Parser G) (front : List G) (last : G) (ts : List Token) (whole : Outcome (List G)) where
+  -- the groups and the last one behind a comma
+  abbrev pub Step : List Token → Outcome (List G × G)
+  Step us = if_ahead {A = List G × G} opens (λ vs. and_then {B = List G × G} (head vs) (λ g. pure (front ++ last ∷ [], g))) (λ vs. and_then {B = List G × G} (grow last vs) (λ g. pure (front, g))) us
+
+module _ {G : Type 0} (opens : Token → Bool) (head : Parser G) (grow : G → Parser G) (front : List G) (last : G) (ts : List Token) (whole : Outcome (List G)) where
+  step_by : (us vs : List Token) (x : Place) (b : Bool) (f : List G) (h : G) → b ≡ is_next opens us → Some (x, us) ≡ next_by (mark (codes ",")) ts → cond b (and_then {B = List G × G} (head us) (λ g. pure (front ++ last ∷ [], g))) (and_then {B = List G × G} (grow last us) (λ g. pure (front, g))) ≡ Ok ((f, h), vs) → length vs < length ts
+      → GroupsGoOn opens head grow front last ts whole → GroupsGoOn opens head grow f h vs whole
+  step_by us vs x true f h q a c l g = let p = beside_ok (head us) (front ++ last ∷ []) f h vs c in rw (← p.1) (groups_turn opens head grow front last ts whole us vs x h a q p.0 l g)
+  step_by us vs x false f h q a c l g = let p = beside_ok (grow last us) front f h vs c in rw (← p.1) (groups_grow opens head grow front last ts whole us vs x h a q p.0 l g)
+
+  -- what is left of them behind a comma and what it separates
+  pub groups_step : (us vs : List Token) (x : Place) (f : List G) (h : G) → Some (x, us) ≡ next_by (mark (codes ",")) ts → Step opens head grow front last ts whole us ≡ Ok ((f, h), vs) → length vs < length ts
+      → GroupsGoOn opens head grow front last ts whole → GroupsGoOn opens head grow f h vs whole
+  groups_step us vs x f h a c l g = step_by us vs x (is_next opens us) f h refl a c l g
+
+  step_fails_by : (us : List Token) (x : Place) (b : Bool) (e : Fault) → b ≡ is_next opens us → Some (x, us) ≡ next_by (mark (codes ",")) ts → Fails {A = List G × G} e (cond b (and_then {B = List G × G} (head us) (λ g. pure (front ++ last ∷ [], g))) (and_then {B = List G × G} (grow last us) (λ g. pure (front, g))))
+      → GroupsGoOn opens head grow front last ts whole → Fails e whole
+  step_fails_by us x true e q a c g = groups_fail opens head grow front last ts whole us x e a q (beside_fails (head us) (front ++ last ∷ []) e c) g
+  step_fails_by us x false e q a c g = growth_fails opens head grow front last ts whole us x e a q (beside_fails (grow last us) front e c) g
+
+  -- a fault there is one of the groups
+  pub groups_step_fails : (us : List Token) (x : Place) (e : Fault) → Some (x, us) ≡ next_by (mark (codes ",")) ts → Fails e (Step opens head grow front last ts whole us)
+      → GroupsGoOn opens head grow front last ts whole → Fails e whole
+  groups_step_fails us x e a c g = step_fails_by us x (is_next opens us) e refl a c g
+
+-- ---- lists that grow by what is read
+
+pub added_ok : {A : Type 0} (o : Outcome A) (xs ys : List A) (vs : List Token) → and_then o (λ a. pure (xs ++ a ∷ [])) ≡ Ok (ys, vs) → (a : A) × (o ≡ Ok (a, vs)) × (xs ++ a ∷ [] ≡ ys)
+added_ok (Ok (a, us)) xs ys vs h =
+    let q = ok_parts (xs ++ a ∷ [], us) (ys, vs) h in
+    let r : us ≡ vs = ap (λ z. z.1) q in
+    let e : xs ++ a ∷ [] ≡ ys = ap (λ z. z.0) q in
+    (a, rw r refl, e)
+added_ok (Err e) xs ys vs h = let z : ⊥ = cc in absurd z
+
+pub added_fails : {A : Type 0} (o : Outcome A) (xs : List A) (e : Fault) → Fails e (and_then o (λ a. pure (xs ++ a ∷ []))) → Fails e o
+added_fails (Ok x) xs (fault.At cause us) h = let z : ⊥ = cc in absurd z
+added_fails (Err r) xs (fault.At cause us) h = let z : r ≡ (cause, us.now) = cc in rw z refl
+added_fails o xs fault.Memory h = tt
+
+-- a list goes on behind the first item that it has
+pub list_opened : {A : Type 0} (p : Parser A) (n : ℕ) (ts us : List Token) (none front : List A) → none ≡ [] → and_then (p ts) (λ a. pure (none ++ a ∷ [])) ≡ Ok (front, us) → length us < n → GoesOn (mark (codes ",")) (λ _. p) front us (list p n ts)
+list_opened p n ts us none front z h l =
+    let k : and_then (p ts) (λ a. pure ([] ++ a ∷ [])) ≡ Ok (front, us) = rw z at h in
+    let q = added_ok (p ts) [] front us k in
+    rw (← q.2) (list_opens p n ts us q.0 q.1 l)
+
+-- what is left of a list after a turn that made it longer
+pub list_turned : {X A : Type 0} (f : Token → Option X) (p : X → Parser A) (front longer : List A) (ts us vs : List Token) (x : X) (whole : Outcome (List A)) → Some (x, us) ≡ next_by f ts → and_then (p x us) (λ a. pure (front ++ a ∷ [])) ≡ Ok (longer, vs) → length vs < length ts
+    → GoesOn f p front ts whole → GoesOn f p longer vs whole
+list_turned f p front longer ts us vs x whole a b l g = let q = added_ok (p x us) front longer vs b in rw (← q.2) (many_turn f p front ts us vs x q.0 whole a q.1 l g)
+
 -- ---- first tokens
 
 pub first_next : (f g : Token → Bool) (ts : List Token) → true ≡ is_next f ts → true ≡ is_next (λ u. f u || g u) ts
@@ -80,15 +155,6 @@ second_next f g [] b h k = k
 second_next f g (t ∷ ts) b h k = rw (← h) k
 
 -- ---- lists whose items are read one by one, where there is another
-
-ok_parts : {A E : Type 0} (x y : A) → let l : Result A E = Ok x in l ≡ Ok y → x ≡ y
-ok_parts x y h = cc
-
-err_parts : {A E : Type 0} (x y : E) → let l : Result A E = Err x in l ≡ Err y → x ≡ y
-err_parts x y h = cc
-
-some_parts : {A : Type 0} (x y : A) → Some x ≡ Some y → x ≡ y
-some_parts x y h = cc
 
 -- what is read, as something that is there
 abbrev there : {A : Type 0} → Outcome A → Outcome (Option A)
@@ -138,30 +204,6 @@ module _ {X A : Type 0} (f : Token → Option X) (p : X → Parser A) (front : L
   pub fail : (e : Fault) → Fails e (optional f p ts) → GoesOn f p front ts whole → Fails e whole
   fail e h g = fail_by (next_by f ts) refl e h g
 
--- ---- a token that has to come
-
-module _ {X A : Type 0} (f : Token → Option X) (p : X → Parser A) (ts : List Token) where
-  came_by : (found : Option (X × List Token)) (us : List Token) (x : X) → next_or found (λ y. pure y) (Err (Syntax, ts)) ≡ Ok (x, us) → next_or found p (Err (Syntax, ts)) ≡ p x us
-  came_by None us x h = let z : ⊥ = cc in absurd z
-  came_by (Some y) us x h =
-      let q = ok_parts y (x, us) h in
-      let e : y.0 ≡ x = ap (λ z. z.0) q in
-      let r : y.1 ≡ us = ap (λ z. z.1) q in
-      rw (e, r) refl
-
-  -- it came
-  pub came : (us : List Token) (x : X) → must f (λ y. pure y) ts ≡ Ok (x, us) → must f p ts ≡ p x us
-  came us x h = came_by (next_by f ts) us x h
-
-  missed_by : (found : Option (X × List Token)) (e : Fault) → Fails e (next_or found (λ y. pure y) (Err (Syntax, ts))) → Fails e (next_or found p (Err (Syntax, ts)))
-  missed_by None (fault.At cause us) h = ap (λ z. Err z) (err_parts (Syntax, ts) (cause, us.now) h)
-  missed_by (Some y) (fault.At cause us) h = let z : ⊥ = cc in absurd z
-  missed_by found fault.Memory h = tt
-
-  -- another came
-  pub missed : (e : Fault) → Fails e (must f (λ y. pure y) ts) → Fails e (must f p ts)
-  missed e h = missed_by (next_by f ts) e h
-
 -- ---- lengths
 
 -- no more is left than there was
@@ -170,8 +212,19 @@ kept (Ok (None, us)) rest ts l h = h
 kept (Ok (Some a, us)) rest ts l h = omega (arith, h)
 kept (Err e) rest ts l h = tt
 
+-- nor where nothing stands before the item
+pub kept_here : {A : Type 0} (r : Result (Option A × Bor (List Token)) Fault) (ts : List Token) → IfOk r (λ x. MatchOption x.0 (length x.1.now ≤ length ts) (λ _. length x.1.now < length ts)) → IfOk r (λ x. length x.1.now ≤ length ts)
+kept_here (Ok (None, us)) ts h = h
+kept_here (Ok (Some a, us)) ts h = omega (arith, h)
+kept_here (Err e) ts h = tt
+
 -- and less behind another item
 pub another : {A : Type 0} (r : Result (Option A × Bor (List Token)) Fault) (rest ts : List Token) → length rest < length ts → IfOk r (λ x. MatchOption x.0 (length x.1.now ≤ length ts) (λ _. length x.1.now < length rest)) → IfOk r (λ x. IfSome x.0 (λ _. length x.1.now < length ts))
 another (Ok (None, us)) rest ts l h = tt
 another (Ok (Some a, us)) rest ts l h = omega (arith, h)
 another (Err e) rest ts l h = tt
+
+-- less is left than there was, where less is left than some of it
+pub sooner : {A : Type 0} (r : Result (A × Bor (List Token)) Fault) (rest ts : List Token) → length rest ≤ length ts → IfOk r (λ x. length x.1.now < length rest) → IfOk r (λ x. length x.1.now < length ts)
+sooner (Ok (a, us)) rest ts l h = omega (arith, l, h)
+sooner (Err e) rest ts l h = tt

@@ -1,13 +1,14 @@
 -- The separators of events.
-use Rattle.std.proofs.Common.{◌≡◌, ℕ, List, [], ◌∷◌, Option, Some, None, codes, refl, length, ◌<◌, Ok}
+use Rattle.std.proofs.Common.{◌≡◌, ℕ, List, [], ◌∷◌, ◌++◌, Option, Some, None, codes, refl, length, ◌<◌, Ok}
 use Rattle.vl_base.specs.declared.place.Place.{Place}
 use Rattle.vl_tree.specs.declared.token.Token.{Token}
 use Rattle.vl_grammar.specs.Reading.{next_by, behind, mark, keyword}
 use Rattle.vl_source.specs.declared.fault.Fault.{Fault}
 use Rattle.vl_source.specs.declared.tree.Event.{Event}
-use Rattle.vl_source.specs.Parsers.{Fails}
+use Rattle.vl_source.specs.Parsers.{and_then, pure, Fails}
 use Rattle.vl_source.specs.Parsing.{whole, target, between_events, either_place, event, events}
 use Rattle.vl_pstmt.proofs.Passing.{fails_on, GoesOn}
+use Rattle.vl_parse.proofs.Lists.{added_ok}
 
 either_first : (n : ℕ) (a b : Option Place) (us vs : List Token) (x : Place) → Some (x, us) ≡ behind vs a → Some (x, us) ≡ behind vs (either_place (whole n) (target n) n a b)
 either_first n None b us vs x h = let z : ⊥ = cc in absurd z
@@ -34,6 +35,13 @@ module _ (n : ℕ) where
   pub events_open : (ts us : List Token) (a : Event) → event (whole n) (target n) n ts ≡ Ok (a, us) → length us < n → GoesOn (between_events (whole n) (target n) n) (λ _. event (whole n) (target n) n) (a ∷ []) us (events (whole n) (target n) n ts)
   unfolding events
   events_open ts us a h l = (n, l, rw h refl)
+
+  -- events go on behind the first one that they have
+  pub events_opened : (ts us : List Token) (none front : List Event) → none ≡ [] → and_then (event (whole n) (target n) n ts) (λ a. pure (none ++ a ∷ [])) ≡ Ok (front, us) → length us < n → GoesOn (between_events (whole n) (target n) n) (λ _. event (whole n) (target n) n) front us (events (whole n) (target n) n ts)
+  events_opened ts us none front z h l =
+      let k : and_then (event (whole n) (target n) n ts) (λ a. pure ([] ++ a ∷ [])) ≡ Ok (front, us) = rw z at h in
+      let q = added_ok (event (whole n) (target n) n ts) [] front us k in
+      rw (← q.2) (events_open ts us q.0 q.1 l)
 
   -- a fault in the first one is one of them all
   pub events_fail : (ts : List Token) (e : Fault) → Fails e (event (whole n) (target n) n ts) → Fails e (events (whole n) (target n) n ts)

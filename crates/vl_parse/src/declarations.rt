@@ -1,10 +1,10 @@
 //! Declarations (IEEE 1364-2005, clauses 4 and 6 and annex A.2).
 
-ghost use Rattle.std.specs.Prelude.{◌+◌, ◌<◌, ◌≤◌, codes, length, IfOk};
-ghost use Rattle.vl_source.specs.Parsers.{Gives, list, groups, is_word};
+ghost use Rattle.std.specs.Prelude.{◌+◌, ◌<◌, ◌≤◌, [], ◌∷◌, ◌++◌, codes, length, IfOk};
+ghost use Rattle.vl_source.specs.Parsers.{Gives, and_then, pure, if_ahead, list, groups, is_word};
 ghost use Rattle.vl_source.specs.Parsing as spec;
 
-use crate::steps::begins_with_keyword;
+use crate::steps::{before_mark, begins_with_keyword, beside, closed, found, pushed};
 use vl_base::place::Place;
 use vl_grammar::parts::Parts;
 use vl_grammar::steps::after_mark;
@@ -31,8 +31,7 @@ pub fn optional_range<'a>(
     let Some((place, rest)) = after_mark(tokens, b"[") else {
         return Ok((None, tokens));
     };
-    let (range, rest) = range(reader, place, rest)?;
-    Ok((Some(range), rest))
+    found(range(reader, place, rest))
 }
 
 /// `range = "[" expr ":" expr "]"`, from behind the `[`
@@ -47,10 +46,9 @@ fn range<'a>(
     ensures shorter { IfOk result (λ x. length x.1.now < length tokens.now) }
 {
     let (left, rest) = reader.expression(tokens)?;
-    let (_, rest) = reader.mark(rest, b":")?;
-    let (right, rest) = reader.expression(rest)?;
-    let (_, rest) = reader.mark(rest, b"]")?;
-    Ok((Range { place, left, right }, rest))
+    let (left, rest) = before_mark(left, rest, b":")?;
+    let ((left, right), rest) = beside(left, reader.expression(rest))?;
+    before_mark(Range { place, left, right }, rest, b"]")
 }
 
 /// `ptype = "integer" | [ "signed" ] [ range ]`
@@ -103,12 +101,13 @@ pub fn parameter_assignments<'a>(
     ensures reads { let n = reader.depth in Gives result (list (spec.parameter_assignment (spec.whole n) (spec.target n) n) n tokens.now) }
     ensures shorter { IfOk result (λ x. length x.1.now < length tokens.now) }
 {
-    let mut assignments = Parts::new(reader.alloc);
-    let (first, mut rest) = parameter_assignment(reader, tokens)?;
-    assignments.push(first)?;
+    let (mut assignments, mut rest) = pushed(
+        Parts::new(reader.alloc),
+        parameter_assignment(reader, tokens),
+    )?;
     'each: while let Some((_, more)) = after_mark(rest, b",") {
-        let (another, more) = parameter_assignment(reader, more)?;
-        assignments.push(another)?;
+        let (longer, more) = pushed(assignments, parameter_assignment(reader, more))?;
+        assignments = longer;
         rest = more;
     }
     Ok((assignments, rest))
@@ -126,9 +125,8 @@ fn group_head<'a>(
 {
     let (place, rest) = reader.keyword(tokens, b"parameter")?;
     let (kind, rest) = parameter_type(reader, rest)?;
-    let (assignment, rest) = parameter_assignment(reader, rest)?;
-    let mut assignments = Parts::new(reader.alloc);
-    assignments.push(assignment)?;
+    let first = pushed(Parts::new(reader.alloc), parameter_assignment(reader, rest));
+    let ((kind, assignments), rest) = beside(kind, first)?;
     Ok((
         ParameterGroup {
             place,
@@ -143,16 +141,45 @@ fn group_head<'a>(
 #[tactic(auto, using(vl_pstmt::proofs::Passing::hands_on), unfolding(vl_source::specs::Parsing::group_grow))]
 fn group_grow<'a>(
     reader: Reader,
-    mut group: ParameterGroup,
+    group: ParameterGroup,
     tokens: &'a [Token],
 ) -> Result<(ParameterGroup, &'a [Token]), Fault<'a>>
     requires { length tokens.now + 1 < reader.depth }
     ensures reads { let n = reader.depth in Gives result (spec.group_grow (spec.whole n) (spec.target n) n group tokens.now) }
     ensures shorter { IfOk result (λ x. length x.1.now < length tokens.now) }
 {
-    let (assignment, rest) = parameter_assignment(reader, tokens)?;
-    group.assignments.push(assignment)?;
-    Ok((group, rest))
+    let ParameterGroup {
+        place,
+        kind,
+        assignments,
+    } = group;
+    let grown = pushed(assignments, parameter_assignment(reader, tokens));
+    let ((kind, assignments), rest) = beside(kind, grown)?;
+    Ok((
+        ParameterGroup {
+            place,
+            kind,
+            assignments,
+        },
+        rest,
+    ))
+}
+
+/// The groups and the last one, behind a comma and what it separates
+fn next_group<'a>(
+    reader: Reader,
+    groups: Parts<ParameterGroup>,
+    last: ParameterGroup,
+    tokens: &'a [Token],
+) -> Result<((Parts<ParameterGroup>, ParameterGroup), &'a [Token]), Fault<'a>>
+    requires { length tokens.now + 1 < reader.depth }
+    ensures reads { let n = reader.depth in Gives result (if_ahead (is_word (codes "parameter")) (λ ts. and_then (spec.group_head (spec.whole n) (spec.target n) n ts) (λ h. pure (groups ++ last ∷ [], h))) (λ ts. and_then (spec.group_grow (spec.whole n) (spec.target n) n last ts) (λ h. pure (groups, h))) tokens.now) }
+    ensures shorter { IfOk result (λ x. length x.1.now < length tokens.now) }
+{
+    if begins_with_keyword(tokens, b"parameter") {
+        return closed(groups, last, group_head(reader, tokens));
+    }
+    beside(groups, group_grow(reader, last, tokens))
 }
 
 /// `pgroup { "," pgroup }`, from behind the first member of this group
@@ -169,16 +196,10 @@ fn more_groups<'a>(
     let mut last = first;
     let mut rest = tokens;
     'each: while let Some((_, more)) = after_mark(rest, b",") {
-        if begins_with_keyword(more, b"parameter") {
-            let (head, more) = group_head(reader, more)?;
-            groups.push(last)?;
-            last = head;
-            rest = more;
-        } else {
-            let (grown, more) = group_grow(reader, last, more)?;
-            last = grown;
-            rest = more;
-        }
+        let ((before, next), more) = next_group(reader, groups, last, more)?;
+        groups = before;
+        last = next;
+        rest = more;
     }
     groups.push(last)?;
     Ok((groups, rest))
@@ -211,8 +232,7 @@ fn value<'a>(
     let Some((_, rest)) = after_mark(tokens, b"=") else {
         return Ok((None, tokens));
     };
-    let (value, rest) = reader.expression(rest)?;
-    Ok((Some(value), rest))
+    found(reader.expression(rest))
 }
 
 /// `aset = id [ "=" expr ]`
@@ -246,12 +266,13 @@ pub fn declaration_assignments<'a>(
     ensures reads { let n = reader.depth in Gives result (list (spec.declaration_assignment (spec.whole n) (spec.target n) n) n tokens.now) }
     ensures shorter { IfOk result (λ x. length x.1.now < length tokens.now) }
 {
-    let mut assignments = Parts::new(reader.alloc);
-    let (first, mut rest) = declaration_assignment(reader, tokens)?;
-    assignments.push(first)?;
+    let (mut assignments, mut rest) = pushed(
+        Parts::new(reader.alloc),
+        declaration_assignment(reader, tokens),
+    )?;
     'each: while let Some((_, more)) = after_mark(rest, b",") {
-        let (another, more) = declaration_assignment(reader, more)?;
-        assignments.push(another)?;
+        let (longer, more) = pushed(assignments, declaration_assignment(reader, more))?;
+        assignments = longer;
         rest = more;
     }
     Ok((assignments, rest))
@@ -309,12 +330,13 @@ pub fn variable_types<'a>(
     ensures reads { let n = reader.depth in Gives result (list (spec.variable_type (spec.whole n) (spec.target n) n) n tokens.now) }
     ensures shorter { IfOk result (λ x. length x.1.now < length tokens.now) }
 {
-    let mut variables = Parts::new(reader.alloc);
-    let (first, mut rest) = variable_type(reader, tokens)?;
-    variables.push(first)?;
+    let (mut variables, mut rest) = pushed(
+        Parts::new(reader.alloc),
+        variable_type(reader, tokens),
+    )?;
     'each: while let Some((_, more)) = after_mark(rest, b",") {
-        let (another, more) = variable_type(reader, more)?;
-        variables.push(another)?;
+        let (longer, more) = pushed(variables, variable_type(reader, more))?;
+        variables = longer;
         rest = more;
     }
     Ok((variables, rest))

@@ -1,14 +1,16 @@
 //! Functions (IEEE 1364-2005, clause 10.4).
 
-ghost use Rattle.std.specs.Prelude.{◌+◌, ◌<◌, ◌≤◌, codes, length, IfOk, IfSome};
-ghost use Rattle.vl_source.specs.Parsers.{Gives, groups, is_word, many, optional};
+ghost use Rattle.std.specs.Prelude.{◌+◌, ◌<◌, ◌≤◌, [], ◌∷◌, ◌++◌, codes, length, IfOk, IfSome};
+ghost use Rattle.vl_source.specs.Parsers.{Gives, and_then, pure, if_ahead, groups, is_word, many, optional};
 ghost use Rattle.vl_source.specs.Parsing as spec;
 ghost use Rattle.vl_parse.specs.Parts.{optional_function_ports};
 
 use crate::declarations::{optional_range, parameter_type};
-use crate::steps::begins_with_keyword;
+use crate::steps::{
+    before_keyword, before_mark, begins_with_keyword, beside, closed, found, pushed,
+};
 use vl_base::place::Place;
-use vl_grammar::parts::Parts;
+use vl_grammar::parts::{Boxed, Parts};
 use vl_grammar::steps::after_mark;
 use vl_pstmt::reader::Reader;
 use vl_pstmt::steps::past_keyword;
@@ -28,9 +30,8 @@ fn port_head<'a>(
 {
     let (place, rest) = reader.keyword(tokens, b"input")?;
     let (kind, rest) = parameter_type(reader, rest)?;
-    let (name, rest) = reader.identifier(rest)?;
-    let mut names = Parts::new(reader.alloc);
-    names.push(name)?;
+    let first = pushed(Parts::new(reader.alloc), reader.identifier(rest));
+    let ((kind, names), rest) = beside(kind, first)?;
     Ok((FunctionPort { place, kind, names }, rest))
 }
 
@@ -38,16 +39,34 @@ fn port_head<'a>(
 #[tactic(auto, using(vl_pstmt::proofs::Passing::hands_on), unfolding(vl_source::specs::Parsing::function_port_grow))]
 fn port_grow<'a>(
     reader: Reader,
-    mut port: FunctionPort,
+    port: FunctionPort,
     tokens: &'a [Token],
 ) -> Result<(FunctionPort, &'a [Token]), Fault<'a>>
     requires { length tokens.now + 1 < reader.depth }
     ensures reads { let n = reader.depth in Gives result (spec.function_port_grow (spec.whole n) (spec.target n) n port tokens.now) }
     ensures shorter { IfOk result (λ x. length x.1.now < length tokens.now) }
 {
-    let (name, rest) = reader.identifier(tokens)?;
-    port.names.push(name)?;
-    Ok((port, rest))
+    let FunctionPort { place, kind, names } = port;
+    let grown = pushed(names, reader.identifier(tokens));
+    let ((kind, names), rest) = beside(kind, grown)?;
+    Ok((FunctionPort { place, kind, names }, rest))
+}
+
+/// The ports and the last one, behind a comma and what it separates
+fn next_port<'a>(
+    reader: Reader,
+    ports: Parts<FunctionPort>,
+    last: FunctionPort,
+    tokens: &'a [Token],
+) -> Result<((Parts<FunctionPort>, FunctionPort), &'a [Token]), Fault<'a>>
+    requires { length tokens.now + 1 < reader.depth }
+    ensures reads { let n = reader.depth in Gives result (if_ahead (is_word (codes "input")) (λ ts. and_then (spec.function_port_head (spec.whole n) (spec.target n) n ts) (λ h. pure (ports ++ last ∷ [], h))) (λ ts. and_then (spec.function_port_grow (spec.whole n) (spec.target n) n last ts) (λ h. pure (ports, h))) tokens.now) }
+    ensures shorter { IfOk result (λ x. length x.1.now < length tokens.now) }
+{
+    if begins_with_keyword(tokens, b"input") {
+        return closed(ports, last, port_head(reader, tokens));
+    }
+    beside(ports, port_grow(reader, last, tokens))
 }
 
 /// `fport { "," fport }`, from behind the first name
@@ -64,16 +83,10 @@ fn more_ports<'a>(
     let mut last = first;
     let mut rest = tokens;
     'each: while let Some((_, more)) = after_mark(rest, b",") {
-        if begins_with_keyword(more, b"input") {
-            let (head, more) = port_head(reader, more)?;
-            ports.push(last)?;
-            last = head;
-            rest = more;
-        } else {
-            let (grown, more) = port_grow(reader, last, more)?;
-            last = grown;
-            rest = more;
-        }
+        let ((before, next), more) = next_port(reader, ports, last, more)?;
+        ports = before;
+        last = next;
+        rest = more;
     }
     ports.push(last)?;
     Ok((ports, rest))
@@ -106,9 +119,8 @@ fn input_declaration<'a>(
 {
     let (kind, rest) = parameter_type(reader, tokens)?;
     let (names, rest) = reader.identifiers(rest)?;
-    let (_, rest) = reader.mark(rest, b";")?;
     let port = FunctionPort { place, kind, names };
-    Ok((FunctionDeclaration::Input(port), rest))
+    before_mark(FunctionDeclaration::Input(port), rest, b";")
 }
 
 /// `"reg" [ "signed" ] [ range ] id { "," id } ";"`, from behind its word
@@ -125,8 +137,8 @@ fn reg_declaration<'a>(
     let (signed, rest) = past_keyword(tokens, b"signed");
     let (range, rest) = optional_range(reader, rest)?;
     let (names, rest) = reader.identifiers(rest)?;
-    let (_, rest) = reader.mark(rest, b";")?;
-    Ok((FunctionDeclaration::Reg(place, signed, range, names), rest))
+    let registers = FunctionDeclaration::Reg(place, signed, range, names);
+    before_mark(registers, rest, b";")
 }
 
 /// `"integer" id { "," id } ";"`, from behind its word
@@ -141,8 +153,7 @@ fn integer_declaration<'a>(
     ensures shorter { IfOk result (λ x. length x.1.now < length tokens.now) }
 {
     let (names, rest) = reader.identifiers(tokens)?;
-    let (_, rest) = reader.mark(rest, b";")?;
-    Ok((FunctionDeclaration::Integer(place, names), rest))
+    before_mark(FunctionDeclaration::Integer(place, names), rest, b";")
 }
 
 /// `[ fdecl ]`
@@ -164,14 +175,11 @@ fn optional_declaration<'a>(
     };
     let word = word.as_slice();
     if word == b"input".as_slice() {
-        let (declaration, rest) = input_declaration(reader, first.place, rest)?;
-        Ok((Some(declaration), rest))
+        found(input_declaration(reader, first.place, rest))
     } else if word == b"reg".as_slice() {
-        let (declaration, rest) = reg_declaration(reader, first.place, rest)?;
-        Ok((Some(declaration), rest))
+        found(reg_declaration(reader, first.place, rest))
     } else if word == b"integer".as_slice() {
-        let (declaration, rest) = integer_declaration(reader, first.place, rest)?;
-        Ok((Some(declaration), rest))
+        found(integer_declaration(reader, first.place, rest))
     } else {
         Ok((None, tokens))
     }
@@ -212,8 +220,7 @@ fn optional_ports<'a>(
         return Ok((None, tokens));
     };
     let (ports, rest) = ports(reader, rest)?;
-    let (_, rest) = reader.mark(rest, b")")?;
-    Ok((Some(ports), rest))
+    found(before_mark(ports, rest, b")"))
 }
 
 /// `( "(" fport { "," fport } ")" ";" | ";" )`
@@ -227,8 +234,7 @@ fn header<'a>(
     ensures shorter { IfOk result (λ x. length x.1.now < length tokens.now) }
 {
     let (ports, rest) = optional_ports(reader, tokens)?;
-    let (_, rest) = reader.mark(rest, b";")?;
-    Ok((ports, rest))
+    before_mark(ports, rest, b";")
 }
 
 /// `function`, from behind its word
@@ -244,21 +250,19 @@ pub fn function<'a>(
 {
     let (automatic, rest) = past_keyword(tokens, b"automatic");
     let (kind, rest) = parameter_type(reader, rest)?;
+    let boxed = Boxed::new(reader.alloc, kind)?;
     let (name, rest) = reader.identifier(rest)?;
     let (ports, rest) = header(reader, rest)?;
     let (declarations, rest) = declarations(reader, rest)?;
     let (statement, rest) = reader.statement(rest)?;
-    let (_, rest) = reader.keyword(rest, b"endfunction")?;
-    Ok((
-        Function {
-            place,
-            automatic,
-            kind,
-            name,
-            ports,
-            declarations,
-            statement,
-        },
-        rest,
-    ))
+    let function = Function {
+        place,
+        automatic,
+        kind: boxed.into_inner(),
+        name,
+        ports,
+        declarations,
+        statement,
+    };
+    before_keyword(function, rest, b"endfunction")
 }

@@ -5,7 +5,7 @@ ghost use Rattle.vl_source.specs.Parsers.{Gives, list, parenthesized};
 ghost use Rattle.vl_source.specs.Parsing as spec;
 ghost use Rattle.vl_parse.specs.Parts.{optional_value, overrides as overrides_lem};
 
-use crate::steps::begins_with_mark;
+use crate::steps::{before_mark, begins_with_mark, found, pushed};
 use vl_base::place::Place;
 use vl_grammar::parts::Parts;
 use vl_grammar::steps::{after_mark, ends_argument, first_place};
@@ -28,8 +28,7 @@ fn optional_value<'a>(
     if begins_with_mark(tokens, b")") {
         return Ok((None, tokens));
     }
-    let (value, rest) = reader.expression(tokens)?;
-    Ok((Some(value), rest))
+    found(reader.expression(tokens))
 }
 
 /// `"(" [ expr ] ")"`
@@ -44,8 +43,7 @@ fn parenthesized_value<'a>(
 {
     let (_, rest) = reader.mark(tokens, b"(")?;
     let (value, rest) = optional_value(reader, rest)?;
-    let (_, rest) = reader.mark(rest, b")")?;
-    Ok((value, rest))
+    before_mark(value, rest, b")")
 }
 
 /// `"." id "(" [ expr ] ")"`, from behind the `.`
@@ -96,8 +94,8 @@ fn connection_list<'a>(
     ensures reads { let n = reader.depth in Gives result (list (spec.connection (spec.whole n) (spec.target n) n empty) n tokens.now) }
     ensures no_longer { IfOk result (λ x. length x.1.now ≤ length tokens.now) }
 {
-    let mut connections = Parts::new(reader.alloc);
     let (first, mut rest) = connection(reader, empty, tokens)?;
+    let mut connections = Parts::new(reader.alloc);
     connections.push(first)?;
     'each: while let Some((_, more)) = after_mark(rest, b",") {
         let (another, more) = connection(reader, empty, more)?;
@@ -120,8 +118,7 @@ fn connections<'a>(
 {
     let (_, rest) = reader.mark(tokens, b"(")?;
     let (connections, rest) = connection_list(reader, empty, rest)?;
-    let (_, rest) = reader.mark(rest, b")")?;
-    Ok((connections, rest))
+    before_mark(connections, rest, b")")
 }
 
 /// `[ "#" "(" conn { "," conn } ")" ]`
@@ -138,8 +135,7 @@ fn overrides<'a>(
     let Some((_, rest)) = after_mark(tokens, b"#") else {
         return Ok((None, tokens));
     };
-    let (overrides, rest) = connections(reader, empty, rest)?;
-    Ok((Some(overrides), rest))
+    found(connections(reader, empty, rest))
 }
 
 /// `inst = id "(" conns ")"`
@@ -174,12 +170,13 @@ fn named_instances<'a>(
     ensures reads { let n = reader.depth in Gives result (list (spec.named_instance (spec.whole n) (spec.target n) n) n tokens.now) }
     ensures shorter { IfOk result (λ x. length x.1.now < length tokens.now) }
 {
-    let mut instances = Parts::new(reader.alloc);
-    let (first, mut rest) = named_instance(reader, tokens)?;
-    instances.push(first)?;
+    let (mut instances, mut rest) = pushed(
+        Parts::new(reader.alloc),
+        named_instance(reader, tokens),
+    )?;
     'each: while let Some((_, more)) = after_mark(rest, b",") {
-        let (another, more) = named_instance(reader, more)?;
-        instances.push(another)?;
+        let (longer, more) = pushed(instances, named_instance(reader, more))?;
+        instances = longer;
         rest = more;
     }
     Ok((instances, rest))
@@ -199,14 +196,11 @@ pub fn instance<'a>(
     let place = definition.place;
     let (overrides, rest) = overrides(reader, place, tokens)?;
     let (instances, rest) = named_instances(reader, rest)?;
-    let (_, rest) = reader.mark(rest, b";")?;
-    Ok((
-        Instance {
-            place,
-            definition,
-            overrides,
-            instances,
-        },
-        rest,
-    ))
+    let instance = Instance {
+        place,
+        definition,
+        overrides,
+        instances,
+    };
+    before_mark(instance, rest, b";")
 }

@@ -1,12 +1,10 @@
 //! Items of a module (IEEE 1364-2005, annex A.1.4).
 
-ghost use Rattle.std.specs.Prelude.{◌+◌, ◌<◌, ◌≤◌, List, length, IfOk, IfSome, MatchOption};
-ghost use Rattle.vl_tree.specs.declared.token.Token.{Token as TokenLem};
-ghost use Rattle.vl_source.specs.declared.tree.Item.{Item as ItemLem};
+ghost use Rattle.std.specs.Prelude.{◌+◌, ◌<◌, ◌≤◌, length, IfOk, IfSome, MatchOption};
 ghost use Rattle.vl_source.specs.declared.tree.Direction.TheVariants as direction;
-ghost use Rattle.vl_source.specs.Parsers.{Outcome, Gives, list, many, optional};
+ghost use Rattle.vl_source.specs.Parsers.{Gives, list, many, optional};
 ghost use Rattle.vl_source.specs.Parsing as spec;
-ghost use Rattle.vl_parse.specs.Parts.{there, item_if};
+ghost use Rattle.vl_parse.specs.Parts.{item_if};
 
 use crate::declarations::{
     declaration_assignments, optional_range, parameter_assignments, parameter_type, variable_types,
@@ -14,6 +12,7 @@ use crate::declarations::{
 use crate::functions::function;
 use crate::instances::instance;
 use crate::ports::{net_head, output_head, port_names};
+use crate::steps::{before_mark, found, pushed};
 use crate::triggers::trigger;
 use vl_base::items::Text;
 use vl_base::place::Place;
@@ -39,8 +38,7 @@ fn input_item<'a>(
 {
     let (first, rest) = net_head(reader, place, Direction::Input, tokens)?;
     let (port, rest) = port_names(reader, first, rest)?;
-    let (_, rest) = reader.mark(rest, b";")?;
-    Ok((Item::Port(port), rest))
+    before_mark(Item::Port(port), rest, b";")
 }
 
 /// An output, from behind `output`
@@ -56,8 +54,7 @@ fn output_item<'a>(
 {
     let (first, rest) = output_head(reader, place, tokens)?;
     let (port, rest) = port_names(reader, first, rest)?;
-    let (_, rest) = reader.mark(rest, b";")?;
-    Ok((Item::Port(port), rest))
+    before_mark(Item::Port(port), rest, b";")
 }
 
 /// `ptype pset { "," pset } ";"`
@@ -74,8 +71,11 @@ fn parameter_item<'a>(
 {
     let (kind, rest) = parameter_type(reader, tokens)?;
     let (assignments, rest) = parameter_assignments(reader, rest)?;
-    let (_, rest) = reader.mark(rest, b";")?;
-    Ok((Item::Parameter(place, keyword, kind, assignments), rest))
+    before_mark(
+        Item::Parameter(place, keyword, kind, assignments),
+        rest,
+        b";",
+    )
 }
 
 /// `[ "signed" ] [ range ] aset { "," aset } ";"`
@@ -92,8 +92,7 @@ fn wire_item<'a>(
     let (signed, rest) = past_keyword(tokens, b"signed");
     let (range, rest) = optional_range(reader, rest)?;
     let (nets, rest) = declaration_assignments(reader, rest)?;
-    let (_, rest) = reader.mark(rest, b";")?;
-    Ok((Item::Wire(place, signed, range, nets), rest))
+    before_mark(Item::Wire(place, signed, range, nets), rest, b";")
 }
 
 /// `[ "signed" ] [ range ] vset { "," vset } ";"`
@@ -110,8 +109,7 @@ fn reg_item<'a>(
     let (signed, rest) = past_keyword(tokens, b"signed");
     let (range, rest) = optional_range(reader, rest)?;
     let (variables, rest) = variable_types(reader, rest)?;
-    let (_, rest) = reader.mark(rest, b";")?;
-    Ok((Item::Reg(place, signed, range, variables), rest))
+    before_mark(Item::Reg(place, signed, range, variables), rest, b";")
 }
 
 /// `vset { "," vset } ";"`
@@ -126,8 +124,7 @@ fn integer_item<'a>(
     ensures shorter { IfOk result (λ x. length x.1.now < length tokens.now) }
 {
     let (variables, rest) = variable_types(reader, tokens)?;
-    let (_, rest) = reader.mark(rest, b";")?;
-    Ok((Item::Integer(place, variables), rest))
+    before_mark(Item::Integer(place, variables), rest, b";")
 }
 
 /// `lset { "," lset }`
@@ -139,12 +136,10 @@ fn assignments<'a>(
     ensures reads { let n = reader.depth in Gives result (list (spec.assignment (spec.whole n) (spec.target n) n) n tokens.now) }
     ensures shorter { IfOk result (λ x. length x.1.now < length tokens.now) }
 {
-    let mut assignments = Parts::new(reader.alloc);
-    let (first, mut rest) = reader.assignment(tokens)?;
-    assignments.push(first)?;
+    let (mut assignments, mut rest) = pushed(Parts::new(reader.alloc), reader.assignment(tokens))?;
     'each: while let Some((_, more)) = after_mark(rest, b",") {
-        let (another, more) = reader.assignment(more)?;
-        assignments.push(another)?;
+        let (longer, more) = pushed(assignments, reader.assignment(more))?;
+        assignments = longer;
         rest = more;
     }
     Ok((assignments, rest))
@@ -162,8 +157,7 @@ fn assign_item<'a>(
     ensures shorter { IfOk result (λ x. length x.1.now < length tokens.now) }
 {
     let (assignments, rest) = assignments(reader, tokens)?;
-    let (_, rest) = reader.mark(rest, b";")?;
-    Ok((Item::Assign(place, assignments), rest))
+    before_mark(Item::Assign(place, assignments), rest, b";")
 }
 
 /// `stmt`, as a process that runs once
@@ -231,18 +225,6 @@ fn instance_item<'a>(
     };
     let (instance, rest) = instance(reader, definition, tokens)?;
     Ok((Item::Instance(instance), rest))
-}
-
-/// An item that is there
-#[tactic(auto, using(vl_pstmt::proofs::Passing::hands_on))]
-fn found<'a>(
-    read: Result<(Item, &'a [Token]), Fault<'a>>,
-) -> Result<(Option<Item>, &'a [Token]), Fault<'a>>
-    ensures reads { (o : Outcome ItemLem) → Gives read.entry o → Gives result (there o) }
-    ensures shorter { (rest ts : List TokenLem) → IfOk read.entry (λ x. length x.1.now < length rest) → IfOk result (λ x. MatchOption x.0 (length x.1.now ≤ length ts) (λ _. length x.1.now < length rest)) }
-{
-    let (item, rest) = read?;
-    Ok((Some(item), rest))
 }
 
 /// The item that begins with this reserved word, from behind it, if there is one

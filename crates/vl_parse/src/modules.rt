@@ -8,6 +8,7 @@ ghost use Rattle.vl_source.specs.Parsing as spec;
 use crate::declarations::parameter_groups;
 use crate::items::items;
 use crate::ports::module_ports;
+use crate::steps::{before_keyword, before_mark, found};
 use std::alloc::Global;
 use vl_base::place::Place;
 use vl_grammar::parts::Parts;
@@ -30,8 +31,7 @@ fn parenthesized_groups<'a>(
 {
     let (_, rest) = reader.mark(tokens, b"(")?;
     let (groups, rest) = parameter_groups(reader, rest)?;
-    let (_, rest) = reader.mark(rest, b")")?;
-    Ok((groups, rest))
+    before_mark(groups, rest, b")")
 }
 
 /// `[ "#" "(" pgroup { "," pgroup } ")" ]`
@@ -47,8 +47,7 @@ fn parameters<'a>(
     let Some((_, rest)) = after_mark(tokens, b"#") else {
         return Ok((None, tokens));
     };
-    let (groups, rest) = parenthesized_groups(reader, rest)?;
-    Ok((Some(groups), rest))
+    found(parenthesized_groups(reader, rest))
 }
 
 /// `[ "(" [ plist | alist ] ")" ]`
@@ -65,8 +64,7 @@ fn optional_ports<'a>(
         return Ok((None, tokens));
     };
     let (ports, rest) = module_ports(reader, rest)?;
-    let (_, rest) = reader.mark(rest, b")")?;
-    Ok((Some(ports), rest))
+    found(before_mark(ports, rest, b")"))
 }
 
 /// `module`, from behind its word
@@ -85,17 +83,14 @@ fn definition<'a>(
     let (ports, rest) = optional_ports(reader, rest)?;
     let (_, rest) = reader.mark(rest, b";")?;
     let (items, rest) = items(reader, rest)?;
-    let (_, rest) = reader.keyword(rest, b"endmodule")?;
-    Ok((
-        Module {
-            place,
-            name,
-            parameters,
-            ports,
-            items,
-        },
-        rest,
-    ))
+    let module = Module {
+        place,
+        name,
+        parameters,
+        ports,
+        items,
+    };
+    before_keyword(module, rest, b"endmodule")
 }
 
 /// The module, and those that follow

@@ -1,12 +1,12 @@
 //! Ports (IEEE 1364-2005, clause 12.3).
 
-ghost use Rattle.std.specs.Prelude.{◌≡◌, ℕ, ◌+◌, ◌<◌, ◌≤◌, length, IfOk};
+ghost use Rattle.std.specs.Prelude.{◌≡◌, ℕ, ◌+◌, ◌<◌, ◌≤◌, [], ◌∷◌, ◌++◌, length, IfOk};
 ghost use Rattle.vl_grammar.specs.Reading.{is_next};
-ghost use Rattle.vl_source.specs.Parsers.{Gives, groups};
+ghost use Rattle.vl_source.specs.Parsers.{Gives, and_then, pure, if_ahead, groups};
 ghost use Rattle.vl_source.specs.Parsing as spec;
 
 use crate::declarations::{declaration_assignment, optional_range};
-use crate::steps::{begins_with_keyword, begins_with_mark};
+use crate::steps::{alone, begins_with_keyword, begins_with_mark, beside, closed, pushed};
 use vl_base::place::Place;
 use vl_grammar::parts::Parts;
 use vl_grammar::steps::after_mark;
@@ -31,9 +31,8 @@ pub fn net_head<'a>(
     let (wire, rest) = past_keyword(tokens, b"wire");
     let (signed, rest) = past_keyword(rest, b"signed");
     let (range, rest) = optional_range(reader, rest)?;
-    let (name, rest) = reader.identifier(rest)?;
-    let mut names = Parts::new(reader.alloc);
-    names.push(name)?;
+    let first = pushed(Parts::new(reader.alloc), reader.identifier(rest));
+    let ((range, names), rest) = beside(range, first)?;
     Ok((
         PortDeclaration::Net(place, direction, wire, signed, range, names),
         rest,
@@ -53,9 +52,11 @@ fn reg_head<'a>(
 {
     let (signed, rest) = past_keyword(tokens, b"signed");
     let (range, rest) = optional_range(reader, rest)?;
-    let (assignment, rest) = declaration_assignment(reader, rest)?;
-    let mut assignments = Parts::new(reader.alloc);
-    assignments.push(assignment)?;
+    let first = pushed(
+        Parts::new(reader.alloc),
+        declaration_assignment(reader, rest),
+    );
+    let ((range, assignments), rest) = beside(range, first)?;
     Ok((
         PortDeclaration::Reg(place, signed, range, assignments),
         rest,
@@ -74,8 +75,7 @@ fn integer_head<'a>(
     ensures shorter { IfOk result (λ x. length x.1.now < length tokens.now) }
 {
     let (assignment, rest) = declaration_assignment(reader, tokens)?;
-    let mut assignments = Parts::new(reader.alloc);
-    assignments.push(assignment)?;
+    let assignments = alone(reader.alloc, assignment)?;
     Ok((PortDeclaration::Integer(place, assignments), rest))
 }
 
@@ -128,21 +128,23 @@ fn port_grow<'a>(
     ensures shorter { IfOk result (λ x. length x.1.now < length tokens.now) }
 {
     match port {
-        PortDeclaration::Net(place, direction, wire, signed, range, mut names) => {
-            let (name, rest) = reader.identifier(tokens)?;
-            names.push(name)?;
+        PortDeclaration::Net(place, direction, wire, signed, range, names) => {
+            let grown = pushed(names, reader.identifier(tokens));
+            let ((range, names), rest) = beside(range, grown)?;
             let port = PortDeclaration::Net(place, direction, wire, signed, range, names);
             Ok((port, rest))
         }
-        PortDeclaration::Reg(place, signed, range, mut assignments) => {
-            let (assignment, rest) = declaration_assignment(reader, tokens)?;
-            assignments.push(assignment)?;
-            let port = PortDeclaration::Reg(place, signed, range, assignments);
-            Ok((port, rest))
+        PortDeclaration::Reg(place, signed, range, assignments) => {
+            let grown = pushed(assignments, declaration_assignment(reader, tokens));
+            let ((range, assignments), rest) = beside(range, grown)?;
+            Ok((
+                PortDeclaration::Reg(place, signed, range, assignments),
+                rest,
+            ))
         }
-        PortDeclaration::Integer(place, mut assignments) => {
-            let (assignment, rest) = declaration_assignment(reader, tokens)?;
-            assignments.push(assignment)?;
+        PortDeclaration::Integer(place, assignments) => {
+            let grown = pushed(assignments, declaration_assignment(reader, tokens));
+            let (assignments, rest) = grown?;
             Ok((PortDeclaration::Integer(place, assignments), rest))
         }
     }
@@ -175,6 +177,23 @@ fn begins_with_direction(tokens: &[Token]) -> bool
     begins_with_keyword(tokens, b"input") || begins_with_keyword(tokens, b"output")
 }
 
+/// The ports and the last one, behind a comma and what it separates
+fn next_port<'a>(
+    reader: Reader,
+    ports: Parts<PortDeclaration>,
+    last: PortDeclaration,
+    tokens: &'a [Token],
+) -> Result<((Parts<PortDeclaration>, PortDeclaration), &'a [Token]), Fault<'a>>
+    requires { length tokens.now + 1 < reader.depth }
+    ensures reads { let n = reader.depth in Gives result (if_ahead (spec.is_direction (spec.whole n) (spec.target n) n) (λ ts. and_then (spec.port_head (spec.whole n) (spec.target n) n ts) (λ h. pure (ports ++ last ∷ [], h))) (λ ts. and_then (spec.port_grow (spec.whole n) (spec.target n) n last ts) (λ h. pure (ports, h))) tokens.now) }
+    ensures shorter { IfOk result (λ x. length x.1.now < length tokens.now) }
+{
+    if begins_with_direction(tokens) {
+        return closed(ports, last, port_head(reader, tokens));
+    }
+    beside(ports, port_grow(reader, last, tokens))
+}
+
 /// `aport { "," aport }`, from behind the first name
 fn more_ports<'a>(
     reader: Reader,
@@ -189,16 +208,10 @@ fn more_ports<'a>(
     let mut last = first;
     let mut rest = tokens;
     'each: while let Some((_, more)) = after_mark(rest, b",") {
-        if begins_with_direction(more) {
-            let (head, more) = port_head(reader, more)?;
-            ports.push(last)?;
-            last = head;
-            rest = more;
-        } else {
-            let (grown, more) = port_grow(reader, last, more)?;
-            last = grown;
-            rest = more;
-        }
+        let ((before, next), more) = next_port(reader, ports, last, more)?;
+        ports = before;
+        last = next;
+        rest = more;
     }
     ports.push(last)?;
     Ok((ports, rest))

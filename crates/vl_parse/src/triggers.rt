@@ -6,6 +6,7 @@ ghost use Rattle.vl_source.specs.Parsers.{Gives};
 ghost use Rattle.vl_source.specs.Parsing as spec;
 ghost use Rattle.vl_parse.specs.Parts.{edge_event as edge_event_lem};
 
+use crate::steps::{before_mark, pushed};
 use vl_base::place::Place;
 use vl_grammar::parts::Parts;
 use vl_grammar::steps::after_mark;
@@ -27,8 +28,7 @@ pub fn trigger<'a>(reader: Reader, tokens: &'a [Token]) -> Result<(Trigger, &'a 
     }
     let (_, rest) = reader.mark(tokens, b"(")?;
     let (trigger, rest) = inner_trigger(reader, rest)?;
-    let (_, rest) = reader.mark(rest, b")")?;
-    Ok((trigger, rest))
+    before_mark(trigger, rest, b")")
 }
 
 /// What stands in a trigger's parentheses
@@ -112,12 +112,10 @@ fn events<'a>(reader: Reader, tokens: &'a [Token]) -> Result<(Parts<Event>, &'a 
     ensures reads { let n = reader.depth in Gives result (spec.events (spec.whole n) (spec.target n) n tokens.now) }
     ensures shorter { IfOk result (λ x. length x.1.now < length tokens.now) }
 {
-    let mut events = Parts::new(reader.alloc);
-    let (first, mut rest) = event(reader, tokens)?;
-    events.push(first)?;
+    let (mut events, mut rest) = pushed(Parts::new(reader.alloc), event(reader, tokens))?;
     'each: while let Some((_, more)) = after_separator(rest) {
-        let (another, more) = event(reader, more)?;
-        events.push(another)?;
+        let (longer, more) = pushed(events, event(reader, more))?;
+        events = longer;
         rest = more;
     }
     Ok((events, rest))

@@ -6,13 +6,71 @@ use Rattle.vl_design.specs.Trees.{row_of}
 use Rattle.vl_eval.specs.Rooms.{names_of}
 use Rattle.cell_form.specs.Views.{list_of}
 use Rattle.cell_steps.specs.Slots.{held, Gives, Nothing}
-use Rattle.cell_steps.proofs.Frames.{grows-then}
-use Rattle.cell_paths.proofs.Staying.{is-slot-stays, always-stays}
+use Rattle.cell_steps.proofs.Frames.{grows-then, in-stays}
+use Rattle.cell_paths.proofs.Staying.{is-slot-stays, always-stays, gives-slot}
 use Rattle.cell_expr.specs.Words.{found_in}
 use Rattle.cell_expr.proofs.Addressing.{fits-small, chosen}
 use Rattle.cell_expr.proofs.Holding.{resizes-most}
 use Rattle.cell_expr.proofs.Words.{lowered}
 use Rattle.cell_expr.proofs.address.choose.Goals as goal
+
+pub resize-requires-clause-there : goal.resize-requires-clause-there
+resize-requires-clause-there c = c.requires.address
+
+pub returns-in_err-wide-clause-grows : goal.returns-in_err-wide-clause-grows
+returns-in_err-wide-clause-grows c = c.resize.ensures.grows
+
+pub moved-requires : goal.moved-requires
+moved-requires c = record { slot = gives-slot Nothing _ (list_of c.args.cells.now) (list_of c.resize.new.cells) c.in_ok-wide.wide 128 _ c.in_ok-wide.ensures.gives }
+
+pub returns-in_err-far-clause-grows : goal.returns-in_err-far-clause-grows
+returns-in_err-far-clause-grows c = grows-then (list_of c.args.cells.now) (list_of c.resize.new.cells) (list_of c.moved.new.cells) c.in_ok-wide.ensures.grows c.moved.ensures.grows
+
+pub found-requires-clause-wide : goal.found-requires-clause-wide
+found-requires-clause-wide c =
+    let l1 = list_of c.resize.new.cells in
+    is-slot-stays l1 (list_of c.moved.new.cells) c.in_ok-wide.wide 128 c.in_ok-far.ensures.grows (gives-slot Nothing _ (list_of c.args.cells.now) l1 c.in_ok-wide.wide 128 _ c.in_ok-wide.ensures.gives)
+
+pub found-requires-clause-moved : goal.found-requires-clause-moved
+found-requires-clause-moved c = gives-slot Nothing 2 (list_of c.resize.new.cells) (list_of c.moved.new.cells) c.in_ok-far.far 128 _ c.in_ok-far.ensures.gives
+
+pub returns-in_err-there-clause-grows : goal.returns-in_err-there-clause-grows
+returns-in_err-there-clause-grows c =
+    let l0 = list_of c.args.cells.now in
+    let l1 = list_of c.resize.new.cells in
+    let l2 = list_of c.moved.new.cells in
+    let l3 = list_of c.found.new.cells in
+    grows-then l0 l1 l3 c.in_ok-wide.ensures.grows (grows-then l1 l2 l3 c.in_ok-far.ensures.grows c.found.ensures.grows)
+
+pub enabled-requires-clause-slot : goal.enabled-requires-clause-slot
+enabled-requires-clause-slot c = gives-slot Nothing 2 (list_of c.moved.new.cells) (list_of c.found.new.cells) c.in_ok-there.there 1 _ c.in_ok-there.ensures.gives
+
+pub returns-in_err-enable-clause-grows : goal.returns-in_err-enable-clause-grows
+returns-in_err-enable-clause-grows c =
+    let l0 = list_of c.args.cells.now in
+    let l1 = list_of c.resize.new.cells in
+    let l2 = list_of c.moved.new.cells in
+    let l3 = list_of c.found.new.cells in
+    let l4 = list_of c.enabled.new.cells in
+    grows-then l0 l1 l4 c.in_ok-wide.ensures.grows (grows-then l1 l2 l4 c.in_ok-far.ensures.grows (grows-then l2 l3 l4 c.in_ok-there.ensures.grows c.enabled.ensures.grows))
+
+pub resize-requires-2-clause-there : goal.resize-requires-2-clause-there
+resize-requires-2-clause-there c =
+    let l2 = list_of c.moved.new.cells in
+    let l3 = list_of c.found.new.cells in
+    let l4 = list_of c.enabled.new.cells in
+    in-stays l2 l4 c.in_ok-far.far (grows-then l2 l3 l4 c.in_ok-there.ensures.grows c.in_ok-enable.ensures.grows) c.in_ok-far.ensures.gives.there
+
+pub returns-in_err-number-clause-grows : goal.returns-in_err-number-clause-grows
+returns-in_err-number-clause-grows c =
+    let l0 = list_of c.args.cells.now in
+    let l1 = list_of c.resize.new.cells in
+    let l2 = list_of c.moved.new.cells in
+    let l3 = list_of c.found.new.cells in
+    let l4 = list_of c.enabled.new.cells in
+    let l5 = list_of c.resize-2.new.cells in
+    grows-then l0 l1 l5 c.in_ok-wide.ensures.grows
+    (grows-then l1 l2 l5 c.in_ok-far.ensures.grows (grows-then l2 l3 l5 c.in_ok-there.ensures.grows (grows-then l3 l4 l5 c.in_ok-enable.ensures.grows c.resize-2.ensures.grows)))
 
 pub enabled-requires-clause-here : goal.enabled-requires-clause-here
 enabled-requires-clause-here c =

@@ -82,3 +82,21 @@ pub returns-clause-updates : goal.returns-clause-updates
 returns-clause-updates c =
     let l = c.loop-spot.invariant in
     l.leads (env_of c.loop-spot.at) (list_of c.loop-spot.cells) (updates-over (names_of c.args.room.now) c.args.value c.args.off c.args.spots.now c.loop-spot.spot-index (env_of c.loop-spot.at) (list_of c.loop-spot.cells) c.loop-spot-test.false l.fits)
+
+pub returns-in_err-part-clause-grows : goal.returns-in_err-part-clause-grows
+returns-in_err-part-clause-grows c =
+    let l0 = list_of c.args.cells.now in
+    let l1 = list_of c.loop-spot.cells in
+    let l2 = list_of c.part_of.new.cells in
+    grows-then l0 l1 l2 c.loop-spot.invariant.grows c.part_of.ensures.grows
+
+pub returns-in_err-assign-clause-grows : goal.returns-in_err-assign-clause-grows
+returns-in_err-assign-clause-grows c =
+    let l0 = list_of c.args.cells.now in
+    let l1 = list_of c.loop-spot.cells in
+    let l2 = list_of c.part_of.new.cells in
+    let l3 = list_of c.assign.new.cells in
+    grows-then l0 l1 l3 c.loop-spot.invariant.grows (grows-then l1 l2 l3 c.in_ok-part.ensures.grows c.assign.ensures.grows)
+
+pub returns-clause-grows : goal.returns-clause-grows
+returns-clause-grows c = c.loop-spot.invariant.grows

@@ -78,3 +78,21 @@ returns-clause-delays c =
 
 pub returns-clause-sites : goal.returns-clause-sites
 returns-clause-sites c = sites-over c.args.spots.now c.loop-spot.spot-index (memories_of c.loop-spot.pending.sites.items) _ c.loop-spot-test.false c.loop-spot.invariant.sites
+
+pub returns-in_err-part-clause-grows : goal.returns-in_err-part-clause-grows
+returns-in_err-part-clause-grows c =
+    let l0 = list_of c.args.cells.now in
+    let l1 = list_of c.loop-spot.cells in
+    let l2 = list_of c.part_of.new.cells in
+    grows-then l0 l1 l2 c.loop-spot.invariant.grows c.part_of.ensures.grows
+
+pub returns-in_err-delay_one-clause-grows : goal.returns-in_err-delay_one-clause-grows
+returns-in_err-delay_one-clause-grows c =
+    let l0 = list_of c.args.cells.now in
+    let l1 = list_of c.loop-spot.cells in
+    let l2 = list_of c.part_of.new.cells in
+    let l3 = list_of c.delay_one.new.cells in
+    grows-then l0 l1 l3 c.loop-spot.invariant.grows (grows-then l1 l2 l3 c.in_ok-part.ensures.grows c.delay_one.ensures.grows)
+
+pub returns-clause-grows : goal.returns-clause-grows
+returns-clause-grows c = c.loop-spot.invariant.grows

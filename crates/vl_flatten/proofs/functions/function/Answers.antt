@@ -2,7 +2,6 @@ use Rattle.std.proofs.Common.{ap, ◌∙◌, map}
 use Rattle.vl_flat.specs.Functions as f
 use Rattle.vl_flat.specs.Statements.{statement}
 use Rattle.vl_design.specs.Seen.{stm_of}
-use Rattle.vl_bind.specs.SeenStatements.{seen_statement}
 use Rattle.vl_items.specs.SeenItems.{seen_function}
 use Rattle.vl_constant.specs.Seen.{look}
 use Rattle.vl_flatten.proofs.Same.{same-func}
@@ -17,7 +16,7 @@ returns c = λ frame.
     let named = c.in_ok-name.ensures ∙ ap (f.dotted path) c.as_slice.ensures in
     let inputs = c.from_vec.ensures ∙ c.in_ok-inputs.ensures.function a frame in
     let locals = c.from_vec-2.ensures ∙ (c.in_ok-signals.ensures.function a frame ∙ ap (λ p. map (λ l. f.signal p l.name (f.local_shape env a l)) a.locals) (c.as_slice-2.ensures ∙ named)) in
-    let body = c.in_ok-body.ensures ∙ ap (λ s. statement s (seen_statement c.args.a.now.body)) (c.function_scope.ensures ∙ c.in_ok-own.ensures.function a frame) in
+    let body = c.in_ok-body.ensures frame in
     same-func c.args.a.now.name.place n c.in_ok-name.name (f.dotted path a.name.name) c.from_vec.result (f.input_numbers n a.locals)
     c.from_vec-2.result (map (λ l. f.signal (f.dotted path a.name.name) l.name (f.local_shape env a l)) a.locals) (stm_of c.in_ok-body.body) (statement (f.function_scope n env a) a.body)
     named inputs locals body

@@ -17,7 +17,7 @@ use Rattle.vl_constant.specs.Seen.{look}
 use Rattle.vl_instance.specs.declared.given.Surroundings.{Surroundings}
 use Rattle.vl_instance.proofs.Givens.{given-same}
 use Rattle.vl_flatten.proofs.Growth.{done-start, done-left, done-more, done-stops, done-last, grows-nothing, stops-left, handed-on}
-use Rattle.vl_flatten.specs.Insides.{names_in, contents}
+use Rattle.vl_flatten.specs.Insides.{IsInside, names_in, contents}
 use Rattle.vl_flatten.proofs.Levels.{no-level, one-level}
 use Rattle.vl_flatten.proofs.Joints.{is-joined}
 use Rattle.vl_flatten.proofs.Ours.{own-part, named-there}
@@ -144,7 +144,8 @@ add_instance-returns t c = λ m there.
 
 pub add_inside-returns : goal.add_inside-returns
 add_inside-returns t c = λ m there named.
-    c.add_contents.ensures m (seen_instances c.args.instances.now) there named (c.in_ok-inside.ensures m there)
+    let inside = subst (λ a. IsInside a (sizes_in c.args.library.now) c.args.depth (seen_here c.args.above) (counts_of c.args.base) (seen_instances c.args.instances.now) (seen_unit c.args.unit.now) m) (sym c.deref.ensures) (c.in_ok-inside.ensures m there) in
+    c.add_contents.ensures m (seen_instances c.args.instances.now) there named inside
 
 -- ---- what stands in an instance
 

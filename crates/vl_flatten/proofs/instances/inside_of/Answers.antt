@@ -5,10 +5,11 @@ use Rattle.vl_items.specs.SeenItems.{seen_instances, seen_module, seen_unit}
 use Rattle.vl_kinds.specs.Facts.{facts}
 use Rattle.vl_kinds.specs.Sized.{counts_of}
 use Rattle.vl_instance.specs.declared.given.Surroundings.{Surroundings}
+use Rattle.vl_instance.specs.Tables.{joined}
 use Rattle.vl_instance.proofs.Givens.{given-same}
 use Rattle.vl_flatten.specs.declared.instances.Inside.{Inside}
 use Rattle.vl_flatten.specs.Standing.{seen_here}
-use Rattle.vl_flatten.specs.Libraries.{modules_of, sizes_in, instance_in}
+use Rattle.vl_flatten.specs.Libraries.{modules_of, sizes_in}
 use Rattle.vl_flatten.specs.Insides.{IsInside}
 use Rattle.vl_flatten.proofs.instances.inside_of.Goals as goal
 
@@ -24,15 +25,18 @@ returns c = λ m there.
     let n = c.args.depth in
     let around : Surroundings = record {
       names = c.args.above.names;
-      overrides = record { ref_ptr = c.args.unit.ref_ptr; now = c.in_ok-overrides.overrides };
-      ports = record { ref_ptr = c.args.unit.ref_ptr; now = c.in_ok-ports.ports };
+      overrides = c.deref.result;
+      ports = c.deref-2.result;
     } in
-    let given-is = given-same here base us u md around refl c.in_ok-overrides.ensures c.in_ok-ports.ensures in
+    let overridden = ap joined c.in_ok-overridden.ensures.ok ∙ c.in_ok-overrides.ensures in
+    let ports = ap joined c.in_ok-ports.ensures.ok ∙ c.in_ok-port_connections.ensures in
+    let given-is = given-same here base us u md around refl (ap joined c.deref.ensures ∙ overridden) (ap joined c.deref-2.ensures ∙ ports) in
     let facts-are = c.roles_at-roles.ensures m there ∙ ap facts (sym is) in
-    let made : Inside = record { overrides = c.in_ok-overrides.overrides; ports = c.in_ok-ports.ports; names = c.in_ok-names.names } in
-    subst (λ z. IsInside made (sizes_in c.args.library.now) n here base us u z) is (record {
-      overrides = c.in_ok-overrides.ensures;
-      ports = c.in_ok-ports.ensures;
+    let made : Inside = record { overrides = c.into_inner.result; ports = c.into_inner-2.result; names = c.in_ok-names.names } in
+    subst (λ a. IsInside a (sizes_in c.args.library.now) n here base us u m) (sym c.in_ok-new.ensures.ok)
+    (subst (λ z. IsInside made (sizes_in c.args.library.now) n here base us u z) is (record {
+      overrides = ap joined c.into_inner.ensures ∙ overridden;
+      ports = ap joined c.into_inner-2.ensures ∙ ports;
       names = c.in_ok-names.ensures.module (sizes_in c.args.library.now) (dotted here.path u.name.name) c.requires.library.sizes (omega (arith, c.requires.depth)) facts-are
           ∙ ap (λ z. e.environment (sizes_in c.args.library.now n) z md) given-is;
-    })
+    }))

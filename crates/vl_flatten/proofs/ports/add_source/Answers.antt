@@ -1,6 +1,5 @@
-use Rattle.std.proofs.Common.{refl, ap, sym, ◌∙◌, ◌++◌, ◌∷◌, [], map}
+use Rattle.std.proofs.Common.{◌≡◌, refl, ap, sym, ◌∙◌, ◌∷◌, [], map, IfOk, subst}
 use Rattle.std.specs.Prelude.{None}
-use Rattle.std.proofs.lemmas.List.{map-append}
 use Rattle.vl_flat.specs.Connections as k
 use Rattle.vl_flat.specs.ExpressionFaults.{faults}
 use Rattle.vl_flat.specs.Flat as f
@@ -25,8 +24,8 @@ returns-in-Some c = λ m joined.
     (f.connection (k.input_process above env (k.place_in u (k.port_connection m u t)) t e ∷ []) (k.input_faults above.env e))
     (sym judged ∙ c.in-Some.is)
 
-pub returns-in_ok-push-in-None : goal.returns-in_ok-push-in-None
-returns-in_ok-push-in-None c = λ m joined.
+pub returns-in_ok-push_made-in-None : goal.returns-in_ok-push_made-in-None
+returns-in_ok-push_made-in-None c = λ m joined.
     let above = seen_here c.args.ports.above in
     let env = look c.args.ports.names.now in
     let u = seen_unit c.args.ports.unit.now in
@@ -40,7 +39,5 @@ returns-in_ok-push-in-None c = λ m joined.
     refl
     (keeps-nothing old.signals.items)
     (keeps-nothing (map func_of old.funcs.items))
-    (ap (map process_of) c.in_ok-push-in-None.ensures.items
-    ∙ (map-append process_of old.processes.items (c.in_ok-input_process-in-None.field-0 ∷ [])
-    ∙ (ap (λ z. map process_of old.processes.items ++ z ∷ []) c.in_ok-input_process-in-None.ensures
-    ∙ ap (λ q. map process_of old.processes.items ++ k.input_process above env q t e ∷ []) at)))
+    (c.in_ok-push_made-in-None.ensures (k.input_process above env (k.place_in u (k.port_connection m u t)) t e)
+    (subst (λ q. IfOk c.input_process.result (λ a. process_of a ≡ k.input_process above env q t e)) at c.input_process.ensures))

@@ -1,5 +1,7 @@
 use Rattle.cell_expr.proofs.Sizes.{exp_size, exps_size, exp-part}
+use Rattle.cell_expr.proofs.Answering.{AreGiven}
 use Rattle.cell_expr.proofs.Calling.{call-at, call-at-none, function-at, takes-many, begun-first}
+use Rattle.cell_expr.proofs.Falling.{falls-one, falls-two, falls-own, falls-in, falls-own-first, falls-own-second, falls-first, falls-second, falls-middle, falls-last, falls-node, falls-parts, falls-list, falls-arguments, has-bit, as-wide, as-narrow, one-wide, one-cell, no-wider, within, same-sum}
 use Rattle.cell_expr.proofs.Giving.{many-count, passed-more, passed-all, input-at, inputs-more}
 use Rattle.cell_expr.proofs.Nodes.{pick-compiles, slice-compiles, unary-compiles, binary-compiles, choice-compiles, cat-compiles, rep-compiles, rep-multiplies, cast-compiles, num-compiles, label-compiles, signal-compiles, time-compiles, answer-compiles}
 use Rattle.cell_expr.proofs.Parts.{joins, part-count, sided-first, sided-more, sided-all, sided-some, part-fits, parts-extended}
@@ -52,7 +54,7 @@ word_in-read_word-requires-clause-address g t c = (c.in_ok-address.ensures.gives
 
 pub word_in-returns-clause-gives : goal.word_in-returns-clause-gives
 word_in-returns-clause-gives g t c =
-    ok-gives c.read_word.result _ _
+    ok-gives c.read_word.result _ (AreGiven (names_of c.args.self.now) (scope_of c.args.self.now) (body_of c.args.self.now) c.args.c (Word c.args.memory (exp_of c.args.a.now)) (env_of c.args.at.now) (list_of c.args.cells.now) (list_of c.read_word.new.cells))
     (λ r g files. word-compiles (scope_of c.args.self.now files) c.args.c (env_of c.args.at.now) (own_count (body_of c.args.self.now) (exp_of c.args.a.now)) (in_count (names_of c.args.self.now) (body_of c.args.self.now) c.args.c.width (Word c.args.memory (exp_of c.args.a.now))) c.args.memory (exp_of c.args.a.now) c.form_of-signed.result.signed
     (list_of c.args.cells.now) (list_of c.own_in.new.cells) (list_of c.read_word.new.cells) c.in_ok-address.address r (ap (λ (f : Form). f.signed) c.form_of-signed.ensures.value) c.requires.memory c.requires.fits (node-few (names_of c.args.self.now) (body_of c.args.self.now) (own_count (body_of c.args.self.now) (exp_of c.args.a.now)) _ c.args.c.width) (c.in_ok-address.ensures.gives files) g)
     c.read_word.ensures.gives
@@ -65,7 +67,7 @@ pick_in-select-requires-clause-index g t c = (c.in_ok-index.ensures.gives []).sl
 
 pub pick_in-returns-clause-gives : goal.pick_in-returns-clause-gives
 pick_in-returns-clause-gives g t c =
-    ok-gives c.select.result _ _
+    ok-gives c.select.result _ (AreGiven (names_of c.args.self.now) (scope_of c.args.self.now) (body_of c.args.self.now) c.args.c (Pick (exp_of c.args.base.now) (exp_of c.args.index.now) c.args.from c.args.bits) (env_of c.args.at.now) (list_of c.args.cells.now) (list_of c.select.new.cells))
     (λ r g files. pick-compiles (scope_of c.args.self.now files) c.args.c (env_of c.args.at.now) (own_count (body_of c.args.self.now) (exp_of c.args.base.now)) (own_count (body_of c.args.self.now) (exp_of c.args.index.now))
     (in_count (names_of c.args.self.now) (body_of c.args.self.now) c.args.c.width (Pick (exp_of c.args.base.now) (exp_of c.args.index.now) c.args.from c.args.bits))
     (exp_of c.args.base.now) (exp_of c.args.index.now) c.args.from c.args.bits c.form_of-signed.result.signed (list_of c.args.cells.now) (list_of c.own_in.new.cells) (list_of c.own_in-2.new.cells) (list_of c.select.new.cells)
@@ -95,7 +97,7 @@ slice_in-returns-clause-gives g t c =
 pub unary_in-returns-clause-gives : goal.unary_in-returns-clause-gives
 unary_in-returns-clause-gives g t c =
     let form = rw c.form_of.ensures.value at c.operand_form-form.ensures.value in
-    ok-gives c.operate.result _ _
+    ok-gives c.operate.result _ (AreGiven (names_of c.args.self.now) (scope_of c.args.self.now) (body_of c.args.self.now) c.args.c (Un c.args.op (exp_of c.args.a.now)) (env_of c.args.at.now) (list_of c.args.cells.now) (list_of c.operate.new.cells))
     (λ r g files. unary-compiles (scope_of c.args.self.now files) c.args.c (env_of c.args.at.now) (in_count (names_of c.args.self.now) (body_of c.args.self.now) c.operand_form-form.result.width (exp_of c.args.a.now)) (in_count (names_of c.args.self.now) (body_of c.args.self.now) c.args.c.width (Un c.args.op (exp_of c.args.a.now))) c.args.op (exp_of c.args.a.now) c.operand_form-form.result
     (list_of c.args.cells.now) (list_of c.compile_in.new.cells) (list_of c.operate.new.cells) c.in_ok-a.a r (unary-few (names_of c.args.self.now) (body_of c.args.self.now) c.args.op (exp_of c.args.a.now) c.args.c c.operand_form-form.result form) form (c.operand_form-form.ensures.within c.requires.context.wide) c.requires.fits (c.in_ok-a.ensures.gives files) g)
     c.operate.ensures.gives
@@ -109,14 +111,14 @@ unary_in-operate-requires-clause-own g t c =
     let f = form-width (names_of c.args.self.now) (exp_of c.args.a.now) c.requires.expression in
     let wide = f.wide in
     let own = rw c.form_of.ensures.value at (c.operand_form-form.ensures.wide (rw c.form_of.ensures.value c.requires.wide)) in
-    omega (arith, w, wide, own)
+    as-wide _ _ _ w wide own
 
 pub unary_in-operate-requires-clause-own_narrow : goal.unary_in-operate-requires-clause-own_narrow
 unary_in-operate-requires-clause-own_narrow g t c =
     let w = (c.in_ok-a.ensures.gives []).slot.width in
     let f = form-width (names_of c.args.self.now) (exp_of c.args.a.now) c.requires.expression in
     let narrow = c.operand_form-form.ensures.narrow (rw c.form_of.ensures.value f.narrow) c.requires.context.narrow in
-    omega (arith, w, narrow)
+    as-narrow _ _ w narrow
 
 pub binary_in-combine-requires-clause-first : goal.binary_in-combine-requires-clause-first
 binary_in-combine-requires-clause-first g t c = in-stays (list_of c.compile_in.new.cells) (list_of c.compile_in-2.new.cells) c.in_ok-a.a c.in_ok-b.ensures.grows (c.in_ok-a.ensures.gives []).slot.there
@@ -136,7 +138,7 @@ binary_in-combine-requires-clause-own g t c =
     let j = c.form_of-second.ensures.value in
     let wide = f.wide in
     let own = rw i at (c.left_form-left.ensures.wide (rw (i, j) c.requires.wide)) in
-    omega (arith, same, w, wide, own)
+    as-wide _ _ _ (same ∙ w) wide own
 
 pub binary_in-combine-requires-clause-own_narrow : goal.binary_in-combine-requires-clause-own_narrow
 binary_in-combine-requires-clause-own_narrow g t c =
@@ -149,7 +151,7 @@ binary_in-combine-requires-clause-own_narrow g t c =
     let i = c.form_of-first.ensures.value in
     let j = c.form_of-second.ensures.value in
     let narrow = c.left_form-left.ensures.narrow (rw i f.narrow) (rw j h.narrow) c.requires.context.narrow in
-    omega (arith, same, w, narrow)
+    as-narrow _ _ (same ∙ w) narrow
 
 pub binary_in-combine-requires-clause-one_width : goal.binary_in-combine-requires-clause-one_width
 binary_in-combine-requires-clause-one_width g t c = λ e.
@@ -160,7 +162,7 @@ binary_in-combine-requires-clause-one_width g t c = λ e.
     let v = (c.in_ok-b.ensures.gives []).slot.width in
     let left = ap (λ f. f.width) c.left_form-left.ensures.value in
     let right = c.right_form-right.ensures.same e in
-    omega (arith, same, w, v, left, right)
+    same ∙ w ∙ left ∙ right ∙ sym v
 
 pub binary_in-returns-clause-gives : goal.binary_in-returns-clause-gives
 binary_in-returns-clause-gives g t c =
@@ -168,7 +170,7 @@ binary_in-returns-clause-gives g t c =
     let j = c.form_of-second.ensures.value in
     let left = rw (i, j) at c.left_form-left.ensures.value in
     let right = rw (i, j) at c.right_form-right.ensures.value in
-    ok-gives c.combine.result _ _
+    ok-gives c.combine.result _ (AreGiven (names_of c.args.self.now) (scope_of c.args.self.now) (body_of c.args.self.now) c.args.c (Bin c.args.op (exp_of c.args.a.now) (exp_of c.args.b.now)) (env_of c.args.at.now) (list_of c.args.cells.now) (list_of c.combine.new.cells))
     (λ r g files. binary-compiles (scope_of c.args.self.now files) c.args.c (env_of c.args.at.now) (in_count (names_of c.args.self.now) (body_of c.args.self.now) c.left_form-left.result.width (exp_of c.args.a.now)) (in_count (names_of c.args.self.now) (body_of c.args.self.now) c.right_form-right.result.width (exp_of c.args.b.now)) (in_count (names_of c.args.self.now) (body_of c.args.self.now) c.args.c.width (Bin c.args.op (exp_of c.args.a.now) (exp_of c.args.b.now))) c.args.op
     (exp_of c.args.a.now) (exp_of c.args.b.now) c.left_form-left.result c.right_form-right.result (list_of c.args.cells.now) (list_of c.compile_in.new.cells) (list_of c.compile_in-2.new.cells) (list_of c.combine.new.cells)
     c.in_ok-a.a c.in_ok-b.b r left right (λ e. ap (λ f. f.width) c.left_form-left.ensures.value ∙ c.right_form-right.ensures.same e) (binary-few (names_of c.args.self.now) (body_of c.args.self.now) c.args.op (exp_of c.args.a.now) (exp_of c.args.b.now) c.args.c c.left_form-left.result c.right_form-right.result left right) (c.left_form-left.ensures.within c.requires.context.wide) c.requires.fits (c.in_ok-a.ensures.gives files) (c.in_ok-b.ensures.gives files) g)
@@ -191,7 +193,7 @@ choice_in-choose-requires-clause-own g t c =
     let same = width-stays (list_of c.compile_in.new.cells) (list_of c.compile_in-2.new.cells) c.in_ok-a.a c.in_ok-b.ensures.grows slot.there in
     let w = slot.width in
     let wide = c.requires.context.wide in
-    omega (arith, same, w, wide)
+    one-wide _ _ (same ∙ w) wide
 
 pub choice_in-choose-requires-clause-own_narrow : goal.choice_in-choose-requires-clause-own_narrow
 choice_in-choose-requires-clause-own_narrow g t c =
@@ -200,7 +202,7 @@ choice_in-choose-requires-clause-own_narrow g t c =
     let same = width-stays (list_of c.compile_in.new.cells) (list_of c.compile_in-2.new.cells) c.in_ok-a.a c.in_ok-b.ensures.grows slot.there in
     let w = slot.width in
     let narrow = c.requires.context.narrow in
-    omega (arith, same, w, narrow)
+    as-narrow _ _ (same ∙ w) narrow
 
 pub choice_in-choose-requires-clause-one_width : goal.choice_in-choose-requires-clause-one_width
 choice_in-choose-requires-clause-one_width g t c =
@@ -209,12 +211,12 @@ choice_in-choose-requires-clause-one_width g t c =
     let same = width-stays (list_of c.compile_in.new.cells) (list_of c.compile_in-2.new.cells) c.in_ok-a.a c.in_ok-b.ensures.grows slot.there in
     let w = slot.width in
     let v = (c.in_ok-b.ensures.gives []).slot.width in
-    omega (arith, same, w, v)
+    v ∙ sym w ∙ sym same
 
 pub choice_in-returns-clause-gives : goal.choice_in-returns-clause-gives
 choice_in-returns-clause-gives g t c =
     let fits = fits-stays (names_of c.args.self.now) (list_of c.args.cells.now) (list_of c.own_in.new.cells) (env_of c.args.at.now) c.in_ok-test.ensures.grows c.requires.fits in
-    ok-gives c.choose.result _ _
+    ok-gives c.choose.result _ (AreGiven (names_of c.args.self.now) (scope_of c.args.self.now) (body_of c.args.self.now) c.args.c (Cond (exp_of c.args.test.now) (exp_of c.args.a.now) (exp_of c.args.b.now)) (env_of c.args.at.now) (list_of c.args.cells.now) (list_of c.choose.new.cells))
     (λ r g files. choice-compiles (scope_of c.args.self.now files) c.args.c (env_of c.args.at.now) (own_count (body_of c.args.self.now) (exp_of c.args.test.now)) (in_count (names_of c.args.self.now) (body_of c.args.self.now) c.args.c.width (exp_of c.args.a.now)) (in_count (names_of c.args.self.now) (body_of c.args.self.now) c.args.c.width (exp_of c.args.b.now)) (in_count (names_of c.args.self.now) (body_of c.args.self.now) c.args.c.width (Cond (exp_of c.args.test.now) (exp_of c.args.a.now) (exp_of c.args.b.now)))
     (exp_of c.args.test.now) (exp_of c.args.a.now) (exp_of c.args.b.now) (list_of c.args.cells.now) (list_of c.own_in.new.cells) (list_of c.compile_in.new.cells) (list_of c.compile_in-2.new.cells) (list_of c.choose.new.cells)
     c.in_ok-test.test c.in_ok-a.a c.in_ok-b.b r (choice-own (names_of c.args.self.now) (body_of c.args.self.now) (exp_of c.args.test.now) (exp_of c.args.a.now) (exp_of c.args.b.now) c.args.c.width) c.requires.fits fits (c.in_ok-test.ensures.gives files) (c.in_ok-a.ensures.gives files) (c.in_ok-b.ensures.gives files) g)
@@ -305,7 +307,7 @@ joined_in-read-requires-clause-there g t c = (c.in_ok-all.ensures.gives []).slot
 
 pub joined_in-returns-clause-gives : goal.joined_in-returns-clause-gives
 joined_in-returns-clause-gives g t c =
-    ok-gives c.read.result _ _
+    ok-gives c.read.result _ (AreGiven (names_of c.args.self.now) (scope_of c.args.self.now) (body_of c.args.self.now) c.args.c (Cat (exps_of c.args.parts.now)) (env_of c.args.at.now) (list_of c.args.cells.now) (list_of c.read.new.cells))
     (λ r g files. cat-compiles (scope_of c.args.self.now files) c.args.c (env_of c.args.at.now) (parts_own (body_of c.args.self.now) (exps_of c.args.parts.now)) (in_count (names_of c.args.self.now) (body_of c.args.self.now) c.args.c.width (Cat (exps_of c.args.parts.now)))
     (exps_of c.args.parts.now) (list_of c.args.cells.now) (list_of c.parts_in.new.cells) (list_of c.read.new.cells) c.in_ok-all.all r (cat-few (names_of c.args.self.now) (body_of c.args.self.now) (parts_own (body_of c.args.self.now) (exps_of c.args.parts.now)) (total_width (names_of c.args.self.now) (exps_of c.args.parts.now)) c.args.c.width) c.requires.wide c.requires.fits
     (holds-plain (names_of c.args.self.now) (env_of c.args.at.now) (parts_own (body_of c.args.self.now) (exps_of c.args.parts.now)) (total_width (names_of c.args.self.now) (exps_of c.args.parts.now)) (list_of c.args.cells.now) (list_of c.parts_in.new.cells) c.in_ok-all.all _ (c.in_ok-all.ensures.gives files)) g)
@@ -425,7 +427,7 @@ arguments_in-returns-clause-passes g t c =
 
 pub call_in-returns-then-self-eq0-clause-gives : goal.call_in-returns-then-self-eq0-clause-gives
 call_in-returns-then-self-eq0-clause-gives g t c =
-    ok-gives c.nothing.result _ _
+    ok-gives c.nothing.result _ (AreGiven (names_of c.args.self.now) (scope_of c.args.self.now) (body_of c.args.self.now) c.args.c (Call c.args.function (exps_of c.args.arguments.now)) (env_of c.args.at.now) (list_of c.args.cells.now) (list_of c.nothing.new.cells))
     (λ r g files. call-at-none (names_of c.args.self.now) files c.args.self.now.depth c.args.function (exps_of c.args.arguments.now) c.args.c (env_of c.args.at.now) (list_of c.args.cells.now) (list_of c.nothing.new.cells) r (in_count (names_of c.args.self.now) (body_of c.args.self.now) c.args.c.width (Call c.args.function (exps_of c.args.arguments.now))) c.if-self-eq0.true
     (call-few (names_of c.args.self.now) (body_of c.args.self.now) _ 1 (exp_count (body_of c.args.self.now) (Call c.args.function (exps_of c.args.arguments.now))) (omega arith)) c.requires.fits g)
     c.nothing.ensures.gives
@@ -501,7 +503,7 @@ call_in-returns-clause-gives g t c =
     let body1 = env_of c.arguments_in.new.body in
     let body2 = env_of c.compile_body.new.arg3 in
     let does = rw c.in_ok-compile_body.was at (c.requires.functions.does (depth - 1) c.args.function func _ _ _ _ _ is there c.compile_body.ensures) in
-    ok-gives c.read_signal.result _ _
+    ok-gives c.read_signal.result _ (AreGiven (names_of c.args.self.now) (scope_of c.args.self.now) (body_of c.args.self.now) c.args.c (Call c.args.function (exps_of c.args.arguments.now)) (env_of c.args.at.now) (list_of c.args.cells.now) (list_of c.read_signal.new.cells))
     (λ r h files.
     let G : Names → Type 0 = λ z. Gives Nothing 1 l3 new r c.args.c.width (λ b. resized c.args.c.signed (signal_form z.rows func.result).width c.args.c.width (held_or b l3 (entry body2 func.result))) in
     call-at n files depth (depth - 1) func c.args.function (exps_of c.args.arguments.now) c.args.c (env_of c.args.at.now) body0 body1 body2 l0 l1 l2 l3 new r (in_count n (body_of c.args.self.now) c.args.c.width (Call c.args.function (exps_of c.args.arguments.now))) is
@@ -511,15 +513,15 @@ call_in-returns-clause-gives g t c =
 
 pub compile_in-returns-in-Num-clause-gives : goal.compile_in-returns-in-Num-clause-gives
 compile_in-returns-in-Num-clause-gives g t c =
-    rw c.in-Num.is (ok-gives c.number_in.result _ _ (λ r g files. num-compiles (scope_of c.args.self.now files) c.args.c (env_of c.args.at.now) _ _ c.in-Num.field-1 _ (list_of c.args.cells.now) (list_of c.number_in.new.cells) r (leaf-few (names_of c.args.self.now) (body_of c.args.self.now) _ 1 (omega arith)) c.requires.fits g) c.number_in.ensures.gives)
+    rw c.in-Num.is (ok-gives c.number_in.result _ _ (λ r g files. num-compiles (scope_of c.args.self.now files) c.args.c (env_of c.args.at.now) _ _ c.in-Num.field-1 _ (list_of c.args.cells.now) (list_of c.number_in.new.cells) r (leaf-few (names_of c.args.self.now) (body_of c.args.self.now) _ 1 one-cell) c.requires.fits g) c.number_in.ensures.gives)
 
 pub compile_in-returns-in-Label-clause-gives : goal.compile_in-returns-in-Label-clause-gives
 compile_in-returns-in-Label-clause-gives g t c =
-    rw c.in-Label.is (ok-gives c.number_in-in-Label.result _ _ (λ r g files. label-compiles (scope_of c.args.self.now files) c.args.c (env_of c.args.at.now) _ c.in-Label.label.care _ c.in-Label.label.signed _ (list_of c.args.cells.now) (list_of c.number_in-in-Label.new.cells) r (leaf-few (names_of c.args.self.now) (body_of c.args.self.now) _ 1 (omega arith)) c.requires.fits g) c.number_in-in-Label.ensures.gives)
+    rw c.in-Label.is (ok-gives c.number_in-in-Label.result _ _ (λ r g files. label-compiles (scope_of c.args.self.now files) c.args.c (env_of c.args.at.now) _ c.in-Label.label.care _ c.in-Label.label.signed _ (list_of c.args.cells.now) (list_of c.number_in-in-Label.new.cells) r (leaf-few (names_of c.args.self.now) (body_of c.args.self.now) _ 1 one-cell) c.requires.fits g) c.number_in-in-Label.ensures.gives)
 
 pub compile_in-returns-in-Sig-clause-gives : goal.compile_in-returns-in-Sig-clause-gives
 compile_in-returns-in-Sig-clause-gives g t c =
-    rw c.in-Sig.is (ok-gives c.read_signal.result _ _ (λ r g files. signal-compiles (scope_of c.args.self.now files) c.args.c (env_of c.args.at.now) _ _ (list_of c.args.cells.now) (list_of c.read_signal.new.cells) r (leaf-few (names_of c.args.self.now) (body_of c.args.self.now) _ 1 (omega arith)) (rw c.in-Sig.is at c.requires.expression) c.requires.fits g) c.read_signal.ensures.gives)
+    rw c.in-Sig.is (ok-gives c.read_signal.result _ _ (λ r g files. signal-compiles (scope_of c.args.self.now files) c.args.c (env_of c.args.at.now) _ _ (list_of c.args.cells.now) (list_of c.read_signal.new.cells) r (leaf-few (names_of c.args.self.now) (body_of c.args.self.now) _ 1 one-cell) (rw c.in-Sig.is at c.requires.expression) c.requires.fits g) c.read_signal.ensures.gives)
 
 pub compile_in-returns-in-Word-clause-gives : goal.compile_in-returns-in-Word-clause-gives
 compile_in-returns-in-Word-clause-gives g t c =
@@ -584,27 +586,27 @@ pub own_in-compile_in-requires : goal.own_in-compile_in-requires
 own_in-compile_in-requires g t c =
     let m : 6 * exp_size (exp_of c.args.e.now) + 1 ≡ t = c.decreases in
     let v = ap (λ (f : Form). f.width) c.form_of.ensures.value in
-    λ κs lives. (omega arith, (lives, (c.requires.functions, (c.requires.expression, (omega (arith, v), (c.form_of.ensures.width.narrow, c.requires.fits))))))
+    λ κs lives. (falls-one _ t m, (lives, (c.requires.functions, (c.requires.expression, (no-wider _ _ v, (c.form_of.ensures.width.narrow, c.requires.fits))))))
 
 pub word_in-own_in-requires : goal.word_in-own_in-requires
 word_in-own_in-requires g t c =
     let m : 6 * exp_size (exp_of c.args.a.now) + 3 ≡ t = c.decreases in
-    λ κs lives. (omega arith, (lives, (c.requires.functions, (c.requires.expression, c.requires.fits))))
+    λ κs lives. (falls-own _ t m, (lives, (c.requires.functions, (c.requires.expression, c.requires.fits))))
 
 pub pick_in-own_in-requires : goal.pick_in-own_in-requires
 pick_in-own_in-requires g t c =
     let m : 6 * (exp_size (exp_of c.args.base.now) + exp_size (exp_of c.args.index.now)) + 3 ≡ t = c.decreases in
-    λ κs lives. (omega arith, (lives, (c.requires.functions, (c.requires.base, c.requires.fits))))
+    λ κs lives. (falls-own-first _ _ t m, (lives, (c.requires.functions, (c.requires.base, c.requires.fits))))
 
 pub pick_in-own_in-requires-2 : goal.pick_in-own_in-requires-2
 pick_in-own_in-requires-2 g t c =
     let m : 6 * (exp_size (exp_of c.args.base.now) + exp_size (exp_of c.args.index.now)) + 3 ≡ t = c.decreases in
-    λ κs lives. (omega arith, (lives, (c.requires.functions, (c.requires.index, fits-stays (names_of c.args.self.now) (list_of c.args.cells.now) (list_of c.own_in.new.cells) (env_of c.args.at.now) c.in_ok-base.ensures.grows c.requires.fits))))
+    λ κs lives. (falls-own-second _ _ t m, (lives, (c.requires.functions, (c.requires.index, fits-stays (names_of c.args.self.now) (list_of c.args.cells.now) (list_of c.own_in.new.cells) (env_of c.args.at.now) c.in_ok-base.ensures.grows c.requires.fits))))
 
 pub slice_in-own_in-requires : goal.slice_in-own_in-requires
 slice_in-own_in-requires g t c =
     let m : 6 * exp_size (exp_of c.args.base.now) + 3 ≡ t = c.decreases in
-    λ κs lives. (omega arith, (lives, (c.requires.functions, (c.requires.base, c.requires.fits))))
+    λ κs lives. (falls-own _ t m, (lives, (c.requires.functions, (c.requires.base, c.requires.fits))))
 
 pub unary_in-compile_in-requires : goal.unary_in-compile_in-requires
 unary_in-compile_in-requires g t c =
@@ -612,7 +614,7 @@ unary_in-compile_in-requires g t c =
     let f = form-width (names_of c.args.self.now) (exp_of c.args.a.now) c.requires.expression in
     let wide = rw c.form_of.ensures.value at (c.operand_form-form.ensures.wide (rw c.form_of.ensures.value c.requires.wide)) in
     let narrow = c.operand_form-form.ensures.narrow (rw c.form_of.ensures.value f.narrow) c.requires.context.narrow in
-    λ κs lives. (omega arith, (lives, (c.requires.functions, (c.requires.expression, (wide, (narrow, c.requires.fits))))))
+    λ κs lives. (falls-in _ t m, (lives, (c.requires.functions, (c.requires.expression, (wide, (narrow, c.requires.fits))))))
 
 pub binary_in-compile_in-requires : goal.binary_in-compile_in-requires
 binary_in-compile_in-requires g t c =
@@ -624,7 +626,7 @@ binary_in-compile_in-requires g t c =
     let j = c.form_of-second.ensures.value in
     let wide = rw i at (c.left_form-left.ensures.wide (rw (i, j) c.requires.wide)) in
     let narrow = c.left_form-left.ensures.narrow (rw i f.narrow) (rw j h.narrow) c.requires.context.narrow in
-    λ κs lives. (omega arith, (lives, (c.requires.functions, (c.requires.first, (wide, (narrow, c.requires.fits))))))
+    λ κs lives. (falls-first _ _ t m, (lives, (c.requires.functions, (c.requires.first, (wide, (narrow, c.requires.fits))))))
 
 pub binary_in-compile_in-requires-2 : goal.binary_in-compile_in-requires-2
 binary_in-compile_in-requires-2 g t c =
@@ -637,24 +639,24 @@ binary_in-compile_in-requires-2 g t c =
     let wide = rw j at (c.right_form-right.ensures.wide (rw (i, j) c.requires.wide)) in
     let narrow = c.right_form-right.ensures.narrow (rw i f.narrow) (rw j h.narrow) c.requires.context.narrow in
     let fits = fits-stays n (list_of c.args.cells.now) (list_of c.compile_in.new.cells) (env_of c.args.at.now) c.in_ok-a.ensures.grows c.requires.fits in
-    λ κs lives. (omega arith, (lives, (c.requires.functions, (c.requires.second, (wide, (narrow, fits))))))
+    λ κs lives. (falls-second _ _ t m, (lives, (c.requires.functions, (c.requires.second, (wide, (narrow, fits))))))
 
 pub choice_in-own_in-requires : goal.choice_in-own_in-requires
 choice_in-own_in-requires g t c =
     let m : 6 * (exp_size (exp_of c.args.test.now) + (exp_size (exp_of c.args.a.now) + exp_size (exp_of c.args.b.now))) + 3 ≡ t = c.decreases in
-    λ κs lives. (omega arith, (lives, (c.requires.functions, (c.requires.test, c.requires.fits))))
+    λ κs lives. (falls-own-first _ _ t m, (lives, (c.requires.functions, (c.requires.test, c.requires.fits))))
 
 pub choice_in-compile_in-requires : goal.choice_in-compile_in-requires
 choice_in-compile_in-requires g t c =
     let m : 6 * (exp_size (exp_of c.args.test.now) + (exp_size (exp_of c.args.a.now) + exp_size (exp_of c.args.b.now))) + 3 ≡ t = c.decreases in
     let fits = fits-stays (names_of c.args.self.now) (list_of c.args.cells.now) (list_of c.own_in.new.cells) (env_of c.args.at.now) c.in_ok-test.ensures.grows c.requires.fits in
-    λ κs lives. (omega arith, (lives, (c.requires.functions, (c.requires.first, (c.requires.first_wide, (c.requires.context.narrow, fits))))))
+    λ κs lives. (falls-middle _ _ _ t m, (lives, (c.requires.functions, (c.requires.first, (c.requires.first_wide, (c.requires.context.narrow, fits))))))
 
 pub choice_in-compile_in-requires-2 : goal.choice_in-compile_in-requires-2
 choice_in-compile_in-requires-2 g t c =
     let m : 6 * (exp_size (exp_of c.args.test.now) + (exp_size (exp_of c.args.a.now) + exp_size (exp_of c.args.b.now))) + 3 ≡ t = c.decreases in
     let fits = fits-stays (names_of c.args.self.now) (list_of c.args.cells.now) (list_of c.compile_in.new.cells) (env_of c.args.at.now) (grows-then (list_of c.args.cells.now) (list_of c.own_in.new.cells) (list_of c.compile_in.new.cells) c.in_ok-test.ensures.grows c.in_ok-a.ensures.grows) c.requires.fits in
-    λ κs lives. (omega arith, (lives, (c.requires.functions, (c.requires.second, (c.requires.second_wide, (c.requires.context.narrow, fits))))))
+    λ κs lives. (falls-last _ _ _ t m, (lives, (c.requires.functions, (c.requires.second, (c.requires.second_wide, (c.requires.context.narrow, fits))))))
 
 pub parts_in-wide_in-requires : goal.parts_in-wide_in-requires
 parts_in-wide_in-requires g t c =
@@ -674,12 +676,12 @@ joined_in-parts_in-requires g t c =
     let m : 6 * exps_size (exps_of c.args.parts.now) + 5 ≡ t = c.decreases in
     let w = c.requires.wide in
     let n = c.requires.context.narrow in
-    λ κs lives. (omega arith, (lives, (c.requires.functions, (c.requires.sound, (c.requires.some, (omega (arith, w, n), c.requires.fits))))))
+    λ κs lives. (falls-list _ t m, (lives, (c.requires.functions, (c.requires.sound, (c.requires.some, (within _ _ w n, c.requires.fits))))))
 
 pub cast_in-own_in-requires : goal.cast_in-own_in-requires
 cast_in-own_in-requires g t c =
     let m : 6 * exp_size (exp_of c.args.a.now) + 3 ≡ t = c.decreases in
-    λ κs lives. (omega arith, (lives, (c.requires.functions, (c.requires.expression, c.requires.fits))))
+    λ κs lives. (falls-own _ t m, (lives, (c.requires.functions, (c.requires.expression, c.requires.fits))))
 
 pub argument_in-compile_in-requires : goal.argument_in-compile_in-requires
 argument_in-compile_in-requires g t c =
@@ -688,7 +690,7 @@ argument_in-compile_in-requires g t c =
     let a = ap (λ (f : Form). f.width) c.assigned-context.ensures in
     let v = c.signal_form-width.ensures.width.narrow in
     let w = c.form_of.ensures.width.narrow in
-    λ κs lives. (omega arith, (lives, (c.requires.functions, (c.requires.expression, (omega (arith, i, a), (omega (arith, a, v, w), c.requires.fits))))))
+    λ κs lives. (falls-one _ t m, (lives, (c.requires.functions, (c.requires.expression, (omega (arith, i, a), (omega (arith, a, v, w), c.requires.fits))))))
 
 pub arguments_in-argument_in-requires : goal.arguments_in-argument_in-requires
 arguments_in-argument_in-requires g t c =
@@ -719,7 +721,7 @@ call_in-arguments_in-requires g t c =
     let there = function-at room c.args.function _ value c.requires.there in
     let fits = fits-stays n (list_of c.args.cells.now) (list_of c.begin.new.cells) (env_of c.args.at.now) c.in_ok-body.ensures.grows c.requires.fits in
     λ κs lives. (
-      omega arith,
+      falls-arguments _ t m,
       (
         lives,
         (
@@ -745,8 +747,8 @@ compile_in-word_in-requires g t c =
     let s = rw is at c.requires.expression in
     let f = (form-width (names_of c.args.self.now) (exp_of c.args.e.now) c.requires.expression).wide in
     let wide = c.requires.wide in
-    let context : IsWidth c.args.c.width = record { wide = omega (arith, f, wide); narrow = c.requires.narrow } in
-    rw c.deref.ensures (λ κs lives. (omega (arith, m), (lives, (c.requires.functions, (s.0, (s.1, (context, c.requires.fits)))))))
+    let context : IsWidth c.args.c.width = record { wide = has-bit _ _ f wide; narrow = c.requires.narrow } in
+    rw c.deref.ensures (λ κs lives. (falls-node _ t m, (lives, (c.requires.functions, (s.0, (s.1, (context, c.requires.fits)))))))
 
 pub compile_in-pick_in-requires : goal.compile_in-pick_in-requires
 compile_in-pick_in-requires g t c =
@@ -756,8 +758,8 @@ compile_in-pick_in-requires g t c =
     let w = rw is at c.requires.wide in
     let f = (form-width (names_of c.args.self.now) (exp_of c.args.e.now) c.requires.expression).wide in
     let wide = c.requires.wide in
-    let context : IsWidth c.args.c.width = record { wide = omega (arith, f, wide); narrow = c.requires.narrow } in
-    rw (c.deref-in-Pick.ensures, c.deref-in-Pick-2.ensures) (λ κs lives. (omega (arith, m), (lives, (c.requires.functions, (s.1, (s.2, (s.0.wide, (w, (context, c.requires.fits)))))))))
+    let context : IsWidth c.args.c.width = record { wide = has-bit _ _ f wide; narrow = c.requires.narrow } in
+    rw (c.deref-in-Pick.ensures, c.deref-in-Pick-2.ensures) (λ κs lives. (falls-node _ t m, (lives, (c.requires.functions, (s.1, (s.2, (s.0.wide, (w, (context, c.requires.fits)))))))))
 
 pub compile_in-slice_in-requires : goal.compile_in-slice_in-requires
 compile_in-slice_in-requires g t c =
@@ -767,8 +769,8 @@ compile_in-slice_in-requires g t c =
     let w = rw is at c.requires.wide in
     let f = (form-width (names_of c.args.self.now) (exp_of c.args.e.now) c.requires.expression).wide in
     let wide = c.requires.wide in
-    let context : IsWidth c.args.c.width = record { wide = omega (arith, f, wide); narrow = c.requires.narrow } in
-    rw c.deref-in-Slice.ensures (λ κs lives. (omega (arith, m), (lives, (c.requires.functions, (s.1, (s.0.wide, (w, (context, c.requires.fits))))))))
+    let context : IsWidth c.args.c.width = record { wide = has-bit _ _ f wide; narrow = c.requires.narrow } in
+    rw c.deref-in-Slice.ensures (λ κs lives. (falls-node _ t m, (lives, (c.requires.functions, (s.1, (s.0.wide, (w, (context, c.requires.fits))))))))
 
 pub compile_in-unary_in-requires : goal.compile_in-unary_in-requires
 compile_in-unary_in-requires g t c =
@@ -778,8 +780,8 @@ compile_in-unary_in-requires g t c =
     let w = rw is at c.requires.wide in
     let f = (form-width (names_of c.args.self.now) (exp_of c.args.e.now) c.requires.expression).wide in
     let wide = c.requires.wide in
-    let context : IsWidth c.args.c.width = record { wide = omega (arith, f, wide); narrow = c.requires.narrow } in
-    rw c.deref-in-Un.ensures (λ κs lives. (omega (arith, m), (lives, (c.requires.functions, (s, (w, (context, c.requires.fits)))))))
+    let context : IsWidth c.args.c.width = record { wide = has-bit _ _ f wide; narrow = c.requires.narrow } in
+    rw c.deref-in-Un.ensures (λ κs lives. (falls-node _ t m, (lives, (c.requires.functions, (s, (w, (context, c.requires.fits)))))))
 
 pub compile_in-binary_in-requires : goal.compile_in-binary_in-requires
 compile_in-binary_in-requires g t c =
@@ -789,8 +791,8 @@ compile_in-binary_in-requires g t c =
     let w = rw is at c.requires.wide in
     let f = (form-width (names_of c.args.self.now) (exp_of c.args.e.now) c.requires.expression).wide in
     let wide = c.requires.wide in
-    let context : IsWidth c.args.c.width = record { wide = omega (arith, f, wide); narrow = c.requires.narrow } in
-    rw (c.deref-in-Bin.ensures, c.deref-in-Bin-2.ensures) (λ κs lives. (omega (arith, m), (lives, (c.requires.functions, (s.0, (s.1, (w, (context, c.requires.fits))))))))
+    let context : IsWidth c.args.c.width = record { wide = has-bit _ _ f wide; narrow = c.requires.narrow } in
+    rw (c.deref-in-Bin.ensures, c.deref-in-Bin-2.ensures) (λ κs lives. (falls-node _ t m, (lives, (c.requires.functions, (s.0, (s.1, (w, (context, c.requires.fits))))))))
 
 pub compile_in-choice_in-requires : goal.compile_in-choice_in-requires
 compile_in-choice_in-requires g t c =
@@ -800,8 +802,8 @@ compile_in-choice_in-requires g t c =
     let w = rw is at c.requires.wide in
     let f = (form-width (names_of c.args.self.now) (exp_of c.args.e.now) c.requires.expression).wide in
     let wide = c.requires.wide in
-    let context : IsWidth c.args.c.width = record { wide = omega (arith, f, wide); narrow = c.requires.narrow } in
-    rw (c.deref-in-Cond.ensures, c.deref-in-Cond-2.ensures, c.deref-in-Cond-3.ensures) (λ κs lives. (omega (arith, m), (lives, (c.requires.functions, (s.0, (s.1, (s.2, (omega (arith, w), (omega (arith, w), (context, c.requires.fits))))))))))
+    let context : IsWidth c.args.c.width = record { wide = has-bit _ _ f wide; narrow = c.requires.narrow } in
+    rw (c.deref-in-Cond.ensures, c.deref-in-Cond-2.ensures, c.deref-in-Cond-3.ensures) (λ κs lives. (falls-node _ t m, (lives, (c.requires.functions, (s.0, (s.1, (s.2, (omega (arith, w), (omega (arith, w), (context, c.requires.fits))))))))))
 
 pub compile_in-joined_in-requires : goal.compile_in-joined_in-requires
 compile_in-joined_in-requires g t c =
@@ -811,8 +813,8 @@ compile_in-joined_in-requires g t c =
     let w = rw is at c.requires.wide in
     let f = (form-width (names_of c.args.self.now) (exp_of c.args.e.now) c.requires.expression).wide in
     let wide = c.requires.wide in
-    let context : IsWidth c.args.c.width = record { wide = omega (arith, f, wide); narrow = c.requires.narrow } in
-    rw c.deref-in-Cat.ensures.value (λ κs lives. (omega (arith, m), (lives, (c.requires.functions, (s.1, (s.0.wide, (w, (context, c.requires.fits))))))))
+    let context : IsWidth c.args.c.width = record { wide = has-bit _ _ f wide; narrow = c.requires.narrow } in
+    rw c.deref-in-Cat.ensures.value (λ κs lives. (falls-parts _ t m, (lives, (c.requires.functions, (s.1, (s.0.wide, (w, (context, c.requires.fits))))))))
 
 pub compile_in-repeated_in-requires : goal.compile_in-repeated_in-requires
 compile_in-repeated_in-requires g t c =
@@ -822,8 +824,8 @@ compile_in-repeated_in-requires g t c =
     let w = rw is at c.requires.wide in
     let f = (form-width (names_of c.args.self.now) (exp_of c.args.e.now) c.requires.expression).wide in
     let wide = c.requires.wide in
-    let context : IsWidth c.args.c.width = record { wide = omega (arith, f, wide); narrow = c.requires.narrow } in
-    rw c.deref-in-Rep.ensures.value (λ κs lives. (omega (arith, m), (lives, (c.requires.functions, (s.1, (s.0.wide, (w, (context, c.requires.fits))))))))
+    let context : IsWidth c.args.c.width = record { wide = has-bit _ _ f wide; narrow = c.requires.narrow } in
+    rw c.deref-in-Rep.ensures.value (λ κs lives. (falls-parts _ t m, (lives, (c.requires.functions, (s.1, (s.0.wide, (w, (context, c.requires.fits))))))))
 
 pub compile_in-cast_in-requires : goal.compile_in-cast_in-requires
 compile_in-cast_in-requires g t c =
@@ -832,8 +834,8 @@ compile_in-cast_in-requires g t c =
     let s = rw is at c.requires.expression in
     let f = (form-width (names_of c.args.self.now) (exp_of c.args.e.now) c.requires.expression).wide in
     let wide = c.requires.wide in
-    let context : IsWidth c.args.c.width = record { wide = omega (arith, f, wide); narrow = c.requires.narrow } in
-    rw c.deref-in-Cast.ensures (λ κs lives. (omega (arith, m), (lives, (c.requires.functions, (s, (context, c.requires.fits))))))
+    let context : IsWidth c.args.c.width = record { wide = has-bit _ _ f wide; narrow = c.requires.narrow } in
+    rw c.deref-in-Cast.ensures (λ κs lives. (falls-node _ t m, (lives, (c.requires.functions, (s, (context, c.requires.fits))))))
 
 pub compile_in-call_in-requires : goal.compile_in-call_in-requires
 compile_in-call_in-requires g t c =
@@ -842,8 +844,8 @@ compile_in-call_in-requires g t c =
     let s = rw is at c.requires.expression in
     let f = (form-width (names_of c.args.self.now) (exp_of c.args.e.now) c.requires.expression).wide in
     let wide = c.requires.wide in
-    let context : IsWidth c.args.c.width = record { wide = omega (arith, f, wide); narrow = c.requires.narrow } in
-    rw c.deref-in-Call.ensures.value (λ κs lives. (omega (arith, m), (lives, (c.requires.functions, (s.0, (s.2, (context, c.requires.fits)))))))
+    let context : IsWidth c.args.c.width = record { wide = has-bit _ _ f wide; narrow = c.requires.narrow } in
+    rw c.deref-in-Call.ensures.value (λ κs lives. (falls-node _ t m, (lives, (c.requires.functions, (s.0, (s.2, (context, c.requires.fits)))))))
 
 pub extended_in-returns-then-more-eq0-clause-gives : goal.extended_in-returns-then-more-eq0-clause-gives
 extended_in-returns-then-more-eq0-clause-gives g t c =
@@ -854,7 +856,7 @@ extended_in-returns-then-more-eq0-clause-gives g t c =
 pub extended_in-own_in-requires : goal.extended_in-own_in-requires
 extended_in-own_in-requires g t c =
     let m : 6 * exp_size (exp_of c.args.e.now) + 2 ≡ t = c.decreases in
-    λ κs lives. (omega arith, (lives, (c.requires.functions, (c.requires.expression, c.requires.fits))))
+    λ κs lives. (falls-two _ t m, (lives, (c.requires.functions, (c.requires.expression, c.requires.fits))))
 
 pub extended_in-returns-then-is_plain-clause-gives : goal.extended_in-returns-then-is_plain-clause-gives
 extended_in-returns-then-is_plain-clause-gives g t c =
@@ -866,7 +868,7 @@ extended_in-returns-then-is_plain-clause-gives g t c =
     let l1 = list_of c.compile_in.new.cells in
     let w = ap (λ (f : Form). f.width) c.form_of.ensures.value in
     let from = c.from.ensures in
-    let width : c.form_of.result.width + c.from.result ≡ (form n e).width + c.args.more = omega (arith, w, from) in
+    let width : c.form_of.result.width + c.from.result ≡ (form n e).width + c.args.more = same-sum _ _ _ _ w from in
     let context : c.unsigned.result ≡ unsigned ((form n e).width + c.args.more) = c.unsigned.ensures ∙ ap unsigned width in
     let plain : is_plain e ≡ true = sym c.is_plain.ensures ∙ c.if-is_plain.true in
     ok-gives c.compile_in.result _ _
@@ -889,7 +891,7 @@ extended_in-returns-clause-gives g t c =
     let a = c.in_ok-slot.slot in
     let w = ap (λ (f : Form). f.width) c.form_of.ensures.value in
     let from = c.from.ensures in
-    let width : c.form_of.result.width + c.from.result ≡ (form n e).width + c.args.more = omega (arith, w, from) in
+    let width : c.form_of.result.width + c.from.result ≡ (form n e).width + c.args.more = same-sum _ _ _ _ w from in
     let plain : is_plain e ≡ false = sym c.is_plain.ensures ∙ c.if-is_plain.false in
     ok-gives c.read.result _ _
     (λ r h files. wide-behind (scope_of c.args.self.now files) body c.args.more at e l0 l1 l2 a r c.if-more-eq0.false plain c.requires.own c.requires.fits (c.in_ok-slot.ensures.gives files)
@@ -936,7 +938,7 @@ repeated_in-returns-then-count-le2-clause-gives g t c =
     let at = env_of c.args.at.now in
     let l0 = list_of c.args.cells.now in
     let l1 = list_of c.parts_in.new.cells in
-    ok-gives c.repeat.result _ _
+    ok-gives c.repeat.result _ (AreGiven (names_of c.args.self.now) (scope_of c.args.self.now) (body_of c.args.self.now) c.args.c (Rep c.args.count (exps_of c.args.parts.now)) (env_of c.args.at.now) (list_of c.args.cells.now) (list_of c.repeat.new.cells))
     (λ r h files. rep-compiles (scope_of c.args.self.now files) c.args.c at (parts_own body es) (in_count n body c.args.c.width (Rep c.args.count es)) c.args.count
     es l0 l1 (list_of c.repeat.new.cells) c.in_ok-all.all r (rep-few n body c.args.count es c.args.c.width) c.requires.wide c.requires.fits
     (holds-plain n at (parts_own body es) (total_width n es) l0 l1 c.in_ok-all.all _ (c.in_ok-all.ensures.gives files)) h)
@@ -978,8 +980,235 @@ repeated_in-returns-clause-gives g t c =
     let own = c.parts_width-own.ensures in
     let few = part-fits c.args.count (total_width n es) c.args.c.width c.requires.some c.requires.wide in
     let width : total_width n es + (c.args.c.width - c.parts_width-own.result) ≡ c.args.c.width = omega (arith, own, few) in
-    ok-gives c.multiply.result _ _
+    ok-gives c.multiply.result _ (AreGiven (names_of c.args.self.now) (scope_of c.args.self.now) (body_of c.args.self.now) c.args.c (Rep c.args.count (exps_of c.args.parts.now)) (env_of c.args.at.now) (list_of c.args.cells.now) (list_of c.multiply.new.cells))
     (λ r h files. rep-multiplies (scope_of c.args.self.now files) c.args.c at (parts_wide body es) (in_count n body c.args.c.width (Rep c.args.count es)) c.args.count c.parts_width-own.result
     es l0 l1 (list_of c.multiply.new.cells) c.in_ok-all-2.all r (rep-many n body c.args.count es c.args.c.width) own c.requires.wide c.requires.fits
     (parts-extended n body (c.args.c.width - c.parts_width-own.result) at es l0 l1 c.in_ok-all-2.all c.args.c.width _ width (c.in_ok-all-2.ensures.gives files)) h)
     c.multiply.ensures.gives
+
+pub own_in-returns-clause-grows : goal.own_in-returns-clause-grows
+own_in-returns-clause-grows g t c = c.compile_in.ensures.grows
+
+pub word_in-returns-in_err-address-clause-grows : goal.word_in-returns-in_err-address-clause-grows
+word_in-returns-in_err-address-clause-grows g t c = c.own_in.ensures.grows
+
+pub word_in-returns-clause-grows : goal.word_in-returns-clause-grows
+word_in-returns-clause-grows g t c =
+    let l0 = list_of c.args.cells.now in
+    let l1 = list_of c.own_in.new.cells in
+    let l2 = list_of c.read_word.new.cells in
+    grows-then l0 l1 l2 c.in_ok-address.ensures.grows c.read_word.ensures.grows
+
+pub pick_in-returns-in_err-base-clause-grows : goal.pick_in-returns-in_err-base-clause-grows
+pick_in-returns-in_err-base-clause-grows g t c = c.own_in.ensures.grows
+
+pub pick_in-returns-in_err-index-clause-grows : goal.pick_in-returns-in_err-index-clause-grows
+pick_in-returns-in_err-index-clause-grows g t c =
+    let l0 = list_of c.args.cells.now in
+    let l1 = list_of c.own_in.new.cells in
+    let l2 = list_of c.own_in-2.new.cells in
+    grows-then l0 l1 l2 c.in_ok-base.ensures.grows c.own_in-2.ensures.grows
+
+pub pick_in-returns-clause-grows : goal.pick_in-returns-clause-grows
+pick_in-returns-clause-grows g t c =
+    let l0 = list_of c.args.cells.now in
+    let l1 = list_of c.own_in.new.cells in
+    let l2 = list_of c.own_in-2.new.cells in
+    let l3 = list_of c.select.new.cells in
+    grows-then l0 l1 l3 c.in_ok-base.ensures.grows (grows-then l1 l2 l3 c.in_ok-index.ensures.grows c.select.ensures.grows)
+
+pub slice_in-returns-in_err-base-clause-grows : goal.slice_in-returns-in_err-base-clause-grows
+slice_in-returns-in_err-base-clause-grows g t c = c.own_in.ensures.grows
+
+pub slice_in-returns-clause-grows : goal.slice_in-returns-clause-grows
+slice_in-returns-clause-grows g t c =
+    let l0 = list_of c.args.cells.now in
+    let l1 = list_of c.own_in.new.cells in
+    let l2 = list_of c.slice.new.cells in
+    grows-then l0 l1 l2 c.in_ok-base.ensures.grows c.slice.ensures.grows
+
+pub unary_in-returns-in_err-a-clause-grows : goal.unary_in-returns-in_err-a-clause-grows
+unary_in-returns-in_err-a-clause-grows g t c = c.compile_in.ensures.grows
+
+pub unary_in-returns-clause-grows : goal.unary_in-returns-clause-grows
+unary_in-returns-clause-grows g t c =
+    let l0 = list_of c.args.cells.now in
+    let l1 = list_of c.compile_in.new.cells in
+    let l2 = list_of c.operate.new.cells in
+    grows-then l0 l1 l2 c.in_ok-a.ensures.grows c.operate.ensures.grows
+
+pub binary_in-returns-in_err-a-clause-grows : goal.binary_in-returns-in_err-a-clause-grows
+binary_in-returns-in_err-a-clause-grows g t c = c.compile_in.ensures.grows
+
+pub binary_in-returns-in_err-b-clause-grows : goal.binary_in-returns-in_err-b-clause-grows
+binary_in-returns-in_err-b-clause-grows g t c =
+    let l0 = list_of c.args.cells.now in
+    let l1 = list_of c.compile_in.new.cells in
+    let l2 = list_of c.compile_in-2.new.cells in
+    grows-then l0 l1 l2 c.in_ok-a.ensures.grows c.compile_in-2.ensures.grows
+
+pub binary_in-returns-clause-grows : goal.binary_in-returns-clause-grows
+binary_in-returns-clause-grows g t c =
+    let l0 = list_of c.args.cells.now in
+    let l1 = list_of c.compile_in.new.cells in
+    let l2 = list_of c.compile_in-2.new.cells in
+    let l3 = list_of c.combine.new.cells in
+    grows-then l0 l1 l3 c.in_ok-a.ensures.grows (grows-then l1 l2 l3 c.in_ok-b.ensures.grows c.combine.ensures.grows)
+
+pub choice_in-returns-in_err-test-clause-grows : goal.choice_in-returns-in_err-test-clause-grows
+choice_in-returns-in_err-test-clause-grows g t c = c.own_in.ensures.grows
+
+pub choice_in-returns-in_err-a-clause-grows : goal.choice_in-returns-in_err-a-clause-grows
+choice_in-returns-in_err-a-clause-grows g t c =
+    let l0 = list_of c.args.cells.now in
+    let l1 = list_of c.own_in.new.cells in
+    let l2 = list_of c.compile_in.new.cells in
+    grows-then l0 l1 l2 c.in_ok-test.ensures.grows c.compile_in.ensures.grows
+
+pub choice_in-returns-in_err-b-clause-grows : goal.choice_in-returns-in_err-b-clause-grows
+choice_in-returns-in_err-b-clause-grows g t c =
+    let l0 = list_of c.args.cells.now in
+    let l1 = list_of c.own_in.new.cells in
+    let l2 = list_of c.compile_in.new.cells in
+    let l3 = list_of c.compile_in-2.new.cells in
+    grows-then l0 l1 l3 c.in_ok-test.ensures.grows (grows-then l1 l2 l3 c.in_ok-a.ensures.grows c.compile_in-2.ensures.grows)
+
+pub choice_in-returns-clause-grows : goal.choice_in-returns-clause-grows
+choice_in-returns-clause-grows g t c =
+    let l0 = list_of c.args.cells.now in
+    let l1 = list_of c.own_in.new.cells in
+    let l2 = list_of c.compile_in.new.cells in
+    let l3 = list_of c.compile_in-2.new.cells in
+    let l4 = list_of c.choose.new.cells in
+    grows-then l0 l1 l4 c.in_ok-test.ensures.grows (grows-then l1 l2 l4 c.in_ok-a.ensures.grows (grows-then l2 l3 l4 c.in_ok-b.ensures.grows c.choose.ensures.grows))
+
+pub extended_in-returns-then-more-eq0-clause-grows : goal.extended_in-returns-then-more-eq0-clause-grows
+extended_in-returns-then-more-eq0-clause-grows g t c = c.own_in.ensures.grows
+
+pub extended_in-returns-then-is_plain-clause-grows : goal.extended_in-returns-then-is_plain-clause-grows
+extended_in-returns-then-is_plain-clause-grows g t c = c.compile_in.ensures.grows
+
+pub extended_in-returns-in_err-slot-clause-grows : goal.extended_in-returns-in_err-slot-clause-grows
+extended_in-returns-in_err-slot-clause-grows g t c = c.own_in-2.ensures.grows
+
+pub extended_in-returns-clause-grows : goal.extended_in-returns-clause-grows
+extended_in-returns-clause-grows g t c =
+    let l0 = list_of c.args.cells.now in
+    let l1 = list_of c.own_in-2.new.cells in
+    let l2 = list_of c.read.new.cells in
+    grows-then l0 l1 l2 c.in_ok-slot.ensures.grows c.read.ensures.grows
+
+pub joined_in-returns-in_err-all-clause-grows : goal.joined_in-returns-in_err-all-clause-grows
+joined_in-returns-in_err-all-clause-grows g t c = c.parts_in.ensures.grows
+
+pub joined_in-returns-clause-grows : goal.joined_in-returns-clause-grows
+joined_in-returns-clause-grows g t c =
+    let l0 = list_of c.args.cells.now in
+    let l1 = list_of c.parts_in.new.cells in
+    let l2 = list_of c.read.new.cells in
+    grows-then l0 l1 l2 c.in_ok-all.ensures.grows c.read.ensures.grows
+
+pub repeated_in-returns-in_err-all-clause-grows : goal.repeated_in-returns-in_err-all-clause-grows
+repeated_in-returns-in_err-all-clause-grows g t c = c.parts_in.ensures.grows
+
+pub repeated_in-returns-then-count-le2-clause-grows : goal.repeated_in-returns-then-count-le2-clause-grows
+repeated_in-returns-then-count-le2-clause-grows g t c =
+    let l0 = list_of c.args.cells.now in
+    let l1 = list_of c.parts_in.new.cells in
+    let l2 = list_of c.repeat.new.cells in
+    grows-then l0 l1 l2 c.in_ok-all.ensures.grows c.repeat.ensures.grows
+
+pub repeated_in-returns-in_err-all-2-clause-grows : goal.repeated_in-returns-in_err-all-2-clause-grows
+repeated_in-returns-in_err-all-2-clause-grows g t c = c.parts_in-2.ensures.grows
+
+pub repeated_in-returns-clause-grows : goal.repeated_in-returns-clause-grows
+repeated_in-returns-clause-grows g t c =
+    let l0 = list_of c.args.cells.now in
+    let l1 = list_of c.parts_in-2.new.cells in
+    let l2 = list_of c.multiply.new.cells in
+    grows-then l0 l1 l2 c.in_ok-all-2.ensures.grows c.multiply.ensures.grows
+
+pub cast_in-returns-in_err-a-clause-grows : goal.cast_in-returns-in_err-a-clause-grows
+cast_in-returns-in_err-a-clause-grows g t c = c.own_in.ensures.grows
+
+pub cast_in-returns-clause-grows : goal.cast_in-returns-clause-grows
+cast_in-returns-clause-grows g t c =
+    let l0 = list_of c.args.cells.now in
+    let l1 = list_of c.own_in.new.cells in
+    let l2 = list_of c.read.new.cells in
+    grows-then l0 l1 l2 c.in_ok-a.ensures.grows c.read.ensures.grows
+
+pub argument_in-returns-in_err-value-clause-grows : goal.argument_in-returns-in_err-value-clause-grows
+argument_in-returns-in_err-value-clause-grows g t c = c.compile_in.ensures.grows
+
+pub argument_in-returns-in_err-cut-clause-grows : goal.argument_in-returns-in_err-cut-clause-grows
+argument_in-returns-in_err-cut-clause-grows g t c =
+    let l0 = list_of c.args.cells.now in
+    let l1 = list_of c.compile_in.new.cells in
+    let l2 = list_of c.read.new.cells in
+    grows-then l0 l1 l2 c.in_ok-value.ensures.grows c.read.ensures.grows
+
+pub argument_in-returns-clause-grows : goal.argument_in-returns-clause-grows
+argument_in-returns-clause-grows g t c =
+    let l0 = list_of c.args.cells.now in
+    let l1 = list_of c.compile_in.new.cells in
+    let l2 = list_of c.read.new.cells in
+    grows-then l0 l1 l2 c.in_ok-value.ensures.grows c.in_ok-cut.ensures.grows
+
+pub call_in-returns-in_err-body-clause-grows : goal.call_in-returns-in_err-body-clause-grows
+call_in-returns-in_err-body-clause-grows g t c = c.begin.ensures.grows
+
+pub call_in-returns-in_err-arguments_in-clause-grows : goal.call_in-returns-in_err-arguments_in-clause-grows
+call_in-returns-in_err-arguments_in-clause-grows g t c =
+    let l0 = list_of c.args.cells.now in
+    let l1 = list_of c.begin.new.cells in
+    let l2 = list_of c.arguments_in.new.cells in
+    grows-then l0 l1 l2 c.in_ok-body.ensures.grows c.arguments_in.ensures.grows
+
+pub call_in-returns-then-self-eq0-clause-grows : goal.call_in-returns-then-self-eq0-clause-grows
+call_in-returns-then-self-eq0-clause-grows g t c = c.nothing.ensures.grows
+
+pub compile_in-returns-in-Num-clause-grows : goal.compile_in-returns-in-Num-clause-grows
+compile_in-returns-in-Num-clause-grows g t c = c.number_in.ensures.grows
+
+pub compile_in-returns-in-Label-clause-grows : goal.compile_in-returns-in-Label-clause-grows
+compile_in-returns-in-Label-clause-grows g t c = c.number_in-in-Label.ensures.grows
+
+pub compile_in-returns-in-Sig-clause-grows : goal.compile_in-returns-in-Sig-clause-grows
+compile_in-returns-in-Sig-clause-grows g t c = c.read_signal.ensures.grows
+
+pub compile_in-returns-in-Word-clause-grows : goal.compile_in-returns-in-Word-clause-grows
+compile_in-returns-in-Word-clause-grows g t c = c.word_in.ensures.grows
+
+pub compile_in-returns-in-Pick-clause-grows : goal.compile_in-returns-in-Pick-clause-grows
+compile_in-returns-in-Pick-clause-grows g t c = c.pick_in.ensures.grows
+
+pub compile_in-returns-in-Slice-clause-grows : goal.compile_in-returns-in-Slice-clause-grows
+compile_in-returns-in-Slice-clause-grows g t c = c.slice_in.ensures.grows
+
+pub compile_in-returns-in-Un-clause-grows : goal.compile_in-returns-in-Un-clause-grows
+compile_in-returns-in-Un-clause-grows g t c = c.unary_in.ensures.grows
+
+pub compile_in-returns-in-Bin-clause-grows : goal.compile_in-returns-in-Bin-clause-grows
+compile_in-returns-in-Bin-clause-grows g t c = c.binary_in.ensures.grows
+
+pub compile_in-returns-in-Cond-clause-grows : goal.compile_in-returns-in-Cond-clause-grows
+compile_in-returns-in-Cond-clause-grows g t c = c.choice_in.ensures.grows
+
+pub compile_in-returns-in-Cat-clause-grows : goal.compile_in-returns-in-Cat-clause-grows
+compile_in-returns-in-Cat-clause-grows g t c = c.joined_in.ensures.grows
+
+pub compile_in-returns-in-Rep-clause-grows : goal.compile_in-returns-in-Rep-clause-grows
+compile_in-returns-in-Rep-clause-grows g t c = c.repeated_in.ensures.grows
+
+pub compile_in-returns-in-Cast-clause-grows : goal.compile_in-returns-in-Cast-clause-grows
+compile_in-returns-in-Cast-clause-grows g t c = c.cast_in.ensures.grows
+
+pub compile_in-returns-in-Call-clause-grows : goal.compile_in-returns-in-Call-clause-grows
+compile_in-returns-in-Call-clause-grows g t c = c.call_in.ensures.grows
+
+pub compile_in-returns-in-Time-clause-grows : goal.compile_in-returns-in-Time-clause-grows
+compile_in-returns-in-Time-clause-grows g t c = c.read.ensures.grows
+
+pub compile_in-returns-in-Sys-clause-grows : goal.compile_in-returns-in-Sys-clause-grows
+compile_in-returns-in-Sys-clause-grows g t c = c.read-in-Sys.ensures.grows

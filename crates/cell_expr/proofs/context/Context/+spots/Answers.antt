@@ -119,3 +119,28 @@ spots_in-targets_in-requires g t c =
     let s = rw e at c.requires.sound in
     let w = rw e at c.requires.apart in
     rw c.deref-in-List.ensures.value (λ κs lives. (omega (arith, m), (lives, (c.requires.functions, (s.1, (w, c.requires.fits))))))
+
+pub targets_in-returns-in_err-spots_in-clause-grows : goal.targets_in-returns-in_err-spots_in-clause-grows
+targets_in-returns-in_err-spots_in-clause-grows g t c =
+    let l0 = list_of c.args.cells.now in
+    let l1 = list_of c.loop-part.cells in
+    let l2 = list_of c.spots_in.new.cells in
+    grows-then l0 l1 l2 c.loop-part.invariant.grows c.spots_in.ensures.grows
+
+pub targets_in-returns-clause-grows : goal.targets_in-returns-clause-grows
+targets_in-returns-clause-grows g t c = c.loop-part.invariant.grows
+
+pub spots_in-returns-in-Sig-clause-grows : goal.spots_in-returns-in-Sig-clause-grows
+spots_in-returns-in-Sig-clause-grows g t c = c.whole_in.ensures.grows
+
+pub spots_in-returns-in-Word-clause-grows : goal.spots_in-returns-in-Word-clause-grows
+spots_in-returns-in-Word-clause-grows g t c = c.whole_in-in-Word.ensures.grows
+
+pub spots_in-returns-in-Slice-clause-grows : goal.spots_in-returns-in-Slice-clause-grows
+spots_in-returns-in-Slice-clause-grows g t c = c.slice_target_in.ensures.grows
+
+pub spots_in-returns-in-Pick-clause-grows : goal.spots_in-returns-in-Pick-clause-grows
+spots_in-returns-in-Pick-clause-grows g t c = c.pick_target_in.ensures.grows
+
+pub spots_in-returns-in-List-clause-grows : goal.spots_in-returns-in-List-clause-grows
+spots_in-returns-in-List-clause-grows g t c = c.targets_in.ensures.grows

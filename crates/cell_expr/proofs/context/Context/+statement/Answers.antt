@@ -2,6 +2,7 @@ use Rattle.cell_expr.proofs.Labelling.{case-does, case-leaves}
 use Rattle.cell_expr.proofs.Listing.{apart-at, then-more, none-left, none-right, list-then, list-both, list-none, waits-at, items-wait-at}
 use Rattle.cell_expr.proofs.Nets.{if-segment, set-segment, later-segment}
 use Rattle.cell_expr.proofs.Sizes.{exp_size, stm_size, items_size, item-part, stm-part}
+use Rattle.cell_expr.proofs.Stepping.{steps-body, steps-item, steps-items, steps-first, steps-second}
 use Rattle.cell_expr.proofs.Trying.{tried-default, tried-item, item-sound, item-segment, item-apart, others-apart, stored-default, stored-item, default-words, default-sound, default-segment, default-apart}
 use Rattle.cell_expr.specs.Bodies.{IsSegment, CanWait}
 use Rattle.cell_expr.specs.Contexts.{names_of, scope_of, body_of}
@@ -18,7 +19,7 @@ use Rattle.cell_paths.proofs.Testing.{does-if}
 use Rattle.cell_paths.proofs.Walking.{does-nop, does-then}
 use Rattle.cell_paths.specs.Envs.{env_of}
 use Rattle.cell_paths.specs.Paths.{Does}
-use Rattle.cell_steps.proofs.Frames.{grows-then}
+use Rattle.cell_steps.proofs.Frames.{grows-same, grows-then}
 use Rattle.cell_steps.specs.Slots.{Nothing}
 use Rattle.std.proofs.Common.{[], ◌≡◌, ◌+◌, ◌++◌, List, drop, ◌∙◌, sym, ap, subst, append-nil, nat_lt, false, ◌*◌, arith, length}
 use Rattle.std.proofs.lemmas.List.{drop_all}
@@ -531,13 +532,13 @@ item_in-statement_in-requires g t c =
     let fits = fits-stays (names_of c.args.self.now) (list_of c.args.cells.now) (list_of c.taken.new.cells) (env_of c.args.at.now) more c.requires.fits in
     let slot = gives-slot Nothing 1 (list_of c.labels_in.new.cells) (list_of c.taken.new.cells) c.in_ok-path.path 1 _ c.in_ok-path.ensures.gives in
     let pending = pending-stays (names_of c.args.self.now) (list_of c.args.cells.now) (list_of c.taken.new.cells) (slots_of c.args.pending.now) more c.requires.pending in
-    λ κs lives. (omega (arith, m), (lives, (c.requires.functions, (c.requires.sound, (c.requires.segment, (c.requires.apart, (fits, (pending, slot))))))))
+    λ κs lives. (steps-body _ t m, (lives, (c.requires.functions, (c.requires.sound, (c.requires.segment, (c.requires.apart, (fits, (pending, slot))))))))
 
 pub try_in-item_in-requires : goal.try_in-item_in-requires
 try_in-item_in-requires g t c =
     let m : 4 * stm_size (stm_of [] c.args.item.now.body) + 3 ≡ t = c.decreases in
     let r = c.requires in
-    λ κs lives. (omega (arith, m), (lives, (r.functions, (r.subject, (r.context, (r.rest, (r.labels, (r.within, (r.sound, (r.segment, (r.apart, (r.fits, r.pending))))))))))))
+    λ κs lives. (steps-item _ t m, (lives, (r.functions, (r.subject, (r.context, (r.rest, (r.labels, (r.within, (r.sound, (r.segment, (r.apart, (r.fits, r.pending))))))))))))
 
 pub items_in-try_in-requires : goal.items_in-try_in-requires
 items_in-try_in-requires g t c =
@@ -569,7 +570,7 @@ case_in-items_in-requires g t c =
     let fits = fits-stays names l0 l1 (env_of c.args.at.now) c.in_ok-subject.ensures.grows c.requires.fits in
     let off = is-slot-stays l0 l1 c.args.off 1 c.in_ok-subject.ensures.grows c.requires.off in
     let pending = pending-stays names l0 l1 (slots_of c.args.pending.now) c.in_ok-subject.ensures.grows c.requires.pending in
-    λ κs lives. (omega (arith, m), (lives, (c.requires.functions, ((c.in_ok-subject.ensures.gives []).slot, (c.items_form-c.ensures.width, (off, (c.requires.sound, (within, (c.requires.segment, (c.requires.apart, (fits, pending)))))))))))
+    λ κs lives. (steps-items _ _ t m, (lives, (c.requires.functions, ((c.in_ok-subject.ensures.gives []).slot, (c.items_form-c.ensures.width, (off, (c.requires.sound, (within, (c.requires.segment, (c.requires.apart, (fits, pending)))))))))))
 
 pub case_in-statement_in-requires : goal.case_in-statement_in-requires
 case_in-statement_in-requires g t c =
@@ -614,7 +615,7 @@ if_in-statement_in-requires g t c =
     let s = c.requires.sound in
     let n = c.requires.segment in
     let pending = pending-stays (names_of c.args.self.now) (list_of c.args.cells.now) l2 (slots_of c.args.pending.now) more c.requires.pending in
-    λ κs lives. (omega (arith, m), (lives, (c.requires.functions, (s.1, (n.0, (none-left _ _ c.requires.apart, (fits, (pending, gives-slot Nothing 2 l1 l2 c.in_ok-yes.yes 1 _ c.in_ok-yes.ensures.first))))))))
+    λ κs lives. (steps-first _ _ _ t m, (lives, (c.requires.functions, (s.1, (n.0, (none-left _ _ c.requires.apart, (fits, (pending, gives-slot Nothing 2 l1 l2 c.in_ok-yes.yes 1 _ c.in_ok-yes.ensures.first))))))))
 
 pub if_in-statement_in-requires-2 : goal.if_in-statement_in-requires-2
 if_in-statement_in-requires-2 g t c =
@@ -629,7 +630,7 @@ if_in-statement_in-requires-2 g t c =
     let apart = apart-at c.args.at.now.first c.statement_in.new.at.first (stm_of [] c.args.second.now) d.keeps.first (none-right _ _ c.requires.apart) in
     let leaves = c.in_ok-statement_in.ensures.leaves [] in
     let segment = waits-at (names_of c.args.self.now) (length c.args.pending.now.update.items) (length c.statement_in.new.pending.update.items) (stm_of [] c.args.second.now) leaves.many n.1 in
-    λ κs lives. (omega (arith, m), (lives, (c.requires.functions, (s.2, (segment, (apart, (d.fits, (leaves.pending, off))))))))
+    λ κs lives. (steps-second _ _ _ t m, (lives, (c.requires.functions, (s.2, (segment, (apart, (d.fits, (leaves.pending, off))))))))
 
 pub statement_in-list_in-requires : goal.statement_in-list_in-requires
 statement_in-list_in-requires g t c =
@@ -657,3 +658,139 @@ statement_in-case_in-requires g t c =
     let n = rw e at c.requires.segment in
     let w = rw e at c.requires.apart in
     rw c.deref-in-Case.ensures.value (λ κs lives. (omega (arith, m), (lives, (c.requires.functions, (s.0, (s.1, (n, (w, (c.requires.fits, (c.requires.pending, c.requires.off))))))))))
+
+-- ---- lists of cells that grow, and slots that stay
+
+pub item_in-taken-requires-clause-before : goal.item_in-taken-requires-clause-before
+item_in-taken-requires-clause-before g t c = is-slot-stays (list_of c.args.cells.now) (list_of c.labels_in.new.cells) c.args.rest 1 c.in_ok-behind.ensures.grows c.requires.rest
+
+pub item_in-taken-requires-clause-away : goal.item_in-taken-requires-clause-away
+item_in-taken-requires-clause-away g t c = (fits-stays (names_of c.args.self.now) (list_of c.args.cells.now) (list_of c.labels_in.new.cells) (env_of c.args.at.now) c.in_ok-behind.ensures.grows c.requires.fits).away
+
+pub if_in-branches-requires-clause-off : goal.if_in-branches-requires-clause-off
+if_in-branches-requires-clause-off g t c = is-slot-stays (list_of c.args.cells.now) (list_of c.own_in.new.cells) c.args.off 1 c.in_ok-test.ensures.grows c.requires.off
+
+pub if_in-branches-requires-clause-away : goal.if_in-branches-requires-clause-away
+if_in-branches-requires-clause-away g t c = (fits-stays (names_of c.args.self.now) (list_of c.args.cells.now) (list_of c.own_in.new.cells) (env_of c.args.at.now) c.in_ok-test.ensures.grows c.requires.fits).away
+
+pub item_in-returns-in_err-behind-clause-grows : goal.item_in-returns-in_err-behind-clause-grows
+item_in-returns-in_err-behind-clause-grows g t c = c.labels_in.ensures.grows
+
+pub item_in-returns-in_err-path-clause-grows : goal.item_in-returns-in_err-path-clause-grows
+item_in-returns-in_err-path-clause-grows g t c =
+    let l0 = list_of c.args.cells.now in
+    let l1 = list_of c.labels_in.new.cells in
+    let l2 = list_of c.taken.new.cells in
+    grows-then l0 l1 l2 c.in_ok-behind.ensures.grows c.taken.ensures.grows
+
+pub item_in-returns-in_err-statement_in-clause-grows : goal.item_in-returns-in_err-statement_in-clause-grows
+item_in-returns-in_err-statement_in-clause-grows g t c =
+    let l0 = list_of c.args.cells.now in
+    let l1 = list_of c.labels_in.new.cells in
+    let l2 = list_of c.taken.new.cells in
+    let l3 = list_of c.statement_in.new.cells in
+    grows-then l0 l1 l3 c.in_ok-behind.ensures.grows (grows-then l1 l2 l3 c.in_ok-path.ensures.grows c.statement_in.ensures.grows)
+
+pub item_in-returns-clause-grows : goal.item_in-returns-clause-grows
+item_in-returns-clause-grows g t c =
+    let l0 = list_of c.args.cells.now in
+    let l1 = list_of c.labels_in.new.cells in
+    let l2 = list_of c.taken.new.cells in
+    let l3 = list_of c.statement_in.new.cells in
+    grows-then l0 l1 l3 c.in_ok-behind.ensures.grows (grows-then l1 l2 l3 c.in_ok-path.ensures.grows c.in_ok-statement_in.ensures.grows)
+
+pub try_in-returns-then-is_empty-clause-grows : goal.try_in-returns-then-is_empty-clause-grows
+try_in-returns-then-is_empty-clause-grows g t c = grows-same (list_of c.args.cells.now)
+
+pub try_in-returns-else-is_empty-clause-grows : goal.try_in-returns-else-is_empty-clause-grows
+try_in-returns-else-is_empty-clause-grows g t c = c.item_in.ensures.grows
+
+pub items_in-returns-in_err-rest-clause-grows : goal.items_in-returns-in_err-rest-clause-grows
+items_in-returns-in_err-rest-clause-grows g t c =
+    let l0 = list_of c.args.cells.now in
+    let l1 = list_of c.loop-item.cells in
+    let l2 = list_of c.try_in.new.cells in
+    grows-then l0 l1 l2 c.loop-item.invariant.grows c.try_in.ensures.grows
+
+pub items_in-returns-clause-grows : goal.items_in-returns-clause-grows
+items_in-returns-clause-grows g t c = c.loop-item.invariant.grows
+
+pub case_in-returns-in_err-subject-clause-grows : goal.case_in-returns-in_err-subject-clause-grows
+case_in-returns-in_err-subject-clause-grows g t c = c.compile_in.ensures.grows
+
+pub case_in-returns-in_err-rest-clause-grows : goal.case_in-returns-in_err-rest-clause-grows
+case_in-returns-in_err-rest-clause-grows g t c =
+    let l0 = list_of c.args.cells.now in
+    let l1 = list_of c.compile_in.new.cells in
+    let l2 = list_of c.items_in.new.cells in
+    grows-then l0 l1 l2 c.in_ok-subject.ensures.grows c.items_in.ensures.grows
+
+pub case_in-returns-in-None-clause-grows : goal.case_in-returns-in-None-clause-grows
+case_in-returns-in-None-clause-grows g t c =
+    let l0 = list_of c.args.cells.now in
+    let l1 = list_of c.compile_in.new.cells in
+    let l2 = list_of c.items_in.new.cells in
+    grows-then l0 l1 l2 c.in_ok-subject.ensures.grows c.in_ok-rest.ensures.grows
+
+pub case_in-returns-in-Some-clause-grows : goal.case_in-returns-in-Some-clause-grows
+case_in-returns-in-Some-clause-grows g t c =
+    let l0 = list_of c.args.cells.now in
+    let l1 = list_of c.compile_in.new.cells in
+    let l2 = list_of c.items_in.new.cells in
+    let l3 = list_of c.statement_in.new.cells in
+    grows-then l0 l1 l3 c.in_ok-subject.ensures.grows (grows-then l1 l2 l3 c.in_ok-rest.ensures.grows c.statement_in.ensures.grows)
+
+pub list_in-returns-in_err-statement_in-clause-grows : goal.list_in-returns-in_err-statement_in-clause-grows
+list_in-returns-in_err-statement_in-clause-grows g t c =
+    let l0 = list_of c.args.cells.now in
+    let l1 = list_of c.loop-item.cells in
+    let l2 = list_of c.statement_in.new.cells in
+    grows-then l0 l1 l2 c.loop-item.invariant.grows c.statement_in.ensures.grows
+
+pub list_in-returns-clause-grows : goal.list_in-returns-clause-grows
+list_in-returns-clause-grows g t c = c.loop-item.invariant.grows
+
+pub if_in-returns-in_err-test-clause-grows : goal.if_in-returns-in_err-test-clause-grows
+if_in-returns-in_err-test-clause-grows g t c = c.own_in.ensures.grows
+
+pub if_in-returns-in_err-yes-clause-grows : goal.if_in-returns-in_err-yes-clause-grows
+if_in-returns-in_err-yes-clause-grows g t c =
+    let l0 = list_of c.args.cells.now in
+    let l1 = list_of c.own_in.new.cells in
+    let l2 = list_of c.branches.new.cells in
+    grows-then l0 l1 l2 c.in_ok-test.ensures.grows c.branches.ensures.grows
+
+pub if_in-returns-in_err-statement_in-clause-grows : goal.if_in-returns-in_err-statement_in-clause-grows
+if_in-returns-in_err-statement_in-clause-grows g t c =
+    let l0 = list_of c.args.cells.now in
+    let l1 = list_of c.own_in.new.cells in
+    let l2 = list_of c.branches.new.cells in
+    let l3 = list_of c.statement_in.new.cells in
+    grows-then l0 l1 l3 c.in_ok-test.ensures.grows (grows-then l1 l2 l3 c.in_ok-yes.ensures.grows c.statement_in.ensures.grows)
+
+pub if_in-returns-clause-grows : goal.if_in-returns-clause-grows
+if_in-returns-clause-grows g t c =
+    let l0 = list_of c.args.cells.now in
+    let l1 = list_of c.own_in.new.cells in
+    let l2 = list_of c.branches.new.cells in
+    let l3 = list_of c.statement_in.new.cells in
+    let l4 = list_of c.statement_in-2.new.cells in
+    grows-then l0 l1 l4 c.in_ok-test.ensures.grows (grows-then l1 l2 l4 c.in_ok-yes.ensures.grows (grows-then l2 l3 l4 c.in_ok-statement_in.ensures.grows c.statement_in-2.ensures.grows))
+
+pub statement_in-returns-in-Nop-clause-grows : goal.statement_in-returns-in-Nop-clause-grows
+statement_in-returns-in-Nop-clause-grows g t c = grows-same (list_of c.args.cells.now)
+
+pub statement_in-returns-in-Seq-clause-grows : goal.statement_in-returns-in-Seq-clause-grows
+statement_in-returns-in-Seq-clause-grows g t c = c.list_in.ensures.grows
+
+pub statement_in-returns-in-If-clause-grows : goal.statement_in-returns-in-If-clause-grows
+statement_in-returns-in-If-clause-grows g t c = c.if_in.ensures.grows
+
+pub statement_in-returns-in-Case-clause-grows : goal.statement_in-returns-in-Case-clause-grows
+statement_in-returns-in-Case-clause-grows g t c = c.case_in.ensures.grows
+
+pub statement_in-returns-in-Set-clause-grows : goal.statement_in-returns-in-Set-clause-grows
+statement_in-returns-in-Set-clause-grows g t c = c.set_in.ensures.grows
+
+pub statement_in-returns-in-Later-clause-grows : goal.statement_in-returns-in-Later-clause-grows
+statement_in-returns-in-Later-clause-grows g t c = c.later_in.ensures.grows

@@ -1,3 +1,4 @@
+use Rattle.cell_steps.proofs.Frames.{grows-same}
 use Rattle.std.proofs.Common.{ap}
 use Rattle.vl_design.specs.declared.design.Form.{Form}
 use Rattle.vl_design.specs.Trees.{exp_of}
@@ -29,3 +30,12 @@ returns-in_ok-slot-in-Word-clause-based g c = λ files.
     let gives = rw c.deref-in-Word.ensures at (c.in_ok-slot-in-Word.ensures.gives files) in
     let form = rw c.deref.ensures at c.form_of-signed.ensures.value in
     rw e (based-word (scope_of c.args.self.now files) (env_of c.args.at.now) (own_count (body_of c.args.self.now) a) c.in-Word.memory c.in_ok-slot-in-Word.slot a c.form_of-signed.result.signed (list_of c.args.cells.now) (list_of c.own_in.new.cells) sound.0 (ap (λ (f : Form). f.signed) form) gives)
+
+pub returns-in-Sig-clause-grows : goal.returns-in-Sig-clause-grows
+returns-in-Sig-clause-grows g c = grows-same (list_of c.args.cells.now)
+
+pub returns-in_err-slot-in-Word-clause-grows : goal.returns-in_err-slot-in-Word-clause-grows
+returns-in_err-slot-in-Word-clause-grows g c = c.own_in.ensures.grows
+
+pub returns-in_ok-slot-in-Word-clause-grows : goal.returns-in_ok-slot-in-Word-clause-grows
+returns-in_ok-slot-in-Word-clause-grows g c = c.in_ok-slot-in-Word.ensures.grows

@@ -1,3 +1,4 @@
+use Rattle.cell_steps.proofs.Frames.{grows-then}
 use Rattle.std.proofs.Common.{◌≡◌, ◌+◌, ◌++◌, ◌∙◌, [], map, ap, true}
 use Rattle.std.proofs.lemmas.Result.{on_ok_weaker}
 use Rattle.vl_design.specs.Targets.{updates_at}
@@ -78,3 +79,13 @@ returns-clause-sites g c =
     on_ok_weaker c.delay_all.result
     (λ (h : ns ≡ ms ++ stored_by c.source_in.new.spots.items). h ∙ ap (λ xs. ms ++ xs) (c.in_ok-value.ensures.assigned []).words)
     (rw c.deref.ensures.value at c.delay_all.ensures.sites)
+
+pub returns-in_err-value-clause-grows : goal.returns-in_err-value-clause-grows
+returns-in_err-value-clause-grows g c = c.source_in.ensures.grows
+
+pub returns-clause-grows : goal.returns-clause-grows
+returns-clause-grows g c =
+    let l0 = list_of c.args.cells.now in
+    let l1 = list_of c.source_in.new.cells in
+    let l2 = list_of c.delay_all.new.cells in
+    grows-then l0 l1 l2 c.in_ok-value.ensures.grows c.delay_all.ensures.grows

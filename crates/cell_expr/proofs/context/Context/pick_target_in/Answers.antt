@@ -1,3 +1,4 @@
+use Rattle.cell_steps.proofs.Frames.{grows-then}
 use Rattle.std.proofs.Common.{◌≡◌, ◌++◌, [], ◌∷◌, refl}
 use Rattle.std.proofs.lemmas.Result.{on_ok_weaker}
 use Rattle.vl_design.specs.Trees.{exp_of, target_of}
@@ -30,3 +31,20 @@ returns-clause-spotted g c =
     (c.in_ok-base.ensures.based files) (own_count body e) e c.args.from c.args.width c.in_ok-index.index signed (list_of c.own_in.new.cells) c.requires.fits c.requires.sound.0
     (rw c.form_of-signed.ensures.value refl) (c.in_ok-index.ensures.gives files) are)
     c.add_spot.ensures
+
+pub returns-in_err-base-clause-grows : goal.returns-in_err-base-clause-grows
+returns-in_err-base-clause-grows g c = c.base_in.ensures.grows
+
+pub returns-in_err-index-clause-grows : goal.returns-in_err-index-clause-grows
+returns-in_err-index-clause-grows g c =
+    let l0 = list_of c.args.cells.now in
+    let l1 = list_of c.base_in.new.cells in
+    let l2 = list_of c.own_in.new.cells in
+    grows-then l0 l1 l2 c.in_ok-base.ensures.grows c.own_in.ensures.grows
+
+pub returns-clause-grows : goal.returns-clause-grows
+returns-clause-grows g c =
+    let l0 = list_of c.args.cells.now in
+    let l1 = list_of c.base_in.new.cells in
+    let l2 = list_of c.own_in.new.cells in
+    grows-then l0 l1 l2 c.in_ok-base.ensures.grows c.in_ok-index.ensures.grows

@@ -1,3 +1,4 @@
+use Rattle.cell_steps.proofs.Frames.{grows-then}
 use Rattle.std.proofs.Common.{◌+◌, ◌∙◌, [], map, false}
 use Rattle.std.proofs.lemmas.Result.{on_ok_weaker}
 use Rattle.vl_design.specs.Targets.{updates_at}
@@ -49,3 +50,13 @@ returns-clause-does g c =
     (λ (u : Updates (names_of ctx) (cells_of false spots) (λ b. updates_at (map (spot_in (names_of ctx).rows b l1) spots) (held b l1 slot)) c.args.off at at' l1 l2) files.
     set-does (scope_of ctx files) target e (exp_count body e + indices_count body target) slot spots at l0 l1 l2 c.requires.fits (c.in_ok-value.ensures.assigned files) c.args.off at' c.requires.off.there u)
     (rw c.deref.ensures.value at c.assign_all.ensures.updates)
+
+pub returns-in_err-value-clause-grows : goal.returns-in_err-value-clause-grows
+returns-in_err-value-clause-grows g c = c.source_in.ensures.grows
+
+pub returns-clause-grows : goal.returns-clause-grows
+returns-clause-grows g c =
+    let l0 = list_of c.args.cells.now in
+    let l1 = list_of c.source_in.new.cells in
+    let l2 = list_of c.assign_all.new.cells in
+    grows-then l0 l1 l2 c.in_ok-value.ensures.grows c.assign_all.ensures.grows

@@ -25,3 +25,9 @@ returns-clause-spotted g c =
     spotted-slice (scope_of c.args.self.now files) (env_of c.args.at.now) before after (indices_count (body_of c.args.self.now) t) t base.signal base.word (list_of c.args.cells.now) (list_of c.base_in.new.cells)
     (c.in_ok-base.ensures.based files) c.args.low c.args.low c.args.width c.requires.sound.0 refl (are ∙ ap (λ (z : Place). before ++ p z ∷ []) same))
     c.add_spot.ensures
+
+pub returns-in_err-base-clause-grows : goal.returns-in_err-base-clause-grows
+returns-in_err-base-clause-grows g c = c.base_in.ensures.grows
+
+pub returns-clause-grows : goal.returns-clause-grows
+returns-clause-grows g c = c.in_ok-base.ensures.grows

@@ -1,3 +1,4 @@
+use Rattle.cell_steps.proofs.Frames.{grows-then}
 use Rattle.std.proofs.Common.{subst}
 use Rattle.vl_design.specs.declared.design.Form.{Form}
 use Rattle.vl_design.specs.Targets.{target_width}
@@ -48,3 +49,20 @@ returns-clause-assigned g c = λ files.
     let value-is = subst (λ (z : Form). Compiles names scope n e z at l0 l1 slot) is wider in
     let spotted = spotted-first names m at l1 l2 c.args.spots.now.items c.spots_in.new.spots.items (target_width names target) (parts_count target) (target_stored target) _ c.requires.none (c.in_ok-spots_in.ensures.spotted files) in
     are-assigned scope target e n m slot c.spots_in.new.spots.items at l0 l1 l2 c.requires.target c.requires.source c.requires.fits value-is spotted
+
+pub returns-in_err-value-clause-grows : goal.returns-in_err-value-clause-grows
+returns-in_err-value-clause-grows g c = c.compile_in.ensures.grows
+
+pub returns-in_err-spots_in-clause-grows : goal.returns-in_err-spots_in-clause-grows
+returns-in_err-spots_in-clause-grows g c =
+    let l0 = list_of c.args.cells.now in
+    let l1 = list_of c.compile_in.new.cells in
+    let l2 = list_of c.spots_in.new.cells in
+    grows-then l0 l1 l2 c.in_ok-value.ensures.grows c.spots_in.ensures.grows
+
+pub returns-clause-grows : goal.returns-clause-grows
+returns-clause-grows g c =
+    let l0 = list_of c.args.cells.now in
+    let l1 = list_of c.compile_in.new.cells in
+    let l2 = list_of c.spots_in.new.cells in
+    grows-then l0 l1 l2 c.in_ok-value.ensures.grows c.in_ok-spots_in.ensures.grows

@@ -1,0 +1,4 @@
+use Rattle.vl_parse.proofs.declarations.group_grow.Goals as goal
+
+pub returns-clause-shorter : goal.returns-clause-shorter
+returns-clause-shorter c = c.in_ok-kind.ensures.shorter _ (c.pushed-grown.ensures.shorter _ c.parameter_assignment.ensures.shorter)

@@ -2,8 +2,8 @@
 """Runs random scripts (random_scripts.py) by a built fabhost, and checks what it prints and writes:
 
 1. two runs of a script without free orders give the same bytes, status and files;
-2. so do a run on one processor and, as root, one that can make no thread (another user whose limit of processes is 1); for scripts
-   with free orders these are judged by the other checks instead;
+2. so do a run on one processor and, as root, one that can make no thread beside the one in which it runs (another user whose limit of
+   processes is 2); for scripts with free orders these are judged by the other checks instead;
 3. each tenant that isn't refused for its cost has the block (status, ticks, cycles and bytes; or the refusal) and the snapshots that
    it has alone on a large fabric, with its errands but for moves, and with the free stops and saves that were done, at their ticks;
    a refusal for cost comes exactly where the cost, as a fabric of 0 0 0 refuses it, doesn't fit;
@@ -78,7 +78,7 @@ class Runner:
 
             def drop():
                 resource.setrlimit(resource.RLIMIT_CORE, (0, 0))
-                resource.setrlimit(resource.RLIMIT_NPROC, (1, 1))
+                resource.setrlimit(resource.RLIMIT_NPROC, (2, 2))
                 os.setgroups([])
                 os.setgid(user)
                 os.setuid(user)

@@ -4,7 +4,7 @@
     try_icarus.py [--program FILE] [--seeds 1-5] [--count 200] [--keep FOLDER] [--show SEED/NUMBER]
 
 The sources have registers, nets, memories, parameters, functions, instances and blocks of all kinds, with expressions of mixed widths
-and signs, and print values by most items of formats. They avoid what the two mean differently on purpose: indices out of range and
+and signs, and print values by most items of formats; one in ten reads files of bytes and of memory words. They avoid what the two mean differently on purpose: indices out of range and
 division by zero (x there), values before the second tick (a register without a value is x there), orders that the standard leaves
 open, `%s`, and `%d` of a signed bit (which Icarus prints in one column and not in two); and where Icarus departs from the standard:
 connections that are wider than their operands (sized for themselves there, and `$signed` and `$unsigned` passed over), divisions in
@@ -295,13 +295,19 @@ class Source:
         names = inputs + [local]
         body = [f"l = {self.expression(2, inputs, False)};", f"{result.name} = {self.expression(2, names, False)};"]
         body += [self.statement(2, [result, local], names + [result], "=") for _ in range(draw.randint(0, 2))]
+        if draw.random() < 0.3:
+            inside = self.statement(1, [result, local], names + [result, Signal("i", 32, True)], "=")
+            body.append(f"for (i = {draw.randint(0, 2)}; i < {draw.randint(2, 6)}; i = i + 1) {inside}")
         lines = [f"  function {result.declared()}{result.name}({', '.join(f'input {it.declared()}{it.name}' for it in inputs)});"]
-        lines += [f"    reg {local.declared()}l;", "    begin"] + [f"      {it}" for it in body] + ["    end", "  endfunction"]
+        lines += [f"    reg {local.declared()}l; integer i;", "    begin"] + [f"      {it}" for it in body] + ["    end", "  endfunction"]
         self.functions.append((result.name, inputs))
         return lines
 
+    def edge(self):
+        return self.random.choice(["posedge", "posedge", "negedge"])
+
     def inner(self, number):
-        """A module with two inputs, an output net, one of a register, and a parameter."""
+        """A module with two inputs, an output net, one of a register, and a parameter, which may hold the one before it."""
         draw = self.random
         a, b, y, q = (self.signal(it) for it in "abyq")
         functions, parameters, memories = self.functions, self.parameters, self.memories
@@ -309,9 +315,13 @@ class Source:
         names = [a, b]
         lines = [f"module s{number} #(parameter P = {self.literal(32)}) (input wire clk, input {a.declared()}a, input {b.declared()}b,"]
         lines += [f"    output {y.declared()}y, output reg {q.declared()}q);", "  reg [4:0] t; initial t = 0;", "  initial q = 0;"]
+        if number > 0 and draw.random() < 0.5:
+            z, h = self.signal("z"), self.signal("h")
+            lines += [f"  wire {z.declared()}z; wire {h.declared()}h;", f"  s{number - 1} #(.P({self.literal(32)})) i(clk, {{b}}, {{a}}, z, h);"]
+            names += [z, h]
         lines += [f"  assign y = {self.expression(3, names, False)};"]
-        lines += ["  always @(posedge clk) begin", "    t <= t + 1;"]
-        lines += [f"    if (t > 1) q <= {self.expression(3, names + [q, y], False)};", "  end", "endmodule"]
+        lines.append("  always @(posedge clk) t <= t + 1;")
+        lines += [f"  always @({self.edge()} clk) if (t > 1) q <= {self.expression(3, names + [q, y], False)};", "endmodule"]
         self.functions, self.parameters, self.memories = functions, parameters, memories
         return lines, (a, b, y, q)
 
@@ -341,7 +351,7 @@ class Source:
             else:
                 body += [f"  wire {net.declared()}{net.name};", f"  assign {net.name} = {self.expression(3, seen, False)};"]
             seen.append(net)
-        for at in range(draw.randint(0, 2)):
+        for at in range(draw.randint(0, 3)):
             lines, (a, b, y, q) = self.inner(at)
             modules += lines
             out, held = self.signal(f"y{at}"), self.signal(f"q{at}")
@@ -369,7 +379,8 @@ class Source:
             memory = self.memories[0] if self.memories and at == 0 else None
             own = self.signal(f"b{at}")
             lines += [f"  reg {own.declared()}{own.name}; initial {own.name} = {self.literal()};", f"  integer i{at};"]
-            lines += ["  always @(posedge clk) begin"] + ["    t <= t + 1;"] * (at == 0) + ["    if (t > 1) begin"]
+            edge = "posedge" if at == 0 else self.edge()
+            lines += [f"  always @({edge} clk) begin"] + ["    t <= t + 1;"] * (at == 0) + ["    if (t > 1) begin"]
             lines.append(f"      {own.name} = {self.expression(3, seen)};")
             inner = seen + [own]
             for _ in range(draw.randint(1, 3)):
@@ -386,11 +397,73 @@ class Source:
         return lines
 
 
+class Reader:
+    """A random source that reads two random files: bytes, and words of a memory."""
+
+    WORDS = 16
+
+    def __init__(self, seed):
+        self.random = random.Random(f"files {seed}")
+        draw = self.random
+        self.width = draw.choice([4, 7, 8, 12, 16, 31, 32, 33, 64])
+        self.widths = [draw.choice([8, 16, 24, 32, 40, 64, 128, 3, 9, 12, 31, 100]) for _ in range(4)]
+        self.files = {"F": self.bytes(), "H": self.words()}
+
+    def bytes(self):
+        draw = self.random
+        return bytes(draw.choice([draw.randrange(256), 0, 255, 10, 65]) for _ in range(draw.randint(0, 120)))
+
+    def words(self):
+        draw = self.random
+        found, at = "", 0
+        for _ in range(draw.randint(1, 14)):
+            kind = draw.random()
+            if kind < 0.15:
+                at = draw.randrange(self.WORDS)
+                found += f"@{at:x} "
+            elif kind < 0.32:
+                found += draw.choice(["// a line\n", "/* some\n 12 */ "])
+            elif at < self.WORDS:
+                word = f"{draw.randrange(1 << self.width):x}"
+                word = f"{word[0]}_{word[1:]}" if len(word) > 2 and draw.random() < 0.3 else word
+                found += draw.choice([word, word.upper()]) + draw.choice([" ", "\n", "\t", "  \n"])
+                at += 1
+        return found.encode()
+
+    def step(self):
+        draw = self.random
+        name = f"v{draw.randrange(4)}"
+        return draw.choice([
+            'c = $fgetc(fd); $display("c %0d %h", c, c);',
+            f'c = $fread({name}, fd); $display("n %0d %h %d", c, {name}, {name});',
+            'c = $feof(fd); $display("e %0d", c != 0);',
+        ])
+
+    def text(self):
+        draw = self.random
+        lines = ["module m(input wire clk);", "  integer fd, gone, c; reg [4:0] t;", f"  reg [{self.width - 1}:0] words [0:{self.WORDS - 1}];"]
+        lines += [f"  initial words[{at}] = {at};" for at in range(self.WORDS)]
+        for at, width in enumerate(self.widths):
+            lines.append(f"  reg {draw.choice(['', 'signed '])}[{width - 1}:0] v{at}; initial v{at} = 0;")
+        lines.append('  initial begin t = 0; fd = $fopen("F", "rb"); gone = $fopen("none", "r"); $readmemh("H", words); end')
+        lines += ["  always @(posedge clk) begin", "    t <= t + 1;", '    $display("w %h %0d", words[t[3:0]], gone);']
+        lines += [f"    {self.step()}" for _ in range(draw.randint(2, 5))]
+        return "\n".join(lines + [f"    if (t == {TICKS - 2}) $fclose(fd);", "  end", "endmodule", ""])
+
+
+def source_of(seed):
+    """The source of a seed, and the files that it reads: one in ten reads some."""
+    if int(seed.split("/")[1]) % 10 == 9:
+        found = Reader(seed)
+        return found.text(), found.files
+    return Source(seed).text(), {}
+
+
 BENCH = f"""
 module bench;
-  reg clk;
+  reg clk = 0;
   m u(clk);
-  initial begin clk = 0; #1; repeat ({TICKS}) begin #1 clk = 1; #1 clk = 0; end $finish; end
+  initial begin #1; repeat ({TICKS}) begin #1 clk = 1; #1 clk = 0; end $finish; end
 endmodule
 """
 
@@ -415,13 +488,14 @@ def by_icarus(folder):
     if b"Program not runnable" in out:
         return None, out.decode()
     lines = out.split(b"\n")
-    return b"\n".join(it for it in lines if b"$finish called" not in it), ""
+    return b"\n".join(it for it in lines if b"$finish called" not in it and not it.startswith(b"WARNING")), ""
 
 
-def compare(program, folder, text):
+def compare(program, folder, text, files):
     """'same', 'refused' with the line, or what differs."""
-    for name, content in (("s.v", text), ("bench.v", BENCH), ("s.script", f"fabric F 1000000000 1000000000 1000000000\ntenant T s.v F {TICKS}\n")):
-        with open(f"{folder}/{name}", "w") as file:
+    script = f"fabric F 1000000000 1000000000 1000000000\ntenant T s.v F {TICKS}\n" + "".join(f"file T {it} {it}\n" for it in files)
+    for name, content in {"s.v": text.encode(), "bench.v": BENCH.encode(), "s.script": script.encode(), **files}.items():
+        with open(f"{folder}/{name}", "wb") as file:
             file.write(content)
     own, refusal = by_fabhost(program, folder)
     if own is None:
@@ -443,17 +517,17 @@ def main():
     parser.add_argument("--show")
     given = parser.parse_args()
     if given.show:
-        print(Source(given.show).text())
+        print(source_of(given.show)[0])
         return 0
     first, _, last = given.seeds.partition("-")
     program, wrong = os.path.abspath(given.program), 0
     for seed in range(int(first), int(last or first) + 1):
         counts = {}
         for number in range(given.count):
-            text = Source(f"{seed}/{number}").text()
+            text, files = source_of(f"{seed}/{number}")
             folder = tempfile.mkdtemp(prefix="try-icarus-")
             try:
-                kind, detail = compare(program, folder, text)
+                kind, detail = compare(program, folder, text, files)
                 counts[kind] = counts.get(kind, 0) + 1
                 if kind == "refused":
                     why = " ".join(detail.split()[4:])
@@ -462,7 +536,7 @@ def main():
                 if kind in ("differs", "columns", "not taken"):
                     kept = f"{given.keep}/{seed}-{number}"
                     os.makedirs(kept, exist_ok=True)
-                    for name in ("s.v", "bench.v", "s.script"):
+                    for name in ("s.v", "bench.v", "s.script", *files):
                         shutil.copy(f"{folder}/{name}", kept)
                     if kind != "not taken":
                         for name, content in zip(("own", "icarus"), detail):

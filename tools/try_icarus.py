@@ -10,8 +10,9 @@ open, `%s`, and `%d` of a signed bit (which Icarus prints in one column and not 
 connections that are wider than their operands (sized for themselves there, and `$signed` and `$unsigned` passed over), divisions in
 nets (0 there where they are wide), numbers without a size (which have more than 32 bits there), constant conditions of `?:` (the
 other branch gives no width and no sign there), `$signed` and `$unsigned` of constants and of a `casez`'s subject (passed over there),
-shifts of truths (of one bit there), selects of all bits of a signed net (signed there), and labels of a `casez` of which some are
-signed (the subject is extended by its sign there). A line a seed. Counted are also sources that fabhost refuses, those that Icarus
+shifts of truths (of one bit there), selects of all bits of a signed net (signed there), labels of a `casez` of which some are
+signed (the subject is extended by its sign there), constant strings (cut to 32 bits or to a byte there), and writes to wide vectors
+partly out of bounds (to other bits there). A line a seed. Counted are also sources that fabhost refuses, those that Icarus
 doesn't take, and those where blanks alone differ. At a difference the source is kept in FOLDER with both outputs, and the status is 1.
 """
 import argparse
@@ -48,11 +49,17 @@ class Signal:
         self.name, self.width, self.signed = name, width, signed
         self.left, self.right = (width - 1 if left is None else left), right
         self.scalar = False
+        self.range = None
 
     def declared(self):
-        if self.scalar:
-            return "signed " * self.signed
-        return "signed " * self.signed + f"[{self.left}:{self.right}] "
+        """The sign and the range of the declaration; a range that a parameter gives has no bounds to select by."""
+        if self.range is not None:
+            return "signed " * self.signed + self.range
+        return "signed " * self.signed + ("" if self.scalar else f"[{self.left}:{self.right}] ")
+
+    def variable(self):
+        """The declaration of a variable."""
+        return f"integer {self.name};" if self.range == "integer" else f"reg {self.declared()}{self.name};"
 
 
 class Source:
@@ -100,7 +107,7 @@ class Source:
     def select(self, names):
         """A select of a vector, within its bounds."""
         draw = self.random
-        found = draw.choice([it for it in names if not it.scalar] or [None])
+        found = draw.choice([it for it in names if not it.scalar and it.range in (None, "integer")] or [None])
         if found is None:
             return self.literal()
         low, high = min(found.left, found.right), max(found.left, found.right)
@@ -161,6 +168,9 @@ class Source:
         draw = self.random
         deeper = lambda: self.expression(depth - 1, names, memories)
         kind = draw.random()
+        if names and 0.179 < kind < 0.19:
+            name = draw.choice(names).name
+            return '({"' + "".join(draw.choice("abcXYZ 019") for _ in range(draw.randint(1, 4))) + f'"}} ^ {name} ^ {name})'
         if depth <= 0 or kind < 0.18:
             return draw.choice(names).name if names and draw.random() < 0.65 else self.literal()
         if kind < 0.46:
@@ -216,6 +226,17 @@ class Source:
             return "{" + ", ".join(it.name for it in draw.sample(outs, min(len(outs), 2))) + "}"
         return self.select([found])
 
+    def moving_target(self, outs):
+        """A select with an index that changes, also out of bounds."""
+        draw = self.random
+        vectors = [it for it in outs if not it.scalar and it.range is None and it.width <= 64]
+        if not vectors:
+            return self.target(outs)
+        found, index = draw.choice(vectors), f"t[{draw.randint(0, 4)}:0]"
+        if draw.random() < 0.5:
+            return f"{found.name}[{index}]"
+        return f"{found.name}[{index} {draw.choice(['+:', '-:'])} {draw.randint(1, found.width)}]"
+
     def statement(self, depth, outs, names, mark, memory=None):
         """A statement that assigns to `outs` by `mark`. `names` can be read."""
         draw = self.random
@@ -225,7 +246,8 @@ class Source:
                 found, words = memory
                 at = draw.choice([f"t[{words.bit_length() - 2}:0]", str(draw.randrange(words))])
                 return f"{found.name}[{at}] <= {self.expression(2, names)};"
-            return f"{self.target(outs)} {mark} {self.expression(3, names, memory is not None)};"
+            target = self.moving_target(outs) if mark == "<=" and draw.random() < 0.15 else self.target(outs)
+            return f"{target} {mark} {self.expression(3, names, memory is not None)};"
         deeper = lambda: self.statement(depth - 1, outs, names, mark, memory)
         if kind < 0.6:
             other = f" else {deeper()}" if draw.random() < 0.6 else ""
@@ -303,6 +325,15 @@ class Source:
         self.functions.append((result.name, inputs))
         return lines
 
+    def halves(self, net):
+        """Two ranges that are the whole net."""
+        low, high = min(net.left, net.right), max(net.left, net.right)
+        middle = self.random.randrange(low, high)
+        below, above = (low, middle), (middle + 1, high)
+        if net.left >= net.right:
+            below, above = below[::-1], above[::-1]
+        return f"{below[0]}:{below[1]}", f"{above[0]}:{above[1]}"
+
     def edge(self):
         return self.random.choice(["posedge", "posedge", "negedge"])
 
@@ -313,8 +344,15 @@ class Source:
         functions, parameters, memories = self.functions, self.parameters, self.memories
         self.functions, self.parameters, self.memories = [], ["P"], []
         names = [a, b]
-        lines = [f"module s{number} #(parameter P = {self.literal(32)}) (input wire clk, input {a.declared()}a, input {b.declared()}b,"]
-        lines += [f"    output {y.declared()}y, output reg {q.declared()}q);", "  reg [4:0] t; initial t = 0;", "  initial q = 0;"]
+        if draw.random() < 0.4:
+            a.scalar, a.range, a.width = True, "[W - 1:0] ", 24
+        constants = [f"parameter P = {self.literal(32)}", f"parameter W = {draw.randint(1, 40)}"]
+        ports = [f"input {a.declared()}a", f"input {b.declared()}b", f"output {y.declared()}y", f"output reg {q.declared()}q"]
+        if draw.random() < 0.6:
+            lines = [f"module s{number} #({', '.join(constants)}) (input wire clk, {', '.join(ports)});"]
+        else:
+            lines = [f"module s{number}(clk, a, b, y, q);"] + [f"  {it};" for it in constants + ["input clk"] + ports]
+        lines += ["  reg [4:0] t; initial t = 0;", "  initial q = 0;"]
         if number > 0 and draw.random() < 0.5:
             z, h = self.signal("z"), self.signal("h")
             lines += [f"  wire {z.declared()}z; wire {h.declared()}h;", f"  s{number - 1} #(.P({self.literal(32)})) i(clk, {{b}}, {{a}}, z, h);"]
@@ -329,13 +367,16 @@ class Source:
         draw = self.random
         modules, body = [], []
         registers = [self.signal(f"r{at}") for at in range(draw.randint(3, 6))]
+        if draw.random() < 0.4:
+            registers[-1] = Signal(registers[-1].name, 32, True)
+            registers[-1].range = "integer"
         for at in range(draw.randint(0, 2)):
             name = f"C{at}"
             word, form = draw.choice(["parameter", "localparam"]), draw.choice(["", "signed ", "integer ", "[11:0] ", "signed [8:0] "])
             body.append(f"  {word} {form}{name} = {self.literal(64)};")
             self.parameters.append(name)
         body += ["  reg [4:0] t; initial t = 0;"]
-        body += [f"  reg {it.declared()}{it.name}; initial {it.name} = {self.literal()};" for it in registers]
+        body += [f"  {it.variable()} initial {it.name} = {self.literal()};" for it in registers]
         for at in range(draw.randint(0, 1)):
             memory, words = self.signal(f"m{at}"), draw.choice([4, 8, 16])
             body.append(f"  reg {memory.declared()}{memory.name} [0:{words - 1}];")
@@ -348,6 +389,10 @@ class Source:
             net = self.signal(f"w{at}")
             if draw.random() < 0.2:
                 body.append(f"  wire {net.declared()}{net.name} = {self.expression(3, seen, False)};")
+            elif net.width > 1 and draw.random() < 0.3:
+                first, second = self.halves(net)
+                body.append(f"  wire {net.declared()}{net.name};")
+                body.append(f"  assign {net.name}[{first}] = {self.expression(3, seen, False)}, {net.name}[{second}] = {self.expression(2, seen, False)};")
             else:
                 body += [f"  wire {net.declared()}{net.name};", f"  assign {net.name} = {self.expression(3, seen, False)};"]
             seen.append(net)
@@ -358,7 +403,8 @@ class Source:
             out.signed, held.signed = draw.random() < 0.5, draw.random() < 0.5
             body += [f"  wire {out.declared()}{out.name};", f"  wire {held.declared()}{held.name};"]
             first, second = (draw.choice([f"{{$unsigned({self.expression(2, seen, False)})}}", draw.choice(seen).name]) for _ in range(2))
-            override = draw.choice(["", f" #({self.literal(32)})", f" #(.P({self.literal(32)}))"])
+            count = draw.randint(1, 40)
+            override = draw.choice(["", f" #({self.literal(32)})", f" #({self.literal(32)}, {count})", f" #(.W({count}), .P({self.literal(32)}))"])
             if draw.random() < 0.5:
                 body.append(f"  s{at}{override} u{at}(clk, {first}, {second}, {out.name}, {held.name});")
             else:
@@ -484,10 +530,10 @@ def by_icarus(folder):
     ran = subprocess.run(["iverilog", "-g2005", "-o", "s.vvp", "-s", "bench", "s.v", "bench.v"], cwd=folder, capture_output=True, timeout=120)
     if ran.returncode != 0:
         return None, ran.stderr.decode()
-    out = subprocess.run(["vvp", "-n", "s.vvp"], cwd=folder, capture_output=True, timeout=120).stdout
-    if b"Program not runnable" in out:
-        return None, out.decode()
-    lines = out.split(b"\n")
+    ran = subprocess.run(["vvp", "-n", "s.vvp"], cwd=folder, capture_output=True, timeout=120)
+    if ran.returncode != 0 or b"Program not runnable" in ran.stdout:
+        return None, (ran.stdout + ran.stderr).decode(errors="replace")
+    lines = ran.stdout.split(b"\n")
     return b"\n".join(it for it in lines if b"$finish called" not in it and not it.startswith(b"WARNING")), ""
 
 

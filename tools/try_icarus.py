@@ -4,16 +4,19 @@
     try_icarus.py [--program FILE] [--seeds 1-5] [--count 200] [--keep FOLDER] [--show SEED/NUMBER]
 
 The sources have registers, nets, memories, parameters, functions, instances and blocks of all kinds, with expressions of mixed widths
-and signs, and print values by most items of formats; one in ten reads files of bytes and of memory words. They avoid what the two mean differently on purpose: indices out of range and
-division by zero (x there), values before the second tick (a register without a value is x there), orders that the standard leaves
-open, `%s`, and `%d` of a signed bit (which Icarus prints in one column and not in two); and where Icarus departs from the standard:
-connections that are wider than their operands (sized for themselves there, and `$signed` and `$unsigned` passed over), divisions in
-nets (0 there where they are wide), numbers without a size (which have more than 32 bits there), constant conditions of `?:` (the
-other branch gives no width and no sign there), `$signed` and `$unsigned` of constants and of a `casez`'s subject (passed over there),
-shifts of truths (of one bit there), selects of all bits of a signed net (signed there), labels of a `casez` of which some are
-signed (the subject is extended by its sign there), constant strings (cut to 32 bits or to a byte there), and writes to wide vectors
-partly out of bounds (to other bits there). A line a seed. Counted are also sources that fabhost refuses, those that Icarus
-doesn't take, and those where blanks alone differ. At a difference the source is kept in FOLDER with both outputs, and the status is 1.
+and signs, and print values by most items of formats; one in ten reads files of bytes and of memory words. They avoid what the two
+mean differently on purpose: indices out of range and division by zero (x there), values before the second tick (a register without a
+value is x there), orders that the standard leaves open, `%s`, and `%d` of a signed bit (in one column there, not in two). And they
+avoid where Icarus 11.0 departs from the standard: connections that are wider than their operands (sized for themselves there, and
+`$signed` and `$unsigned` passed over), divisions in nets (0 there where they are wide), numbers without a size (which have more than
+32 bits there), constant conditions of `?:` (the other branch gives no width and no sign there), `$signed` and `$unsigned` of constants
+and of a `casez`'s subject (passed over there), constant amounts of `>>>` (a signed bit isn't extended there), selects of the one bit
+of a signed vector (a signed amount of a shift there), labels of a `casez` of which some are signed (the subject is extended by its
+sign there), constant strings (`%d` has their first four bytes there, and their complement in a wider expression is of one byte), and
+writes to wide vectors partly out of bounds (to other bits there).
+
+A line a seed. Counted are also sources that fabhost refuses, those that Icarus doesn't take, and those where blanks alone differ. At a
+difference the source is kept in FOLDER with both outputs, and the status is 1.
 """
 import argparse
 import os
@@ -27,19 +30,8 @@ import tempfile
 TOP = os.path.dirname(os.path.dirname(os.path.abspath(__file__)))
 TICKS = 12
 BINARY = ["+", "-", "*", "&", "|", "^", "~^", "==", "!=", "<", "<=", ">", ">=", "&&", "||", "===", "!=="]
-TRUTHS = {"==", "!=", "<", "<=", ">", ">=", "&&", "||", "===", "!=="}
 UNARY = ["-", "~", "!", "&", "|", "^", "~&", "~|", "~^", "+"]
 ITEMS = ["%d", "%0d", "%h", "%0h", "%b", "%0b", "%o", "%0o", "%x", "%D"]
-
-
-def operator_of(text):
-    """The operator of an expression in parentheses, '' where it isn't one."""
-    depth, words = 0, text.split(" ")
-    for word in words:
-        if depth == 1 and not set(word) & set("(){}[]\"") and not word[0].isalnum():
-            return word
-        depth += word.count("(") + word.count("{") + word.count("[") - word.count(")") - word.count("}") - word.count("]")
-    return ""
 
 
 class Signal:
@@ -159,11 +151,6 @@ class Source:
         found = self.expression(depth, names, memories)
         return found if re.search(r"(?<!')\b[a-z]\d?\b", found) else self.random.choice(names).name
 
-    def shifted(self, depth, names, memories):
-        """An expression that isn't a truth."""
-        found = self.varying(depth, names, memories)
-        return self.random.choice(names).name if operator_of(found) in TRUTHS or found[0] in "!&|^~" else found
-
     def expression(self, depth, names, memories=True):
         draw = self.random
         deeper = lambda: self.expression(depth - 1, names, memories)
@@ -176,7 +163,7 @@ class Source:
         if kind < 0.46:
             return f"({deeper()} {draw.choice(BINARY)} {deeper()})"
         if kind < 0.52:
-            first, name = self.shifted(depth - 1, names, memories), draw.choice(names).name
+            first, name = self.varying(depth - 1, names, memories), draw.choice(names).name
             amount = draw.choice([f"(8'd{draw.randint(0, 140)} ^ {name} ^ {name})", deeper()])
             return f"({first} {draw.choice(['<<', '>>', '<<<', '>>>'])} {amount})"
         if kind < 0.57 and memories:

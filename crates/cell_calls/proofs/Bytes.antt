@@ -5,12 +5,7 @@ use Rattle.std.proofs.lemmas.Bool.Decides.{nat_tests}
 use Rattle.vl_base.specs.Display.{format_of, lower_case}
 use Rattle.vl_design.specs.Syntax.{Literal}
 use Rattle.vl_design.specs.Formats.{Arg, InText, Percent, format_pieces, with_item, operand}
-
-equal : (x y : ℕ) → x ≡ y → (x == y) ≡ true
-equal x y h = grind (arith, nat_tests)
-
-not-equal : (x y : ℕ) → ¬ (x ≡ y) → (x == y) ≡ false
-not-equal x y h = grind (arith, nat_tests)
+use Rattle.vl_base.proofs.Numbers.{equal_true as equal, unequal_false as not-equal}
 
 module _ (path : List ℕ) (args : List Arg) (c : ℕ) where
   pub percent-is : c ≡ 37 → format_pieces path InText (c ∷ []) args ≡ []

@@ -13,18 +13,18 @@ use Rattle.vl_design.specs.Syntax.{Exp, Exps, Sig, Piece, Row, Task, Print, Fini
 use Rattle.vl_design.specs.Value.{Sample}
 use Rattle.vl_design.specs.Width.{Names, names_of, signal_form, row_form}
 use Rattle.vl_run.specs.Arguments.{text_in, value_in, signal_in}
-use Rattle.cell_form.specs.Data.{ListData}
-use Rattle.cell_form.specs.declared.table.FormatPart.{FormatPart}
-use Rattle.cell_form.specs.declared.table.FormatPart.TheVariants as part
-use Rattle.cell_form.specs.declared.table.Trap.{Trap}
-use Rattle.cell_form.specs.declared.table.TrapCall.{TrapCall}
-use Rattle.cell_form.specs.declared.table.TrapCall.TheVariants as call
-use Rattle.cell_steps.proofs.Frames.{longer-same}
-use Rattle.cell_paths.specs.Envs.{Env, HasMemories}
+use Rattle.cell_emit.specs.cell_form.specs.Data.{ListData}
+use Rattle.cell_emit.specs.cell_form.specs.declared.table.FormatPart.{FormatPart}
+use Rattle.cell_emit.specs.cell_form.specs.declared.table.FormatPart.TheVariants as part
+use Rattle.cell_emit.specs.cell_form.specs.declared.table.Trap.{Trap}
+use Rattle.cell_emit.specs.cell_form.specs.declared.table.TrapCall.{TrapCall}
+use Rattle.cell_emit.specs.cell_form.specs.declared.table.TrapCall.TheVariants as call
+use Rattle.cell_emit.proofs.Frames.{longer-same}
+use Rattle.cell_emit.specs.Envs.{Env, HasMemories}
 use Rattle.cell_expr.specs.Counts.{body_cells}
 use Rattle.ten_form.specs.Registers.{answer_register, work_register}
-use Rattle.ten_traps.specs.Asked.{shown, asked, asked_widths, own_widths}
-use Rattle.ten_traps.specs.Traps.{IsCallOf}
+use Rattle.ten_form.specs.Asked.{shown, asked, asked_widths, own_widths}
+use Rattle.ten_form.specs.Traps.{IsCallOf}
 use Rattle.cell_calls.specs.Calls.{AsksFile, Traps, slots_in}
 use Rattle.cell_calls.specs.Counts.{asked_count}
 use Rattle.cell_calls.specs.declared.display.Display.{Display}

@@ -7,12 +7,12 @@ use Rattle.vl_base.specs.Display.{Format, format_of, letter_text, item_text, sho
 use Rattle.vl_design.specs.Syntax.{Exp, Piece, Literal, Shown}
 use Rattle.vl_design.specs.Formats.{taken}
 use Rattle.vl_design.specs.Width.{Names, form}
-use Rattle.cell_form.specs.declared.table.FormatPart.{FormatPart}
-use Rattle.cell_form.specs.declared.table.FormatPart.TheVariants as part
-use Rattle.trap_runtime.specs.Served.{parts_text}
-use Rattle.ten_traps.specs.Asked.{shown, own_widths}
+use Rattle.cell_emit.specs.cell_form.specs.declared.table.FormatPart.{FormatPart}
+use Rattle.cell_emit.specs.cell_form.specs.declared.table.FormatPart.TheVariants as part
+use Rattle.ten_form.specs.trap_runtime.specs.Served.{parts_text}
+use Rattle.ten_form.specs.Asked.{shown, own_widths}
 use Rattle.cell_calls.specs.Displays.{Extends, Alike}
-use Rattle.ten_traps.specs.Traps.{shown_text, item_widths}
+use Rattle.ten_form.specs.Traps.{shown_text, item_widths}
 
 pub empty-list : (xs : List ℕ) (ys : List ℕ) → ys ≡ xs → (length ys == 0) ≡ true → xs ≡ []
 empty-list [] ys e h = refl

@@ -6,16 +6,13 @@ use Rattle.vl_base.specs.Display.{Format, format_of, lower_case}
 use Rattle.vl_design.specs.Syntax.{Exp, Piece, Literal, Shown}
 use Rattle.vl_design.specs.Formats.{Arg, FormatPosition, InText, Percent, PercentZero, operand, with_text, behind_item, with_item, format_pieces, taken, pieces_from}
 use Rattle.vl_design.specs.Width.{Names}
-use Rattle.vl_show.specs.Modes.{position_after}
-use Rattle.ten_traps.specs.Asked.{shown}
+use Rattle.fmt_text.specs.Modes.{position_after}
+use Rattle.ten_form.specs.Asked.{shown}
 use Rattle.cell_calls.specs.Displays.{Alike}
-use Rattle.ten_traps.specs.Traps.{shown_text}
+use Rattle.ten_form.specs.Traps.{shown_text}
 use Rattle.cell_calls.proofs.Extending.{shown-append, taken-shown, line-append}
-
-behind-item-is : (o : Option Format) (e : Exp) (args : List Arg) → behind_item o args ≡ drop (taken (with_item o e [])) args
-behind-item-is None e args = refl
-behind-item-is (Some format) e [] = refl
-behind-item-is (Some format) e (a ∷ args) = refl
+pub use Rattle.vl_design.proofs.Shared.{skip-some}
+use Rattle.vl_design.proofs.Shared.{behind-item-is}
 
 module _ (names : Names) where
   -- ---- pieces that print alike
@@ -131,7 +128,3 @@ module _ (names : Names) where
         empty PercentZero args = refl
 
 -- ---- arguments
-
-pub skip-some : (path : List ℕ) (n : ℕ) (a : Arg) (args : List Arg) → ¬ (n ≡ 0) → pieces_from path n (a ∷ args) ≡ pieces_from path (n - 1) args
-skip-some path zero a args h = absurd (h refl)
-skip-some path (suc n) a args h = let e : suc n - 1 ≡ n = omega arith in rw e refl

@@ -5,3 +5,5 @@ pub mod Walking
 pub mod Reading
 pub mod Bytes
 pub mod Calling
+pub mod Nexting
+mod Ways

@@ -13,19 +13,19 @@ use Rattle.vl_design.specs.Syntax.{Exp, Num, Flat}
 use Rattle.vl_design.specs.Tasks.{descriptor_of}
 use Rattle.vl_design.specs.Value.{value, own_value}
 use Rattle.vl_design.specs.Width.{form, names_of}
-use Rattle.cell_form.specs.Data.{ListData, BankData}
-use Rattle.cell_form.specs.Sound.{Shape}
-use Rattle.cell_steps.specs.Slots.{held, width_at, Grows, Gives, Nothing}
+use Rattle.cell_emit.specs.cell_form.specs.Data.{ListData, BankData}
+use Rattle.cell_emit.specs.cell_form.specs.Sound.{Shape}
+use Rattle.cell_emit.specs.Slots.{held, width_at, Grows, Gives, Nothing}
 use Rattle.vl_eval.proofs.Widths.{form-width}
-use Rattle.cell_steps.proofs.Frames.{held-stays, grows-same, grows-then, longer-grows, longer-same, longer-then, longer-weaken}
-use Rattle.cell_nodes.specs.Counts.{resizes}
-use Rattle.cell_paths.specs.Envs.{Env, IsSlot, Fits, HasMemories}
-use Rattle.cell_paths.proofs.Staying.{is-slot-stays, fits-stays, stands-stays, sound-behind}
+use Rattle.cell_emit.proofs.Frames.{held-stays, grows-same, grows-then, longer-grows, longer-same, longer-then, longer-weaken}
+use Rattle.cell_emit.specs.Counts.{resizes}
+use Rattle.cell_emit.specs.Envs.{Env, IsSlot, Fits, HasMemories}
+use Rattle.cell_emit.proofs.Staying.{is-slot-stays, fits-stays, stands-stays, sound-behind}
 use Rattle.cell_expr.specs.Compiled.{Holds, Compiles}
 use Rattle.cell_expr.specs.Counts.{exp_count, body_cells}
 use Rattle.cell_expr.proofs.Holding.{resizes-most, holds-wider, holds-node}
 use Rattle.cell_expr.proofs.Nodes.{num-compiles}
-use Rattle.ten_traps.specs.Asked.{own_widths}
+use Rattle.ten_form.specs.Asked.{own_widths}
 use Rattle.cell_calls.specs.Calls.{AreSlots, AsksFile, slots_in}
 use Rattle.cell_calls.specs.Counts.{own_count}
 use Rattle.cell_calls.specs.declared.own.Own.{Own}

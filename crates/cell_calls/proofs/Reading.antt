@@ -5,12 +5,12 @@ use Rattle.vl_design.specs.Formats.{Arg, FormatPosition, InText, format_pieces, 
 use Rattle.vl_design.specs.Sound.{IsSoundExp}
 use Rattle.vl_design.specs.Syntax.{Piece, Flat}
 use Rattle.vl_design.specs.Width.{names_of}
-use Rattle.vl_show.specs.Modes.{position_after}
-use Rattle.cell_form.specs.Data.{ListData}
-use Rattle.cell_steps.specs.Slots.{Grows}
-use Rattle.cell_steps.proofs.Frames.{grows-same, grows-then}
-use Rattle.cell_paths.specs.Envs.{Env}
-use Rattle.ten_traps.specs.Asked.{shown}
+use Rattle.fmt_text.specs.Modes.{position_after}
+use Rattle.cell_emit.specs.cell_form.specs.Data.{ListData}
+use Rattle.cell_emit.specs.Slots.{Grows}
+use Rattle.cell_emit.proofs.Frames.{grows-same, grows-then}
+use Rattle.cell_emit.specs.Envs.{Env}
+use Rattle.ten_form.specs.Asked.{shown}
 use Rattle.cell_calls.specs.declared.display.Display.{Display}
 use Rattle.cell_calls.specs.Displays.{IsReady, Adds}
 use Rattle.cell_calls.proofs.Extending.{shown-append}

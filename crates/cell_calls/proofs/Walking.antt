@@ -8,9 +8,9 @@ use Rattle.vl_design.specs.Sound.{IsSoundExp, IsSoundPiece}
 use Rattle.vl_design.specs.Syntax.{Exp, Piece, Literal, Shown, Flat}
 use Rattle.vl_design.specs.Formats.{with_item, taken}
 use Rattle.vl_design.specs.Width.{Names, form, names_of}
-use Rattle.cell_form.specs.Data.{ListData}
-use Rattle.cell_paths.specs.Envs.{Env, Fits}
-use Rattle.ten_traps.specs.Asked.{shown}
+use Rattle.cell_emit.specs.cell_form.specs.Data.{ListData}
+use Rattle.cell_emit.specs.Envs.{Env, Fits}
+use Rattle.ten_form.specs.Asked.{shown}
 use Rattle.cell_calls.specs.declared.display.Display.{Display}
 use Rattle.cell_calls.specs.declared.own.Own.{Own}
 use Rattle.cell_calls.specs.Displays.{parts_in, Extends, Alike, IsOwn, Adds, Walked}
@@ -112,14 +112,6 @@ module _ (d : Flat) (at : Env) where
       of : (o : Option Format) → format_of letter least ≡ o → is_some o ≡ true → Adds d (with_item o e []) at a b l l'
       of None i j = let z : ⊥ = cc in absurd z
       of (Some format) i j = adds-item format e a b l l' own owns (parts names format e i owns.width owns.signed) slots
-
-pub taken-no-letter : (o : Option Format) (e : Exp) → is_some o ≡ false → 0 ≡ taken (with_item o e [])
-taken-no-letter None e h = refl
-taken-no-letter (Some format) e h = let z : ⊥ = cc in absurd z
-
-pub taken-letter : (o : Option Format) (e : Exp) → is_some o ≡ true → 1 ≡ taken (with_item o e [])
-taken-letter None e h = let z : ⊥ = cc in absurd z
-taken-letter (Some format) e h = refl
 
 pub letter-sound : (names : Names) (o : Option Format) (e : Exp) → is_some o ≡ true → All (IsSoundExp names) (shown (with_item o e [])) → IsSoundExp names e
 letter-sound names None e h k = let z : ⊥ = cc in absurd z

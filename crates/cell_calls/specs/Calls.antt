@@ -10,15 +10,15 @@ use Rattle.vl_design.specs.Tasks.{descriptor_of}
 use Rattle.vl_design.specs.Trees.{task_of}
 use Rattle.vl_design.specs.Value.{Sample}
 use Rattle.vl_design.specs.Width.{names_of}
-use Rattle.cell_form.specs.Data.{ListData, BankData}
-use Rattle.cell_form.specs.Sound.{Shape}
-use Rattle.cell_steps.specs.Slots.{held, AreSound, Longer}
-use Rattle.cell_paths.specs.Envs.{Env, IsSlot, HasMemories, Stands}
+use Rattle.cell_emit.specs.cell_form.specs.Data.{ListData, BankData}
+use Rattle.cell_emit.specs.cell_form.specs.Sound.{Shape}
+use Rattle.cell_emit.specs.Slots.{held, AreSound, Longer}
+use Rattle.cell_emit.specs.Envs.{Env, IsSlot, HasMemories, Stands}
 use Rattle.cell_expr.specs.Counts.{exp_count, body_cells}
-use Rattle.cell_form.specs.declared.table.Trap.{Trap}
-use Rattle.ten_traps.specs.Traps.{IsTrapOf}
+use Rattle.cell_emit.specs.cell_form.specs.declared.table.Trap.{Trap}
+use Rattle.ten_form.specs.Traps.{IsTrapOf}
 use Rattle.cell_calls.specs.Counts.{asked_count}
-use Rattle.ten_traps.specs.Asked.{asked, asked_widths}
+use Rattle.ten_form.specs.Asked.{asked, asked_widths}
 
 -- the call of an instance of this path
 abbrev pub task_in : List ℕ → SysCall → Task

@@ -3,7 +3,7 @@ use Rattle.std.specs.Prelude.{ℕ, ◌+◌, List}
 use Rattle.std.specs.List.{sum_by}
 use Rattle.vl_design.specs.Syntax.{Exp, Task, Print, Fread, Fgetc, Feof, Fclose}
 use Rattle.cell_expr.specs.Counts.{exp_count}
-use Rattle.ten_traps.specs.Asked.{shown}
+use Rattle.ten_form.specs.Asked.{shown}
 
 -- expressions that are read for themselves
 abbrev pub own_count : (ℕ → ℕ) → List Exp → ℕ

@@ -6,21 +6,21 @@ use Rattle.vl_design.specs.Sound.{IsSound}
 use Rattle.vl_design.specs.Syntax.{Exp, Piece, Flat}
 use Rattle.vl_design.specs.Value.{Sample, own_value}
 use Rattle.vl_design.specs.Width.{Names, form, names_of}
-use Rattle.cell_form.specs.Data.{ListData, BankData}
-use Rattle.cell_form.specs.Sound.{Shape}
-use Rattle.cell_form.specs.declared.table.FormatPart.{FormatPart}
-use Rattle.cell_form.specs.declared.table.FormatPart.TheVariants as part
-use Rattle.cell_steps.specs.Slots.{held, AreSound, Longer}
-use Rattle.cell_paths.specs.Envs.{Env, IsSlot, HasMemories, Stands, Fits}
+use Rattle.cell_emit.specs.cell_form.specs.Data.{ListData, BankData}
+use Rattle.cell_emit.specs.cell_form.specs.Sound.{Shape}
+use Rattle.cell_emit.specs.cell_form.specs.declared.table.FormatPart.{FormatPart}
+use Rattle.cell_emit.specs.cell_form.specs.declared.table.FormatPart.TheVariants as part
+use Rattle.cell_emit.specs.Slots.{held, AreSound, Longer}
+use Rattle.cell_emit.specs.Envs.{Env, IsSlot, HasMemories, Stands, Fits}
 use Rattle.cell_expr.specs.Bodies.{IsCellFun}
 use Rattle.cell_expr.specs.Counts.{exp_count, body_cells}
-use Rattle.trap_runtime.specs.Served.{parts_text}
+use Rattle.ten_form.specs.trap_runtime.specs.Served.{parts_text}
 use Rattle.cell_calls.specs.declared.display.Display.{Display}
 use Rattle.cell_calls.specs.declared.own.Own.{Own}
 use Rattle.cell_calls.specs.Counts.{own_count}
-use Rattle.ten_traps.specs.Asked.{shown, own_widths}
+use Rattle.ten_form.specs.Asked.{shown, own_widths}
 use Rattle.cell_calls.specs.Calls.{AreSlots}
-use Rattle.ten_traps.specs.Traps.{shown_text, item_widths}
+use Rattle.ten_form.specs.Traps.{shown_text, item_widths}
 
 -- expressions of the design can be compiled
 pub record IsReady (d : Flat) (at : Env) (l : ListData) : Type 0 where

@@ -4,8 +4,8 @@ use Rattle.std.specs.Str.{bytes_eq}
 use Rattle.vl_design.specs.Calls.{fread_of, file_of, read_hex_of}
 use Rattle.vl_design.specs.Formats.{Arg}
 use Rattle.vl_design.specs.Syntax.{Exp, Task, Print, Fgetc, Feof, Fclose}
-use Rattle.cell_form.specs.declared.table.TrapCall.{TrapCall}
-use Rattle.cell_form.specs.declared.table.TrapCall.TheVariants as call
+use Rattle.cell_emit.specs.cell_form.specs.declared.table.TrapCall.{TrapCall}
+use Rattle.cell_emit.specs.cell_form.specs.declared.table.TrapCall.TheVariants as call
 use Rattle.cell_calls.specs.declared.file.Query.{Query}
 use Rattle.cell_calls.specs.declared.file.Query.TheVariants as a
 

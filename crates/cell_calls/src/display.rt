@@ -7,7 +7,7 @@ ghost use Rattle.vl_design.specs.Width.{Names, form};
 ghost use Rattle.cell_calls.specs.Displays.{parts_in, Extends};
 
 use crate::own::Own;
-use cell_form::table::FormatPart;
+use cell_emit::table::FormatPart;
 use std::alloc::{AllocError, Global};
 use std::mem::replace;
 use vl_base::items::Text;

@@ -6,9 +6,9 @@ ghost use Rattle.vl_design.specs.Sound.{IsMemory, IsSignal, IsSoundExp, IsSoundT
 ghost use Rattle.vl_design.specs.Syntax as y;
 ghost use Rattle.vl_design.specs.Trees.{arg_of, exp_of, flat_of};
 ghost use Rattle.vl_design.specs.Width.{names_of};
-ghost use Rattle.cell_form.specs.Views.{list_of};
-ghost use Rattle.cell_steps.specs.Slots.{Grows};
-ghost use Rattle.cell_paths.specs.Envs.{env_of};
+ghost use Rattle.cell_emit.specs.cell_form.specs.Views.{list_of};
+ghost use Rattle.cell_emit.specs.Slots.{Grows};
+ghost use Rattle.cell_emit.specs.Envs.{env_of};
 ghost use Rattle.cell_calls.specs.Calls.{Traps};
 ghost use Rattle.cell_calls.specs.Displays.{IsReady};
 ghost use Rattle.cell_calls.specs.FileCalls.{query_task, query_call};
@@ -16,15 +16,15 @@ ghost use Rattle.cell_calls.specs.FileCalls.{query_task, query_call};
 use crate::given::{behind, signal_first, text_first, value_first};
 use crate::own::{Site, descriptor};
 use crate::trap::{given_file, given_nothing, silent};
-use cell_form::cell::CellList;
-use cell_form::table::{Trap, TrapCall};
+use cell_emit::cell::CellList;
+use cell_emit::table::{Trap, TrapCall};
 use std::alloc::{AllocError, Global};
+use ten_files::name::copy_text;
 use ten_form::places::{WORK, register};
 use vl_base::items::Text;
 use vl_design::design::{Expr, SysArg};
 use vl_eval::eval::signal_at;
 use vl_eval::form::signal_form;
-use vl_files::name::copy_text;
 use vl_run::outer::room_of;
 
 /// `$save`.

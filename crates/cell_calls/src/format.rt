@@ -7,23 +7,23 @@ ghost use Rattle.vl_design.specs.Formats as f;
 ghost use Rattle.vl_design.specs.Sound.{IsSoundExp};
 ghost use Rattle.vl_design.specs.Trees.{arg_of, exp_of, flat_of};
 ghost use Rattle.vl_design.specs.Width.{names_of};
-ghost use Rattle.vl_show.specs.Modes.{reading_of};
-ghost use Rattle.cell_form.specs.Views.{list_of};
-ghost use Rattle.cell_steps.specs.Slots.{Grows};
-ghost use Rattle.cell_paths.specs.Envs.{env_of};
-ghost use Rattle.ten_traps.specs.Asked.{shown};
+ghost use Rattle.fmt_text.specs.Modes.{reading_of};
+ghost use Rattle.cell_emit.specs.cell_form.specs.Views.{list_of};
+ghost use Rattle.cell_emit.specs.Slots.{Grows};
+ghost use Rattle.cell_emit.specs.Envs.{env_of};
+ghost use Rattle.ten_form.specs.Asked.{shown};
 ghost use Rattle.cell_calls.specs.Displays.{IsReady, IsOwn, Adds, Walked};
 
 use crate::display::Display;
 use crate::given::behind;
 use crate::own::{Own, Site, constant, own_value};
-use cell_form::cell::CellList;
+use cell_emit::cell::CellList;
+use fmt_text::format::{Mode, after, is_path};
+use fmt_text::item::is_item;
+use fmt_text::show_text::text_bits;
 use std::alloc::{AllocError, Global};
 use vl_base::bits::Bits;
 use vl_design::design::SysArg;
-use vl_show::format::{Mode, after, is_path};
-use vl_show::item::is_item;
-use vl_show::text::text_bits;
 
 /// What an item shows: the next argument.
 fn operand(

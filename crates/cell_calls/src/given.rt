@@ -1,19 +1,11 @@
 //! Arguments of system calls (IEEE 1364-2005, clause 17).
 
 ghost use Rattle.std.specs.Prelude.{◌≡◌, map, drop, option_map, option_copied};
-ghost use Rattle.std.specs.Str.{bytes_eq};
 ghost use Rattle.vl_design.specs.Trees.{arg_of, exp_of};
 ghost use Rattle.vl_run.specs.Arguments.{text_in, value_in, signal_in, signal_of};
 
 use vl_base::items::Text;
 use vl_design::design::{Expr, ExprNode, SysArg};
-
-/// The name is this one.
-pub(crate) fn is_word(name: &[u8], word: &[u8]) -> bool
-    ensures { result ≡ bytes_eq name.now word.now }
-{
-    name == word
-}
 
 /// The arguments behind so many first ones.
 pub(crate) fn behind(args: &[SysArg], count: usize) -> &[SysArg]

@@ -1,10 +1,10 @@
 //! Traps that are given nothing, or one descriptor.
 
 ghost use Rattle.std.specs.Prelude.{◌≡◌, ◌∷◌, [], IfOk, false, Option};
-ghost use Rattle.cell_form.specs.declared.table.TrapCall.TheVariants as k;
+ghost use Rattle.cell_emit.specs.cell_form.specs.declared.table.TrapCall.TheVariants as k;
 ghost use Rattle.ten_form.specs.Registers.{answer_register};
 
-use cell_form::table::{Trap, TrapCall};
+use cell_emit::table::{Trap, TrapCall};
 use std::alloc::{AllocError, Global};
 use ten_form::places::ANSWER;
 use vl_base::items::{Items, Nums};

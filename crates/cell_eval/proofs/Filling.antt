@@ -16,9 +16,6 @@ use Rattle.cell_form.proofs.Writing.{written-same, wrote-slots, wrote-shape}
 use Rattle.cell_form.proofs.Cycling.{value-at, values-length}
 use Rattle.cell_eval.specs.Holds.{Holds}
 
-pub filled-none : (first : ℕ) (b : BankData) → b ≡ filled first [] b
-filled-none first b = ap (λ (xs : List ℕ). record { regs = b.regs; mems = b.mems; slots = xs }) (sym (put-none first b.slots))
-
 module _ (first : ℕ) (cells : List CellData) (b : BankData) (within : first + length cells ≤ length b.slots) where
   -- one cell more
   pub filled-more : (i : ℕ) (d : CellData) → i < length cells → record (filled first (take i cells) b) { slots = set (filled first (take i cells) b).slots (first + i) (cell_slot first b.regs b.mems (slots_of first b.regs b.mems (take i cells)) (get_or cells i d)).value } ≡ filled first (take (i + 1) cells) b

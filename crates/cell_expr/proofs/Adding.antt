@@ -20,19 +20,19 @@ use Rattle.vl_design.specs.Targets as t
 use Rattle.vl_design.specs.Value.{Sample, own_reading, lowest_bit, word_at}
 use Rattle.vl_design.specs.Width.{Names, Scope, form, signal_form, assigned}
 use Rattle.vl_eval.proofs.Names.{named-width, signal-named, memory-named}
-use Rattle.cell_form.specs.Data.{ListData, BankData}
-use Rattle.cell_form.specs.Sound.{Shape}
-use Rattle.cell_steps.specs.Slots.{held, width_at, AreSound, Longer}
-use Rattle.cell_steps.proofs.Frames.{longer-grows, longer-same, longer-then}
-use Rattle.cell_paths.specs.Envs.{Env, HasMemories, Fits, Stands}
-use Rattle.cell_paths.specs.declared.place.Place.TheVariants as place
-use Rattle.cell_paths.proofs.Staying.{stands-stays, sound-behind}
+use Rattle.cell_emit.specs.cell_form.specs.Data.{ListData, BankData}
+use Rattle.cell_emit.specs.cell_form.specs.Sound.{Shape}
+use Rattle.cell_emit.specs.Slots.{held, width_at, AreSound, Longer}
+use Rattle.cell_emit.proofs.Frames.{longer-grows, longer-same, longer-then}
+use Rattle.cell_emit.specs.Envs.{Env, HasMemories, Fits, Stands}
+use Rattle.cell_emit.specs.declared.place.Place.TheVariants as place
+use Rattle.cell_emit.proofs.Staying.{stands-stays, sound-behind}
 use Rattle.cell_expr.specs.declared.address.Address.{Address}
 use Rattle.cell_expr.specs.declared.spot.Spot.{Spot}
 use Rattle.cell_expr.specs.Compiled.{Compiles}
 use Rattle.cell_expr.specs.Counts.{parts_count, part_count}
 use Rattle.cell_expr.specs.Spots.{IsOf, word_in, memory_at, spot_cells, Based, IsSpot, spot_in, bits_of, cells_of, stored_by, Spotted}
-use Rattle.vl_stored.specs.Stored.{target_stored}
+use Rattle.cell_emit.specs.vl_sites.specs.Stored.{target_stored}
 use Rattle.cell_expr.proofs.Spotting.{word-stays, is-of-stays}
 
 -- ---- a target by its node

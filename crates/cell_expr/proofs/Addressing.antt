@@ -8,12 +8,12 @@ use Rattle.vl_base.specs.Value.{wrapped, reading, resized, truth}
 use Rattle.vl_base.proofs.Readings.{reading-fits, fits-wider}
 use Rattle.vl_design.specs.Syntax.{Row}
 use Rattle.vl_design.specs.Value.{word_at}
-use Rattle.cell_form.specs.Data.{ListData, BankData}
-use Rattle.cell_form.specs.Sound.{Shape}
-use Rattle.cell_steps.specs.Slots.{held, width_at, IsIn, AreSound, Grows, Gives, Nothing}
-use Rattle.cell_steps.proofs.Frames.{held-fits, held-stays, width-stays, width-fits, longer-grows, longer-same, longer-then, longer-weaken, grows-then, gives-as}
-use Rattle.cell_paths.specs.Envs.{IsSlot, Always}
-use Rattle.cell_paths.proofs.Staying.{is-slot-stays, gives-slot}
+use Rattle.cell_emit.specs.cell_form.specs.Data.{ListData, BankData}
+use Rattle.cell_emit.specs.cell_form.specs.Sound.{Shape}
+use Rattle.cell_emit.specs.Slots.{held, width_at, IsIn, AreSound, Grows, Gives, Nothing}
+use Rattle.cell_emit.proofs.Frames.{held-fits, held-stays, width-stays, width-fits, longer-grows, longer-same, longer-then, longer-weaken, grows-then, gives-as}
+use Rattle.cell_emit.specs.Envs.{IsSlot, Always}
+use Rattle.cell_emit.proofs.Staying.{is-slot-stays, gives-slot}
 use Rattle.cell_expr.specs.declared.address.Address.{Address}
 use Rattle.cell_expr.specs.Chosen.{word_named, Chooses}
 use Rattle.cell_expr.specs.Words.{found_in, row_words, words_in}
@@ -78,21 +78,6 @@ below-is l0 l2 slot r n count e h g =
     gives-as Nothing 2 l0 l2 r 1 1 (λ b. truth (nat_lt (held b l0 slot) (n % 2 ^ 128))) (λ b. truth (nat_lt (held b l0 slot) count)) refl (λ s b sound. ap (λ y. truth (nat_lt (held b l0 slot) y)) (mod-eq_of_lt h ∙ e)) g
 
 -- ---- the word
-
--- a slot of 1 bit where a path is taken that always is
-pub enabled-here : (l : ListData) (here off slot : ℕ) → off ≡ here → Always l here 0 → IsSlot l slot 1 → Gives Nothing 1 l l slot 1 (λ b. if held b l off == 0 then held b l slot else 0)
-enabled-here l here off slot e zero k = record {
-  longer = longer-weaken Nothing Nothing 0 1 l l (λ s h. h) (omega arith) (longer-same Nothing l);
-  there = k.there;
-  width = k.width;
-  value = λ s b sound. sym (ap (λ n. if n == 0 then held b l slot else 0) (ap (held b l) e ∙ zero s b sound));
-}
-
-pub enabled-where : (old new : ListData) (here off slot r : ℕ) → Always old here 0 → IsSlot old here 1 → Gives Nothing 1 old new r (width_at old here) (λ b. if held b old off == 0 then held b old slot else held b old here) →
-    Gives Nothing 1 old new r 1 (λ b. if held b old off == 0 then held b old slot else 0)
-enabled-where old new here off slot r zero k g =
-    gives-as Nothing 1 old new r (width_at old here) 1 (λ b. if held b old off == 0 then held b old slot else held b old here) (λ b. if held b old off == 0 then held b old slot else 0) k.width
-    (λ s b sound. ap (λ n. if held b old off == 0 then held b old slot else n) (zero s b sound)) g
 
 pub fits-small : (z : ℤ) → SFits w64 z → unsigned_abs z < 2 ^ 64
 fits-small (pos n) h = let k = h.sfits in omega (arith, k)

@@ -4,8 +4,8 @@ use Rattle.vl_base.specs.declared.files.File.{File}
 use Rattle.vl_design.specs.declared.design.Form.{Form}
 use Rattle.vl_design.specs.Syntax.{Exp}
 use Rattle.vl_design.specs.Width.{Names, Scope}
-use Rattle.cell_form.specs.Data.{ListData}
-use Rattle.cell_paths.specs.Envs.{Env}
+use Rattle.cell_emit.specs.cell_form.specs.Data.{ListData}
+use Rattle.cell_emit.specs.Envs.{Env}
 use Rattle.cell_expr.specs.Compiled.{Compiles}
 use Rattle.cell_expr.specs.Counts.{in_count}
 

@@ -21,13 +21,13 @@ use Rattle.vl_design.specs.Value.{Sample, value, value_of, arguments}
 use Rattle.vl_design.specs.Width.{Names, Scope, names_in, signal_form, result_form, result_form_of, input_widths_of}
 use Rattle.vl_eval.specs.Rooms.{scope_at}
 use Rattle.vl_run.specs.Scopes.{calls_in, flat_in}
-use Rattle.cell_form.specs.Data.{ListData}
-use Rattle.cell_form.specs.Sound.{Shape}
-use Rattle.cell_steps.specs.Slots.{held, Gives, Nothing}
-use Rattle.cell_steps.proofs.Frames.{longer-grows, longer-then, longer-weaken}
-use Rattle.cell_paths.specs.Envs.{Env, entry, held_or, Fits, HasMemories, Stands}
-use Rattle.cell_paths.specs.Paths.{on, Does}
-use Rattle.cell_paths.proofs.Staying.{stands-stays, sound-behind, memories-kept, longer-plain}
+use Rattle.cell_emit.specs.cell_form.specs.Data.{ListData}
+use Rattle.cell_emit.specs.cell_form.specs.Sound.{Shape}
+use Rattle.cell_emit.specs.Slots.{held, Gives, Nothing}
+use Rattle.cell_emit.proofs.Frames.{longer-grows, longer-then, longer-weaken}
+use Rattle.cell_emit.specs.Envs.{Env, entry, held_or, Fits, HasMemories, Stands}
+use Rattle.cell_emit.specs.Paths.{on, Does}
+use Rattle.cell_emit.proofs.Staying.{stands-stays, sound-behind, memories-kept, longer-plain}
 use Rattle.cell_expr.specs.Compiled.{Compiles}
 use Rattle.cell_expr.proofs.Holding.{resized-zero}
 use Rattle.cell_expr.specs.Counts.{exps_count, stm_count, fun_count, body_count}

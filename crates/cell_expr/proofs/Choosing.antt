@@ -11,13 +11,11 @@ use Rattle.vl_base.proofs.Wrapping.{wrapped-cut}
 use Rattle.vl_design.specs.Syntax.{Row}
 use Rattle.vl_design.specs.Value.{word_at}
 use Rattle.cell_expr.specs.Words.{found_in}
+pub use Rattle.vl_base.proofs.Numbers.{lt_or_le as halves}
 
 -- the address is one of so many from the lowest one on
 abbrev pub within : ℤ → ℤ → ℕ → Bool
 within lowest z words = int_le lowest z && int_lt z (lowest +ℤ pos words)
-
-pub halves : (i w : ℕ) → (i < w) ⊎ (w ≤ i)
-halves i w = grind arith
 
 -- ---- how far an address is behind the lowest one
 

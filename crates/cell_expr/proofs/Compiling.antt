@@ -15,13 +15,13 @@ use Rattle.vl_eval.specs.declared.room.Room.{Room}
 use Rattle.vl_eval.specs.Rooms.{names_of, scope_at}
 use Rattle.vl_eval.proofs.Widths.{called-there}
 use Rattle.vl_run.specs.Scopes.{calls_in}
-use Rattle.cell_form.specs.declared.cell.CellList.{CellList}
-use Rattle.cell_form.specs.Data.{ListData}
-use Rattle.cell_form.specs.Views.{list_of}
-use Rattle.cell_steps.specs.Slots.{Grows}
-use Rattle.cell_paths.specs.declared.at.At.{At}
-use Rattle.cell_paths.specs.Envs.{Env, env_of, Fits}
-use Rattle.cell_paths.specs.Paths.{Does}
+use Rattle.cell_emit.specs.cell_form.specs.declared.cell.CellList.{CellList}
+use Rattle.cell_emit.specs.cell_form.specs.Data.{ListData}
+use Rattle.cell_emit.specs.cell_form.specs.Views.{list_of}
+use Rattle.cell_emit.specs.Slots.{Grows}
+use Rattle.cell_emit.specs.declared.at.At.{At}
+use Rattle.cell_emit.specs.Envs.{Env, env_of, Fits}
+use Rattle.cell_emit.specs.Paths.{Does}
 use Rattle.cell_expr.specs.Callers.{Compilers, DoesBody}
 use Rattle.cell_expr.specs.Counts.{stm_count, body_count}
 use Rattle.cell_expr.specs.Passes.{AreCompiled}

@@ -11,10 +11,11 @@ use Rattle.vl_design.specs.Syntax.{Exp, Num, Label, Sig, Word, Pick, Slice, Un, 
 use Rattle.vl_design.specs.Exec.{items_form}
 use Rattle.vl_design.specs.Width.{Names, form, total_width, operand_form, left_form, right_form}
 use Rattle.cell_expr.specs.Counts.{unary_spans, binary_spans, pair_count, own_count, exp_count, wide_count, in_count, is_plain, subject_count, label_count, parts_own, parts_wide}
-use Rattle.cell_nodes.specs.Counts.{resizes, copied}
-use Rattle.cell_paths.specs.Differs.{differing_count}
+use Rattle.cell_emit.specs.Counts.{resizes, copied}
+use Rattle.cell_emit.specs.Differs.{differing_count}
 use Rattle.cell_expr.specs.Compiled.{is_cast}
 use Rattle.cell_expr.specs.Labels.{care_in}
+use Rattle.vl_base.proofs.Numbers.{equal_self as same-width}
 
 -- ---- the counts in order
 
@@ -71,9 +72,6 @@ parts-wide body NoExps = omega arith
 parts-wide body (MoreExps e es) = (let z = own-wide body e in omega arith)
 
 -- ---- widths
-
-same-width : (w : ℕ) → (w == w) ≡ true
-same-width w = grind arith
 
 -- ---- in a context
 

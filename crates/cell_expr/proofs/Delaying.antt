@@ -5,17 +5,17 @@ use Rattle.std.proofs.lemmas.List.{drop_all, drop_more}
 use Rattle.vl_design.specs.Width.{Names}
 use Rattle.vl_design.specs.Targets as t
 use Rattle.vl_design.specs.State.{Update}
-use Rattle.cell_form.specs.Data.{ListData, BankData}
-use Rattle.cell_steps.specs.Slots.{held, IsIn, Gives, Nothing}
-use Rattle.cell_steps.proofs.Frames.{in-stays, longer-grows, longer-then}
-use Rattle.cell_later.specs.Pendings.{PendingSlots, ArePending}
-use Rattle.cell_later.specs.Delays.{Delays}
-use Rattle.cell_later.proofs.Following.{delays-none, delays-more, delays-behind, delays-as, delays-wider}
+use Rattle.cell_emit.specs.cell_form.specs.Data.{ListData, BankData}
+use Rattle.cell_emit.specs.Slots.{held, IsIn, Gives, Nothing}
+use Rattle.cell_emit.proofs.Frames.{in-stays, longer-grows, longer-then}
+use Rattle.cell_emit.specs.Pendings.{PendingSlots, ArePending}
+use Rattle.cell_emit.specs.Delays.{Delays}
+use Rattle.cell_emit.proofs.Following.{delays-none, delays-more, delays-behind, delays-as, delays-wider}
 use Rattle.cell_expr.specs.declared.spot.Spot.{Spot}
 use Rattle.cell_expr.specs.Spots.{memory_at, spot_cells, IsSpot, spot_in, update_of, bits_of, cells_of, stored_by, has_word, has_index}
 use Rattle.cell_expr.proofs.Spotting.{first-and-others}
 use Rattle.cell_expr.specs.Counts.{part_count}
-use Rattle.cell_paths.specs.Paths.{low_of}
+use Rattle.cell_emit.specs.Paths.{low_of}
 
 -- the bits of a part, and the cells that make its update pending
 few : (x : Spot) → 1 + (spot_cells true x - 1) ≤ spot_cells true x

@@ -5,18 +5,15 @@ use Rattle.std.proofs.lemmas.List.{drop_more}
 use Rattle.vl_design.specs.Syntax.{Exp, Exps, NoExps, MoreExps, Fun}
 use Rattle.vl_design.specs.Value.{arguments}
 use Rattle.vl_design.specs.Width.{Names, Scope, names_in, rows_in, signal_form}
-use Rattle.cell_form.specs.Data.{ListData}
-use Rattle.cell_paths.specs.Envs.{Env, Fits}
+use Rattle.cell_emit.specs.cell_form.specs.Data.{ListData}
+use Rattle.cell_emit.specs.Envs.{Env, Fits}
 use Rattle.cell_expr.specs.Counts.{exp_count, exps_count}
 use Rattle.cell_expr.specs.Passes.{Passes}
 use Rattle.vl_design.specs.declared.design.Expr.{Expr}
 use Rattle.vl_design.specs.Sound.{count_of}
 use Rattle.vl_design.specs.Trees.{exps_of}
 use Rattle.cell_expr.proofs.Passing.{passes-none, passes-more}
-
-pub many-count : (es : List Expr) → count_of (exps_of es) ≡ length es
-many-count [] = refl
-many-count (e ∷ es) = let h = many-count es in omega (arith, h)
+pub use Rattle.vl_design.proofs.Shared.{many-count}
 
 module _ (names : Names) (g : Fun) where
   abbrev pub widths : List ℕ → List ℕ

@@ -7,21 +7,15 @@ use Rattle.std.proofs.Math.Pow.{pow_mono, pow_pos}
 use Rattle.vl_base.specs.Value.{resized, is_negative, wrapped}
 use Rattle.vl_design.specs.Value.{Sample}
 use Rattle.vl_design.specs.Width.{Names}
-use Rattle.cell_form.specs.Data.{ListData, BankData}
-use Rattle.cell_form.specs.Sound.{Shape}
-use Rattle.cell_steps.specs.Slots.{held, AreSound, Longer, Gives}
-use Rattle.cell_steps.proofs.Frames.{held-fits, held-stays, longer-grows, longer-then, longer-weaken}
-use Rattle.cell_nodes.specs.Counts.{resizes}
-use Rattle.cell_paths.specs.Envs.{Env, Fits, HasMemories, Stands}
-use Rattle.cell_paths.proofs.Staying.{is-slot-stays, stands-stays, sound-behind}
+use Rattle.cell_emit.specs.cell_form.specs.Data.{ListData, BankData}
+use Rattle.cell_emit.specs.cell_form.specs.Sound.{Shape}
+use Rattle.cell_emit.specs.Slots.{held, AreSound, Longer, Gives}
+use Rattle.cell_emit.proofs.Frames.{held-fits, held-stays, longer-grows, longer-then, longer-weaken}
+use Rattle.cell_emit.specs.Counts.{resizes}
+use Rattle.cell_emit.specs.Envs.{Env, Fits, HasMemories, Stands}
+use Rattle.cell_emit.proofs.Staying.{is-slot-stays, stands-stays, sound-behind}
 use Rattle.cell_expr.specs.Compiled.{Holds}
-
-pub resizes-most : (own width : ℕ) → resizes own width ≤ 1
-resizes-most own width = of (own == width)
-  where
-    of : (b : Bool) → (if b then 0 else 1) ≤ 1
-    of true = omega arith
-    of false = omega arith
+pub use Rattle.cell_emit.proofs.Repeating.{few-resizes as resizes-most}
 
 -- a value of few bits is the same in more
 pub resized-wide : (own width v : ℕ) → own ≤ width → v < 2 ^ own → resized false own width v ≡ v

@@ -8,19 +8,19 @@ use Rattle.vl_design.specs.Syntax.{Exp, Num, Label, Sig, Word, Pick, Slice, Un, 
 use Rattle.vl_design.specs.State.{State, sample}
 use Rattle.vl_design.specs.Value.{Sample, value}
 use Rattle.vl_design.specs.Width.{Scope, form}
-use Rattle.cell_form.specs.Data.{ListData}
-use Rattle.cell_form.specs.Sound.{Shape}
-use Rattle.cell_steps.specs.Slots.{held, IsIn, Longer, Gives, Nothing}
-use Rattle.cell_steps.proofs.Frames.{held-stays, longer-grows, longer-then, longer-weaken}
-use Rattle.cell_paths.specs.Envs.{Env, IsSlot, Fits, HasMemories, Stands}
-use Rattle.cell_paths.specs.Paths.{on, Does}
-use Rattle.cell_paths.specs.Cases.{Compares, Tries}
-use Rattle.cell_paths.specs.Differs.{differing, differing_count}
-use Rattle.cell_paths.proofs.Staying.{sound-behind, longer-plain}
-use Rattle.cell_paths.proofs.Casing.{xor-equal, compares-more, tries-labelled, does-case}
-use Rattle.cell_later.specs.Pendings.{PendingSlots, ArePending, Pends}
-use Rattle.cell_later.specs.Delays.{Leaves, LeavesItems}
-use Rattle.cell_later.proofs.Leaving.{leaves-case}
+use Rattle.cell_emit.specs.cell_form.specs.Data.{ListData}
+use Rattle.cell_emit.specs.cell_form.specs.Sound.{Shape}
+use Rattle.cell_emit.specs.Slots.{held, IsIn, Longer, Gives, Nothing}
+use Rattle.cell_emit.proofs.Frames.{held-stays, longer-grows, longer-then, longer-weaken}
+use Rattle.cell_emit.specs.Envs.{Env, IsSlot, Fits, HasMemories, Stands}
+use Rattle.cell_emit.specs.Paths.{on, Does}
+use Rattle.cell_emit.specs.Cases.{Compares, Tries}
+use Rattle.cell_emit.specs.Differs.{differing, differing_count}
+use Rattle.cell_emit.proofs.Staying.{sound-behind, longer-plain}
+use Rattle.cell_emit.proofs.Casing.{xor-equal, compares-more, tries-labelled, does-case}
+use Rattle.cell_emit.specs.Pendings.{PendingSlots, ArePending, Pends}
+use Rattle.cell_emit.specs.Delays.{Leaves, LeavesItems}
+use Rattle.cell_emit.proofs.Leaving.{leaves-case}
 use Rattle.cell_expr.specs.Compiled.{Compiles}
 use Rattle.cell_expr.specs.Counts.{labels_count, stm_count, items_count, default_count, in_count, subject_count, label_count}
 use Rattle.cell_expr.specs.Items.{Item}

@@ -9,17 +9,10 @@ use Rattle.vl_design.specs.Trees.{stm_of, then_of}
 use Rattle.vl_design.specs.Width.{Names}
 use Rattle.vl_run.proofs.Statements.{stms-more}
 use Rattle.cell_expr.specs.Bodies.{IsSegment, AreSegmentItems, CanWait}
+pub use Rattle.vl_base.proofs.Booleans.{or_left_false as none-left, or_right_false as none-right}
 
 pub then-more : (xs : List Stmt) (i : ℕ) (x : Stmt) → i < length xs → x ≡ get_or xs i x → then_of [] (drop i xs) ≡ Then (stm_of [] x) (then_of [] (drop (i + 1) xs))
 then-more xs i x h e = ap (plain.stms []) (stms-more xs i x h e)
-
-pub none-left : (a b : Bool) → (a || b) ≡ false → a ≡ false
-none-left true b h = h
-none-left false b h = refl
-
-pub none-right : (a b : Bool) → (a || b) ≡ false → b ≡ false
-none-right true b h = let z : ⊥ = cc in absurd z
-none-right false b h = h
 
 -- below a number that is the same
 pub apart-at : (n m : ℕ) (a : Stm) → m ≡ n → stm_writes (λ k. nat_lt k n) a ≡ false → stm_writes (λ k. nat_lt k m) a ≡ false

@@ -20,7 +20,8 @@ use Rattle.vl_design.specs.Trees.{exp_of, stm_of, target_of}
 use Rattle.vl_run.proofs.Statements.{if-of, set-of, later-of, for-of, repeat-of, task-of}
 use Rattle.vl_paths.specs.Nets.{AreNetItems, IsPlain, ArePlain, IsBase}
 use Rattle.cell_expr.specs.Bodies.{IsNet, IsSegment, AreSegmentItems, IsAny, assignment}
-use Rattle.vl_stored.specs.Stored.{target_stored, targets_stored}
+use Rattle.cell_emit.specs.vl_sites.specs.Stored.{target_stored, targets_stored}
+use Rattle.vl_base.proofs.Numbers.{lt_zero as none-below}
 
 -- ---- statements with nonblocking assignments, and those without
 
@@ -137,13 +138,6 @@ module _ (P : Target → Type 0) where
 
 -- ---- what writes nothing of the design's
 
-none-below : (k : ℕ) → nat_lt k 0 ≡ false
-none-below k = of (nat_lt k 0) refl
-  where
-    of : (b : Bool) → nat_lt k 0 ≡ b → nat_lt k 0 ≡ false
-    of true e = let h : k < 0 = ltb-true k 0 e in absurd (omega (arith, h))
-    of false e = e
-
 mutual
   pub target-apart : (t : Target) → target_writes (λ k. nat_lt k 0) t ≡ false
   target-apart (Whole k) = none-below k
@@ -174,9 +168,6 @@ mutual
   items-apart P (Default a others) h = rw (segment-apart P a h.0, items-apart P others h.1) refl
 
 -- ---- nonblocking assignments to any target
-
-pub segment-any : (P : Target → Type 0) (a : Stm) → IsSegment P a → IsSegment IsAny a
-segment-any P a h = segment-weaker P IsAny (λ t k. tt) a h
 
 pub plain-any : (later : Bool) (t : Target) (e : Exp) → IsPlain (λ k. false) t → IsSegment IsAny (assignment later t e)
 plain-any true t e h = tt

@@ -13,20 +13,17 @@ use Rattle.vl_design.specs.Syntax.{Exp, Num, Label, Sig, Pick, Slice, Un, Bin, C
 use Rattle.vl_design.specs.Width.{Scope, form, total_width, signal_form, operand_form, left_form, right_form}
 use Rattle.vl_design.specs.Value.{Sample, value, lowest_bit, repeated, side_by_side}
 use Rattle.vl_design.specs.Sound.{IsSignal}
-use Rattle.cell_form.specs.Data.{ListData, BankData}
-use Rattle.cell_form.specs.Sound.{Shape}
-use Rattle.cell_steps.specs.Slots.{held, width_at, AreSound, Gives, Nothing}
-use Rattle.cell_steps.proofs.Frames.{held-fits, longer-same, longer-then}
-use Rattle.cell_nodes.specs.Counts.{resizes, copied}
-use Rattle.cell_nodes.proofs.Repeating.{repeated-below, product-wide}
-use Rattle.cell_paths.proofs.Below.{side-below}
-use Rattle.cell_paths.specs.Envs.{Env, entry, Fits, HasMemories, held_or, Stands}
+use Rattle.cell_emit.specs.cell_form.specs.Data.{ListData, BankData}
+use Rattle.cell_emit.specs.cell_form.specs.Sound.{Shape}
+use Rattle.cell_emit.specs.Slots.{held, width_at, AreSound, Gives, Nothing}
+use Rattle.cell_emit.proofs.Frames.{held-fits, longer-same, longer-then}
+use Rattle.cell_emit.specs.Counts.{resizes, copied}
+use Rattle.cell_emit.proofs.Repeating.{repeated-below, product-wide}
+use Rattle.cell_emit.proofs.Below.{side-below}
+use Rattle.cell_emit.specs.Envs.{Env, entry, Fits, HasMemories, held_or, Stands}
 use Rattle.cell_expr.specs.Compiled.{Holds, Compiles}
 use Rattle.cell_expr.proofs.Holding.{resized-wide, holds-wider, holds-then, holds-behind, holds-fits, holds-node}
-
-picked-below : (w v : ℕ) (z : ℤ) (width : ℕ) → picked w v z width < 2 ^ width
-picked-below w v (pos n) width = mod-lt _ (pow_pos width)
-picked-below w v (negsuc n) width = mod-lt _ (pow_pos width)
+use Rattle.vl_base.proofs.Shared.{picked-below}
 
 module _ (scope : Scope) (c : Form) (at : Env) where
   -- one slot of an operand

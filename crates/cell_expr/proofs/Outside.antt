@@ -18,12 +18,12 @@ use Rattle.cell_expr.specs.Bodies.{IsCellFun}
 use Rattle.cell_expr.specs.Passes.{AreCompiled}
 use Rattle.vl_design.specs.Syntax.{Exp, Exps, Stm}
 use Rattle.vl_design.specs.Width.{Names, Scope}
-use Rattle.cell_form.specs.Data.{ListData}
-use Rattle.cell_paths.specs.Envs.{Env}
-use Rattle.cell_paths.specs.Paths.{Does}
-use Rattle.cell_paths.specs.Cases.{Compares}
-use Rattle.cell_later.specs.Pendings.{PendingSlots}
-use Rattle.cell_later.specs.Delays.{Leaves}
+use Rattle.cell_emit.specs.cell_form.specs.Data.{ListData}
+use Rattle.cell_emit.specs.Envs.{Env}
+use Rattle.cell_emit.specs.Paths.{Does}
+use Rattle.cell_emit.specs.Cases.{Compares}
+use Rattle.cell_emit.specs.Pendings.{PendingSlots}
+use Rattle.cell_emit.specs.Delays.{Leaves}
 use Rattle.cell_expr.specs.Compiled.{Compiles}
 use Rattle.cell_expr.specs.Counts.{exp_count, labels_count, stm_count, body_count, body_cells}
 

@@ -6,26 +6,19 @@ use Rattle.vl_design.specs.Syntax.{Exp, Exps, NoExps, MoreExps}
 use Rattle.vl_design.specs.Width.{Names, Scope, form, total_width}
 use Rattle.vl_design.specs.Value.{Sample, value, side_by_side}
 use Rattle.vl_eval.proofs.Reading.{appended-more}
-use Rattle.cell_form.specs.Data.{ListData, BankData}
-use Rattle.cell_form.specs.Sound.{Shape}
-use Rattle.cell_steps.specs.Slots.{held, width_at, IsIn, AreSound, Grows, Longer, Gives, Nothing}
-use Rattle.cell_steps.proofs.Frames.{held-stays, width-stays, in-stays, longer-grows, longer-same, longer-then}
-use Rattle.cell_paths.specs.Envs.{Env, IsSlot, Fits, HasMemories, held_or, Stands}
-use Rattle.cell_paths.proofs.Staying.{stands-stays, sound-behind, longer-plain}
+use Rattle.cell_emit.specs.cell_form.specs.Data.{ListData, BankData}
+use Rattle.cell_emit.specs.cell_form.specs.Sound.{Shape}
+use Rattle.cell_emit.specs.Slots.{held, width_at, IsIn, AreSound, Grows, Longer, Gives, Nothing}
+use Rattle.cell_emit.proofs.Frames.{held-stays, width-stays, in-stays, longer-grows, longer-same, longer-then}
+use Rattle.cell_emit.specs.Envs.{Env, IsSlot, Fits, HasMemories, held_or, Stands}
+use Rattle.cell_emit.proofs.Staying.{stands-stays, sound-behind, longer-plain}
 use Rattle.cell_expr.specs.Compiled.{Holds, width_or, beside_count, bits_before}
 use Rattle.cell_expr.proofs.Counting.{parts-wide}
 use Rattle.cell_expr.proofs.Holding.{holds-wider}
 use Rattle.cell_expr.specs.Counts.{own_count, wide_count, parts_own, parts_wide, rest_count, first_count, all_count}
+pub use Rattle.vl_base.proofs.Numbers.{product_right as some-part}
 
 -- ---- one part more
-
-pub joined-none : (l : ListData) (all : Option ℕ) (part : ℕ) → all ≡ None → IsIn l part → Gives Nothing (beside_count all) l l part (width_or l all + width_at l part) (λ b. appended (held_or b l all) (width_at l part) (held b l part))
-joined-none l all part e h = rw e (record {
-  longer = longer-same Nothing l;
-  there = h;
-  width = omega arith;
-  value = λ s b sound. omega arith;
-})
 
 -- ---- parts so far
 
@@ -126,19 +119,10 @@ module _ (scope : Scope) (body : ℕ → ℕ) (more : ℕ) (at : Env) where
 
 -- ---- copies
 
--- where copies have bits, a part has some
-pub some-part : (n w : ℕ) → 1 ≤ n * w → 1 ≤ w
-some-part n zero h = absurd (let e : n * 0 ≡ 0 = omega arith in omega (arith, e, h))
-some-part n (suc w) h = omega arith
-
 -- a part has no more bits than the copies
 pub part-fits : (n w most : ℕ) → 1 ≤ n * w → n * w ≤ most → w ≤ most
 part-fits zero w most h k = absurd (omega (arith, h))
 part-fits (suc n) w most h k = let e : suc n * w ≡ w + n * w = grind arith in omega (arith, e, k)
-
-pub most-part : (n w most : ℕ) → 1 ≤ n * w → n * w ≤ most → most ≤ 128 → w ≤ 128
-most-part zero w most h k l = absurd (omega (arith, h))
-most-part (suc n) w most h k l = let e : suc n * w ≡ w + n * w = grind arith in omega (arith, e, k, l)
 
 -- what is there before and a part can stand side by side
 pub record Joins (new : ListData) (all : Option ℕ) (part : ℕ) : Type 0 where

@@ -11,15 +11,15 @@ use Rattle.vl_design.specs.Value.{Sample}
 use Rattle.vl_design.specs.Width.{Names, signal_form}
 use Rattle.vl_design.proofs.Kept.{words_set, words_other}
 use Rattle.vl_run.proofs.Fresh as run
-use Rattle.cell_form.specs.Data.{ListData}
-use Rattle.cell_form.specs.Sound.{Shape}
-use Rattle.cell_steps.specs.Slots.{held, width_at, Gives, Nothing}
-use Rattle.cell_steps.proofs.Frames.{longer-grows, longer-same, longer-then}
-use Rattle.cell_nodes.specs.Counts.{resizes}
-use Rattle.cell_paths.specs.Envs.{Env, IsSlot, Fits, HasMemories, Stands}
-use Rattle.cell_paths.specs.Paths.{IsWritable}
-use Rattle.cell_paths.proofs.Staying.{stands-stays, sound-behind, keeps-same, keeps-then, longer-plain}
-use Rattle.cell_paths.proofs.Assigning.{with_entry, signal-there, fits-with, keeps-with, stands-with}
+use Rattle.cell_emit.specs.cell_form.specs.Data.{ListData}
+use Rattle.cell_emit.specs.cell_form.specs.Sound.{Shape}
+use Rattle.cell_emit.specs.Slots.{held, width_at, Gives, Nothing}
+use Rattle.cell_emit.proofs.Frames.{longer-grows, longer-same, longer-then}
+use Rattle.cell_emit.specs.Counts.{resizes}
+use Rattle.cell_emit.specs.Envs.{Env, IsSlot, Fits, HasMemories, Stands}
+use Rattle.cell_emit.specs.Paths.{IsWritable}
+use Rattle.cell_emit.proofs.Staying.{stands-stays, sound-behind, keeps-same, keeps-then, longer-plain}
+use Rattle.cell_emit.proofs.Assigning.{with_entry, signal-there, fits-with, keeps-with, stands-with}
 use Rattle.cell_expr.specs.Compiled.{Holds}
 use Rattle.cell_expr.specs.Passes.{Passes}
 use Rattle.cell_expr.proofs.Holding.{resizes-most}

@@ -9,21 +9,21 @@ use Rattle.vl_design.specs.Exec.{exec}
 use Rattle.vl_design.specs.State.{Update}
 use Rattle.vl_design.specs.Value.{Sample}
 use Rattle.vl_design.specs.Width.{Names, Scope, form, assigned}
-use Rattle.cell_form.specs.Data.{ListData, BankData}
-use Rattle.cell_form.specs.Sound.{Shape}
-use Rattle.cell_steps.specs.Slots.{held, width_at, IsIn}
-use Rattle.cell_steps.proofs.Frames.{held-stays, in-stays, width-stays, longer-grows, longer-same, longer-then}
-use Rattle.cell_paths.specs.Envs.{Env, Fits, HasMemories}
-use Rattle.cell_paths.specs.Paths.{Does, Updates}
-use Rattle.cell_paths.proofs.Staying.{stands-stays, sound-behind, longer-plain}
-use Rattle.cell_paths.proofs.Walking.{does-set}
-use Rattle.cell_later.specs.Pendings.{PendingSlots, ArePending}
-use Rattle.cell_later.specs.Delays.{Delays, Leaves}
-use Rattle.cell_later.proofs.Leaving.{does-later, leaves-later}
+use Rattle.cell_emit.specs.cell_form.specs.Data.{ListData, BankData}
+use Rattle.cell_emit.specs.cell_form.specs.Sound.{Shape}
+use Rattle.cell_emit.specs.Slots.{held, width_at, IsIn}
+use Rattle.cell_emit.proofs.Frames.{held-stays, in-stays, width-stays, longer-grows, longer-same, longer-then}
+use Rattle.cell_emit.specs.Envs.{Env, Fits, HasMemories}
+use Rattle.cell_emit.specs.Paths.{Does, Updates}
+use Rattle.cell_emit.proofs.Staying.{stands-stays, sound-behind, longer-plain}
+use Rattle.cell_emit.proofs.Walking.{does-set}
+use Rattle.cell_emit.specs.Pendings.{PendingSlots, ArePending}
+use Rattle.cell_emit.specs.Delays.{Delays, Leaves}
+use Rattle.cell_emit.proofs.Leaving.{does-later, leaves-later}
 use Rattle.cell_expr.specs.declared.spot.Spot.{Spot}
 use Rattle.cell_expr.specs.Compiled.{Compiles}
 use Rattle.cell_expr.specs.Spots.{memory_at, IsSpot, spot_in, bits_of, cells_of, stored_by, Spotted, Assigned}
-use Rattle.vl_stored.specs.Stored.{target_stored}
+use Rattle.cell_emit.specs.vl_sites.specs.Stored.{target_stored}
 use Rattle.cell_expr.specs.Counts.{parts_count, all_parts_count}
 use Rattle.vl_design.specs.Sound.{IsSoundExp, IsSoundTarget}
 use Rattle.vl_eval.proofs.Widths.{form-width}

@@ -19,16 +19,16 @@ use Rattle.vl_eval.specs.Rooms as rooms
 use Rattle.vl_design.specs.Rows.{row_of}
 use Rattle.vl_run.specs.Lists.{targets_of}
 use Rattle.vl_run.proofs.Spotting.{targets-more}
-use Rattle.cell_form.specs.Data.{ListData, BankData}
-use Rattle.cell_form.specs.Sound.{Shape}
-use Rattle.cell_steps.specs.Slots.{held, width_at, IsIn, AreSound, Grows, Longer, Gives, Nothing}
-use Rattle.cell_steps.proofs.Frames.{held-stays, in-stays, width-stays, longer-grows, longer-then, gives-weaken, gives-as}
-use Rattle.cell_nodes.specs.Counts.{resizes}
-use Rattle.cell_paths.proofs.Assigning.{one-word}
-use Rattle.cell_paths.specs.Envs.{Env, HasOneWord, Fits, Stands}
-use Rattle.cell_paths.specs.Paths.{on, Low, Constant, By, IsLow, low_in, low_of, update_in, Assigns, Updates}
-use Rattle.cell_paths.proofs.Staying.{stands-stays}
-use Rattle.cell_paths.proofs.Walking.{updates-none, updates-more, updates-as, updates-wider, low-stays}
+use Rattle.cell_emit.specs.cell_form.specs.Data.{ListData, BankData}
+use Rattle.cell_emit.specs.cell_form.specs.Sound.{Shape}
+use Rattle.cell_emit.specs.Slots.{held, width_at, IsIn, AreSound, Grows, Longer, Gives, Nothing}
+use Rattle.cell_emit.proofs.Frames.{held-stays, in-stays, width-stays, longer-grows, longer-then, gives-weaken, gives-as}
+use Rattle.cell_emit.specs.Counts.{resizes}
+use Rattle.cell_emit.proofs.Assigning.{one-word}
+use Rattle.cell_emit.specs.Envs.{Env, HasOneWord, Fits, Stands}
+use Rattle.cell_emit.specs.Paths.{on, Low, Constant, By, IsLow, low_in, low_of, update_in, Assigns, Updates}
+use Rattle.cell_emit.proofs.Staying.{stands-stays}
+use Rattle.cell_emit.proofs.Walking.{updates-none, updates-more, updates-as, updates-wider, low-stays}
 use Rattle.cell_expr.specs.declared.address.Address.{Address}
 use Rattle.cell_expr.specs.declared.spot.Spot.{Spot}
 use Rattle.cell_expr.specs.Spots.{IsOf, word_in, memory_at, spot_cells, IsSpot, spot_in, update_of, bits_of, cells_of, stored_by}

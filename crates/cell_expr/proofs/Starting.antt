@@ -11,19 +11,15 @@ use Rattle.vl_design.specs.Width.{Names, names_in}
 use Rattle.vl_eval.specs.declared.room.Room.{Room}
 use Rattle.vl_eval.specs.Rooms.{names_of}
 use Rattle.vl_design.proofs.Fine.{zeros_fine}
-use Rattle.cell_form.specs.Data.{ListData}
-use Rattle.cell_steps.specs.Slots.{Gives, Nothing}
-use Rattle.cell_steps.proofs.Frames.{held-stays, longer-grows, longer-then, grows-then}
-use Rattle.cell_paths.specs.Envs.{Env, entry, IsSlot, IsEntry, Always, Fits, HasWords, IsThere, held_or, word_or}
-use Rattle.cell_paths.proofs.Staying.{is-slot-stays, always-stays, gives-slot}
+use Rattle.cell_emit.specs.cell_form.specs.Data.{ListData}
+use Rattle.cell_emit.specs.Slots.{Gives, Nothing}
+use Rattle.cell_emit.proofs.Frames.{held-stays, longer-grows, longer-then, grows-then}
+use Rattle.cell_emit.specs.Envs.{Env, entry, IsSlot, IsEntry, Always, Fits, HasWords, IsThere, held_or, word_or}
+use Rattle.cell_emit.proofs.Staying.{is-slot-stays, always-stays, gives-slot}
 use Rattle.cell_expr.specs.Passes.{Begins}
+use Rattle.vl_base.proofs.Lists.{zero_index as none-index}
 
 -- ---- zeros
-
-none-index : (n j : ℕ) → slice_index (replicate n 0) j ≡ 0
-none-index zero j = refl
-none-index (suc n) zero = refl
-none-index (suc n) (suc j) = none-index n j
 
 zeros-index : (rows : List Row) (k j : ℕ) → slice_index (words_of (zeros rows) k) j ≡ 0
 zeros-index [] k j = refl

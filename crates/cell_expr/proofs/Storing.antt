@@ -12,16 +12,16 @@ use Rattle.vl_design.specs.Syntax.{Row}
 use Rattle.vl_design.specs.Value.{words_of, value_of}
 use Rattle.vl_design.specs.Width.{Names}
 use Rattle.vl_design.proofs.Shaping.{all_shape}
-use Rattle.cell_form.specs.Data.{ListData, BankData}
-use Rattle.cell_steps.specs.Slots.{held, width_at, IsIn, Nothing}
-use Rattle.cell_steps.proofs.Frames.{held-stays, width-stays, longer-grows, longer-then}
-use Rattle.cell_paths.specs.Envs.{Always}
-use Rattle.cell_paths.specs.Paths.{Low, IsLow, low_in, low_of, update_in, Constant, By}
-use Rattle.cell_paths.proofs.Walking.{low-stays}
-use Rattle.cell_later.specs.Pendings.{PendingSlots, ArePending, Pends}
-use Rattle.cell_later.specs.Delays.{with_later, IsDelayable, IsStorable, stored_in, Delays, delay_count}
-use Rattle.cell_later.proofs.Following.{delays-as, delays-wider}
-use Rattle.cell_later.proofs.Keeping.{pends-stays, updated-more}
+use Rattle.cell_emit.specs.cell_form.specs.Data.{ListData, BankData}
+use Rattle.cell_emit.specs.Slots.{held, width_at, IsIn, Nothing}
+use Rattle.cell_emit.proofs.Frames.{held-stays, width-stays, longer-grows, longer-then}
+use Rattle.cell_emit.specs.Envs.{Always}
+use Rattle.cell_emit.specs.Paths.{Low, IsLow, low_in, low_of, update_in, Constant, By}
+use Rattle.cell_emit.proofs.Walking.{low-stays}
+use Rattle.cell_emit.specs.Pendings.{PendingSlots, ArePending, Pends}
+use Rattle.cell_emit.specs.Delays.{with_later, IsDelayable, IsStorable, stored_in, Delays, delay_count}
+use Rattle.cell_emit.proofs.Following.{delays-as, delays-wider}
+use Rattle.cell_emit.proofs.Keeping.{pends-stays, updated-more}
 use Rattle.cell_expr.specs.declared.address.Address.{Address}
 use Rattle.cell_expr.specs.declared.spot.Spot.{Spot}
 use Rattle.cell_expr.specs.Chosen.{word_named, Chooses}
@@ -30,6 +30,7 @@ use Rattle.cell_expr.specs.Words.{row_words, words_in}
 use Rattle.cell_expr.proofs.Spotting.{whole-update, of-memory}
 use Rattle.cell_expr.proofs.Wording.{many-words}
 use Rattle.cell_expr.specs.Counts.{part_count}
+use Rattle.vl_design.proofs.Resting.{words_kept as same-words}
 
 -- ---- a word that isn't there
 
@@ -40,9 +41,6 @@ words-long rows values m fine is = go (slice_get rows m) refl is
     go : (o : Option Row) → slice_get rows m ≡ o → IsOf IsMem o → length (words_of values m) ≡ row_words o
     go None e h = absurd h
     go (Some r) e h = fine.shape.words m ∙ many-words rows m r e
-
-same-words : (values : List (List ℕ)) (k : ℕ) → slice_set values k (words_of values k) ≡ values
-same-words values k = ap (slice_set values k) (unwrap_or-slice_get values k []) ∙ set-get_or values k []
 
 -- its update changes nothing
 past-same : (rows : List Row) (values : List (List ℕ)) (u : Update) → length (words_of values u.signal) ≤ u.word → with_update rows values u ≡ values

@@ -11,20 +11,21 @@ use Rattle.vl_design.specs.Sound.{AreSound, AreSoundItems, IsSoundStm}
 use Rattle.vl_design.specs.Syntax.{Target, Stm, Items, NoItems, Labelled, Default}
 use Rattle.vl_design.specs.Trees.{exps_of}
 use Rattle.vl_design.specs.Width.{Names, Scope}
-use Rattle.cell_form.specs.Data.{ListData}
-use Rattle.cell_steps.specs.Slots.{Nothing}
-use Rattle.cell_steps.proofs.Frames.{longer-grows, grows-then}
-use Rattle.cell_paths.specs.Envs.{Env, Fits, IsSlot, HasMemories}
-use Rattle.cell_paths.proofs.Casing.{tries-default}
-use Rattle.cell_paths.proofs.Staying.{is-slot-stays}
-use Rattle.cell_later.specs.Pendings.{PendingSlots, ArePending}
-use Rattle.cell_later.proofs.Leaving.{leaves-default, leaves-labelled}
+use Rattle.cell_emit.specs.cell_form.specs.Data.{ListData}
+use Rattle.cell_emit.specs.Slots.{Nothing}
+use Rattle.cell_emit.proofs.Frames.{longer-grows, grows-then}
+use Rattle.cell_emit.specs.Envs.{Env, Fits, IsSlot, HasMemories}
+use Rattle.cell_emit.proofs.Casing.{tries-default}
+use Rattle.cell_emit.proofs.Staying.{is-slot-stays}
+use Rattle.cell_emit.specs.Pendings.{PendingSlots, ArePending}
+use Rattle.cell_emit.proofs.Leaving.{leaves-default, leaves-labelled}
 use Rattle.cell_expr.specs.Bodies.{IsSegment, AreSegmentItems}
 use Rattle.cell_expr.specs.Counts.{labels_count, items_count, stm_count}
 use Rattle.cell_expr.specs.Items.{Item, Tried}
-use Rattle.vl_stored.specs.Stored.{stored_words, items_stored, default_stored}
+use Rattle.cell_emit.specs.vl_sites.specs.Stored.{stored_words, items_stored, default_stored}
 use Rattle.cell_expr.proofs.Labelling.{item-tries}
 use Rattle.cell_expr.proofs.Listing.{none-left, none-right}
+pub use Rattle.vl_design.proofs.Shared.{item-sound}
 
 pub tried-default : (scope : Scope) (body : ℕ → ℕ) (c : Form) (subject rest : ℕ) (es : List Expr) (a : Stm) (at : Env) (q : PendingSlots) (l : ListData) → es ≡ [] → Fits scope.names l at → IsSlot l rest 1 → ArePending scope.names l q →
     Tried scope.names scope body c subject (seen.exps_of es) a rest rest at at q q l l
@@ -56,10 +57,6 @@ tried-item scope body c subject before behind (x ∷ xs) a at at' q q' old new s
 }
 
 -- ---- an item and the others
-
-pub item-sound : (names : Names) (es : p.Exps) (a : Stm) (others : Items) → AreSoundItems names (plain.item es a others) → AreSound names (plain.exps es) × IsSoundStm names a × AreSoundItems names others
-item-sound names p.NoExps a others h = (tt, h.0, h.1)
-item-sound names (p.MoreExps e es) a others h = h
 
 pub item-segment : (P : Target → Type 0) (es : p.Exps) (a : Stm) (others : Items) → AreSegmentItems P (plain.item es a others) → IsSegment P a × AreSegmentItems P others
 item-segment P p.NoExps a others h = h

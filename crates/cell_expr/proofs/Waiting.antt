@@ -1,8 +1,8 @@
 -- Where nothing is pending.
 use Rattle.std.proofs.Common.{refl, arith}
 use Rattle.vl_design.specs.Width.{Names}
-use Rattle.cell_form.specs.Data.{ListData}
-use Rattle.cell_later.specs.Pendings.{ArePending}
+use Rattle.cell_emit.specs.cell_form.specs.Data.{ListData}
+use Rattle.cell_emit.specs.Pendings.{ArePending}
 use Rattle.cell_expr.specs.Bodies.{nothing_waits}
 
 pub none-pending : (names : Names) (l : ListData) → ArePending names l nothing_waits

@@ -10,11 +10,11 @@ use Rattle.vl_design.specs.Syntax.{Exp, Num, Label, Sig, Word, Pick, Slice, Un, 
 use Rattle.vl_design.specs.Value.{Sample, value, value_of}
 use Rattle.vl_design.specs.Width.{Scope, form, signal_form, unsigned}
 use Rattle.vl_eval.proofs.Readable.{word-small}
-use Rattle.cell_form.specs.Data.{ListData}
-use Rattle.cell_steps.specs.Slots.{held, width_at, Gives, Nothing}
-use Rattle.cell_nodes.specs.Counts.{resizes}
-use Rattle.cell_paths.proofs.Below.{value-below}
-use Rattle.cell_paths.specs.Envs.{Env, Fits}
+use Rattle.cell_emit.specs.cell_form.specs.Data.{ListData}
+use Rattle.cell_emit.specs.Slots.{held, width_at, Gives, Nothing}
+use Rattle.cell_emit.specs.Counts.{resizes}
+use Rattle.cell_emit.proofs.Below.{value-below}
+use Rattle.cell_emit.specs.Envs.{Env, Fits}
 use Rattle.cell_expr.specs.Compiled.{Holds, Compiles, is_cast}
 use Rattle.cell_expr.specs.Counts.{own_count, wide_count, first_count, in_count, is_plain}
 use Rattle.cell_expr.proofs.Counting.{in-most, wide-other, wide-plain}

@@ -15,20 +15,16 @@ use Rattle.vl_design.specs.Syntax.{Exp, Word, Row}
 use Rattle.vl_design.specs.Value.{Sample, value, words_of, word_at}
 use Rattle.vl_design.specs.Width.{Names, Scope, form, signal_form}
 use Rattle.vl_eval.proofs.Readable.{word-small}
-use Rattle.cell_form.specs.Data.{ListData, BankData}
-use Rattle.cell_form.specs.Values as cell
-use Rattle.cell_steps.specs.Slots.{held, width_at, Gives}
-use Rattle.cell_nodes.specs.Counts.{resizes}
-use Rattle.cell_paths.specs.Envs.{Env, entry, word_or, IsThere, Fits, Stands}
+use Rattle.cell_emit.specs.cell_form.specs.Data.{ListData, BankData}
+use Rattle.cell_emit.specs.cell_form.specs.Values as cell
+use Rattle.cell_emit.specs.Slots.{held, width_at, Gives}
+use Rattle.cell_emit.specs.Counts.{resizes}
+use Rattle.cell_emit.specs.Envs.{Env, entry, word_or, IsThere, Fits, Stands}
 use Rattle.cell_expr.specs.Compiled.{Compiles}
 use Rattle.cell_expr.specs.Words.{word_read, lowest_of, lowest_in}
 use Rattle.cell_expr.proofs.Choosing.{halves}
 use Rattle.cell_expr.proofs.Holding.{holds-wider, holds-node}
-
-past : (xs : List ℕ) (i : ℕ) → length xs ≤ i → slice_index xs i ≡ 0
-past [] i h = refl
-past (x ∷ xs) zero h = absurd (omega (arith, h))
-past (x ∷ xs) (suc i) h = past xs i (omega (arith, h))
+use Rattle.vl_base.proofs.Lists.{index_past as past}
 
 -- a word by its number from the lowest address on
 word-from : (ws : List ℕ) (r : Row) (z : ℤ) → length ws ≡ r.words → cell.word_at ws (z -ℤ r.lowest) ≡ slice_index ws (word_at (Some r) z)

@@ -7,12 +7,12 @@ use Rattle.std.proofs.lemmas.Int.{to_z-of_z}
 use Rattle.vl_design.specs.Rows.{lower_of}
 use Rattle.vl_base.specs.Value.{resized, reading}
 use Rattle.vl_design.specs.Syntax.{Row}
-use Rattle.cell_form.specs.Data.{ListData, BankData}
-use Rattle.cell_form.specs.Values.{word_at}
-use Rattle.cell_steps.specs.Slots.{held, width_at, Gives, Nothing}
-use Rattle.cell_steps.proofs.Frames.{gives-weaken, gives-as}
-use Rattle.cell_nodes.specs.Counts.{resizes}
-use Rattle.cell_paths.specs.Envs.{IsThere}
+use Rattle.cell_emit.specs.cell_form.specs.Data.{ListData, BankData}
+use Rattle.cell_emit.specs.cell_form.specs.Values.{word_at}
+use Rattle.cell_emit.specs.Slots.{held, width_at, Gives, Nothing}
+use Rattle.cell_emit.proofs.Frames.{gives-weaken, gives-as}
+use Rattle.cell_emit.specs.Counts.{resizes}
+use Rattle.cell_emit.specs.Envs.{IsThere}
 use Rattle.cell_expr.specs.Words.{word_read, lowest_of, lowest_in}
 use Rattle.cell_expr.proofs.Holding.{resized-zero}
 

@@ -7,7 +7,7 @@ use Rattle.vl_design.specs.Trees.{stm_of}
 use Rattle.vl_design.specs.Width.{Names}
 use Rattle.vl_design.specs.Reads.{stm_writes}
 use Rattle.vl_paths.specs.Nets.{IsNetStm, IsPlain}
-use Rattle.cell_later.specs.Pendings.{PendingSlots}
+use Rattle.cell_emit.specs.Pendings.{PendingSlots}
 
 -- only blocking assignments to whole signals or bits of them, tests and cases; of what kind a signal is its row says
 abbrev pub IsNet : Stm → Type 0

@@ -9,12 +9,12 @@ use Rattle.vl_design.specs.Syntax.{Fun}
 use Rattle.vl_design.specs.Width.{Names, names_in}
 use Rattle.vl_eval.specs.Rooms.{scope_at}
 use Rattle.vl_run.specs.Scopes.{calls_in}
-use Rattle.cell_form.specs.declared.cell.CellList.{CellList}
-use Rattle.cell_form.specs.Views.{list_of}
-use Rattle.cell_steps.specs.Slots.{Grows}
-use Rattle.cell_paths.specs.declared.at.At.{At}
-use Rattle.cell_paths.specs.Envs.{env_of, Fits}
-use Rattle.cell_paths.specs.Paths.{Does}
+use Rattle.cell_emit.specs.cell_form.specs.declared.cell.CellList.{CellList}
+use Rattle.cell_emit.specs.cell_form.specs.Views.{list_of}
+use Rattle.cell_emit.specs.Slots.{Grows}
+use Rattle.cell_emit.specs.declared.at.At.{At}
+use Rattle.cell_emit.specs.Envs.{env_of, Fits}
+use Rattle.cell_emit.specs.Paths.{Does}
 use Rattle.cell_expr.specs.Bodies.{IsCellFun}
 use Rattle.cell_expr.specs.Counts.{stm_count, body_count}
 

@@ -3,10 +3,10 @@ use Rattle.std.specs.Prelude.{◌≡◌, ℕ, ◌<◌, ◌==◌, nat_lt, List, s
 use Rattle.vl_base.specs.Value.{reading, truth}
 use Rattle.vl_design.specs.Syntax.{Row}
 use Rattle.vl_design.specs.Value.{word_at}
-use Rattle.cell_form.specs.Data.{ListData, BankData}
-use Rattle.cell_form.specs.Sound.{Shape}
-use Rattle.cell_steps.specs.Slots.{held, width_at, AreSound, Longer, Nothing}
-use Rattle.cell_paths.specs.Envs.{IsSlot}
+use Rattle.cell_emit.specs.cell_form.specs.Data.{ListData, BankData}
+use Rattle.cell_emit.specs.cell_form.specs.Sound.{Shape}
+use Rattle.cell_emit.specs.Slots.{held, width_at, AreSound, Longer, Nothing}
+use Rattle.cell_emit.specs.Envs.{IsSlot}
 use Rattle.cell_expr.specs.declared.address.Address.{Address}
 use Rattle.cell_expr.specs.Words.{words_in}
 

@@ -4,10 +4,10 @@ use Rattle.vl_design.specs.declared.design.Form.{Form}
 use Rattle.vl_design.specs.Syntax.{Exp, Cast}
 use Rattle.vl_design.specs.Value.{Sample, value}
 use Rattle.vl_design.specs.Width.{Names, Scope}
-use Rattle.cell_form.specs.Data.{ListData, BankData}
-use Rattle.cell_form.specs.Sound.{Shape}
-use Rattle.cell_steps.specs.Slots.{held, width_at, AreSound, Longer}
-use Rattle.cell_paths.specs.Envs.{Env, IsSlot, HasMemories, Stands}
+use Rattle.cell_emit.specs.cell_form.specs.Data.{ListData, BankData}
+use Rattle.cell_emit.specs.cell_form.specs.Sound.{Shape}
+use Rattle.cell_emit.specs.Slots.{held, width_at, AreSound, Longer}
+use Rattle.cell_emit.specs.Envs.{Env, IsSlot, HasMemories, Stands}
 
 -- with at most n cells more, a slot of w bits holds what f says of what is read
 pub record Holds (names : Names) (n : ℕ) (at : Env) (old new : ListData) (r w : ℕ) (f : Sample → ℕ) : Type 0 where

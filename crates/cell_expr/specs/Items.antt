@@ -6,13 +6,13 @@ use Rattle.vl_design.specs.Placed as placed
 use Rattle.vl_design.specs.Plainly as plain
 use Rattle.vl_design.specs.Syntax.{Exps, Stm, Items}
 use Rattle.vl_design.specs.Width.{Names, Scope}
-use Rattle.cell_form.specs.Data.{ListData}
-use Rattle.cell_steps.specs.Slots.{held, Gives, Nothing}
-use Rattle.cell_paths.specs.Envs.{Env, Fits, IsSlot}
-use Rattle.cell_paths.specs.Paths.{Does}
-use Rattle.cell_paths.specs.Cases.{Compares, Tries}
-use Rattle.cell_later.specs.Pendings.{PendingSlots, ArePending}
-use Rattle.cell_later.specs.Delays.{Leaves, LeavesItems}
+use Rattle.cell_emit.specs.cell_form.specs.Data.{ListData}
+use Rattle.cell_emit.specs.Slots.{held, Gives, Nothing}
+use Rattle.cell_emit.specs.Envs.{Env, Fits, IsSlot}
+use Rattle.cell_emit.specs.Paths.{Does}
+use Rattle.cell_emit.specs.Cases.{Compares, Tries}
+use Rattle.cell_emit.specs.Pendings.{PendingSlots, ArePending}
+use Rattle.cell_emit.specs.Delays.{Leaves, LeavesItems}
 use Rattle.cell_expr.specs.Counts.{labels_count, stm_count, items_count}
 
 -- its labels are compared, then its path comes, and its body is executed on it; behind it is pending what the body leaves

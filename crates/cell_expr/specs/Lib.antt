@@ -10,3 +10,4 @@ pub mod Passes
 pub mod Spots
 pub mod Words
 pub mod Slack
+pub use Rattle.vl_paths as vl_paths

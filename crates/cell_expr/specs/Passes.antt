@@ -5,11 +5,11 @@ use Rattle.vl_design.specs.Sound.{IsSoundFun}
 use Rattle.vl_design.specs.State.{sample}
 use Rattle.vl_design.specs.Value.{Sample}
 use Rattle.vl_design.specs.Width.{Names}
-use Rattle.cell_form.specs.Data.{ListData, BankData}
-use Rattle.cell_form.specs.Sound.{Shape}
-use Rattle.cell_steps.specs.Slots.{AreSound, Longer, Nothing}
-use Rattle.cell_paths.specs.Envs.{Env, Fits, HasMemories, Stands}
-use Rattle.cell_paths.specs.Paths.{Keeps}
+use Rattle.cell_emit.specs.cell_form.specs.Data.{ListData, BankData}
+use Rattle.cell_emit.specs.cell_form.specs.Sound.{Shape}
+use Rattle.cell_emit.specs.Slots.{AreSound, Longer, Nothing}
+use Rattle.cell_emit.specs.Envs.{Env, Fits, HasMemories, Stands}
+use Rattle.cell_emit.specs.Paths.{Keeps}
 use Rattle.cell_expr.specs.Bodies.{IsCellFun}
 
 -- the functions are sound, and of those that are compiled

@@ -6,16 +6,16 @@ use Rattle.vl_design.specs.State.{Update}
 use Rattle.vl_design.specs.Width.{Names, Scope, signal_form}
 use Rattle.vl_design.specs.Sound.{IsSignal, IsMemory, IsWidth}
 use Rattle.vl_design.specs.Targets as t
-use Rattle.cell_form.specs.Data.{ListData, BankData}
-use Rattle.cell_form.specs.Sound.{Shape}
-use Rattle.cell_steps.specs.Slots.{held, width_at, IsIn, AreSound, Longer}
-use Rattle.cell_paths.specs.Envs.{Env, HasMemories, Stands}
-use Rattle.cell_paths.specs.Paths.{Low, Constant, By, IsLow, low_in, low_of}
+use Rattle.cell_emit.specs.cell_form.specs.Data.{ListData, BankData}
+use Rattle.cell_emit.specs.cell_form.specs.Sound.{Shape}
+use Rattle.cell_emit.specs.Slots.{held, width_at, IsIn, AreSound, Longer}
+use Rattle.cell_emit.specs.Envs.{Env, HasMemories, Stands}
+use Rattle.cell_emit.specs.Paths.{Low, Constant, By, IsLow, low_in, low_of}
 use Rattle.cell_expr.specs.declared.address.Address.{Address}
 use Rattle.cell_expr.specs.declared.spot.Spot.{Spot}
 use Rattle.cell_expr.specs.Chosen.{word_named}
 use Rattle.cell_expr.specs.Counts.{is_word, part_count, parts_count}
-use Rattle.vl_stored.specs.Stored.{target_stored}
+use Rattle.cell_emit.specs.vl_sites.specs.Stored.{target_stored}
 
 -- ---- what a spot is of: a signal, or the word of a memory by its address
 

@@ -1,8 +1,8 @@
 -- A word of a memory by its address (IEEE 1364-2005, clause 5.2.2).
 use Rattle.std.specs.Prelude.{ℕ, ◌-◌, nat_lt, ℤ, pos, int_lt, unsigned_abs, Bool, not, ◌&&◌, List, [], slice_get, slice_index_or, Option, Some, None, if◌then◌else◌}
 use Rattle.vl_design.specs.Syntax.{Row}
-use Rattle.cell_form.specs.Data.{BankData}
-use Rattle.cell_form.specs.Values.{word_at}
+use Rattle.cell_emit.specs.cell_form.specs.Data.{BankData}
+use Rattle.cell_emit.specs.cell_form.specs.Values.{word_at}
 
 abbrev pub lowest_of : Option Row → ℤ
 lowest_of None = pos 0

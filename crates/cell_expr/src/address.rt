@@ -4,15 +4,15 @@ ghost use Rattle.std.specs.Prelude.{◌≡◌, ◌==◌, ◌-◌, ◌-ℤ◌, po
 ghost use Rattle.vl_base.specs.Value.{wrapped, truth};
 ghost use Rattle.vl_design.specs.Sound.{IsMemory};
 ghost use Rattle.vl_eval.specs.Rooms as rooms;
-ghost use Rattle.cell_form.specs.Views.{list_of};
-ghost use Rattle.cell_steps.specs.Slots.{held, width_at, IsIn, Grows, Gives, Nothing};
-ghost use Rattle.cell_paths.specs.Envs.{IsSlot, Always};
+ghost use Rattle.cell_emit.specs.cell_form.specs.Views.{list_of};
+ghost use Rattle.cell_emit.specs.Slots.{held, width_at, IsIn, Grows, Gives, Nothing};
+ghost use Rattle.cell_emit.specs.Envs.{IsSlot, Always};
 ghost use Rattle.cell_expr.specs.Chosen.{Chooses};
 ghost use Rattle.cell_expr.specs.Words.{found_in};
 
 use crate::leaf::lower;
-use cell_form::cell::CellList;
-use cell_steps::steps;
+use cell_emit::cell::CellList;
+use cell_emit::steps;
 use std::alloc::{AllocError, Global};
 use vl_base::bits::BinOp;
 use vl_eval::eval::signal_at;

@@ -4,14 +4,14 @@ ghost use Rattle.std.specs.Prelude.{◌≡◌, ◌≤◌, ◌<◌, ◌+◌, ◌-
 ghost use Rattle.vl_design.specs.Trees.{fun_of};
 ghost use Rattle.vl_design.specs.Width as w;
 ghost use Rattle.vl_eval.specs.Rooms.{names_of};
-ghost use Rattle.cell_form.specs.Views.{list_of};
-ghost use Rattle.cell_steps.specs.Slots.{Grows};
-ghost use Rattle.cell_paths.specs.Envs.{env_of, Fits};
+ghost use Rattle.cell_emit.specs.cell_form.specs.Views.{list_of};
+ghost use Rattle.cell_emit.specs.Slots.{Grows};
+ghost use Rattle.cell_emit.specs.Envs.{env_of, Fits};
 ghost use Rattle.cell_expr.specs.Passes.{Begins};
 
-use cell_form::cell::CellList;
-use cell_nodes::reads::nothing;
-use cell_paths::at::At;
+use cell_emit::at::At;
+use cell_emit::cell::CellList;
+use cell_emit::reads::nothing;
 use std::alloc::{AllocError, Global};
 use vl_design::design::Func;
 use vl_eval::room::Room;

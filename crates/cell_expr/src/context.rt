@@ -5,9 +5,9 @@ ghost use Rattle.vl_design.specs.Sound.{IsSignal, IsSoundFun, IsWidth};
 ghost use Rattle.vl_design.specs.Trees.{fun_of};
 ghost use Rattle.vl_design.specs.Width as w;
 ghost use Rattle.vl_eval.specs.Rooms as rooms;
-ghost use Rattle.cell_paths.specs.Envs.{env_of, entry};
+ghost use Rattle.cell_emit.specs.Envs.{env_of, entry};
 
-use cell_paths::at::At;
+use cell_emit::at::At;
 use vl_design::design::Func;
 use vl_eval::room::Room;
 

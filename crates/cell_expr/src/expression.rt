@@ -7,11 +7,11 @@ ghost use Rattle.vl_design.specs.Syntax as y;
 ghost use Rattle.vl_design.specs.Trees.{exp_of, exps_of, fun_of};
 ghost use Rattle.vl_design.specs.Value as v;
 ghost use Rattle.vl_design.specs.Width as w;
-ghost use Rattle.cell_form.specs.Views.{list_of};
-ghost use Rattle.cell_steps.specs.Slots.{held, width_at, IsIn, Grows, Gives, Nothing};
+ghost use Rattle.cell_emit.specs.cell_form.specs.Views.{list_of};
+ghost use Rattle.cell_emit.specs.Slots.{held, width_at, IsIn, Grows, Gives, Nothing};
 ghost use Rattle.vl_base.specs.Selects.{appended};
 ghost use Rattle.vl_base.specs.Value.{resized};
-ghost use Rattle.cell_paths.specs.Envs.{env_of, held_or, Fits};
+ghost use Rattle.cell_emit.specs.Envs.{env_of, held_or, Fits};
 ghost use Rattle.cell_expr.specs.Bodies.{IsCellFun};
 ghost use Rattle.cell_expr.specs.Compiled.{Compiles, Holds, beside_count, bits_before as before, is_cast, width_or};
 ghost use Rattle.cell_expr.specs.Contexts.{names_of, scope_of, body_of};
@@ -23,17 +23,17 @@ ghost use Rattle.cell_expr.specs.Callers.{Compilers};
 use crate::call::{begin, pass};
 use crate::context::{Context, inner};
 use crate::leaf::{read_signal, read_word};
-use cell_form::cell::CellList;
-use cell_nodes::copies::{beside, multiply, repeat};
-use cell_nodes::operators::{choose, combine, operate};
-use cell_nodes::reads::{nothing, number, read, select, slice};
-use cell_paths::at::At;
+use cell_emit::at::At;
+use cell_emit::cell::CellList;
+use cell_emit::copies::{beside, multiply, repeat};
+use cell_emit::operators::{choose, combine, operate};
+use cell_emit::reads::{nothing, number, read, select, slice};
 use std::alloc::{AllocError, Global};
 use vl_base::bits::{BinOp, UnOp};
 use vl_design::design::{Expr, ExprNode, Form, Func, LowestBit};
 use vl_eval::form::{form_of, signal_form};
+use vl_eval::form_form::{assigned, left_form, operand_form, right_form, unsigned};
 use vl_eval::room::Room;
-use vl_form::form::{assigned, left_form, operand_form, right_form, unsigned};
 
 /// Puts a part of a concatenation behind others, if there are some.
 fn joined(

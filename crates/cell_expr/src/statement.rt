@@ -14,34 +14,34 @@ ghost use Rattle.vl_design.specs.Trees.{exp_of, exps_of, stm_of, then_of, target
 ghost use Rattle.vl_paths.specs.Nets.{IsPlain};
 ghost use Rattle.vl_run.specs.Cases.{items_of, AreWithin, AreLabelsWithin};
 ghost use Rattle.vl_run.specs.Lists.{targets_of};
-ghost use Rattle.cell_form.specs.Views.{list_of};
-ghost use Rattle.cell_steps.specs.Slots.{Grows};
-ghost use Rattle.cell_paths.specs.Envs.{env_of, Fits, IsSlot};
-ghost use Rattle.cell_paths.specs.declared.place.Place.TheVariants as place;
-ghost use Rattle.cell_paths.specs.Paths.{Does};
-ghost use Rattle.cell_paths.specs.Cases.{Compares, Tries};
-ghost use Rattle.cell_later.specs.Pendings.{slots_of, memories_of, ArePending};
-ghost use Rattle.cell_later.specs.Delays.{Leaves, LeavesItems};
+ghost use Rattle.cell_emit.specs.cell_form.specs.Views.{list_of};
+ghost use Rattle.cell_emit.specs.Slots.{Grows};
+ghost use Rattle.cell_emit.specs.Envs.{env_of, Fits, IsSlot};
+ghost use Rattle.cell_emit.specs.declared.place.Place.TheVariants as place;
+ghost use Rattle.cell_emit.specs.Paths.{Does};
+ghost use Rattle.cell_emit.specs.Cases.{Compares, Tries};
+ghost use Rattle.cell_emit.specs.Pendings.{slots_of, memories_of, ArePending};
+ghost use Rattle.cell_emit.specs.Delays.{Leaves, LeavesItems};
 ghost use Rattle.cell_expr.specs.Bodies.{IsSegment, AreSegmentItems, IsAny, CanWait, assignment};
 ghost use Rattle.cell_expr.specs.Contexts.{names_of, scope_of, body_of};
 ghost use Rattle.cell_expr.specs.Counts.{exp_count, labels_count, stm_count, items_count, indices_count, all_indices_count, parts_count, all_parts_count};
 ghost use Rattle.cell_expr.specs.Items.{Item, Tried};
 ghost use Rattle.cell_expr.specs.Callers.{Compilers};
 ghost use Rattle.cell_expr.specs.Spots.{Assigned};
-ghost use Rattle.vl_stored.specs.Stored.{stored_words, items_stored, target_stored};
+ghost use Rattle.cell_emit.specs.vl_sites.specs.Stored.{stored_words, items_stored, target_stored};
 
 use crate::case::{care_of, default_of, items_form};
 use crate::context::Context;
 use crate::spot::{Spot, assign_all, delay_all, target_width};
-use cell_form::cell::CellList;
-use cell_later::pending::Pending;
-use cell_paths::at::At;
-use cell_paths::paths::{branches, differs, open_behind, taken};
-use cell_paths::place::Place;
+use cell_emit::at::At;
+use cell_emit::cell::CellList;
+use cell_emit::paths::{branches, differs, open_behind, taken};
+use cell_emit::pending::Pending;
+use cell_emit::place::Place;
 use std::alloc::{AllocError, Global};
 use vl_design::design::{CaseItem, Expr, Form, LowestBit, Stmt, StmtNode, Target, TargetNode};
 use vl_eval::form::{form_of, signal_form};
-use vl_form::form::assigned;
+use vl_eval::form_form::assigned;
 
 impl<F: Fn(&mut CellList, &mut At, u32) -> Result<(), AllocError>> Context<'_, F> {
     /// Compiles the labels of an item of a case: the path on which none of them matches.

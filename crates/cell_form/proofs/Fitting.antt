@@ -16,6 +16,9 @@ use Rattle.cell_form.specs.Data.{CellData}
 use Rattle.cell_form.specs.Values.{Slot, slot_at, lowest_bit, found, applied, operands, cell_slot, slots_behind, slots_of}
 use Rattle.cell_form.specs.Sound.{Shape, IsAmong, Makes, arity, IsCell, AreCells, IsFit}
 use Rattle.cell_form.proofs.Slots.{width-at, operand-widths}
+use Rattle.vl_base.proofs.Shared.{picked-below as picked-small}
+pub use Rattle.vl_base.proofs.Lists.{all_push as all-push, all_at as all-at}
+use Rattle.vl_base.proofs.Bounds.{placed-below as placed-small}
 
 -- ---- lists of cells
 
@@ -39,29 +42,12 @@ cell-among s first cells i d lt h =
 
 -- ---- operands
 
-pub all-at : {X : Type 0} (P : X → Type 0) (xs : List X) (i : ℕ) (d : X) → i < length xs → AllByRecursion P xs → P (get_or xs i d)
-all-at P [] i d lt h = absurd (omega arith)
-all-at P (x ∷ xs) zero d lt h = h.0
-all-at P (x ∷ xs) (suc i) d lt h = all-at P xs i d (omega arith) h.1
-
-pub all-push : {X : Type 0} (P : X → Type 0) (xs : List X) (x : X) → AllByRecursion P xs → P x → AllByRecursion P (xs ++ x ∷ [])
-all-push P [] x h k = (k, tt)
-all-push P (y ∷ ys) x h k = (h.0, all-push P ys x h.1 k)
-
 operands-fit : (first : ℕ) (earlier : List Slot) (args : List ℕ) → AllByRecursion IsFit earlier → AllByRecursion (IsAmong first (length earlier)) args → AllByRecursion IsFit (operands first earlier args)
 operands-fit first earlier [] fit among = tt
 operands-fit first earlier (a ∷ args) fit among = (
   all-at IsFit earlier (a - first) (record { value = 0; width = 0 }) (omega (arith, among.0.0, among.0.1)) fit,
   operands-fit first earlier args fit among.1,
 )
-
-placed-small : (w v : ℕ) (low : ℤ) (width part : ℕ) → placed w v low width part < 2 ^ w
-placed-small w v (pos low) width part = mod_below _ (2 ^ w) (pow_pos w)
-placed-small w v (negsuc n) width part = mod_below _ (2 ^ w) (pow_pos w)
-
-picked-small : (w v : ℕ) (low : ℤ) (width : ℕ) → picked w v low width < 2 ^ width
-picked-small w v (pos low) width = mod_below _ (2 ^ width) (pow_pos width)
-picked-small w v (negsuc n) width = mod_below _ (2 ^ width) (pow_pos width)
 
 chosen-small : (b : Bool) (x y m : ℕ) → x < m → y < m → (if b then x else y) < m
 chosen-small true x y m h k = h

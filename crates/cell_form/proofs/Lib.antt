@@ -4,3 +4,4 @@ pub mod Putting
 pub mod Slots
 pub mod WorkedRows
 pub mod Writing
+pub mod Shared

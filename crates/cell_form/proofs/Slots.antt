@@ -4,10 +4,7 @@ use Rattle.std.specs.Prelude.{slice_get, slice_index, Some}
 use Rattle.std.proofs.lemmas.List.{append-nil, take_all, take-take, take_at, take-append-drop, length_push, map_push}
 use Rattle.cell_form.specs.Data.{CellData}
 use Rattle.cell_form.specs.Values.{Slot, slot_at, slots_behind, slots_of, cell_slot, operands}
-
-pub get-here : {X : Type 0} (p : List X) (x : X) (ys : List X) → slice_get (p ++ x ∷ ys) (length p) ≡ Some x
-get-here [] x ys = refl
-get-here (y ∷ p) x ys = get-here p x ys
+pub use Rattle.vl_base.proofs.Lists.{get_at_length as get-here}
 
 module _ (first : ℕ) (regs : List ℕ) (mems : List (List ℕ)) where
   pub behind-more : (earlier : List Slot) (xs ys : List CellData) → slots_behind first regs mems earlier (xs ++ ys) ≡ slots_behind first regs mems (slots_behind first regs mems earlier xs) ys

@@ -13,10 +13,9 @@ use Rattle.cell_form.specs.Data.{BankData}
 use Rattle.cell_form.specs.Cycle.{masked, with_word, wrote, written}
 use Rattle.cell_form.specs.Sound.{Shape, IsAmong, IsWrite, shape_of}
 use Rattle.cell_form.specs.Writes.{sets_register, sets_word, word_of}
-
-or-false : (a b : Bool) → (a || b) ≡ false → (a ≡ false) × (b ≡ false)
-or-false true b h = absurd (cc)
-or-false false b h = (refl, h)
+use Rattle.vl_base.proofs.Booleans.{or_parts_false as or-false}
+use Rattle.vl_base.proofs.Numbers.{length_at as length-at}
+use Rattle.vl_base.proofs.SumLaws.{not-zero}
 
 kept-under : {X : Type 0} (f : BankData → X) (q : Bool) (a b : BankData) → f a ≡ f b → f (if q then b else a) ≡ f b
 kept-under f true a b e = refl
@@ -70,12 +69,6 @@ module _ (value : ℕ → ℕ) where
       ∙ register-stays after r (wrote value (w.Reg r s) now) h
       ∙ get_or-set_same now.regs r (value s) 0 there
 
--- how long the memories are
-length-at : (ms : List (List ℕ)) (m : ℕ) → length (get_or ms m []) ≡ get_or (map (λ (x : List ℕ). length x) ms) m 0
-length-at [] m = refl
-length-at (x ∷ xs) zero = refl
-length-at (x ∷ xs) (suc m) = length-at xs m
-
 stored-lengths : (b : BankData) (m k new mask : ℕ) → map (λ (x : List ℕ). length x) (stored b m k new mask).mems ≡ map (λ (x : List ℕ). length x) b.mems
 stored-lengths b m k new mask =
     let old = get_or b.mems m [] in
@@ -103,9 +96,6 @@ stored-there b m k new mask lt within =
     let old = get_or b.mems m [] in
     ap (λ (ws : List ℕ). get_or ws k 0) (get_or-set_same b.mems m (with_word old k new mask) [] lt)
     ∙ get_or-set_same old k (masked (get_or old k 0) new mask) 0 within
-
-not-zero : (n : ℕ) → n ≢ 0 → (n == 0) ≡ false
-not-zero n h = grind (arith, nat_tests)
 
 apart : (n m k i : ℕ) → ((n == m) && (k == i)) ≡ false → m ≡ n → i ≡ k → ⊥
 apart n m k i h e f = grind (arith, nat_tests)

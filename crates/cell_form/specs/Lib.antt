@@ -5,3 +5,4 @@ pub mod States
 pub mod Values
 pub mod Views
 pub mod Writes
+pub use Rattle.vl_base as vl_base

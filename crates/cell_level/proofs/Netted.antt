@@ -3,18 +3,18 @@ use Rattle.std.proofs.Common.{◌≡◌, ℕ, zero, suc, ◌+◌, ◌<◌, ◌�
 use Rattle.std.specs.Prelude.{◌&&◌, All, slice_get, slice_index_or}
 use Rattle.std.proofs.lemmas.List.{take_more, take_all, map-append}
 use Rattle.std.proofs.lemmas.List.Elements.{All-nil, All-cons}
-use Rattle.vl_design.specs.declared.design.ProcKind.TheVariants.{Init}
-use Rattle.vl_design.specs.declared.design.Process.{Process}
-use Rattle.vl_design.specs.Syntax.{Proc, Nop}
-use Rattle.vl_design.specs.Trees.{proc_of}
-use Rattle.vl_design.specs.Width.{Names}
-use Rattle.vl_design.specs.Queue.{is_comb}
-use Rattle.vl_paths.specs.Bits.{Bit}
-use Rattle.vl_paths.specs.Paths.{early}
-use Rattle.vl_paths.specs.Touched.{touched}
-use Rattle.vl_masks.specs.Masks.{in_parts, AreOf}
-use Rattle.cell_order.specs.declared.nets.Net.{Net}
-use Rattle.cell_order.specs.Nets as net
+use Rattle.vl_bits.specs.vl_design.specs.declared.design.ProcKind.TheVariants.{Init}
+use Rattle.vl_bits.specs.vl_design.specs.declared.design.Process.{Process}
+use Rattle.vl_bits.specs.vl_design.specs.Syntax.{Proc, Nop}
+use Rattle.vl_bits.specs.vl_design.specs.Trees.{proc_of}
+use Rattle.vl_bits.specs.vl_design.specs.Width.{Names}
+use Rattle.vl_bits.specs.vl_design.specs.Queue.{is_comb}
+use Rattle.vl_bits.specs.vl_paths.specs.Bits.{Bit}
+use Rattle.vl_bits.specs.vl_paths.specs.Paths.{early}
+use Rattle.vl_bits.specs.vl_paths.specs.Touched.{touched}
+use Rattle.vl_bits.specs.Masks.{in_parts, AreOf}
+use Rattle.cell_level.specs.declared.nets.Net.{Net}
+use Rattle.cell_level.specs.Nets as net
 use Rattle.cell_level.specs.Netting.{IsNetOf, AreNetsOf}
 
 module _ (names : Names) where

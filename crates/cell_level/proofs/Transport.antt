@@ -1,15 +1,15 @@
 -- An order of the nets of processes, or a cycle, is one of the processes.
 use Rattle.std.proofs.Common.{◌≡◌, ℕ, ◌<◌, Bool, true, false, List, [], ◌∷◌, length, sym, ap, ◌∙◌, subst}
 use Rattle.std.specs.Prelude.{◌↔◌, if◌then◌else◌, nat_lt}
-use Rattle.vl_design.specs.Syntax.{Flat}
-use Rattle.vl_design.specs.Width.{names_of}
-use Rattle.vl_paths.specs.Bits.{Bit}
-use Rattle.vl_paths.specs.Graph as g
-use Rattle.cell_order.specs.declared.nets.Net.{Net}
-use Rattle.cell_order.specs.declared.nets.Levels.{Levels}
-use Rattle.cell_order.specs.declared.nets.Levels.TheVariants.{Ordered, Loop}
-use Rattle.cell_order.specs.Cycles.{Leads, IsOnCycle, IsCycle, IsLowestCycle, times}
-use Rattle.cell_order.specs.Nets as net
+use Rattle.vl_bits.specs.vl_design.specs.Syntax.{Flat}
+use Rattle.vl_bits.specs.vl_design.specs.Width.{names_of}
+use Rattle.vl_bits.specs.vl_paths.specs.Bits.{Bit}
+use Rattle.vl_bits.specs.vl_paths.specs.Graph as g
+use Rattle.cell_level.specs.declared.nets.Net.{Net}
+use Rattle.cell_level.specs.declared.nets.Levels.{Levels}
+use Rattle.cell_level.specs.declared.nets.Levels.TheVariants.{Ordered, Loop}
+use Rattle.cell_level.specs.Cycles.{Leads, IsOnCycle, IsCycle, IsLowestCycle, times}
+use Rattle.cell_level.specs.Nets as net
 use Rattle.cell_level.specs.Netting.{AreNetsOf}
 use Rattle.cell_level.specs.Levelling.{IsOrder, IsLevel}
 use Rattle.cell_level.proofs.Netted.{nets-drive, nets-read, nets-length}

@@ -1,13 +1,13 @@
 -- Nets of the processes of a design.
 use Rattle.std.specs.Prelude.{◌≡◌, ◌&&◌, List, [], ◌∷◌, length, ⊤}
-use Rattle.vl_design.specs.Syntax.{Proc}
-use Rattle.vl_design.specs.Width.{Names}
-use Rattle.vl_design.specs.Queue.{is_comb}
-use Rattle.vl_paths.specs.Bits.{Bit}
-use Rattle.vl_paths.specs.Paths.{early}
-use Rattle.vl_paths.specs.Touched.{touched}
-use Rattle.vl_masks.specs.Masks.{in_parts, AreOf}
-use Rattle.cell_order.specs.declared.nets.Net.{Net}
+use Rattle.vl_bits.specs.vl_design.specs.Syntax.{Proc}
+use Rattle.vl_bits.specs.vl_design.specs.Width.{Names}
+use Rattle.vl_bits.specs.vl_design.specs.Queue.{is_comb}
+use Rattle.vl_bits.specs.vl_paths.specs.Bits.{Bit}
+use Rattle.vl_bits.specs.vl_paths.specs.Paths.{early}
+use Rattle.vl_bits.specs.vl_paths.specs.Touched.{touched}
+use Rattle.vl_bits.specs.Masks.{in_parts, AreOf}
+use Rattle.cell_level.specs.declared.nets.Net.{Net}
 
 -- the net of a process: what it reads first and may assign, where it is combinational
 pub record IsNetOf (names : Names) (a : Proc) (n : Net) : Type 0 where

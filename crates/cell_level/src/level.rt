@@ -1,23 +1,23 @@
 //! The order of a design's processes, or a combinational loop.
 
 ghost use Rattle.std.specs.Prelude.{◌≡◌, ◌↔◌, ℕ, true, length, map, IfOk, OnOk};
-ghost use Rattle.vl_design.specs.Sound.{IsSound, IsSoundStm};
-ghost use Rattle.vl_design.specs.Trees.{flat_of, proc_of, stm_of};
-ghost use Rattle.vl_design.specs.Width.{names_of};
-ghost use Rattle.vl_index.specs.Seen.{names_seen};
-ghost use Rattle.vl_paths.specs.Graph.{Edge};
-ghost use Rattle.vl_walks.specs.Walks.{IsClear};
-ghost use Rattle.cell_order.specs.Cycles.{IsOnCycle};
-ghost use Rattle.cell_order.specs.Nets.{is_ordered};
+ghost use Rattle.vl_bits.specs.vl_design.specs.Sound.{IsSound, IsSoundStm};
+ghost use Rattle.vl_bits.specs.vl_design.specs.Trees.{flat_of, proc_of, stm_of};
+ghost use Rattle.vl_bits.specs.vl_design.specs.Width.{names_of};
+ghost use Rattle.vl_bits.specs.Seen.{names_seen};
+ghost use Rattle.vl_bits.specs.vl_paths.specs.Graph.{Edge};
+ghost use Rattle.vl_bits.specs.Walks.{IsClear};
+ghost use Rattle.cell_level.specs.Cycles.{IsOnCycle};
+ghost use Rattle.cell_level.specs.Nets.{is_ordered};
 ghost use Rattle.cell_level.specs.Levelling.{IsLevel};
 ghost use Rattle.cell_level.specs.Netting.{IsNetOf, AreNetsOf};
 
-use cell_order::levels::levels;
-use cell_order::nets::{Levels, Net};
+use crate::levels::levels;
+use crate::nets::{Levels, Net};
 use std::alloc::{AllocError, Global};
-use vl_design::design::{Design, ProcKind, Process};
-use vl_index::meanings::Meanings;
-use vl_walks::process::process;
+use vl_bits::design::{Design, ProcKind, Process};
+use vl_bits::meanings::Meanings;
+use vl_bits::process::process;
 
 /// What a process reads and drives: nothing where it isn't combinational.
 fn net_of(

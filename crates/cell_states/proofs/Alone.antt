@@ -2,7 +2,7 @@
 use Rattle.std.proofs.Common.{◌≡◌, ℕ, Bool, true, false, List, [], ◌∷◌, Option, Some, None, refl, sym, ◌∙◌}
 use Rattle.std.specs.Prelude.{◌==◌, if◌then◌else◌, slice_get}
 use Rattle.std.proofs.lemmas.Bool.{eq-eqb, true≢false}
-use Rattle.vl_base.specs.declared.files.File.{File}
+use Rattle.vl_design.specs.vl_base.specs.declared.files.File.{File}
 use Rattle.vl_design.specs.declared.design.SigKind.{SigKind}
 use Rattle.vl_design.specs.declared.design.SigKind.TheVariants.{Net, Var, Comb, Loop, Mem, Clock}
 use Rattle.vl_design.specs.Exec.{exec}
@@ -12,10 +12,10 @@ use Rattle.vl_design.specs.State.{State}
 use Rattle.vl_design.specs.Syntax.{Row, Flat}
 use Rattle.vl_design.specs.Value.{words_of}
 use Rattle.vl_design.proofs.Kept.{exec_keeps}
-use Rattle.settling.specs.Nets.{pass}
-use Rattle.vl_settle.specs.Computed.{is_computed, is_computed_row, computed_at}
-use Rattle.vl_settle.specs.Nets.{comb_at, run}
-use Rattle.vl_answers.specs.Others.{is_other, is_other_row, other_at}
+use Rattle.ten_form.specs.vl_runs.specs.Nets.{pass}
+use Rattle.ten_form.specs.vl_runs.specs.Computed.{is_computed, is_computed_row, computed_at}
+use Rattle.ten_form.specs.vl_runs.specs.NetsOfSettle.{comb_at, run}
+use Rattle.cell_emit.specs.vl_sites.specs.Others.{is_other, is_other_row, other_at}
 use Rattle.cell_states.specs.Designs.{ComputesAlone}
 
 pub pass-keeps : (d : Flat) (files : List File) (s : State) (k : ℕ) → ComputesAlone d → computed_at d.rows k ≡ false → (os : List ℕ) (v : List (List ℕ)) → words_of (pass (run d files s) os v) k ≡ words_of v k

@@ -4,47 +4,47 @@ use Rattle.std.specs.Prelude.{◌⊎◌, slice_get, slice_index, slice_index_or,
 use Rattle.std.specs.List.{AllByRecursion}
 use Rattle.std.proofs.lemmas.List.Elements.{recursion_from_All}
 use Rattle.std.proofs.lemmas.Option.{slice_get_within}
-use Rattle.vl_base.specs.declared.files.File.{File}
+use Rattle.vl_design.specs.vl_base.specs.declared.files.File.{File}
 use Rattle.vl_design.specs.Queue.{with_updates}
 use Rattle.vl_design.specs.Sound.{IsMem, IsMemory}
 use Rattle.vl_design.specs.State.{State, counted}
 use Rattle.vl_design.specs.Syntax.{Flat}
 use Rattle.vl_design.specs.Value.{words_of}
 use Rattle.vl_design.specs.Width.{names_of, signal_form}
-use Rattle.cell_begin.proofs.Joining.{memory-kept}
-use Rattle.cell_form.proofs.Fitting.{all-push}
-use Rattle.cell_form.specs.Cycle.{written}
-use Rattle.cell_form.specs.Data.{ListData, BankData}
-use Rattle.cell_form.specs.Sound.{Shape, IsWrite, shape_of}
-use Rattle.cell_form.specs.declared.cell.Write.{Write}
-use Rattle.cell_form.specs.declared.cell.Write.TheVariants as w
-use Rattle.cell_later.specs.declared.pending.Site.{Site}
-use Rattle.cell_reads.proofs.Samples.{named}
-use Rattle.cell_steps.proofs.Frames.{held-stays, in-stays, grows-then, longer-grows}
-use Rattle.cell_steps.specs.Slots.{held, width_at, IsIn, AreSound, Grows, Gives, Nothing}
-use Rattle.cell_stores.proofs.Listing.{all-both, all-from, all-with, each-from}
-use Rattle.cell_stores.proofs.Reading.{read-stays, reads-sites}
-use Rattle.cell_stores.proofs.Updating.{update-memories, update-empty, update-idle, update-others}
-use Rattle.cell_stores.specs.Applying.{apply_writes, IsUpdate, behind_update}
-use Rattle.cell_stores.specs.Applying as words
-use Rattle.cell_stores.specs.Keeping.{each_written, IsLeft}
-use Rattle.cell_stores.specs.Reading.{EachHas, HasStore, IsRead, Reads}
+use Rattle.cell_waves.proofs.Joining.{memory-kept}
+use Rattle.cell_emit.specs.cell_form.proofs.Fitting.{all-push}
+use Rattle.cell_emit.specs.cell_form.specs.Cycle.{written}
+use Rattle.cell_emit.specs.cell_form.specs.Data.{ListData, BankData}
+use Rattle.cell_emit.specs.cell_form.specs.Sound.{Shape, IsWrite, shape_of}
+use Rattle.cell_emit.specs.cell_form.specs.declared.cell.Write.{Write}
+use Rattle.cell_emit.specs.cell_form.specs.declared.cell.Write.TheVariants as w
+use Rattle.cell_emit.specs.declared.pending.Site.{Site}
+use Rattle.cell_emit.proofs.Samples.{named}
+use Rattle.cell_emit.proofs.Frames.{held-stays, in-stays, grows-then, longer-grows}
+use Rattle.cell_emit.specs.Slots.{held, width_at, IsIn, AreSound, Grows, Gives, Nothing}
+use Rattle.cell_waves.proofs.Listing.{all-both, all-from, all-with, each-from}
+use Rattle.cell_waves.proofs.Reading.{read-stays, reads-sites}
+use Rattle.cell_waves.proofs.UpdatingOfStores.{update-memories, update-empty, update-idle, update-others}
+use Rattle.cell_waves.specs.Applying.{apply_writes, IsUpdate, behind_update}
+use Rattle.cell_waves.specs.Applying as words
+use Rattle.cell_waves.specs.Keeping.{each_written, IsLeft}
+use Rattle.cell_waves.specs.Reading.{EachHas, HasStore, IsRead, Reads}
 use Rattle.cell_waves.proofs.Ending.{signal-below}
 use Rattle.cell_waves.proofs.Lasting.{last-here, last-other, register-behind}
 use Rattle.cell_waves.specs.Applies.{Applies, IsUpdated, SameWrites}
 use Rattle.cell_waves.specs.Copies.{HasSignals, is_written, count_to, marked_one}
 use Rattle.cell_waves.specs.Lasts.{held_after, IsRegister}
-use Rattle.sub_nodes.specs.Cycles.{Stage, settled}
-use Rattle.sub_nodes.specs.Nodes.{Node, Apply}
+use Rattle.ten_form.specs.sub_nodes.specs.Cycles.{Stage, settled}
+use Rattle.ten_form.specs.sub_nodes.specs.Nodes.{Node, Apply}
 use Rattle.ten_form.specs.Banks.{cell_nodes, stores_in, stores_before, IsFor, HoldsSignals, HoldsState}
 use Rattle.ten_form.specs.Nets.{nets_of}
 use Rattle.ten_form.specs.Registers.{state_register, register_count}
-use Rattle.ten_image.specs.States.{idle_before, MayCycle}
-use Rattle.ten_stores.proofs.Apart.{many-from, IsWithin, within-from}
-use Rattle.ten_stores.proofs.Cutting.{all-fewer}
-use Rattle.ten_stores.specs.Holding.{enable_register, IsIdle}
-use Rattle.ten_stores.specs.Stores.{words_down}
-use Rattle.ten_stores.specs.declared.store.Store.{Store}
+use Rattle.ten_form.specs.States.{idle_before, MayCycle}
+use Rattle.ten_form.proofs.Apart.{many-from, IsWithin, within-from}
+use Rattle.ten_form.proofs.Cutting.{all-fewer}
+use Rattle.ten_form.specs.Holding.{enable_register, IsIdle}
+use Rattle.ten_form.specs.Stores.{words_down}
+use Rattle.ten_form.specs.declared.store.Store.{Store}
 use Rattle.cell_states.specs.Designs.{ComputesAlone}
 use Rattle.cell_states.specs.Mades.{IsMade}
 use Rattle.cell_states.specs.Marks.{AreDelayed}
@@ -53,8 +53,8 @@ use Rattle.cell_states.proofs.Alone.{pass-keeps}
 use Rattle.cell_states.proofs.Finishing.{signal-of}
 use Rattle.cell_states.proofs.Narrowing.{one-bit, signal-width, stores-widths, apply-within}
 use Rattle.cell_trim.specs.Widths.{IsWithin as SetsWithin}
-use Rattle.cell_paths.specs.Envs.{IsSlot}
-use Rattle.cell_paths.proofs.Staying.{is-slot-stays}
+use Rattle.cell_emit.specs.Envs.{IsSlot}
+use Rattle.cell_emit.proofs.Staying.{is-slot-stays}
 
 -- ---- writes
 

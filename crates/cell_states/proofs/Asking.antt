@@ -1,8 +1,8 @@
 -- The slots of what a call is given.
 use Rattle.std.proofs.Common.{ℕ, List, [], ◌∷◌}
 use Rattle.std.specs.List.{AllByRecursion}
-use Rattle.cell_form.specs.Data.{ListData}
-use Rattle.cell_steps.specs.Slots.{IsIn}
+use Rattle.cell_emit.specs.cell_form.specs.Data.{ListData}
+use Rattle.cell_emit.specs.Slots.{IsIn}
 use Rattle.cell_calls.specs.Calls.{AreSlots}
 
 pub slots-there : (l : ListData) (rs ws : List ℕ) → AreSlots l rs ws → AllByRecursion (IsIn l) rs

@@ -6,17 +6,17 @@ use Rattle.std.proofs.lemmas.List.{length-map}
 use Rattle.std.proofs.lemmas.List.Elements.{All-take}
 use Rattle.std.proofs.lemmas.Option.{none-some, same_Some}
 use Rattle.vl_design.specs.Syntax.{Flat, Task}
-use Rattle.cell_form.specs.Views.{state_of}
-use Rattle.cell_form.specs.declared.table.State.{State}
-use Rattle.sub_nodes.specs.Nodes.{Node, Trap, Apply}
-use Rattle.sub_split.specs.Views.{node_view}
-use Rattle.sub_split.specs.declared.table.Node.{Node as NodeCode}
+use Rattle.cell_emit.specs.cell_form.specs.Views.{state_of}
+use Rattle.cell_emit.specs.cell_form.specs.declared.table.State.{State}
+use Rattle.ten_form.specs.sub_nodes.specs.Nodes.{Node, Trap, Apply}
+use Rattle.ten_form.specs.sub_split.specs.Views.{node_view}
+use Rattle.ten_form.specs.sub_split.specs.declared.table.Node.{Node as NodeCode}
 use Rattle.ten_form.specs.Banks.{cell_nodes, stores_in, stores_after}
 use Rattle.ten_form.specs.Registers.{register_count}
-use Rattle.ten_stores.proofs.Apart.{many-from}
-use Rattle.ten_stores.proofs.Cutting.{stores-cut, node-cut}
-use Rattle.ten_stores.specs.Stores.{node_words, words_down, stores_from, stores_of, stores_above, stores_below}
-use Rattle.ten_stores.specs.declared.store.Store.{Store}
+use Rattle.ten_form.proofs.Apart.{many-from}
+use Rattle.ten_form.proofs.Cutting.{stores-cut, node-cut}
+use Rattle.ten_form.specs.Stores.{node_words, words_down, stores_from, stores_of, stores_above, stores_below}
+use Rattle.ten_form.specs.declared.store.Store.{Store}
 use Rattle.cell_states.specs.declared.run.Kept.{Kept}
 use Rattle.cell_states.specs.Mades.{IsKept}
 use Rattle.cell_states.proofs.Noding.{node-there}

@@ -3,7 +3,7 @@ use Rattle.std.proofs.Common.{◌≡◌, ◌≤◌, ℕ, zero, suc, Bool, List, 
 use Rattle.std.specs.Prelude.{if◌then◌else◌}
 use Rattle.vl_design.specs.Syntax.{Flat}
 use Rattle.cell_waves.specs.Copies.{count_to, marked_one}
-use Rattle.ten_image.specs.Delays.{is_delayed}
+use Rattle.ten_form.specs.Delays.{is_delayed}
 use Rattle.cell_states.specs.Marks.{AreDelayed}
 
 abbrev one-if : Bool → ℕ

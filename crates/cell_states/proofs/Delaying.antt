@@ -3,7 +3,7 @@ use Rattle.std.proofs.Common.{◌≡◌, ℕ, zero, suc, ◌<◌, ◌≤◌, Boo
 use Rattle.std.specs.Prelude.{⊤, ◌==◌, ◌||◌, All, slice_get, slice_index_or, if◌then◌else◌}
 use Rattle.std.specs.List.{list_any}
 use Rattle.std.proofs.lemmas.List.Elements.{All-head, All-tail}
-use Rattle.vl_base.specs.declared.files.File.{File}
+use Rattle.vl_design.specs.vl_base.specs.declared.files.File.{File}
 use Rattle.vl_design.specs.Syntax.{Stm, Nop, Then, If, Case, For, Repeat, Set, Later, Sys, Items, NoItems, Labelled, Default, Proc, Flat}
 use Rattle.vl_design.specs.Width.{Scope}
 use Rattle.vl_design.specs.State.{State, Update, sample}
@@ -16,16 +16,16 @@ use Rattle.vl_design.proofs.Acting.{Bodies, IsHereditary}
 use Rattle.vl_design.proofs.Kept.{OfUpdates, of_updates, of_target}
 use Rattle.vl_design.proofs.Leading.{AllIn, AllItems, Steps, exec_leads}
 use Rattle.vl_design.proofs.Unread.{or_false}
-use Rattle.vl_settle.proofs.Calming.{idle}
-use Rattle.sub_nodes.specs.Nodes.{Segment, WayOn, Node, Run}
-use Rattle.sub_nodes.specs.Code.{table_of}
-use Rattle.sub_nodes.specs.Cycles.{ticked, execs, segment_done}
-use Rattle.sub_nets.specs.Nets.{zero_low}
-use Rattle.sub_nets.proofs.Calls.{call_later}
-use Rattle.sub_nets.proofs.Parts.{NodeHas, blocks_have}
-use Rattle.sub_nets.proofs.Regions.{below_or_not, low_has, high_has}
-use Rattle.sub_nets.proofs.Writes.{updates_all}
-use Rattle.ten_image.specs.Delays.{stm_delays, items_delay, is_delayed}
+use Rattle.ten_form.specs.vl_runs.proofs.Calming.{idle}
+use Rattle.ten_form.specs.sub_nodes.specs.Nodes.{Segment, WayOn, Node, Run}
+use Rattle.ten_form.specs.sub_nodes.specs.Code.{table_of}
+use Rattle.ten_form.specs.sub_nodes.specs.Cycles.{ticked, execs, segment_done}
+use Rattle.sub_runs.specs.Nets.{zero_low}
+use Rattle.sub_runs.proofs.Calls.{call_later}
+use Rattle.sub_runs.proofs.Parts.{NodeHas, blocks_have}
+use Rattle.sub_runs.proofs.Regions.{below_or_not, low_has, high_has}
+use Rattle.sub_runs.proofs.Writes.{updates_all}
+use Rattle.ten_form.specs.Delays.{stm_delays, items_delay, is_delayed}
 
 -- ---- statements
 

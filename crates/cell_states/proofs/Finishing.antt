@@ -10,46 +10,34 @@ use Rattle.vl_design.specs.Rows.{has_width}
 use Rattle.vl_design.specs.Sound.{HasValue, IsOf, IsWidth, IsSignal}
 use Rattle.vl_design.specs.Syntax.{Row, Flat}
 use Rattle.vl_design.specs.Width.{Names, names_of, signal_form}
-use Rattle.cell_form.specs.declared.cell.Write.{Write}
-use Rattle.cell_form.specs.declared.cell.Write.TheVariants as w
-use Rattle.cell_form.specs.Data.{ListData}
-use Rattle.cell_form.specs.Sound.{Shape, IsWrite}
-use Rattle.cell_steps.specs.Slots.{width_at}
+use Rattle.cell_emit.specs.cell_form.specs.declared.cell.Write.{Write}
+use Rattle.cell_emit.specs.cell_form.specs.declared.cell.Write.TheVariants as w
+use Rattle.cell_emit.specs.cell_form.specs.Data.{ListData}
+use Rattle.cell_emit.specs.cell_form.specs.Sound.{Shape, IsWrite}
+use Rattle.cell_emit.specs.Slots.{width_at}
 use Rattle.cell_trim.specs.Widths.{IsWithin}
-use Rattle.cell_paths.specs.Envs.{Env, entry, IsSlot, IsEntry, Fits}
-use Rattle.cell_later.specs.Pendings.{PendingSlots, ArePending, slot_of}
+use Rattle.cell_emit.specs.Envs.{Env, entry, IsSlot, IsEntry, Fits}
+use Rattle.cell_emit.specs.Pendings.{PendingSlots, ArePending, slot_of}
 use Rattle.ten_form.specs.Registers.{state_register, ticks_register, register_count}
 use Rattle.ten_form.specs.Banks.{IsFor}
 use Rattle.cell_waves.specs.Copies.{is_written, has_copy, changed, marked_one, marked_change, each_one, slot_or, wanted, or_before, IsHeld, HasSignals, Sets}
 use Rattle.cell_waves.specs.Ends.{Ends}
 use Rattle.cell_waves.specs.Lasts.{last_write, IsRegister}
 use Rattle.cell_states.specs.Ended.{AreChanges, Commits, with_ticks, IsEnd}
-use Rattle.ten_image.specs.Delays.{is_delayed}
+use Rattle.ten_form.specs.Delays.{is_delayed}
 use Rattle.cell_states.specs.Marks.{AreDelayed}
 use Rattle.cell_states.specs.Segments.{IsTicks}
 use Rattle.cell_states.specs.Widths.{register_width}
 use Rattle.cell_states.proofs.Narrowing.{entry-width, one-bit, signal-width}
 use Rattle.cell_waves.proofs.Ending.{signal-below, entry-slot, starts-none, ends-segment, ends-wave, ends-beside}
 use Rattle.cell_waves.proofs.Lasting.{last-here, last-other}
-
-all-push : {X : Type 0} (P : X → Type 0) (xs : List X) (x : X) → AllByRecursion P xs → P x → AllByRecursion P (xs ++ x ∷ [])
-all-push P [] x h p = (p, tt)
-all-push P (y ∷ xs) x h p = (h.0, all-push P xs x h.1 p)
-
-and-parts : (a b : Bool) → (a && b) ≡ true → (a ≡ true) × (b ≡ true)
-and-parts true b h = (refl, h)
-and-parts false b h = absurd (true≢false (sym h))
+use Rattle.vl_design.specs.vl_base.proofs.Booleans.{and_parts as and-parts}
+use Rattle.vl_design.specs.vl_base.proofs.Lists.{all_push as all-push}
+use Rattle.cell_waves.proofs.Ending.{entry-there as held-entry}
+use Rattle.cell_waves.proofs.Written.{value-kind as value-of}
 
 width-of : (n : ℕ) → has_width n ≡ true → IsWidth n
 width-of n h = let p = and-parts (nat_le 1 n) (nat_le n 128) h in record { wide = leb-true 1 n p.0; narrow = leb-true n 128 p.1 }
-
-value-of : (copy : ℕ) (k : SigKind) → has_copy copy k ≡ true → HasValue k
-value-of copy Net h = tt
-value-of copy Var h = tt
-value-of copy Comb h = tt
-value-of copy Loop h = absurd (true≢false (sym h))
-value-of copy Mem h = absurd (true≢false (sym h))
-value-of copy Clock h = absurd (true≢false (sym h))
 
 -- a signal that is written is one
 pub signal-of : (names : Names) (copy k : ℕ) → is_written copy (slice_get names.rows k) ≡ true → IsSignal names k
@@ -58,10 +46,6 @@ signal-of names copy k = of (slice_get names.rows k)
     of : (o : Option Row) → is_written copy o ≡ true → IsOf HasValue o
     of None h = absurd (true≢false (sym h))
     of (Some r) h = let p = and-parts (has_copy copy r.kind) (has_width r.width) h in (value-of copy r.kind p.0, width-of r.width p.1)
-
-held-entry : (l : ListData) (w : ℕ) (e : Option ℕ) → IsEntry l w e → IsHeld l e
-held-entry l w None h = tt
-held-entry l w (Some r) h = h.there
 
 -- ---- registers behind those of signals
 

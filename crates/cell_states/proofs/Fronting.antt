@@ -2,11 +2,11 @@
 use Rattle.std.proofs.Common.{◌≡◌, ℕ, zero, suc, List, [], ◌∷◌, map, take, drop, sym, ap, ◌∙◌}
 use Rattle.std.specs.List.{AllByRecursion}
 use Rattle.std.proofs.lemmas.List.{drop-map}
-use Rattle.cell_later.specs.declared.pending.Site.{Site}
-use Rattle.cell_later.specs.Pendings.{memories_of}
-use Rattle.ten_stores.specs.declared.store.Store.{Store}
-use Rattle.ten_stores.specs.Stores.{AreApart, AreDisjoint}
-use Rattle.cell_stores.specs.Reading.{EachHas}
+use Rattle.cell_emit.specs.declared.pending.Site.{Site}
+use Rattle.cell_emit.specs.Pendings.{memories_of}
+use Rattle.ten_form.specs.declared.store.Store.{Store}
+use Rattle.ten_form.specs.Stores.{AreApart, AreDisjoint}
+use Rattle.cell_waves.specs.Reading.{EachHas}
 
 module _ {X : Type 0} (P : X → Type 0) where
   pub all-take : (n : ℕ) (xs : List X) → AllByRecursion P xs → AllByRecursion P (take n xs)

@@ -4,28 +4,28 @@ use Rattle.std.specs.Prelude.{◌==◌, All, not, if◌then◌else◌, slice_get
 use Rattle.std.specs.List.{AllByRecursion}
 use Rattle.std.proofs.lemmas.List.{take-append-le}
 use Rattle.std.proofs.lemmas.List.Elements.{recursion_from_All, All-from_recursion}
-use Rattle.vl_base.specs.declared.files.File.{File}
+use Rattle.vl_design.specs.vl_base.specs.declared.files.File.{File}
 use Rattle.vl_design.specs.Functions.{scope_of}
 use Rattle.vl_design.specs.Sound.{IsSignal, IsMemory}
 use Rattle.vl_design.specs.State.{State, Update, sample, counted}
 use Rattle.vl_design.specs.Syntax.{Task, Flat}
 use Rattle.vl_design.specs.Value.{Sample, own_value, value_of, words_of}
 use Rattle.vl_design.specs.Width.{Names, names_of}
-use Rattle.vl_settle.specs.Computed.{computed_at}
-use Rattle.vl_answers.specs.Others.{other_at}
-use Rattle.cell_form.specs.declared.cell.Write.{Write}
-use Rattle.cell_form.specs.Cycle.{written}
-use Rattle.cell_form.specs.Data.{ListData, BankData}
-use Rattle.cell_form.specs.Sound.{Shape, shape_of}
-use Rattle.cell_steps.specs.Slots.{held, IsIn, AreSound, Grows}
-use Rattle.cell_steps.proofs.Frames.{held-stays, longer-grows, grows-then}
-use Rattle.cell_paths.specs.Envs.{Env, IsThere, Fits, HasMemories, Stands}
-use Rattle.cell_paths.proofs.Staying.{fits-stays, stands-stays, is-slot-stays}
-use Rattle.cell_later.specs.declared.pending.Site.{Site}
-use Rattle.cell_later.specs.Pendings.{PendingSlots, memories_of, IsSite, ArePending, Pends}
-use Rattle.cell_later.proofs.Keeping.{pending-stays, pends-stays}
+use Rattle.ten_form.specs.vl_runs.specs.Computed.{computed_at}
+use Rattle.cell_emit.specs.vl_sites.specs.Others.{other_at}
+use Rattle.cell_emit.specs.cell_form.specs.declared.cell.Write.{Write}
+use Rattle.cell_emit.specs.cell_form.specs.Cycle.{written}
+use Rattle.cell_emit.specs.cell_form.specs.Data.{ListData, BankData}
+use Rattle.cell_emit.specs.cell_form.specs.Sound.{Shape, shape_of}
+use Rattle.cell_emit.specs.Slots.{held, IsIn, AreSound, Grows}
+use Rattle.cell_emit.proofs.Frames.{held-stays, longer-grows, grows-then}
+use Rattle.cell_emit.specs.Envs.{Env, IsThere, Fits, HasMemories, Stands}
+use Rattle.cell_emit.proofs.Staying.{fits-stays, stands-stays, is-slot-stays}
+use Rattle.cell_emit.specs.declared.pending.Site.{Site}
+use Rattle.cell_emit.specs.Pendings.{PendingSlots, memories_of, IsSite, ArePending, Pends}
+use Rattle.cell_emit.proofs.Keeping.{pending-stays, pends-stays}
 use Rattle.cell_expr.specs.Compiled.{Holds}
-use Rattle.cell_next.specs.Next.{next_node}
+use Rattle.cell_calls.specs.Next.{next_node}
 use Rattle.cell_waves.specs.Begins.{Begins, IsPendingRead}
 use Rattle.cell_waves.specs.Copies.{marked_one}
 use Rattle.cell_waves.specs.Ends.{Ends, Leads, IsLike}
@@ -33,29 +33,29 @@ use Rattle.cell_waves.specs.Lasts.{last_write, held_after}
 use Rattle.cell_waves.proofs.Beginning.{read-stays, settles-stay}
 use Rattle.cell_waves.proofs.Ending.{signal-below, ends-beside, memories-hold, segment-writes, commit-writes}
 use Rattle.cell_waves.proofs.Lasting.{register-behind}
-use Rattle.sub_nodes.specs.Nodes.{Segment, WayOn, Go, Branch, Switch, Commit, Node, Run}
-use Rattle.sub_facts.specs.Early.{early_from}
-use Rattle.sub_nodes.specs.Code.{table_of}
-use Rattle.sub_nodes.specs.Cycles.{Stage, goes_on, segment_done, settled}
-use Rattle.ten_stores.specs.declared.store.Store.{Store}
-use Rattle.ten_stores.specs.Holding.{IsStore, IsIdle, HoldsWords}
-use Rattle.ten_stores.specs.Stores.{all_stored, AreApart, IsBeside}
-use Rattle.ten_stores.proofs.Cutting.{below-fewer}
-use Rattle.ten_stores.proofs.Apart as places
-use Rattle.ten_stores.proofs.Same.{all-from, all-with}
+use Rattle.ten_form.specs.sub_nodes.specs.Nodes.{Segment, WayOn, Go, Branch, Switch, Commit, Node, Run}
+use Rattle.ten_form.specs.sub_nodes.specs.Early.{early_from}
+use Rattle.ten_form.specs.sub_nodes.specs.Code.{table_of}
+use Rattle.ten_form.specs.sub_nodes.specs.Cycles.{Stage, goes_on, segment_done, settled}
+use Rattle.ten_form.specs.declared.store.Store.{Store}
+use Rattle.ten_form.specs.Holding.{IsStore, IsIdle, HoldsWords}
+use Rattle.ten_form.specs.Stores.{all_stored, AreApart, IsBeside}
+use Rattle.ten_form.proofs.Cutting.{below-fewer}
+use Rattle.ten_form.proofs.Apart as places
+use Rattle.ten_form.proofs.Same.{all-from, all-with}
 use Rattle.ten_form.specs.Registers.{state_register, ticks_register}
 use Rattle.ten_form.specs.Nets.{nets_of, HoldsNoOthers}
 use Rattle.ten_form.specs.Banks.{cell_nodes, stores_in, stores_before, stores_after, IsFor, HoldsSignals, HoldsState}
-use Rattle.ten_traps.specs.Asked.{asked}
-use Rattle.ten_image.specs.States.{idle_before, behind, MayCycle, HoldsStage}
-use Rattle.cell_stores.specs.Reading.{EachHas, HasStore, IsRead, Reads}
-use Rattle.cell_stores.specs.Keeping.{each_written, keep_writes, IsHeld, IsKept, IsLeft, Keeps, IsSegment}
-use Rattle.cell_stores.proofs.Keeping.{beside-other}
-use Rattle.cell_stores.proofs.Listing.{all-both, each-from, each-long, each-with}
+use Rattle.ten_form.specs.Asked.{asked}
+use Rattle.ten_form.specs.States.{idle_before, behind, MayCycle, HoldsStage}
+use Rattle.cell_waves.specs.Reading.{EachHas, HasStore, IsRead, Reads}
+use Rattle.cell_waves.specs.Keeping.{each_written, keep_writes, IsHeld, IsKept, IsLeft, Keeps, IsSegment}
+use Rattle.cell_waves.proofs.Keeping.{beside-other}
+use Rattle.cell_waves.proofs.Listing.{all-both, each-from, each-long, each-with}
 use Rattle.cell_trim.specs.Widths.{IsWithin}
-use Rattle.cell_stores.proofs.Leaving.{idle-yet, holds-more, holds-fewer}
-use Rattle.cell_stores.proofs.Reading as reading
-use Rattle.cell_stores.proofs.Reading.{reads-memories, reads-words}
+use Rattle.cell_waves.proofs.Leaving.{idle-yet, holds-more, holds-fewer}
+use Rattle.cell_waves.proofs.Reading as reading
+use Rattle.cell_waves.proofs.Reading.{reads-memories, reads-words}
 use Rattle.cell_states.specs.Designs.{ComputesAlone}
 use Rattle.cell_states.specs.Ended.{IsEnd}
 use Rattle.cell_states.specs.Mades.{is_end, IsMade, Starts, AsksBehind}

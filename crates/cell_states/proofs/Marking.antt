@@ -5,7 +5,7 @@ use Rattle.std.specs.List.{list_any}
 use Rattle.std.proofs.lemmas.Bool.{eqb-true, eq-eqb}
 use Rattle.std.proofs.lemmas.List.{length-map, length-set, length-replicate, get_or-set_same, get_or-set_other, get_or-replicate, at_drop_more, drop_all}
 use Rattle.std.proofs.lemmas.List.Folds.{list_any-append}
-use Rattle.vl_base.specs.declared.bits.UnOp.TheVariants.{LogNot}
+use Rattle.vl_design.specs.vl_base.specs.declared.bits.UnOp.TheVariants.{LogNot}
 use Rattle.vl_design.specs.declared.design.Design.{Design}
 use Rattle.vl_design.specs.declared.design.Process.{Process}
 use Rattle.vl_design.specs.Placed as p
@@ -15,17 +15,10 @@ use Rattle.vl_design.specs.Seen.{process_of}
 use Rattle.vl_design.specs.Syntax.{Stm, If, Set, Later, Items, Proc}
 use Rattle.vl_design.specs.Trees.{flat_of, row_of}
 use Rattle.vl_design.proofs.TreeLemmas.{placed-Seq}
-use Rattle.vl_sites.proofs.Rows.{list-of, case-of}
-use Rattle.ten_image.specs.Delays.{stm_delays, items_delay}
+use Rattle.cell_emit.specs.vl_sites.proofs.Rows.{list-of, case-of}
+use Rattle.ten_form.specs.Delays.{stm_delays, items_delay}
 use Rattle.cell_states.specs.Marks.{target_signals, targets_signals, stm_signals, stms_signals, items_signals, procs_signals, marked, AreDelayed}
-
-or-none : (a : Bool) → (a || false) ≡ a
-or-none true = refl
-or-none false = refl
-
-or-others : (a b c : Bool) → ((a || b) || c) ≡ (a || (b || c))
-or-others true b c = refl
-or-others false b c = refl
+use Rattle.vl_design.specs.vl_base.proofs.Booleans.{or_false_right as or-none, or_assoc as or-others}
 
 either-same : (a b c e : Bool) → a ≡ c → b ≡ e → (a || b) ≡ (c || e)
 either-same a b c e f g = ap (λ x. x || b) f ∙ ap (λ x. c || x) g

@@ -8,22 +8,23 @@ use Rattle.vl_design.specs.Rows.{has_width}
 use Rattle.vl_design.specs.Sound.{HasValue, IsOf}
 use Rattle.vl_design.specs.Syntax.{Row, Flat}
 use Rattle.vl_design.specs.Width.{names_of, row_form, signal_form}
-use Rattle.cell_form.specs.Data.{ListData}
-use Rattle.cell_steps.specs.Slots.{width_at}
-use Rattle.cell_paths.specs.Envs.{IsEntry}
-use Rattle.cell_later.specs.declared.pending.Site.{Site}
-use Rattle.cell_later.specs.Pendings.{memories_of, IsSite}
-use Rattle.ten_stores.specs.declared.store.Store.{Store}
-use Rattle.ten_stores.specs.Holding.{enable_register, word_register, value_register, mask_register}
-use Rattle.ten_stores.specs.Stores.{stores_from, words_down}
+use Rattle.cell_emit.specs.cell_form.specs.Data.{ListData}
+use Rattle.cell_emit.specs.Slots.{width_at}
+use Rattle.cell_emit.specs.Envs.{IsEntry}
+use Rattle.cell_emit.specs.declared.pending.Site.{Site}
+use Rattle.cell_emit.specs.Pendings.{memories_of, IsSite}
+use Rattle.ten_form.specs.declared.store.Store.{Store}
+use Rattle.ten_form.specs.Holding.{enable_register, word_register, value_register, mask_register}
+use Rattle.ten_form.specs.Stores.{stores_from, words_down}
 use Rattle.ten_form.specs.Banks.{cell_nodes, stores_in}
 use Rattle.ten_form.specs.Registers.{register_count}
-use Rattle.ten_image.specs.Delays.{is_delayed}
+use Rattle.ten_form.specs.Delays.{is_delayed}
 use Rattle.cell_waves.specs.Copies.{is_written, has_copy, slot_or}
-use Rattle.cell_stores.specs.Keeping.{each_written, keep_writes}
-use Rattle.cell_stores.specs.Applying.{apply_writes}
+use Rattle.cell_waves.specs.Keeping.{each_written, keep_writes}
+use Rattle.cell_waves.specs.Applying.{apply_writes}
 use Rattle.cell_trim.specs.Widths.{IsWithin}
 use Rattle.cell_states.specs.Widths.{copy_width, pending_width, row_widths, rows_widths, store_widths, register_widths, register_width}
+use Rattle.vl_design.specs.vl_base.proofs.Booleans.{and_left as both-left}
 
 -- ---- lists of four for each
 
@@ -57,10 +58,6 @@ module _ (d : Flat) where
 
 three-on : (n c : ℕ) → n + suc (suc (suc c)) ≡ suc (suc (suc (n + c)))
 three-on n c = omega arith
-
-both-left : (a b : Bool) → (a && b) ≡ true → a ≡ true
-both-left true b h = refl
-both-left false b h = absurd (true≢false (sym h))
 
 -- an entry's slot, or one of a bit
 pub entry-width : (l : ListData) (here w : ℕ) (e : Option ℕ) → width_at l here ≡ 1 → 1 ≤ w → IsEntry l w e → width_at l (slot_or here e) ≤ w

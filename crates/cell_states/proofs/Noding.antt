@@ -5,27 +5,24 @@ use Rattle.std.proofs.lemmas.Bool.{true≢false}
 use Rattle.std.proofs.lemmas.List.{length-map}
 use Rattle.std.proofs.lemmas.Option.{slice_get-map, slice_get_read, slice_get_within, none-some}
 use Rattle.vl_design.specs.Syntax.{Task, Flat}
-use Rattle.cell_form.specs.declared.table.State.{State}
-use Rattle.cell_form.specs.Data.{StateData}
-use Rattle.cell_form.specs.Views.{list_of, state_of}
-use Rattle.sub_nodes.specs.Nodes.{Segment, WayOn, Go, Branch, Switch, Commit, Node, Run, Trap, Apply}
-use Rattle.sub_nodes.specs.Cycles.{is_trap}
-use Rattle.sub_split.specs.declared.table.Node.{Node as NodeCode}
-use Rattle.sub_split.specs.Views.{node_view}
+use Rattle.cell_emit.specs.cell_form.specs.declared.table.State.{State}
+use Rattle.cell_emit.specs.cell_form.specs.Data.{StateData}
+use Rattle.cell_emit.specs.cell_form.specs.Views.{list_of, state_of}
+use Rattle.ten_form.specs.sub_nodes.specs.Nodes.{Segment, WayOn, Go, Branch, Switch, Commit, Node, Run, Trap, Apply}
+use Rattle.ten_form.specs.sub_nodes.specs.Cycles.{is_trap}
+use Rattle.ten_form.specs.sub_split.specs.declared.table.Node.{Node as NodeCode}
+use Rattle.ten_form.specs.sub_split.specs.Views.{node_view}
 use Rattle.ten_form.specs.Banks.{stores_in, stores_after}
 use Rattle.cell_calls.specs.Counts.{asked_count}
 use Rattle.cell_expr.specs.Counts.{body_cells}
-use Rattle.cell_next.specs.Next.{next_count}
+use Rattle.cell_calls.specs.Next.{next_count}
 use Rattle.cell_states.specs.Cells.{segment_count, way_count, update_count, node_count}
-use Rattle.ten_image.specs.States.{slots_in, Does, IsStateOf}
+use Rattle.ten_form.specs.States.{slots_in, Does, IsStateOf}
 use Rattle.cell_states.specs.Trims.{Calls}
 use Rattle.cell_states.specs.Tables.{go_of, AreFirst, HasOneMore, HasTwoMore}
 use Rattle.cell_states.specs.Widths.{IsNarrow}
 use Rattle.cell_states.proofs.Tabling.{go-is, comes-call, one-more, two-more, plain-run}
-
-map-push : {A B : Type 0} (f : A → B) (xs : List A) (x : A) → map f (xs ++ x ∷ []) ≡ map f xs ++ f x ∷ []
-map-push f [] x = refl
-map-push f (y ∷ xs) x = ap (λ zs. f y ∷ zs) (map-push f xs x)
+use Rattle.vl_design.specs.vl_base.proofs.Lists.{map_push as map-push}
 
 -- of two facts on success
 pub on-both : {T E P Q R : Type 0} (r : Result T E) → OnOk r P → OnOk r Q → (P → Q → R) → OnOk r R

@@ -10,59 +10,35 @@ use Rattle.vl_design.specs.Sound.{IsMem, IsOf, IsMemory}
 use Rattle.vl_design.specs.Syntax.{Row, Flat}
 use Rattle.vl_design.specs.Width.{Names, names_of}
 use Rattle.vl_design.proofs.Running.{some_is}
-use Rattle.vl_settle.specs.Computed.{is_computed, is_computed_row, computed_at}
-use Rattle.cell_form.specs.Data.{ListData}
-use Rattle.cell_form.specs.Sound.{Shape}
-use Rattle.cell_steps.specs.Slots.{Grows}
-use Rattle.cell_reads.proofs.Samples.{named}
-use Rattle.cell_later.specs.declared.pending.Site.{Site}
-use Rattle.cell_later.specs.Pendings.{PendingSlots, memories_of, IsSite, ArePending}
-use Rattle.cell_later.proofs.Keeping.{pending-stays}
-use Rattle.sub_nodes.specs.Nodes.{Node}
-use Rattle.ten_stores.specs.declared.store.Store.{Store}
-use Rattle.ten_stores.specs.Holding.{mask_register}
-use Rattle.ten_stores.specs.Stores.{node_words, words_down, stores_from, AreDisjoint, IsBeside}
-use Rattle.ten_stores.proofs.Apart.{IsWithin, many-from, memories-from, both-from, within-from, beside-from, apart-from}
-use Rattle.ten_stores.proofs.Cutting.{stores-cut}
-use Rattle.ten_stores.proofs.Same.{all-from, all-with}
+use Rattle.ten_form.specs.vl_runs.specs.Computed.{is_computed, is_computed_row, computed_at}
+use Rattle.cell_emit.specs.cell_form.specs.Data.{ListData}
+use Rattle.cell_emit.specs.cell_form.specs.Sound.{Shape}
+use Rattle.cell_emit.specs.Slots.{Grows}
+use Rattle.cell_emit.proofs.Samples.{named}
+use Rattle.cell_emit.specs.declared.pending.Site.{Site}
+use Rattle.cell_emit.specs.Pendings.{PendingSlots, memories_of, IsSite, ArePending}
+use Rattle.cell_emit.proofs.Keeping.{pending-stays}
+use Rattle.ten_form.specs.sub_nodes.specs.Nodes.{Node}
+use Rattle.ten_form.specs.declared.store.Store.{Store}
+use Rattle.ten_form.specs.Holding.{mask_register}
+use Rattle.ten_form.specs.Stores.{node_words, words_down, stores_from, AreDisjoint, IsBeside}
+use Rattle.ten_form.proofs.Apart.{IsWithin, many-from, memories-from, both-from, within-from, beside-from, apart-from}
+use Rattle.ten_form.proofs.Cutting.{stores-cut}
+use Rattle.ten_form.proofs.Same.{all-from, all-with}
 use Rattle.ten_form.specs.Registers.{register_count}
 use Rattle.ten_form.specs.Banks.{cell_nodes, stores_in, stores_before, stores_after, IsFor}
-use Rattle.cell_stores.specs.Reading.{HasStore, Reads}
-use Rattle.cell_stores.proofs.Reading.{reads-sites}
+use Rattle.cell_waves.specs.Reading.{HasStore, Reads}
+use Rattle.cell_waves.proofs.Reading.{reads-sites}
+use Rattle.ten_form.specs.sub_nodes.proofs.Shared.{dropped}
+pub use Rattle.ten_form.specs.vl_runs.proofs.Shared.{memory-kept as memory-plain}
+pub use Rattle.vl_design.specs.vl_base.proofs.Lists.{all_append_left as all-front}
 
 -- ---- lists
-
-pub all-front : {X : Type 0} (P : X → Type 0) (xs ys : List X) → AllByRecursion P (xs ++ ys) → AllByRecursion P xs
-all-front P [] ys h = tt
-all-front P (x ∷ xs) ys h = (h.0, all-front P xs ys h.1)
-
-dropped : (nodes : List Node) (n : ℕ) (x : Node) → slice_get nodes n ≡ Some x → drop n nodes ≡ x ∷ drop (n + 1) nodes
-dropped [] n x h = let z : ⊥ = cc in absurd z
-dropped (y ∷ ys) zero x h = ap (λ z. z ∷ ys) (some_is h)
-dropped (y ∷ ys) (suc n) x h =
-    let e : suc (n + 1) ≡ suc n + 1 = omega arith in
-    subst (λ k. drop n ys ≡ x ∷ drop k (y ∷ ys)) e (dropped ys n x h)
 
 -- ---- memories
 
 pub memory-below : (names : Names) (m : ℕ) → IsMemory names m → m < length names.rows
 memory-below names m i = let n = named IsMem (slice_get names.rows m) i in slice_get_within names.rows m n.row n.is
-
--- a memory isn't computed
-pub memory-plain : (names : Names) (m : ℕ) → IsMemory names m → computed_at names.rows m ≡ false
-memory-plain names m i = of (slice_get names.rows m) i
-  where
-    kind : (k : SigKind) → IsMem k → is_computed k ≡ false
-    kind Net h = absurd h
-    kind Var h = absurd h
-    kind Comb h = absurd h
-    kind Loop h = absurd h
-    kind Mem h = refl
-    kind Clock h = absurd h
-
-    of : (o : Option Row) → IsOf IsMem o → is_computed_row o ≡ false
-    of None h = absurd h
-    of (Some r) h = kind r.kind h.0
 
 -- stores of the memories that sites are of
 pub of-sites : (names : Names) (l : ListData) (xs : List Store) (ss : List Site) → map (λ (x : Store). x.memory) xs ≡ memories_of ss → AllByRecursion (IsSite names l) ss → AllByRecursion (λ x. IsMemory names x.memory) xs

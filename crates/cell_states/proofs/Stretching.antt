@@ -1,36 +1,33 @@
 -- Statements one after another, and the rise before them.
 use Rattle.std.proofs.Common.{◌≡◌, ℕ, ◌+◌, Bool, true, false, List, [], ◌∷◌, ◌++◌, Option, Some, None, refl, sym, ap, ◌∙◌, arith, subst, append-nil, append_assoc}
 use Rattle.std.specs.Prelude.{if◌then◌else◌, Result, Ok, Err, OnOk}
-use Rattle.vl_base.specs.declared.files.File.{File}
+use Rattle.vl_design.specs.vl_base.specs.declared.files.File.{File}
 use Rattle.vl_design.specs.Exec.{exec}
 use Rattle.vl_design.proofs.Returning.{exec_ticks}
 use Rattle.vl_design.specs.Functions.{scope_of}
 use Rattle.vl_design.specs.State.{State, sample}
 use Rattle.vl_design.specs.Syntax.{Stm, Flat}
 use Rattle.vl_design.specs.Width.{Names, Scope, names_of}
-use Rattle.cell_form.specs.Data.{ListData, BankData}
-use Rattle.cell_form.specs.Sound.{Shape}
-use Rattle.cell_steps.specs.Slots.{held, AreSound, Longer, Nothing}
-use Rattle.cell_steps.proofs.Frames.{held-stays, longer-grows, longer-same, longer-then, longer-weaken, grows-then}
-use Rattle.cell_paths.specs.Envs.{Env, entry, Fits, HasMemories, Stands}
-use Rattle.cell_paths.specs.Paths.{on, Does}
-use Rattle.cell_paths.proofs.Staying.{keeps-same, keeps-then, memories-kept, sound-behind, is-slot-stays}
-use Rattle.cell_later.specs.Pendings.{PendingSlots, memories_of, ArePending, Pends}
+use Rattle.cell_emit.specs.cell_form.specs.Data.{ListData, BankData}
+use Rattle.cell_emit.specs.cell_form.specs.Sound.{Shape}
+use Rattle.cell_emit.specs.Slots.{held, AreSound, Longer, Nothing}
+use Rattle.cell_emit.proofs.Frames.{held-stays, longer-grows, longer-same, longer-then, longer-weaken, grows-then}
+use Rattle.cell_emit.specs.Envs.{Env, entry, Fits, HasMemories, Stands}
+use Rattle.cell_emit.specs.Paths.{on, Does}
+use Rattle.cell_emit.proofs.Staying.{keeps-same, keeps-then, memories-kept, sound-behind, is-slot-stays}
+use Rattle.cell_emit.specs.Pendings.{PendingSlots, memories_of, ArePending, Pends}
 use Rattle.cell_expr.specs.Counts.{stm_count, body_cells}
-use Rattle.vl_stored.specs.Stored.{stored_words}
-use Rattle.ten_stores.specs.Stores.{all_stored}
-use Rattle.cell_later.specs.Delays.{Leaves}
-use Rattle.cell_later.proofs.Keeping.{pending-stays, pends-stays}
-use Rattle.sub_nodes.specs.Nodes.{Segment}
-use Rattle.sub_nodes.specs.Cycles.{execs, segment_done, ticked}
+use Rattle.cell_emit.specs.vl_sites.specs.Stored.{stored_words}
+use Rattle.ten_form.specs.Stores.{all_stored}
+use Rattle.cell_emit.specs.Delays.{Leaves}
+use Rattle.cell_emit.proofs.Keeping.{pending-stays, pends-stays}
+use Rattle.ten_form.specs.sub_nodes.specs.Nodes.{Segment}
+use Rattle.ten_form.specs.sub_nodes.specs.Cycles.{execs, segment_done, ticked}
 use Rattle.cell_waves.proofs.Lengths.{longer-few}
 use Rattle.cell_waves.specs.Rises.{Rises}
 use Rattle.cell_states.specs.Cells.{stms_count}
 use Rattle.cell_states.specs.Segments.{DoesAll, RisesWhere, DoesSegment}
-
-execs-more : (scope : Scope) (xs ys : List Stm) (s : State) → execs scope (xs ++ ys) s ≡ execs scope ys (execs scope xs s)
-execs-more scope [] ys s = refl
-execs-more scope (x ∷ xs) ys s = execs-more scope xs ys (exec scope x s)
+use Rattle.ten_form.specs.sub_nodes.proofs.Steps.{execs_append as execs-more}
 
 stored-more : (xs ys : List Stm) → all_stored (xs ++ ys) ≡ all_stored xs ++ all_stored ys
 stored-more [] ys = refl

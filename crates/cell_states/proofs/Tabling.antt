@@ -6,25 +6,21 @@ use Rattle.std.proofs.lemmas.Bool.{true≢false}
 use Rattle.std.proofs.lemmas.List.{drop_all}
 use Rattle.std.proofs.lemmas.Option.{slice_get_within, slice_get_cases, none-some, same_Some}
 use Rattle.vl_design.specs.Syntax.{Task, Flat}
-use Rattle.cell_form.specs.Data.{CellData, StateData}
-use Rattle.sub_nodes.specs.Nodes.{Segment, WayOn, Go, Branch, Switch, Commit, Node, Run, Trap, Apply}
-use Rattle.sub_nodes.specs.Cycles.{is_trap}
-use Rattle.sub_facts.specs.Pairs.{ArePaired}
-use Rattle.ten_traps.specs.Traps.{IsTrapOf}
+use Rattle.cell_emit.specs.cell_form.specs.Data.{CellData, StateData}
+use Rattle.ten_form.specs.sub_nodes.specs.Nodes.{Segment, WayOn, Go, Branch, Switch, Commit, Node, Run, Trap, Apply}
+use Rattle.ten_form.specs.sub_nodes.specs.Cycles.{is_trap}
+use Rattle.ten_form.specs.sub_nodes.specs.Pairs.{ArePaired}
+use Rattle.ten_form.specs.Traps.{IsTrapOf}
 use Rattle.ten_form.specs.Banks.{stores_after}
-use Rattle.ten_image.specs.States.{slots_in, Does, HasTrap, IsStateOf, AreStates}
+use Rattle.ten_form.specs.States.{slots_in, Does, HasTrap, IsStateOf, AreStates}
 use Rattle.cell_states.specs.Cells.{node_count}
 use Rattle.cell_states.specs.Trims.{Calls}
 use Rattle.cell_states.specs.Tables.{go_of, AreFirst}
 use Rattle.cell_states.specs.Widths.{register_width, IsNarrow}
 use Rattle.cell_trim.specs.Widths.{IsWithin}
+use Rattle.vl_design.specs.vl_base.proofs.Lists.{drop_suc as drop-suc, get_append_left as get-before}
 
 -- ---- lists
-
-get-before : {A : Type 0} (xs ys : List A) (n : ℕ) (x : A) → slice_get xs n ≡ Some x → slice_get (xs ++ ys) n ≡ Some x
-get-before [] ys n x e = absurd (none-some x e)
-get-before (z ∷ xs) ys zero x e = e
-get-before (z ∷ xs) ys (suc n) x e = get-before xs ys n x e
 
 get-seam : {A : Type 0} (xs ys : List A) (x : A) → slice_get (xs ++ x ∷ ys) (length xs) ≡ Some x
 get-seam [] ys x = refl
@@ -40,11 +36,6 @@ get-one (z ∷ xs) x s (suc n) e = elim (get-one xs x s n e) [ inl h ↦ inl h |
 append-two : {A : Type 0} (xs : List A) (x y : A) → xs ++ x ∷ y ∷ [] ≡ (xs ++ x ∷ []) ++ y ∷ []
 append-two [] x y = refl
 append-two (z ∷ xs) x y = ap (λ zs. z ∷ zs) (append-two xs x y)
-
-drop-suc : {A : Type 0} (xs : List A) (n : ℕ) (x : A) → slice_get xs n ≡ Some x → drop n xs ≡ x ∷ drop (suc n) xs
-drop-suc [] n x e = absurd (none-some x e)
-drop-suc (z ∷ xs) zero x e = ap (λ y. y ∷ xs) (same_Some z x e)
-drop-suc (z ∷ xs) (suc n) x e = drop-suc xs n x e
 
 drop-next : {A : Type 0} (xs : List A) (n : ℕ) (x : A) → slice_get xs n ≡ Some x → drop n xs ≡ x ∷ drop (n + 1) xs
 drop-next xs n x e = let k : suc n ≡ n + 1 = omega arith in drop-suc xs n x e ∙ ap (λ j. x ∷ drop j xs) k
@@ -210,7 +201,3 @@ module _ (d : Flat) (order : List ℕ) (nodes : List Node) where
 -- all of them
 pub all-made : (d : Flat) (order : List ℕ) (nodes : List Node) (states : List StateData) (n stores : ℕ) → AreFirst d order nodes states n stores → length nodes ≤ length states → AreStates d order n nodes states
 all-made d order nodes states n stores h le = record { many = (let m = h.many in omega (arith, m, le)); fits = h.fits; each = h.each }
-
--- none yet
-pub none-made : (d : Flat) (order : List ℕ) (nodes : List Node) (stores : ℕ) → ArePaired 0 nodes → stores ≡ length (stores_after d 0) → AreFirst d order nodes [] 0 stores
-none-made d order nodes stores h left = record { many = omega arith; fits = λ n s e. absurd (none-some s e); each = λ n x s e f. absurd (none-some s f); rest = h; left = left; few = λ n x s e f. absurd (none-some s f); narrow = λ n s f. absurd (none-some s f) }

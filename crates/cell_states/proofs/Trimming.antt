@@ -3,29 +3,29 @@ use Rattle.std.proofs.Common.{◌≡◌, ℕ, zero, suc, ◌+◌, ◌-◌, ◌<�
 use Rattle.std.specs.Prelude.{slice_index, slice_index_or, slice_set, if◌then◌else◌, ◌==◌, Bool, true, false, All, Result, Ok, Err, IfOk}
 use Rattle.std.specs.List.{AllByRecursion}
 use Rattle.std.proofs.lemmas.List.{length-map}
-use Rattle.vl_base.specs.declared.files.File.{File}
+use Rattle.vl_design.specs.vl_base.specs.declared.files.File.{File}
 use Rattle.vl_design.specs.State.{State}
 use Rattle.vl_design.specs.Syntax.{Task, Print, Finish, Save, Fopen, Fread, Fgetc, Feof, Fclose, ReadHex, Flat}
-use Rattle.cell_form.specs.declared.cell.Write.{Write}
-use Rattle.cell_form.specs.declared.cell.Write.TheVariants as w
-use Rattle.cell_form.specs.declared.table.Trap.{Trap as TrapOf}
-use Rattle.cell_form.specs.Cycle.{with_word, wrote, written, filled, value_at, cycled}
-use Rattle.cell_form.specs.Data.{ListData, BankData}
-use Rattle.cell_form.specs.Values.{Slot, slots_of}
-use Rattle.cell_form.specs.Sound.{Shape, IsList, IsWrite, shape_of}
-use Rattle.cell_form.specs.Views.{cell_of, list_of}
-use Rattle.cell_form.proofs.Cycling.{slot-held}
-use Rattle.cell_steps.specs.Slots.{slot, held, IsIn, AreSound}
+use Rattle.cell_emit.specs.cell_form.specs.declared.cell.Write.{Write}
+use Rattle.cell_emit.specs.cell_form.specs.declared.cell.Write.TheVariants as w
+use Rattle.cell_emit.specs.cell_form.specs.declared.table.Trap.{Trap as TrapOf}
+use Rattle.cell_emit.specs.cell_form.specs.Cycle.{with_word, wrote, written, filled, value_at, cycled}
+use Rattle.cell_emit.specs.cell_form.specs.Data.{ListData, BankData}
+use Rattle.cell_emit.specs.cell_form.specs.Values.{Slot, slots_of}
+use Rattle.cell_emit.specs.cell_form.specs.Sound.{Shape, IsList, IsWrite, shape_of}
+use Rattle.cell_emit.specs.cell_form.specs.Views.{cell_of, list_of}
+use Rattle.cell_emit.specs.cell_form.proofs.Cycling.{slot-held}
+use Rattle.cell_emit.specs.Slots.{slot, held, IsIn, AreSound}
 use Rattle.cell_trim.specs.declared.trim.Trimmed.{Trimmed}
 use Rattle.cell_trim.specs.Widths.{IsWithin}
-use Rattle.sub_nodes.specs.Nodes.{Segment, Go, Node, Run}
-use Rattle.sub_nodes.specs.Cycles.{Stage}
-use Rattle.ten_stores.specs.declared.store.Store.{Store}
-use Rattle.ten_stores.specs.Holding.{enable_register, word_register, value_register, mask_register, IsIdle}
-use Rattle.ten_stores.proofs.Same.{IsSame, all-from, holds-same}
+use Rattle.ten_form.specs.sub_nodes.specs.Nodes.{Segment, Go, Node, Run}
+use Rattle.ten_form.specs.sub_nodes.specs.Cycles.{Stage}
+use Rattle.ten_form.specs.declared.store.Store.{Store}
+use Rattle.ten_form.specs.Holding.{enable_register, word_register, value_register, mask_register, IsIdle}
+use Rattle.ten_form.proofs.Same.{IsSame, all-from, holds-same}
 use Rattle.ten_form.specs.Banks.{stores_in, stores_before, IsFor, HoldsSignals, HoldsState}
-use Rattle.ten_traps.specs.Traps.{IsCallOf, IsTrapOf}
-use Rattle.ten_image.specs.States.{slots_in, idle_before, behind, MayCycle, HoldsStage, DoesNode, AsksFor}
+use Rattle.ten_form.specs.Traps.{IsCallOf, IsTrapOf}
+use Rattle.ten_form.specs.States.{slots_in, idle_before, behind, MayCycle, HoldsStage, DoesNode, AsksFor}
 use Rattle.cell_states.specs.Mades.{IsMade, AsksBehind}
 use Rattle.cell_states.specs.Trims.{IsTrimmed, Calls}
 

@@ -3,7 +3,7 @@ use Rattle.std.proofs.Common.{◌≡◌, ℕ, zero, suc, ◌+◌, ◌<◌, ◌�
 use Rattle.std.specs.Prelude.{All, if◌then◌else◌, slice_get}
 use Rattle.std.proofs.lemmas.Bool.{cases_lt, true≢false}
 use Rattle.std.proofs.lemmas.List.Elements.{All-nil, All-cons, All-head, All-tail}
-use Rattle.vl_base.specs.declared.files.File.{File}
+use Rattle.vl_design.specs.vl_base.specs.declared.files.File.{File}
 use Rattle.vl_design.specs.declared.design.Form.{Form}
 use Rattle.vl_design.specs.Exec.{is_true, some_match}
 use Rattle.vl_design.specs.Functions.{scope_of}
@@ -12,17 +12,17 @@ use Rattle.vl_design.specs.Syntax.{Flat, Proc}
 use Rattle.vl_design.specs.Value.{Sample}
 use Rattle.vl_design.specs.Width.{Scope}
 use Rattle.vl_design.proofs.Running.{some_is}
-use Rattle.sub_nodes.specs.Nodes.{Segment, rising, Way, WayOn, Go, Branch, Switch, Commit, Node, Run, Trap, Apply}
-use Rattle.sub_nodes.specs.Code.{updates, table_of}
-use Rattle.sub_nodes.specs.Cycles.{way_of, is_trap, goes_on}
-use Rattle.sub_nodes.specs.Shape.{targets}
-use Rattle.sub_facts.specs.Early.{next_of, early_from}
-use Rattle.sub_facts.proofs.Calling.{no_call_next}
-use Rattle.sub_facts.proofs.Leading.{each_target, front_at, first_within, some_falls, ups, falls, from, up, down, first, over, sizes, rise_closed, fall_closed}
-use Rattle.sub_facts.proofs.Pairing.{table_pair}
+use Rattle.ten_form.specs.sub_nodes.specs.Nodes.{Segment, rising, Way, WayOn, Go, Branch, Switch, Commit, Node, Run, Trap, Apply}
+use Rattle.ten_form.specs.sub_nodes.specs.Code.{updates, table_of}
+use Rattle.ten_form.specs.sub_nodes.specs.Cycles.{way_of, is_trap, goes_on}
+use Rattle.ten_form.specs.sub_nodes.specs.Shape.{targets}
+use Rattle.ten_form.specs.sub_nodes.specs.Early.{next_of, early_from}
+use Rattle.ten_form.specs.sub_nodes.proofs.Calling.{no_call_next}
+use Rattle.ten_form.specs.sub_nodes.proofs.Leading.{each_target, front_at, first_within, some_falls, ups, falls, from, up, down, first, over, sizes, rise_closed, fall_closed}
+use Rattle.ten_form.specs.sub_nodes.proofs.Pairing.{table_pair}
 use Rattle.ten_form.specs.Banks.{cell_nodes}
-use Rattle.ten_image.specs.States.{idle_before}
-use Rattle.ten_stores.proofs.Waves.{down-but-to-traps, traps-down}
+use Rattle.ten_form.specs.States.{idle_before}
+use Rattle.ten_form.proofs.Waves.{down-but-to-traps, traps-down}
 
 -- ---- the first nodes of a list
 

@@ -7,18 +7,18 @@ use Rattle.vl_design.specs.Sound.{IsMemory, IsSoundBase, IsSoundTarget, AreSound
 use Rattle.vl_design.specs.Syntax.{Target, Whole, WordAt, PickAt, SliceAt, Several, Targets, NoTargets, MoreTargets, Stm, Nop, Then, If, Case, For, Repeat, Set, Later, Sys, Items, NoItems, Labelled, Default, Flat}
 use Rattle.vl_design.specs.Trees.{stm_of, target_of}
 use Rattle.vl_design.specs.Width.{Names, names_of}
-use Rattle.vl_stored.specs.Stored.{target_stored, targets_stored, stored_words, items_stored, default_stored}
-use Rattle.sub_split.specs.Views.{node_view, piece_view}
-use Rattle.sub_split.specs.declared.table.Node.{Node}
-use Rattle.sub_split.specs.declared.table.Node.TheVariants as v
-use Rattle.sub_split.specs.declared.table.Piece.{Piece}
-use Rattle.sub_split.specs.declared.table.Piece.TheVariants as p
+use Rattle.cell_emit.specs.vl_sites.specs.Stored.{target_stored, targets_stored, stored_words, items_stored, default_stored}
+use Rattle.ten_form.specs.sub_split.specs.Views.{node_view, piece_view}
+use Rattle.ten_form.specs.sub_split.specs.declared.table.Node.{Node}
+use Rattle.ten_form.specs.sub_split.specs.declared.table.Node.TheVariants as v
+use Rattle.ten_form.specs.sub_split.specs.declared.table.Piece.{Piece}
+use Rattle.ten_form.specs.sub_split.specs.declared.table.Piece.TheVariants as p
 use Rattle.ten_form.specs.Banks.{cell_nodes, stores_in}
 use Rattle.ten_form.specs.Registers.{register_count}
-use Rattle.ten_stores.proofs.Apart.{each-both}
-use Rattle.ten_stores.proofs.Naming.{any-path}
-use Rattle.ten_stores.specs.Stores.{all_stored, node_words, words_down, stores_from, stores_of}
-use Rattle.ten_stores.specs.declared.store.Store.{Store}
+use Rattle.ten_form.proofs.Apart.{each-both}
+use Rattle.ten_form.proofs.Naming.{any-path}
+use Rattle.ten_form.specs.Stores.{all_stored, node_words, words_down, stores_from, stores_of}
+use Rattle.ten_form.specs.declared.store.Store.{Store}
 use Rattle.cell_states.specs.Pieces.{IsCellPiece, IsCellNode}
 
 module _ (names : Names) where

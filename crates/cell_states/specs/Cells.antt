@@ -1,14 +1,14 @@
 -- At most how many cells the states of nodes have (own).
 use Rattle.std.specs.Prelude.{◌≡◌, ℕ, ◌+◌, ◌*◌, ◌≤◌, List, [], ◌∷◌, length, slice_get, Option, Some}
 use Rattle.vl_design.specs.Syntax.{Stm, Flat}
-use Rattle.cell_form.specs.Data.{StateData}
+use Rattle.cell_emit.specs.cell_form.specs.Data.{StateData}
 use Rattle.cell_expr.specs.Counts.{stm_count, body_cells}
 use Rattle.cell_calls.specs.Counts.{asked_count}
-use Rattle.cell_next.specs.Next.{next_count}
+use Rattle.cell_calls.specs.Next.{next_count}
 use Rattle.cell_waves.specs.Begins.{begin_count}
 use Rattle.cell_waves.specs.Copies.{count_to}
-use Rattle.ten_image.specs.Delays.{is_delayed}
-use Rattle.sub_nodes.specs.Nodes.{Segment, WayOn, Go, Node, Run, Trap, Apply}
+use Rattle.ten_form.specs.Delays.{is_delayed}
+use Rattle.ten_form.specs.sub_nodes.specs.Nodes.{Segment, WayOn, Go, Node, Run, Trap, Apply}
 use Rattle.ten_form.specs.Banks.{stores_in}
 
 -- statements one after another

@@ -5,10 +5,10 @@ use Rattle.vl_design.specs.Reads.{stm_writes}
 use Rattle.vl_design.specs.Sound.{IsSound}
 use Rattle.vl_design.specs.Syntax.{Flat}
 use Rattle.vl_design.specs.Width.{names_of}
-use Rattle.settling.specs.Nets.{AllBelow}
-use Rattle.vl_settle.specs.Checked.{IsChecked}
-use Rattle.vl_settle.specs.Computed.{computed_at}
-use Rattle.vl_settle.specs.Nets.{comb_at}
+use Rattle.ten_form.specs.vl_runs.specs.Nets.{AllBelow}
+use Rattle.ten_form.specs.vl_runs.specs.Checked.{IsChecked}
+use Rattle.ten_form.specs.vl_runs.specs.Computed.{computed_at}
+use Rattle.ten_form.specs.vl_runs.specs.NetsOfSettle.{comb_at}
 use Rattle.cell_expr.specs.Bodies.{IsCellFun}
 
 -- combinational processes write computed signals alone

@@ -3,20 +3,20 @@ use Rattle.std.specs.Prelude.{◌≡◌, ℕ, ◌≤◌, Bool, true, false, List
 use Rattle.std.specs.List.{AllByRecursion}
 use Rattle.vl_design.specs.Syntax.{Row, Flat}
 use Rattle.vl_design.specs.Width.{names_of}
-use Rattle.cell_form.specs.declared.cell.Write.{Write}
-use Rattle.cell_form.specs.declared.cell.Write.TheVariants as w
-use Rattle.cell_form.specs.Data.{ListData}
-use Rattle.cell_form.specs.Sound.{Shape, IsWrite}
-use Rattle.cell_paths.specs.Envs.{Env, IsSlot, Fits}
-use Rattle.cell_later.specs.declared.pending.Site.{Site}
-use Rattle.cell_later.specs.Pendings.{PendingSlots, ArePending}
-use Rattle.ten_stores.specs.declared.store.Store.{Store}
+use Rattle.cell_emit.specs.cell_form.specs.declared.cell.Write.{Write}
+use Rattle.cell_emit.specs.cell_form.specs.declared.cell.Write.TheVariants as w
+use Rattle.cell_emit.specs.cell_form.specs.Data.{ListData}
+use Rattle.cell_emit.specs.cell_form.specs.Sound.{Shape, IsWrite}
+use Rattle.cell_emit.specs.Envs.{Env, IsSlot, Fits}
+use Rattle.cell_emit.specs.declared.pending.Site.{Site}
+use Rattle.cell_emit.specs.Pendings.{PendingSlots, ArePending}
+use Rattle.ten_form.specs.declared.store.Store.{Store}
 use Rattle.ten_form.specs.Registers.{state_register, ticks_register, register_count}
 use Rattle.ten_form.specs.Banks.{IsFor}
 use Rattle.cell_waves.specs.Copies.{changed, marked_change, each_one, Sets}
 use Rattle.cell_waves.specs.Lasts.{last_write}
 use Rattle.cell_waves.specs.Ends.{Ends}
-use Rattle.cell_stores.specs.Keeping.{Keeps}
+use Rattle.cell_waves.specs.Keeping.{Keeps}
 use Rattle.cell_trim.specs.Widths.{IsWithin}
 use Rattle.cell_states.specs.Widths.{register_width}
 use Rattle.cell_states.specs.Marks.{AreDelayed}

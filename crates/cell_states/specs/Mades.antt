@@ -1,25 +1,25 @@
 -- That cells and writes do what a node does, before the cells that aren't needed are left out (own).
 use Rattle.std.specs.Prelude.{◌≡◌, ◌≤◌, ℕ, ◌+◌, Bool, true, false, List, [], length, map, slice_get, Option, Some}
 use Rattle.std.specs.List.{AllByRecursion}
-use Rattle.vl_base.specs.declared.files.File.{File}
+use Rattle.vl_design.specs.vl_base.specs.declared.files.File.{File}
 use Rattle.vl_design.specs.Functions.{scope_of}
 use Rattle.vl_design.specs.State.{sample}
 use Rattle.vl_design.specs.Syntax.{Task, Flat}
-use Rattle.cell_form.specs.declared.cell.Write.{Write}
-use Rattle.cell_form.specs.Cycle.{written}
-use Rattle.cell_form.specs.Data.{ListData, BankData}
-use Rattle.cell_form.specs.Sound.{Shape, IsWrite}
-use Rattle.cell_steps.specs.Slots.{held, IsIn, AreSound}
-use Rattle.cell_paths.specs.Envs.{Env}
-use Rattle.cell_later.specs.declared.pending.Site.{Site}
-use Rattle.cell_later.specs.Pendings.{PendingSlots}
-use Rattle.cell_stores.specs.Reading.{Reads}
+use Rattle.cell_emit.specs.cell_form.specs.declared.cell.Write.{Write}
+use Rattle.cell_emit.specs.cell_form.specs.Cycle.{written}
+use Rattle.cell_emit.specs.cell_form.specs.Data.{ListData, BankData}
+use Rattle.cell_emit.specs.cell_form.specs.Sound.{Shape, IsWrite}
+use Rattle.cell_emit.specs.Slots.{held, IsIn, AreSound}
+use Rattle.cell_emit.specs.Envs.{Env}
+use Rattle.cell_emit.specs.declared.pending.Site.{Site}
+use Rattle.cell_emit.specs.Pendings.{PendingSlots}
+use Rattle.cell_waves.specs.Reading.{Reads}
 use Rattle.cell_waves.specs.Begins.{Begins}
-use Rattle.sub_nodes.specs.Nodes.{Segment, WayOn, Commit, Node}
-use Rattle.sub_nodes.specs.Cycles.{Stage, segment_done}
+use Rattle.ten_form.specs.sub_nodes.specs.Nodes.{Segment, WayOn, Commit, Node}
+use Rattle.ten_form.specs.sub_nodes.specs.Cycles.{Stage, segment_done}
 use Rattle.ten_form.specs.Banks.{cell_nodes, stores_after, IsFor}
-use Rattle.ten_traps.specs.Asked.{asked}
-use Rattle.ten_image.specs.States.{behind, MayCycle, HoldsStage}
+use Rattle.ten_form.specs.Asked.{asked}
+use Rattle.ten_form.specs.States.{behind, MayCycle, HoldsStage}
 use Rattle.cell_states.specs.declared.run.Kept.{Kept}
 use Rattle.cell_trim.specs.Widths.{IsWithin}
 use Rattle.cell_states.specs.Cells.{segment_count}

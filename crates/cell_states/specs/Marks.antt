@@ -2,7 +2,7 @@
 use Rattle.std.specs.Prelude.{◌≡◌, ℕ, ◌<◌, Bool, true, false, List, [], ◌∷◌, ◌++◌, length, slice_set, slice_index_or}
 use Rattle.vl_design.specs.Placed as p
 use Rattle.vl_design.specs.Syntax.{Flat}
-use Rattle.ten_image.specs.Delays.{is_delayed}
+use Rattle.ten_form.specs.Delays.{is_delayed}
 
 abbrev mutual
   -- the signals that a left side names

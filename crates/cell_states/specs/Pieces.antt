@@ -5,15 +5,15 @@ use Rattle.vl_design.specs.declared.design.Target.{Target}
 use Rattle.vl_design.specs.Sound.{IsSoundExp, AreSound, IsSoundTarget, IsSoundTask}
 use Rattle.vl_design.specs.Trees.{exp_of, exps_of, target_of}
 use Rattle.vl_design.specs.Width.{Names}
-use Rattle.vl_paths.specs.Nets.{IsPlain}
+use Rattle.cell_expr.specs.vl_paths.specs.Nets.{IsPlain}
 use Rattle.cell_expr.specs.Bodies.{IsSegmentStm}
-use Rattle.sub_split.specs.declared.table.Piece.{Piece}
-use Rattle.sub_split.specs.declared.table.Piece.TheVariants as p
-use Rattle.sub_split.specs.declared.table.WayOn.{WayOn}
-use Rattle.sub_split.specs.declared.table.WayOn.TheVariants as w
-use Rattle.sub_split.specs.declared.table.Node.{Node}
-use Rattle.sub_split.specs.declared.table.Node.TheVariants as v
-use Rattle.sub_split.specs.Views.{call_view}
+use Rattle.ten_form.specs.sub_split.specs.declared.table.Piece.{Piece}
+use Rattle.ten_form.specs.sub_split.specs.declared.table.Piece.TheVariants as p
+use Rattle.ten_form.specs.sub_split.specs.declared.table.WayOn.{WayOn}
+use Rattle.ten_form.specs.sub_split.specs.declared.table.WayOn.TheVariants as w
+use Rattle.ten_form.specs.sub_split.specs.declared.table.Node.{Node}
+use Rattle.ten_form.specs.sub_split.specs.declared.table.Node.TheVariants as v
+use Rattle.ten_form.specs.sub_split.specs.Views.{call_view}
 
 -- an assignment of a sound expression
 pub record IsCellAssignment (names : Names) (target : Target) (source : Expr) : Type 0 where

@@ -1,21 +1,21 @@
 -- That cells do the statements of a segment (IEEE 1364-2005, clauses 9.2 and 11.3; own).
 use Rattle.std.specs.Prelude.{◌≡◌, ℕ, ◌+◌, ◌<◌, ◌≤◌, ◌^◌, Bool, true, false, List, ◌++◌, length, Option, Some, None, ⊤}
-use Rattle.vl_base.specs.declared.files.File.{File}
+use Rattle.vl_design.specs.vl_base.specs.declared.files.File.{File}
 use Rattle.vl_design.specs.Functions.{scope_of}
 use Rattle.vl_design.specs.Sound.{IsMemory}
 use Rattle.vl_design.specs.State.{State, sample}
 use Rattle.vl_design.specs.Syntax.{Stm, Flat}
 use Rattle.vl_design.specs.Width.{names_of}
-use Rattle.cell_form.specs.Data.{ListData, BankData}
-use Rattle.cell_form.specs.Sound.{Shape}
-use Rattle.cell_steps.specs.Slots.{held, AreSound, Longer, Grows}
-use Rattle.cell_paths.specs.Envs.{Env, entry, IsSlot, Fits, HasMemories, Stands}
-use Rattle.cell_paths.specs.Paths.{Keeps}
-use Rattle.cell_later.specs.Pendings.{PendingSlots, memories_of, ArePending, Pends}
+use Rattle.cell_emit.specs.cell_form.specs.Data.{ListData, BankData}
+use Rattle.cell_emit.specs.cell_form.specs.Sound.{Shape}
+use Rattle.cell_emit.specs.Slots.{held, AreSound, Longer, Grows}
+use Rattle.cell_emit.specs.Envs.{Env, entry, IsSlot, Fits, HasMemories, Stands}
+use Rattle.cell_emit.specs.Paths.{Keeps}
+use Rattle.cell_emit.specs.Pendings.{PendingSlots, memories_of, ArePending, Pends}
 use Rattle.cell_waves.specs.Rises.{Rises}
-use Rattle.sub_nodes.specs.Nodes.{Segment}
-use Rattle.sub_nodes.specs.Cycles.{execs, segment_done}
-use Rattle.ten_stores.specs.Stores.{all_stored}
+use Rattle.ten_form.specs.sub_nodes.specs.Nodes.{Segment}
+use Rattle.ten_form.specs.sub_nodes.specs.Cycles.{execs, segment_done}
+use Rattle.ten_form.specs.Stores.{all_stored}
 use Rattle.cell_states.specs.Cells.{stms_count}
 
 -- cells do statements one after another: what is read, and what is pending

@@ -1,11 +1,11 @@
 -- States of the first nodes of a table (own).
 use Rattle.std.specs.Prelude.{◌≡◌, ℕ, ◌≤◌, List, [], ◌∷◌, ◌++◌, length, drop, slice_get, Option, Some, None}
 use Rattle.vl_design.specs.Syntax.{Task, Flat}
-use Rattle.cell_form.specs.Data.{StateData}
-use Rattle.sub_nodes.specs.Nodes.{Segment, WayOn, Go, Node}
-use Rattle.sub_facts.specs.Pairs.{ArePaired}
+use Rattle.cell_emit.specs.cell_form.specs.Data.{StateData}
+use Rattle.ten_form.specs.sub_nodes.specs.Nodes.{Segment, WayOn, Go, Node}
+use Rattle.ten_form.specs.sub_nodes.specs.Pairs.{ArePaired}
 use Rattle.ten_form.specs.Banks.{stores_after}
-use Rattle.ten_image.specs.States.{slots_in, Does, IsStateOf}
+use Rattle.ten_form.specs.States.{slots_in, Does, IsStateOf}
 use Rattle.cell_states.specs.Cells.{AreCounted}
 use Rattle.cell_states.specs.Trims.{Calls}
 use Rattle.cell_states.specs.Widths.{IsNarrow, AreNarrow}

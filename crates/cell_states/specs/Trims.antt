@@ -2,16 +2,16 @@
 use Rattle.std.specs.Prelude.{◌≡◌, ℕ, ◌+◌, ◌≤◌, List, [], ◌∷◌, length, map, Some}
 use Rattle.std.specs.List.{AllByRecursion}
 use Rattle.vl_design.specs.Syntax.{Task, Flat}
-use Rattle.cell_form.specs.declared.cell.Write.{Write}
-use Rattle.cell_form.specs.declared.table.Trap.{Trap}
-use Rattle.cell_form.specs.Cycle.{written, value_at}
-use Rattle.cell_form.specs.Data.{ListData, BankData, StateData}
-use Rattle.cell_form.specs.Values.{slots_of}
-use Rattle.cell_form.specs.Sound.{Shape, IsWrite, IsList}
-use Rattle.cell_steps.specs.Slots.{slot, IsIn, AreSound}
-use Rattle.sub_nodes.specs.Nodes.{Segment, Go, Run}
-use Rattle.ten_traps.specs.Traps.{IsTrapOf}
-use Rattle.ten_image.specs.States.{slots_in, Does, AsksFor}
+use Rattle.cell_emit.specs.cell_form.specs.declared.cell.Write.{Write}
+use Rattle.cell_emit.specs.cell_form.specs.declared.table.Trap.{Trap}
+use Rattle.cell_emit.specs.cell_form.specs.Cycle.{written, value_at}
+use Rattle.cell_emit.specs.cell_form.specs.Data.{ListData, BankData, StateData}
+use Rattle.cell_emit.specs.cell_form.specs.Values.{slots_of}
+use Rattle.cell_emit.specs.cell_form.specs.Sound.{Shape, IsWrite, IsList}
+use Rattle.cell_emit.specs.Slots.{slot, IsIn, AreSound}
+use Rattle.ten_form.specs.sub_nodes.specs.Nodes.{Segment, Go, Run}
+use Rattle.ten_form.specs.Traps.{IsTrapOf}
+use Rattle.ten_form.specs.States.{slots_in, Does, AsksFor}
 use Rattle.cell_trim.specs.Widths.{IsWithin}
 
 -- of these cells, with these writes and wanted slots, a list has what is needed

@@ -3,10 +3,10 @@ use Rattle.std.specs.Prelude.{◌≡◌, ℕ, ◌+◌, List, [], ◌∷◌, ◌+
 use Rattle.std.specs.List.{AllByRecursion, flat_map}
 use Rattle.vl_design.specs.Syntax.{Row, Flat}
 use Rattle.vl_design.specs.Width.{signal_form}
-use Rattle.cell_form.specs.Data.{StateData}
-use Rattle.ten_stores.specs.declared.store.Store.{Store}
+use Rattle.cell_emit.specs.cell_form.specs.Data.{StateData}
+use Rattle.ten_form.specs.declared.store.Store.{Store}
 use Rattle.ten_form.specs.Banks.{stores_in}
-use Rattle.ten_image.specs.Delays.{is_delayed}
+use Rattle.ten_form.specs.Delays.{is_delayed}
 use Rattle.cell_waves.specs.Copies.{has_copy}
 use Rattle.cell_trim.specs.Widths.{IsWithin}
 

@@ -2,21 +2,21 @@
 
 ghost use Rattle.std.specs.Prelude.{◌≡◌, [], length, IfOk};
 ghost use Rattle.vl_design.specs.Trees.{flat_of};
-ghost use Rattle.cell_form.specs.Data.{ListData};
-ghost use Rattle.cell_form.specs.Views.{list_of};
-ghost use Rattle.cell_steps.specs.Slots.{Grows};
-ghost use Rattle.cell_paths.specs.Envs.{env_of};
-ghost use Rattle.cell_later.specs.Pendings.{slots_of};
+ghost use Rattle.cell_emit.specs.cell_form.specs.Data.{ListData};
+ghost use Rattle.cell_emit.specs.cell_form.specs.Views.{list_of};
+ghost use Rattle.cell_emit.specs.Slots.{Grows};
+ghost use Rattle.cell_emit.specs.Envs.{env_of};
+ghost use Rattle.cell_emit.specs.Pendings.{slots_of};
 ghost use Rattle.cell_waves.specs.Begins.{Begins};
 ghost use Rattle.cell_states.specs.Designs.{IsCellDesign};
 
-use cell_form::cell::CellList;
-use cell_later::pending::Pending;
-use cell_paths::at::At;
+use cell_emit::at::At;
+use cell_emit::cell::CellList;
+use cell_emit::pending::Pending;
 use cell_waves::begin::begun;
 use cell_waves::begun::Begun;
 use std::alloc::{AllocError, Global};
-use vl_base::items::Items;
+use vl_design::Items;
 use vl_design::design::Design;
 
 /// What each segment's state begins with.

@@ -3,7 +3,7 @@
 ghost use Rattle.std.specs.Prelude.{◌≡◌, slice_set, true, IfOk};
 ghost use Rattle.vl_design.specs.Seen as seen;
 ghost use Rattle.vl_design.specs.Trees.{flat_of};
-ghost use Rattle.vl_sites.specs.Lists.{items_of, targets_of};
+ghost use Rattle.cell_emit.specs.vl_sites.specs.Lists.{items_of, targets_of};
 ghost use Rattle.cell_states.specs.Marks as s;
 
 use std::alloc::{AllocError, Global};

@@ -2,21 +2,21 @@
 
 ghost use Rattle.std.specs.Prelude.{◌≡◌, ◌≤◌, ◌<◌, ◌^◌, All, length, map, take, IfOk, OnOk};
 ghost use Rattle.vl_design.specs.Trees.{flat_of, row_of};
-ghost use Rattle.cell_paths.specs.Envs.{env_of};
-ghost use Rattle.cell_later.specs.Pendings.{memories_of, slots_of};
-ghost use Rattle.ten_stores.specs.declared.store.Store.{Store};
-ghost use Rattle.ten_stores.specs.Holding.{mask_register};
+ghost use Rattle.cell_emit.specs.Envs.{env_of};
+ghost use Rattle.cell_emit.specs.Pendings.{memories_of, slots_of};
+ghost use Rattle.ten_form.specs.declared.store.Store.{Store};
+ghost use Rattle.ten_form.specs.Holding.{mask_register};
 ghost use Rattle.cell_states.specs.Ended.{AreChanges, Commits, with_ticks, IsEnd, IsKeptEnd};
 
-use cell_form::cell::Write;
-use cell_later::pending::Site;
-use cell_paths::at::At;
-use cell_stores::keep::keep;
+use cell_emit::at::At;
+use cell_emit::cell::Write;
+use cell_emit::pending::Site;
 use cell_waves::begun::Begun;
+use cell_waves::keep::keep;
 use cell_waves::writes::{write_all, write_changed, write_pending};
 use std::alloc::{AllocError, Global};
 use ten_form::places::{MASK, STATE, TICKS, UPDATE, VALUE, WORK};
-use ten_stores::store::Store;
+use ten_form::store::Store;
 use vl_design::design::{Design, Signal};
 
 /// The writes of the registers of signals that changed; of what is pending those alone that nonblocking assignments name (`delayed`).

@@ -1,7 +1,7 @@
 //! Cells and writes of states, and the states of a design.
 
-use cell_form::cell::{CellList, Write};
-use cell_form::table::StateTable;
+use cell_emit::cell::{CellList, Write};
+use cell_emit::table::StateTable;
 
 /// Cells and writes of a state, of which some cells aren't needed.
 #[derive(Drop)]

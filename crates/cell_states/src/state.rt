@@ -2,20 +2,20 @@
 
 ghost use Rattle.std.specs.Prelude.{◌≡◌, ◌≤◌, ◌∷◌, [], ℕ, Bool, List, IfOk, length};
 ghost use Rattle.vl_design.specs.Syntax as y;
-ghost use Rattle.cell_form.specs.Views.{list_of, state_of};
-ghost use Rattle.sub_nodes.specs.Nodes as n;
-ghost use Rattle.ten_traps.specs.Traps.{IsTrapOf};
-ghost use Rattle.ten_image.specs.States.{slots_in, Does};
+ghost use Rattle.cell_emit.specs.cell_form.specs.Views.{list_of, state_of};
+ghost use Rattle.ten_form.specs.sub_nodes.specs.Nodes as n;
+ghost use Rattle.ten_form.specs.Traps.{IsTrapOf};
+ghost use Rattle.ten_form.specs.States.{slots_in, Does};
 ghost use Rattle.cell_states.specs.Mades.{IsMade, AsksBehind};
 ghost use Rattle.cell_states.specs.Trims.{IsTrimmed, Calls};
 ghost use Rattle.cell_states.specs.Widths.{IsNarrow};
 
 use crate::base::no_cells;
-use cell_form::cell::{CellList, Write};
-use cell_form::table::{State, Trap};
+use cell_emit::cell::{CellList, Write};
+use cell_emit::table::{State, Trap};
 use cell_trim::trim::{Trimmed, trim};
 use std::alloc::{AllocError, Global};
-use vl_base::items::Nums;
+use vl_design::Nums;
 
 /// The cells of a state that its writes and the wanted slots need, with slots from `first` on. A number of a slot that would be too long
 /// is want of memory.

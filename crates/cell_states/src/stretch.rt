@@ -4,23 +4,23 @@ ghost use Rattle.std.specs.Prelude.{◌≡◌, ◌∷◌, [], ℕ, List, All, le
 ghost use Rattle.vl_design.specs.Sound.{IsSound};
 ghost use Rattle.vl_design.specs.Trees.{exp_of, flat_of, stm_of, target_of};
 ghost use Rattle.vl_design.specs.Width.{names_of};
-ghost use Rattle.cell_form.specs.Views.{list_of};
-ghost use Rattle.cell_steps.specs.Slots.{Grows};
-ghost use Rattle.cell_paths.specs.Envs.{env_of, Fits, IsSlot};
-ghost use Rattle.cell_later.specs.Pendings.{slots_of, ArePending};
+ghost use Rattle.cell_emit.specs.cell_form.specs.Views.{list_of};
+ghost use Rattle.cell_emit.specs.Slots.{Grows};
+ghost use Rattle.cell_emit.specs.Envs.{env_of, Fits, IsSlot};
+ghost use Rattle.cell_emit.specs.Pendings.{slots_of, ArePending};
 ghost use Rattle.cell_expr.specs.Bodies.{IsAny, IsCellFun, IsSegment, IsSegmentStm, assignment};
-ghost use Rattle.sub_split.specs.Views.{piece_view, segment_view};
+ghost use Rattle.ten_form.specs.sub_split.specs.Views.{piece_view, segment_view};
 ghost use Rattle.cell_states.specs.Pieces.{IsCellPiece, IsCellAssignment};
 ghost use Rattle.cell_states.specs.Segments.{DoesAll, RisesWhere, DoesSegment};
 
+use cell_emit::at::At;
+use cell_emit::cell::CellList;
+use cell_emit::pending::Pending;
 use cell_expr::compile::{assign, segment};
-use cell_form::cell::CellList;
-use cell_later::pending::Pending;
-use cell_paths::at::At;
 use cell_waves::begun::Begun;
 use cell_waves::rise::rise;
 use std::alloc::{AllocError, Global};
-use sub_split::table::{Piece, Segment};
+use ten_form::table::{Piece, Segment};
 use vl_design::design::{Design, Expr, Stmt, Target};
 
 /// Compiles a statement of the design.

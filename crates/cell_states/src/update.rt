@@ -4,10 +4,10 @@ ghost use Rattle.std.specs.Prelude.{◌≡◌, ◌<◌, ◌≤◌, ◌^◌, ℕ,
 ghost use Rattle.vl_design.specs.Sound.{IsMemory};
 ghost use Rattle.vl_design.specs.Trees.{flat_of};
 ghost use Rattle.vl_design.specs.Width.{names_of};
-ghost use Rattle.cell_form.specs.Views.{list_of};
-ghost use Rattle.sub_nodes.specs.Nodes as n;
+ghost use Rattle.cell_emit.specs.cell_form.specs.Views.{list_of};
+ghost use Rattle.ten_form.specs.sub_nodes.specs.Nodes as n;
 ghost use Rattle.ten_form.specs.Banks.{stores_in};
-ghost use Rattle.ten_stores.specs.Holding.{mask_register};
+ghost use Rattle.ten_form.specs.Holding.{mask_register};
 ghost use Rattle.cell_states.specs.Cells.{update_count};
 ghost use Rattle.cell_states.specs.Designs.{ComputesAlone};
 ghost use Rattle.cell_states.specs.Mades.{IsMade};
@@ -15,15 +15,15 @@ ghost use Rattle.cell_states.specs.Marks.{AreDelayed};
 
 use crate::base::no_cells;
 use crate::made::Made;
-use cell_form::cell::Write;
-use cell_next::next::number;
-use cell_steps::steps;
-use cell_stores::apply::apply;
-use cell_stores::read::read;
+use cell_calls::next::number;
+use cell_emit::cell::Write;
+use cell_emit::steps;
+use cell_waves::apply::apply;
+use cell_waves::read::read;
 use cell_waves::update::applied;
 use std::alloc::{AllocError, Global};
 use ten_form::places::STATE;
-use ten_stores::store::Store;
+use ten_form::store::Store;
 use vl_design::design::Design;
 
 /// The cells and writes of an update's state, behind which the state `to` is next: the variables take the bits of their pending updates,

@@ -6,17 +6,18 @@ use Rattle.std.specs.List.{AllByRecursion}
 use Rattle.std.proofs.lemmas.List.{append-nil, length-map, length_push, get_or_append_left, get_or_default, get_or_past, get_or_push}
 use Rattle.std.proofs.lemmas.List.Elements.{recursion_from_All, Contains-get_or}
 use Rattle.std.proofs.lemmas.Bool.{cases_lt}
-use Rattle.cell_form.specs.Data.{CellData, ListData}
-use Rattle.cell_form.specs.Values.{Slot, slot_at, slots_of, cell_slot, operands, found, applied}
-use Rattle.cell_form.specs.Sound.{Shape, IsAmong, Makes, IsCell, AreCells}
-use Rattle.cell_form.proofs.Slots.{slots-push, slots-length, slots-widths, operand-widths}
-use Rattle.cell_form.proofs.Fitting.{cells-before}
-use Rattle.cell_steps.specs.Pushes.{Pushed}
-use Rattle.cell_steps.proofs.Newest.{pushed-longer}
+use Rattle.cell_emit.specs.cell_form.specs.Data.{CellData, ListData}
+use Rattle.cell_emit.specs.cell_form.specs.Values.{Slot, slot_at, slots_of, cell_slot, operands, found, applied}
+use Rattle.cell_emit.specs.cell_form.specs.Sound.{Shape, IsAmong, Makes, IsCell, AreCells}
+use Rattle.cell_emit.specs.cell_form.proofs.Slots.{slots-push, slots-length, slots-widths, operand-widths}
+use Rattle.cell_emit.specs.cell_form.proofs.Fitting.{cells-before}
+use Rattle.cell_emit.specs.Pushes.{Pushed}
+use Rattle.cell_emit.proofs.Newest.{pushed-longer}
 use Rattle.cell_trim.specs.Marks.{on, Names}
 use Rattle.cell_trim.specs.Moves.{number_of, moved}
 use Rattle.cell_trim.specs.Copies.{Shows}
 use Rattle.cell_trim.proofs.Marking.{apart}
+pub use Rattle.cell_emit.specs.vl_base.proofs.Lists.{all_append_left as all-left, all_append_right as all-right}
 
 abbrev widths : List CellData → List ℕ
 widths cells = map (λ (c : CellData). c.width) cells
@@ -45,14 +46,6 @@ pub ready-from : (first : ℕ) (marks : List Bool) (n : ℕ) (slots : List ℕ) 
 ready-from first marks n slots h =
     recursion_from_All (λ a. a - first < n → on marks (a - first) ≡ true) slots
     (λ k d lt below. h (slice_index_or slots k d - first) below (slice_index_or slots k d, Contains-get_or slots k d lt, refl))
-
-pub all-left : {X : Type 0} (P : X → Type 0) (xs ys : List X) → AllByRecursion P (xs ++ ys) → AllByRecursion P xs
-all-left P [] ys h = tt
-all-left P (x ∷ xs) ys h = (h.0, all-left P xs ys h.1)
-
-pub all-right : {X : Type 0} (P : X → Type 0) (xs ys : List X) → AllByRecursion P (xs ++ ys) → AllByRecursion P ys
-all-right P [] ys h = h
-all-right P (x ∷ xs) ys h = all-right P xs ys h.1
 
 module _ (first next : ℕ) (marks : List Bool) (cells : List CellData) (numbers : List ℕ) (new : List CellData)
     (h : Shows first next marks cells numbers new) where
@@ -231,12 +224,3 @@ module _ (first next : ℕ) (marks : List Bool) (cells : List CellData) (numbers
   shows-more c false e ready =
       let F : List CellData → Type 0 = λ xs. Shows first next marks (cells ++ c ∷ []) (numbers ++ (next + length new) ∷ []) xs in
       subst F (sym (append-nil new)) (shows-over c (next + length new) e)
-
-pub shows-none : (first next : ℕ) (marks : List Bool) → Shows first next marks [] [] []
-shows-none first next marks = record {
-  long = refl;
-  few = omega arith;
-  there = λ k lt here. absurd (omega arith);
-  same = λ regs mems k lt here. absurd (omega arith);
-  sound = λ s h. tt;
-}

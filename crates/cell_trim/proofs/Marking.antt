@@ -5,12 +5,9 @@ use Rattle.std.specs.List.{flat_map}
 use Rattle.std.proofs.lemmas.List.{length-map, take_more, get_or_past, flat_map_more}
 use Rattle.std.proofs.lemmas.List.Elements.{Contains-append_left, Contains-append_right, Contains-append_cases}
 use Rattle.std.proofs.lemmas.Bool.{false≢true, cases_eq}
-use Rattle.cell_form.specs.Data.{CellData}
+use Rattle.cell_emit.specs.cell_form.specs.Data.{CellData}
 use Rattle.cell_trim.specs.Marks.{on, Names, args_at, Marked, Closes, AreMarked}
-
--- it isn't on and off
-pub apart : (b : Bool) → b ≡ true → b ≡ false → ⊥
-apart b h k = false≢true (sym k ∙ h)
+pub use Rattle.cell_emit.specs.vl_base.proofs.Booleans.{never_both as apart}
 
 -- ---- slots that name a cell
 
@@ -78,28 +75,6 @@ marked-each {X} f first n xs i d a b c lt g h =
     (marked-then first n (flat_map f (take i xs)) (f (get_or xs i d)) a b c g h))
 
 -- ---- marks of what marked cells need
-
-pub closes-none : (first n : ℕ) (cells : List CellData) (marks : List Bool) → length cells ≤ n → Closes first n cells marks marks
-closes-none first n cells marks le = record {
-  long = refl;
-  stays = λ k h. h;
-  closed = λ j k past e lt m. absurd (names-past first k cells j (omega arith) m);
-  only = λ k h. inl h;
-}
-
--- a cell that isn't marked
-pub closes-over : (first i : ℕ) (cells : List CellData) (a b : List Bool) → on b i ≡ false → Closes first (i + 1) cells a b → Closes first i cells a b
-closes-over first i cells a b off g = record {
-  long = g.long;
-  stays = g.stays;
-  closed = λ j k le e lt m. elim (cases_eq i j) [
-    | inl same ↦ (
-        let F : ℕ → Type 0 = λ z. on b z ≡ false in
-        absurd (apart (on b j) e (subst F same off)))
-    | inr other ↦ g.closed j k (omega arith) e lt m
-  ];
-  only = g.only;
-}
 
 -- a cell that is marked
 pub closes-with : (first i : ℕ) (cells : List CellData) (a b c : List Bool) → on b i ≡ true → Closes first (i + 1) cells a b →

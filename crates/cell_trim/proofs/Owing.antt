@@ -4,7 +4,7 @@ use Rattle.std.specs.Prelude.{◌⊎◌, slice_index, Any, Contains, if◌then�
 use Rattle.std.proofs.lemmas.List.{append-nil, length-append, length-map, length_push, get_or_append_left, get_or_default, get_or-map, drop-append-le}
 use Rattle.std.proofs.lemmas.List.Quantifiers.{Any-push}
 use Rattle.std.proofs.lemmas.Bool.{cases_lt, cases_eq}
-use Rattle.cell_form.specs.Data.{CellData}
+use Rattle.cell_emit.specs.cell_form.specs.Data.{CellData}
 use Rattle.cell_trim.specs.Marks.{on, Names, args_at, AreMarked}
 use Rattle.cell_trim.specs.Moves.{number_of, moved}
 use Rattle.cell_trim.specs.Copies.{Shows, IsOperand, IsOwed, AreOwed}
@@ -41,9 +41,6 @@ renamed first next numbers slots past k lt m =
     let e : number_of first numbers past m.0 ≡ slice_index numbers k = ap (λ z. get_or numbers z past) m.2 ∙ get_or_default numbers k past 0 lt in
     let F : ℕ → Type 0 = λ z. Contains (map (number_of first numbers past) slots) z in
     subst F e (contains-map (number_of first numbers past) slots m.0 m.1)
-
-pub owed-none : (first next : ℕ) (slots : List ℕ) (marks : List Bool) (cells : List CellData) → AreOwed first next 0 slots marks cells [] []
-owed-none first next slots marks cells = λ i lt. absurd (omega arith)
 
 -- n cells before come to new ones with these numbers
 module _ (first next : ℕ) (slots : List ℕ) (marks : List Bool) (cells : List CellData) (before : List CellData) (numbers : List ℕ) (new : List CellData)

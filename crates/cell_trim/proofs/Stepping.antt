@@ -2,9 +2,9 @@
 use Rattle.std.proofs.Common.{◌≡◌, ℕ, ◌+◌, ◌<◌, Bool, true, List, [], ◌∷◌, ◌++◌, length, map, take, get_or, sym, ap, ◌∙◌, arith, subst}
 use Rattle.std.specs.Prelude.{if◌then◌else◌}
 use Rattle.std.proofs.lemmas.List.{length-map, length-take-le, take_more, get_or-map}
-use Rattle.cell_form.specs.declared.cell.Cell.{Cell}
-use Rattle.cell_form.specs.Data.{CellData}
-use Rattle.cell_form.specs.Views.{cell_of}
+use Rattle.cell_emit.specs.cell_form.specs.declared.cell.Cell.{Cell}
+use Rattle.cell_emit.specs.cell_form.specs.Data.{CellData}
+use Rattle.cell_emit.specs.cell_form.specs.Views.{cell_of}
 use Rattle.cell_trim.specs.Marks.{on, Names, args_at, AreClosed, AreMarked}
 use Rattle.cell_trim.specs.Moves.{number_of, moved}
 use Rattle.cell_trim.specs.Copies.{Shows, AreOwed}

@@ -3,16 +3,16 @@ use Rattle.std.proofs.Common.{◌≡◌, inl, inr, ℕ, ◌+◌, ◌-◌, ◌<�
 use Rattle.std.specs.Prelude.{Contains, slice_index, if◌then◌else◌}
 use Rattle.std.specs.List.{AllByRecursion, flat_map}
 use Rattle.std.proofs.lemmas.List.{length-map}
-use Rattle.cell_form.specs.declared.cell.Cell.{Cell}
-use Rattle.cell_form.specs.declared.cell.Write.{Write}
-use Rattle.cell_form.specs.declared.cell.Write.TheVariants as w
-use Rattle.cell_form.specs.Data.{CellData, ListData, BankData}
-use Rattle.cell_form.specs.Values.{Slot, slot_at, slots_of}
-use Rattle.cell_form.specs.Cycle.{with_word, wrote, written, value_at}
-use Rattle.cell_form.specs.Sound.{Shape, IsAmong, AreCells, IsWrite, IsList}
-use Rattle.cell_form.specs.Views.{cell_of}
-use Rattle.cell_form.proofs.Slots.{slots-widths, width-at}
-use Rattle.cell_steps.specs.Slots.{slot, width_at, IsIn}
+use Rattle.cell_emit.specs.cell_form.specs.declared.cell.Cell.{Cell}
+use Rattle.cell_emit.specs.cell_form.specs.declared.cell.Write.{Write}
+use Rattle.cell_emit.specs.cell_form.specs.declared.cell.Write.TheVariants as w
+use Rattle.cell_emit.specs.cell_form.specs.Data.{CellData, ListData, BankData}
+use Rattle.cell_emit.specs.cell_form.specs.Values.{Slot, slot_at, slots_of}
+use Rattle.cell_emit.specs.cell_form.specs.Cycle.{with_word, wrote, written, value_at}
+use Rattle.cell_emit.specs.cell_form.specs.Sound.{Shape, IsAmong, AreCells, IsWrite, IsList}
+use Rattle.cell_emit.specs.cell_form.specs.Views.{cell_of}
+use Rattle.cell_emit.specs.cell_form.proofs.Slots.{slots-widths, width-at}
+use Rattle.cell_emit.specs.Slots.{slot, width_at, IsIn}
 use Rattle.cell_trim.specs.Needs.{sources, roots, IsNeeded}
 use Rattle.cell_trim.specs.Marks.{on, AreMarked}
 use Rattle.cell_trim.specs.Moves.{number_of, moved_write, AreMoved}
@@ -21,10 +21,7 @@ use Rattle.cell_trim.specs.Widths.{IsWithin}
 use Rattle.cell_trim.proofs.Marking.{names-past}
 use Rattle.cell_trim.proofs.Copying.{Ready, ready-from, all-left, all-right, slot-same, operands-same, among, all-among}
 use Rattle.cell_trim.proofs.Owing.{renamed}
-
-all-weaker : {X : Type 0} (P Q : X → Type 0) (xs : List X) → ((x : X) → P x → Q x) → AllByRecursion P xs → AllByRecursion Q xs
-all-weaker P Q [] f h = tt
-all-weaker P Q (x ∷ xs) f h = (f x h.0, all-weaker P Q xs f h.1)
+use Rattle.cell_emit.specs.vl_base.proofs.Lists.{all_weaker_of as all-weaker}
 
 -- ---- writes with new numbers
 

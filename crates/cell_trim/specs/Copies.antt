@@ -1,8 +1,8 @@
 -- Copies of marked cells.
 use Rattle.std.specs.Prelude.{◌≡◌, ℕ, ◌+◌, ◌-◌, ◌<◌, ◌≤◌, ◌⊎◌, Bool, true, List, [], length, drop, slice_index, Any, Contains}
-use Rattle.cell_form.specs.Data.{CellData}
-use Rattle.cell_form.specs.Values.{slot_at, slots_of}
-use Rattle.cell_form.specs.Sound.{Shape, IsAmong, AreCells}
+use Rattle.cell_emit.specs.cell_form.specs.Data.{CellData}
+use Rattle.cell_emit.specs.cell_form.specs.Values.{slot_at, slots_of}
+use Rattle.cell_emit.specs.cell_form.specs.Sound.{Shape, IsAmong, AreCells}
 use Rattle.cell_trim.specs.Marks.{on, Names, args_at}
 
 -- new cells with slots from `next` on show the marked ones of cells with slots from `first` on, at these numbers

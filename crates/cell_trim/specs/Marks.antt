@@ -1,6 +1,6 @@
 -- Marks of cells.
 use Rattle.std.specs.Prelude.{◌≡◌, ℕ, ◌-◌, ◌<◌, ◌≤◌, ◌⊎◌, Bool, true, false, List, [], length, map, slice_index_or, Contains}
-use Rattle.cell_form.specs.Data.{CellData}
+use Rattle.cell_emit.specs.cell_form.specs.Data.{CellData}
 
 -- the mark of the cell with index k
 abbrev pub on : List Bool → ℕ → Bool

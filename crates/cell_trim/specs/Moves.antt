@@ -1,8 +1,8 @@
 -- New numbers of slots.
 use Rattle.std.specs.Prelude.{◌≡◌, ℕ, ◌-◌, List, map, slice_index_or}
-use Rattle.cell_form.specs.declared.cell.Write.{Write}
-use Rattle.cell_form.specs.declared.cell.Write.TheVariants as w
-use Rattle.cell_form.specs.Data.{CellData, ListData}
+use Rattle.cell_emit.specs.cell_form.specs.declared.cell.Write.{Write}
+use Rattle.cell_emit.specs.cell_form.specs.declared.cell.Write.TheVariants as w
+use Rattle.cell_emit.specs.cell_form.specs.Data.{CellData, ListData}
 
 -- the new number of a slot of a list that begins with the slot `first`; `next` where it isn't in the list
 abbrev pub number_of : ℕ → List ℕ → ℕ → ℕ → ℕ

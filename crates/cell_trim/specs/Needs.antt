@@ -1,9 +1,9 @@
 -- The cells of a list that are needed (own).
 use Rattle.std.specs.Prelude.{ℕ, ◌+◌, ◌⊎◌, List, [], ◌∷◌, ◌++◌, drop, Any, Contains}
 use Rattle.std.specs.List.{flat_map}
-use Rattle.cell_form.specs.declared.cell.Write.{Write}
-use Rattle.cell_form.specs.declared.cell.Write.TheVariants as w
-use Rattle.cell_form.specs.Data.{CellData, ListData}
+use Rattle.cell_emit.specs.cell_form.specs.declared.cell.Write.{Write}
+use Rattle.cell_emit.specs.cell_form.specs.declared.cell.Write.TheVariants as w
+use Rattle.cell_emit.specs.cell_form.specs.Data.{CellData, ListData}
 
 -- the slots that a write is done from
 abbrev pub sources : Write → List ℕ

@@ -1,9 +1,9 @@
 -- How wide the slots are that registers are set from.
 use Rattle.std.specs.Prelude.{ℕ, ◌≤◌, ⊤}
-use Rattle.cell_form.specs.declared.cell.Write.{Write}
-use Rattle.cell_form.specs.declared.cell.Write.TheVariants as w
-use Rattle.cell_form.specs.Data.{ListData}
-use Rattle.cell_steps.specs.Slots.{width_at}
+use Rattle.cell_emit.specs.cell_form.specs.declared.cell.Write.{Write}
+use Rattle.cell_emit.specs.cell_form.specs.declared.cell.Write.TheVariants as w
+use Rattle.cell_emit.specs.cell_form.specs.Data.{ListData}
+use Rattle.cell_emit.specs.Slots.{width_at}
 
 -- a register is set from a slot that has at most so many bits
 abbrev pub IsWithin : (ℕ → ℕ) → ListData → Write → Type 0

@@ -1,15 +1,15 @@
 //! Copies of the marked cells.
 
 ghost use Rattle.std.specs.Prelude.{◌≡◌, ◌+◌, ◌<◌, ◌^◌, ℕ, List, [], ◌∷◌, ◌++◌, if◌then◌else◌, length, map, IfOk, OnOk};
-ghost use Rattle.cell_form.specs.Views.{cell_of};
+ghost use Rattle.cell_emit.specs.cell_form.specs.Views.{cell_of};
 ghost use Rattle.cell_trim.specs.Marks.{AreClosed, AreMarked};
 ghost use Rattle.cell_trim.specs.Moves.{number_of, moved};
 ghost use Rattle.cell_trim.specs.Copies.{Shows, AreOwed};
 
 use crate::moves::keep;
-use cell_form::cell::Cell;
+use cell_emit::Items;
+use cell_emit::cell::Cell;
 use std::alloc::{AllocError, Global};
-use vl_base::items::Items;
 
 /// Copied cells, and the new numbers of all slots of the list that they come from.
 #[derive(Drop)]

@@ -2,11 +2,11 @@
 
 ghost use Rattle.std.specs.Prelude.{◌≡◌, ◌<◌, ◌≤◌, ℕ, [], ◌∷◌, ◌++◌, false, length, map, IfOk};
 ghost use Rattle.std.specs.List.{flat_map};
-ghost use Rattle.cell_form.specs.Views.{cell_of};
+ghost use Rattle.cell_emit.specs.cell_form.specs.Views.{cell_of};
 ghost use Rattle.cell_trim.specs.Marks.{on, Marked, Closes, AreMarked};
 ghost use Rattle.cell_trim.specs.Needs.{sources, roots};
 
-use cell_form::cell::{Cell, Write};
+use cell_emit::cell::{Cell, Write};
 use std::alloc::{AllocError, Global};
 
 /// No cell is marked.

@@ -1,13 +1,13 @@
 //! Slots by their new numbers.
 
 ghost use Rattle.std.specs.Prelude.{◌≡◌, [], ◌∷◌, ◌++◌, map, IfOk, OnOk};
-ghost use Rattle.cell_form.specs.Views.{cell_of};
+ghost use Rattle.cell_emit.specs.cell_form.specs.Views.{cell_of};
 ghost use Rattle.cell_trim.specs.Moves.{number_of, moved, moved_write};
 
-use cell_form::cell::{Cell, Write};
+use cell_emit::Items;
+use cell_emit::cell::{Cell, Write};
 use smallvec::SmallVec;
 use std::alloc::{AllocError, Global};
-use vl_base::items::Items;
 
 /// The new number of a slot, and `next` where it isn't in the list.
 fn number(numbers: &[u32], first: u32, next: u32, slot: u32) -> u32

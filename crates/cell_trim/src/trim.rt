@@ -2,12 +2,12 @@
 
 ghost use Rattle.std.specs.Prelude.{◌≡◌, ◌+◌, ◌<◌, ◌≤◌, ◌^◌, ℕ, length, map, IfOk};
 ghost use Rattle.std.specs.List.{AllByRecursion};
-ghost use Rattle.cell_form.specs.Data.{BankData};
-ghost use Rattle.cell_form.specs.Values.{slots_of};
-ghost use Rattle.cell_form.specs.Cycle.{value_at, written};
-ghost use Rattle.cell_form.specs.Sound.{Shape, IsWrite, IsList};
-ghost use Rattle.cell_form.specs.Views.{list_of, cell_of};
-ghost use Rattle.cell_steps.specs.Slots.{slot, IsIn, AreSound};
+ghost use Rattle.cell_emit.specs.cell_form.specs.Data.{BankData};
+ghost use Rattle.cell_emit.specs.cell_form.specs.Values.{slots_of};
+ghost use Rattle.cell_emit.specs.cell_form.specs.Cycle.{value_at, written};
+ghost use Rattle.cell_emit.specs.cell_form.specs.Sound.{Shape, IsWrite, IsList};
+ghost use Rattle.cell_emit.specs.cell_form.specs.Views.{list_of, cell_of};
+ghost use Rattle.cell_emit.specs.Slots.{slot, IsIn, AreSound};
 ghost use Rattle.cell_trim.specs.Moves.{number_of, AreMoved};
 ghost use Rattle.cell_trim.specs.Needs.{IsNeeded};
 ghost use Rattle.cell_trim.specs.Widths.{IsWithin};
@@ -15,9 +15,9 @@ ghost use Rattle.cell_trim.specs.Widths.{IsWithin};
 use crate::copies::{Copied, copy_marked};
 use crate::marks::marks;
 use crate::moves;
-use cell_form::cell::{CellList, Write};
+use cell_emit::Items;
+use cell_emit::cell::{CellList, Write};
 use std::alloc::{AllocError, Global};
-use vl_base::items::Items;
 
 /// A list of cells that are needed, and the slots that were wanted.
 #[derive(Drop)]

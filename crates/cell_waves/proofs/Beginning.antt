@@ -2,25 +2,25 @@
 use Rattle.std.proofs.Common.{◌≡◌, ℕ, ◌+◌, ◌*◌, ◌<◌, ◌%◌, ◌^◌, true, false, List, [], length, Option, Some, None, sym, ap, ◌∙◌, arith, subst, mod-eq_of_lt}
 use Rattle.std.specs.Prelude.{slice_get, slice_index, slice_index_or}
 use Rattle.std.proofs.lemmas.Option.{slice_get_within}
-use Rattle.vl_design.specs.Syntax.{Flat}
-use Rattle.vl_design.specs.Width.{names_of, signal_form, row_form}
-use Rattle.vl_design.specs.Value.{words_of, value_of}
-use Rattle.vl_design.specs.Sound.{HasValue, IsMem, IsSignal, IsMemory}
-use Rattle.vl_design.specs.Laws.{IsFine}
-use Rattle.vl_design.specs.State.{State, Update, sample}
-use Rattle.vl_settle.specs.Computed.{computed_at}
-use Rattle.vl_answers.specs.Others.{is_other_row, other_at}
-use Rattle.cell_form.specs.Data.{ListData, BankData}
-use Rattle.cell_form.specs.Sound.{Shape}
-use Rattle.cell_steps.specs.Slots.{AreSound, Grows}
-use Rattle.cell_steps.proofs.Frames.{sound-wider}
-use Rattle.cell_paths.specs.Envs.{IsEntry, held_or}
-use Rattle.cell_paths.proofs.Staying.{held-or-stays}
-use Rattle.cell_reads.specs.Entries.{HasCopy}
-use Rattle.cell_reads.specs.Reads.{IsRead}
-use Rattle.cell_reads.proofs.Samples.{named}
-use Rattle.cell_later.specs.Pendings.{PendingSlots, slot_of, ArePending}
-use Rattle.cell_later.proofs.Keeping.{settled-stays}
+use Rattle.ten_form.specs.vl_design.specs.Syntax.{Flat}
+use Rattle.ten_form.specs.vl_design.specs.Width.{names_of, signal_form, row_form}
+use Rattle.ten_form.specs.vl_design.specs.Value.{words_of, value_of}
+use Rattle.ten_form.specs.vl_design.specs.Sound.{HasValue, IsMem, IsSignal, IsMemory}
+use Rattle.ten_form.specs.vl_design.specs.Laws.{IsFine}
+use Rattle.ten_form.specs.vl_design.specs.State.{State, Update, sample}
+use Rattle.ten_form.specs.vl_runs.specs.Computed.{computed_at}
+use Rattle.cell_emit.specs.vl_sites.specs.Others.{is_other_row, other_at}
+use Rattle.cell_emit.specs.cell_form.specs.Data.{ListData, BankData}
+use Rattle.cell_emit.specs.cell_form.specs.Sound.{Shape}
+use Rattle.cell_emit.specs.Slots.{AreSound, Grows}
+use Rattle.cell_emit.proofs.Frames.{sound-wider}
+use Rattle.cell_emit.specs.Envs.{IsEntry, held_or}
+use Rattle.cell_emit.proofs.Staying.{held-or-stays}
+use Rattle.cell_emit.specs.Entries.{HasCopy}
+use Rattle.cell_emit.specs.Reads.{IsRead}
+use Rattle.cell_emit.proofs.Samples.{named}
+use Rattle.cell_emit.specs.Pendings.{PendingSlots, slot_of, ArePending}
+use Rattle.cell_emit.proofs.Keeping.{settled-stays}
 use Rattle.ten_form.specs.Registers.{places, value_register, work_register, register_count}
 use Rattle.ten_form.specs.Nets.{cleared, HoldsNoOthers}
 use Rattle.ten_form.specs.Banks.{IsFor, HoldsState}
@@ -30,16 +30,9 @@ use Rattle.cell_waves.proofs.Clearing.{cleared-kept, cleared-fine}
 use Rattle.cell_waves.proofs.Ending.{value-kept}
 use Rattle.cell_waves.proofs.Placing.{HasRoom, signal-place, memory-place}
 use Rattle.cell_waves.proofs.Written.{other-kept}
+pub use Rattle.cell_emit.proofs.Samples.{copy-entry, copy-held}
 
 -- ---- copies
-
-pub copy-entry : (l : ListData) (w register : ℕ) (e : Option ℕ) → HasCopy l w register e → IsEntry l w e
-copy-entry l w register None h = absurd h
-copy-entry l w register (Some r) h = h.slot
-
-pub copy-held : (z : Shape) (b : BankData) (l : ListData) (w register : ℕ) (e : Option ℕ) → AreSound z l → HasCopy l w register e → slice_index b.regs register < 2 ^ w → held_or b l e ≡ slice_index b.regs register
-copy-held z b l w register None sound h lt = absurd h
-copy-held z b l w register (Some r) sound h lt = h.value z b sound ∙ mod-eq_of_lt lt
 
 pub copy-of : (d : Flat) (copy : ℕ) (l : ListData) (es : List (Option ℕ)) (k : ℕ) → AreCopies d.rows copy l es → IsSignal (names_of d) k → other_at d.rows k ≡ false → HasCopy l (signal_form d.rows k).width (4 * k + copy) (slot_of es k)
 copy-of d copy l es k h i o =

@@ -1,6 +1,3 @@
 -- Writes that aren't wanted.
 use Rattle.std.proofs.Common.{◌≡◌, refl, Bool, true, false, ◌&&◌}
-
-pub unwanted : (b : Bool) → (b && false) ≡ false
-unwanted true = refl
-unwanted false = refl
+pub use Rattle.cell_emit.specs.vl_base.proofs.Booleans.{and_false_right as unwanted}

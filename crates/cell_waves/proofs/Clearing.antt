@@ -3,11 +3,11 @@ use Rattle.std.proofs.Common.{◌≡◌, ℕ, zero, suc, ◌<◌, ◌^◌, Bool,
 use Rattle.std.specs.Prelude.{◌⊎◌, All, if◌then◌else◌, slice_index, slice_index_or}
 use Rattle.std.proofs.Math.Pow.{pow_pos}
 use Rattle.std.proofs.lemmas.List.{length-map}
-use Rattle.vl_design.specs.Syntax.{Row}
-use Rattle.vl_design.specs.Width.{signal_form}
-use Rattle.vl_design.specs.Value.{words_of, value_of}
-use Rattle.vl_design.specs.Laws.{IsFine}
-use Rattle.vl_settle.specs.Computed.{is_computed, computed_at}
+use Rattle.ten_form.specs.vl_design.specs.Syntax.{Row}
+use Rattle.ten_form.specs.vl_design.specs.Width.{signal_form}
+use Rattle.ten_form.specs.vl_design.specs.Value.{words_of, value_of}
+use Rattle.ten_form.specs.vl_design.specs.Laws.{IsFine}
+use Rattle.ten_form.specs.vl_runs.specs.Computed.{is_computed, computed_at}
 use Rattle.ten_form.specs.Nets.{cleared}
 
 -- words that are all 0

@@ -2,15 +2,15 @@
 use Rattle.std.proofs.Common.{◌≡◌, ℕ, ◌+◌, ◌*◌, ◌<◌, ◌≤◌, true, false, List, [], ◌∷◌, ◌++◌, length, take, Option, Some, None, refl, sym, ap, ◌∙◌, arith, subst, length-append}
 use Rattle.std.specs.Prelude.{if◌then◌else◌, slice_get, slice_index_or}
 use Rattle.std.proofs.lemmas.Option.{slice_get_within}
-use Rattle.vl_design.specs.Syntax.{Row}
-use Rattle.vl_design.specs.Sound.{HasValue, IsWidth}
-use Rattle.vl_answers.specs.Others.{is_other}
-use Rattle.cell_form.specs.Data.{ListData}
-use Rattle.cell_steps.specs.Slots.{Grows, Longer}
-use Rattle.cell_steps.proofs.Frames.{longer-grows, longer-same, longer-then, longer-weaken}
-use Rattle.cell_reads.specs.Entries.{HasCopy, read_count}
-use Rattle.cell_reads.proofs.Reading.{copy-stays, read-more, read-all, each-more}
-use Rattle.cell_later.specs.Pendings.{slot_of}
+use Rattle.ten_form.specs.vl_design.specs.Syntax.{Row}
+use Rattle.ten_form.specs.vl_design.specs.Sound.{HasValue, IsWidth}
+use Rattle.cell_emit.specs.vl_sites.specs.Others.{is_other}
+use Rattle.cell_emit.specs.cell_form.specs.Data.{ListData}
+use Rattle.cell_emit.specs.Slots.{Grows, Longer}
+use Rattle.cell_emit.proofs.Frames.{longer-grows, longer-same, longer-then, longer-weaken}
+use Rattle.cell_emit.specs.Entries.{HasCopy, read_count}
+use Rattle.cell_emit.proofs.Reading.{copy-stays, read-more, read-all, each-more}
+use Rattle.cell_emit.specs.Pendings.{slot_of}
 use Rattle.cell_waves.specs.Copies.{HasSignals, AreCopies}
 
 -- the first n of so many signals have their slots, but for loop variables and clocks

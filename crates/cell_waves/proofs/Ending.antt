@@ -7,24 +7,24 @@ use Rattle.std.proofs.lemmas.Bool.{eqb-true, le-ltb, eq-eqb}
 use Rattle.std.proofs.lemmas.List.Elements.{All-head, All-tail}
 use Rattle.std.proofs.lemmas.List.{ext_get_or}
 use Rattle.std.proofs.lemmas.Option.{slice_get_within}
-use Rattle.vl_design.specs.Syntax.{Row, Flat}
-use Rattle.vl_design.specs.Width.{Names, names_of, signal_form}
-use Rattle.vl_design.specs.Value.{words_of, value_of}
-use Rattle.vl_design.specs.Sound.{HasValue, IsSignal, IsMemory}
-use Rattle.vl_design.specs.State.{State, Update, all_updated, sample}
-use Rattle.vl_design.specs.Laws.{IsFine}
-use Rattle.vl_design.proofs.Kept.{OfUpdates, updates_keep}
-use Rattle.vl_settle.specs.Computed.{computed_at}
-use Rattle.vl_answers.specs.Others.{other_at}
-use Rattle.cell_form.specs.declared.cell.Write.{Write}
-use Rattle.cell_form.specs.Data.{ListData, BankData}
-use Rattle.cell_form.specs.Cycle.{masked, written}
-use Rattle.cell_form.specs.Sound.{Shape}
-use Rattle.cell_steps.specs.Slots.{held, AreSound}
-use Rattle.cell_steps.proofs.Frames.{held-fits}
-use Rattle.cell_paths.specs.Envs.{Env, entry, IsEntry, held_or, word_or, Fits, Stands}
-use Rattle.cell_later.specs.Pendings.{PendingSlots, slot_of, ArePending}
-use Rattle.cell_reads.proofs.Samples.{named}
+use Rattle.ten_form.specs.vl_design.specs.Syntax.{Row, Flat}
+use Rattle.ten_form.specs.vl_design.specs.Width.{Names, names_of, signal_form}
+use Rattle.ten_form.specs.vl_design.specs.Value.{words_of, value_of}
+use Rattle.ten_form.specs.vl_design.specs.Sound.{HasValue, IsSignal, IsMemory}
+use Rattle.ten_form.specs.vl_design.specs.State.{State, Update, all_updated, sample}
+use Rattle.ten_form.specs.vl_design.specs.Laws.{IsFine}
+use Rattle.ten_form.specs.vl_design.proofs.Kept.{OfUpdates, updates_keep}
+use Rattle.ten_form.specs.vl_runs.specs.Computed.{computed_at}
+use Rattle.cell_emit.specs.vl_sites.specs.Others.{other_at}
+use Rattle.cell_emit.specs.cell_form.specs.declared.cell.Write.{Write}
+use Rattle.cell_emit.specs.cell_form.specs.Data.{ListData, BankData}
+use Rattle.cell_emit.specs.cell_form.specs.Cycle.{masked, written}
+use Rattle.cell_emit.specs.cell_form.specs.Sound.{Shape}
+use Rattle.cell_emit.specs.Slots.{held, AreSound}
+use Rattle.cell_emit.proofs.Frames.{held-fits}
+use Rattle.cell_emit.specs.Envs.{Env, entry, IsEntry, held_or, word_or, Fits, Stands}
+use Rattle.cell_emit.specs.Pendings.{PendingSlots, slot_of, ArePending}
+use Rattle.cell_emit.proofs.Samples.{named}
 use Rattle.ten_form.specs.Registers.{answer_register, ticks_register, value_register, work_register, update_register, mask_register, register_count}
 use Rattle.ten_form.specs.Nets.{cleared}
 use Rattle.ten_form.specs.Banks.{HoldsPending, HoldsSignals, HoldsState}
@@ -35,6 +35,7 @@ use Rattle.cell_waves.proofs.Clearing.{cleared-computed, cleared-kept}
 use Rattle.cell_waves.proofs.Lasting.{register-behind, memories-after}
 use Rattle.cell_waves.proofs.Setting.{wanted-some, wanted-not, wanted-left}
 use Rattle.cell_waves.proofs.Written.{written-if, written-signal, other-unwritten, other-kept}
+pub use Rattle.cell_emit.proofs.Placing.{held-or-fits as entry-fits}
 
 -- ---- signals
 
@@ -69,25 +70,12 @@ held-slot : (b : BankData) (l : ListData) (none : ℕ) (e : Option ℕ) → held
 held-slot b l none None h = h
 held-slot b l none (Some r) h = refl
 
--- an entry's value fits
-pub entry-fits : (z : Shape) (b : BankData) (l : ListData) (w : ℕ) (e : Option ℕ) → AreSound z l → IsEntry l w e → held_or b l e < 2 ^ w
-entry-fits z b l w None sound h = pow_pos w
-entry-fits z b l w (Some r) sound h = subst (λ v. held b l r < 2 ^ v) h.width (held-fits z b l r sound h.there)
-
-entry-there : (l : ListData) (w : ℕ) (e : Option ℕ) → IsEntry l w e → IsHeld l e
+pub entry-there : (l : ListData) (w : ℕ) (e : Option ℕ) → IsEntry l w e → IsHeld l e
 entry-there l w None h = h
 entry-there l w (Some r) h = h.there
 
--- the slots that are written are there
-pub value-held : (names : Names) (l : ListData) (at : Env) (copy k : ℕ) → Fits names l at → at.first ≡ 0 → is_written copy (slice_get names.rows k) ≡ true → IsHeld l (slot_of at.slots k)
-value-held names l at copy k f e w =
-    subst (IsHeld l) (entry-slot at k e) (entry-there l (signal_form names.rows k).width (entry at k) (f.signals k (written-signal copy (slice_get names.rows k) w)))
-
 pub update-held : (names : Names) (l : ListData) (p : PendingSlots) (copy k : ℕ) → ArePending names l p → is_written copy (slice_get names.rows k) ≡ true → IsHeld l (slot_of p.update k)
 update-held names l p copy k h w = entry-there l (signal_form names.rows k).width (slot_of p.update k) (h.update k (written-signal copy (slice_get names.rows k) w))
-
-pub mask-held : (names : Names) (l : ListData) (p : PendingSlots) (copy k : ℕ) → ArePending names l p → is_written copy (slice_get names.rows k) ≡ true → IsHeld l (slot_of p.mask k)
-mask-held names l p copy k h w = entry-there l (signal_form names.rows k).width (slot_of p.mask k) (h.mask k (written-signal copy (slice_get names.rows k) w))
 
 -- what the register of a signal holds that is written where its entry has changed, or always
 pub entry-written : (rows : List Row) (copy : ℕ) (chosen : ℕ → Bool) (after : List (Option ℕ)) (none k : ℕ) (b : BankData) (l : ListData) (last : Option ℕ) (old : ℕ) → held b l none ≡ 0 →

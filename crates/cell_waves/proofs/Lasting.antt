@@ -4,11 +4,11 @@ use Rattle.std.specs.Prelude.{◌==◌, if◌then◌else◌, slice_index, slice_
 use Rattle.std.specs.List.{AllByRecursion}
 use Rattle.std.proofs.lemmas.Bool.{eq-eqb, eqb-true, eqb-false}
 use Rattle.std.proofs.lemmas.List.{get_or-set_same, get_or-set_other}
-use Rattle.cell_form.specs.declared.cell.Write.{Write}
-use Rattle.cell_form.specs.declared.cell.Write.TheVariants as w
-use Rattle.cell_form.specs.Data.{BankData}
-use Rattle.cell_form.specs.Cycle.{with_word, wrote, written}
-use Rattle.cell_form.proofs.Writing.{written-regs}
+use Rattle.cell_emit.specs.cell_form.specs.declared.cell.Write.{Write}
+use Rattle.cell_emit.specs.cell_form.specs.declared.cell.Write.TheVariants as w
+use Rattle.cell_emit.specs.cell_form.specs.Data.{BankData}
+use Rattle.cell_emit.specs.cell_form.specs.Cycle.{with_word, wrote, written}
+use Rattle.cell_emit.specs.cell_form.proofs.Writing.{written-regs}
 use Rattle.cell_waves.specs.Lasts.{later_of, written_from, last_write, held_after, IsRegister}
 
 -- ---- the later of two slots
@@ -31,10 +31,10 @@ pub last-more : (xs ys : List Write) (r : ℕ) → last_write (xs ++ ys) r ≡ l
 last-more [] ys r = sym (later-none (last_write ys r))
 last-more (x ∷ xs) ys r = ap (later_of (written_from x r)) (last-more xs ys r) ∙ sym (later-assoc (written_from x r) (last_write xs r) (last_write ys r))
 
-from-here : (r s : ℕ) → written_from (w.Reg r s) r ≡ Some s
+pub from-here : (r s : ℕ) → written_from (w.Reg r s) r ≡ Some s
 from-here r s = ap (λ t. if t then Some s else None) (eq-eqb r r refl)
 
-from-other : (k r s : ℕ) → r ≢ k → written_from (w.Reg k s) r ≡ None
+pub from-other : (k r s : ℕ) → r ≢ k → written_from (w.Reg k s) r ≡ None
 from-other k r s n = of (k == r) refl
   where
     of : (t : Bool) → (k == r) ≡ t → (if k == r then Some s else None) ≡ None

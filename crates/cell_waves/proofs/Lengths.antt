@@ -1,8 +1,8 @@
 -- How many cells a list has with more behind.
 use Rattle.std.proofs.Common.{ℕ, ◌+◌, ◌≤◌, length, length-append, ap, arith}
-use Rattle.cell_form.specs.Data.{ListData}
-use Rattle.cell_form.specs.Sound.{Shape}
-use Rattle.cell_steps.specs.Slots.{Longer}
+use Rattle.cell_emit.specs.cell_form.specs.Data.{ListData}
+use Rattle.cell_emit.specs.cell_form.specs.Sound.{Shape}
+use Rattle.cell_emit.specs.Slots.{Longer}
 
 pub longer-few : (H : Shape → Type 0) (n : ℕ) (old new : ListData) → Longer H n old new → length new.cells ≤ length old.cells + n
 longer-few H n old new h =

@@ -12,3 +12,14 @@ pub mod Updating
 pub mod Written
 pub mod Lengths
 pub mod Choosing
+pub mod Passing
+pub mod BeginningOfBegin
+pub mod Joining
+pub mod Behind
+pub mod Listing
+pub mod Keeping
+pub mod Holding
+pub mod Reading
+pub mod Leaving
+pub mod Applying
+pub mod UpdatingOfStores

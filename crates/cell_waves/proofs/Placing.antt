@@ -3,17 +3,17 @@ use Rattle.std.proofs.Common.{◌≡◌, ℕ, zero, suc, ◌+◌, ◌*◌, ◌�
 use Rattle.std.specs.Prelude.{slice_get, slice_index}
 use Rattle.std.proofs.lemmas.List.{length-map}
 use Rattle.std.proofs.lemmas.Option.{slice_get_within}
-use Rattle.vl_design.specs.declared.design.SigKind.{SigKind}
-use Rattle.vl_design.specs.declared.design.SigKind.TheVariants.{Net, Var, Comb, Loop, Mem, Clock}
-use Rattle.vl_design.specs.declared.design.Signal.{Signal}
-use Rattle.vl_design.specs.Rows.{row_of}
-use Rattle.vl_design.specs.Syntax.{Row, Flat}
-use Rattle.vl_design.specs.Width.{names_of}
-use Rattle.vl_design.specs.Sound.{HasValue, IsMem, IsSignal, IsMemory}
-use Rattle.cell_form.specs.Data.{ListData}
-use Rattle.cell_form.specs.Sound.{Shape}
-use Rattle.cell_reads.specs.Reads.{HasPlaces}
-use Rattle.cell_reads.proofs.Samples.{named}
+use Rattle.ten_form.specs.vl_design.specs.declared.design.SigKind.{SigKind}
+use Rattle.ten_form.specs.vl_design.specs.declared.design.SigKind.TheVariants.{Net, Var, Comb, Loop, Mem, Clock}
+use Rattle.ten_form.specs.vl_design.specs.declared.design.Signal.{Signal}
+use Rattle.ten_form.specs.vl_design.specs.Rows.{row_of}
+use Rattle.ten_form.specs.vl_design.specs.Syntax.{Row, Flat}
+use Rattle.ten_form.specs.vl_design.specs.Width.{names_of}
+use Rattle.ten_form.specs.vl_design.specs.Sound.{HasValue, IsMem, IsSignal, IsMemory}
+use Rattle.cell_emit.specs.cell_form.specs.Data.{ListData}
+use Rattle.cell_emit.specs.cell_form.specs.Sound.{Shape}
+use Rattle.cell_emit.specs.Reads.{HasPlaces}
+use Rattle.cell_emit.proofs.Samples.{named}
 use Rattle.ten_form.specs.Registers.{place, places_from, places, register_count}
 use Rattle.cell_waves.specs.Copies.{AreCopies}
 

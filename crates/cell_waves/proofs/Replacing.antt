@@ -1,13 +1,13 @@
 -- Bits of a slot replaced by those of another one under a mask.
 use Rattle.std.proofs.Common.{◌≡◌, ℕ, ◌<◌, ◌%◌, ◌^◌, Some, ap, ◌∙◌, arith}
 use Rattle.std.specs.Prelude.{bit_and, bit_xor, slice_index}
-use Rattle.cell_form.specs.Cycle.{masked}
-use Rattle.cell_form.specs.Data.{ListData, BankData}
-use Rattle.cell_form.specs.Sound.{Shape}
-use Rattle.cell_steps.specs.Slots.{held, width_at, AreSound, Grows, Longer, Gives, Nothing}
-use Rattle.cell_steps.proofs.Frames.{held-stays, width-stays, grows-then, longer-grows, longer-then, longer-weaken, sound-before}
-use Rattle.cell_paths.specs.Envs.{IsSlot}
-use Rattle.cell_paths.proofs.Staying.{is-slot-stays}
+use Rattle.cell_emit.specs.cell_form.specs.Cycle.{masked}
+use Rattle.cell_emit.specs.cell_form.specs.Data.{ListData, BankData}
+use Rattle.cell_emit.specs.cell_form.specs.Sound.{Shape}
+use Rattle.cell_emit.specs.Slots.{held, width_at, AreSound, Grows, Longer, Gives, Nothing}
+use Rattle.cell_emit.proofs.Frames.{held-stays, width-stays, grows-then, longer-grows, longer-then, longer-weaken, sound-before}
+use Rattle.cell_emit.specs.Envs.{IsSlot}
+use Rattle.cell_emit.proofs.Staying.{is-slot-stays}
 use Rattle.ten_form.specs.Registers.{work_register, update_register, mask_register}
 use Rattle.cell_waves.specs.Applies.{HasOwn, HoldsUpdate}
 

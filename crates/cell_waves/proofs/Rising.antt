@@ -1,13 +1,13 @@
 -- The clock's rise in cells.
 use Rattle.std.proofs.Common.{◌≡◌, ℕ, ◌+◌, ◌<◌, ◌≤◌, ◌%◌, ◌^◌, Bool, true, false, refl, sym, ap, ◌∙◌, arith, mod-eq_of_lt}
 use Rattle.std.specs.Prelude.{if◌then◌else◌}
-use Rattle.vl_design.specs.Width.{signal_form}
-use Rattle.cell_form.specs.Data.{ListData, BankData}
-use Rattle.cell_form.specs.Sound.{Shape}
-use Rattle.cell_steps.specs.Slots.{held, width_at, AreSound, Grows, Gives, Nothing}
-use Rattle.cell_steps.proofs.Frames.{held-stays, width-stays, grows-then, longer-grows, longer-then, longer-weaken}
-use Rattle.cell_paths.specs.Envs.{Env, entry, IsSlot}
-use Rattle.cell_paths.proofs.Staying.{is-slot-stays, entry-stays, held-or-stays, always-stays}
+use Rattle.ten_form.specs.vl_design.specs.Width.{signal_form}
+use Rattle.cell_emit.specs.cell_form.specs.Data.{ListData, BankData}
+use Rattle.cell_emit.specs.cell_form.specs.Sound.{Shape}
+use Rattle.cell_emit.specs.Slots.{held, width_at, AreSound, Grows, Gives, Nothing}
+use Rattle.cell_emit.proofs.Frames.{held-stays, width-stays, grows-then, longer-grows, longer-then, longer-weaken}
+use Rattle.cell_emit.specs.Envs.{Env, entry, IsSlot}
+use Rattle.cell_emit.proofs.Staying.{is-slot-stays, entry-stays, held-or-stays, always-stays}
 use Rattle.cell_waves.specs.Rises.{Rises}
 
 module _ (at : Env) (l0 l1 l2 l3 : ListData) (one time ticks n : ℕ) (slot : IsSlot l0 at.time 64) (few : n ≤ 1)

@@ -3,15 +3,15 @@ use Rattle.std.proofs.Common.{◌≡◌, ◌≢◌, ℕ, ◌+◌, ◌-◌, ◌*�
 use Rattle.std.specs.Prelude.{◌⊎◌, ◌&&◌, nat_lt, if◌then◌else◌, slice_get}
 use Rattle.std.proofs.lemmas.Bool.{ltb-true, ltb-false, lt-ltb, le-ltb, cases_eq}
 use Rattle.std.proofs.lemmas.Option.{slice_get_within, slice_get_past}
-use Rattle.vl_design.specs.Syntax.{Row}
-use Rattle.cell_form.specs.declared.cell.Write.{Write}
-use Rattle.cell_form.specs.declared.cell.Write.TheVariants as w
-use Rattle.cell_form.specs.Data.{ListData}
-use Rattle.cell_form.specs.Sound.{IsWrite}
-use Rattle.cell_form.proofs.Fitting.{all-push}
-use Rattle.cell_steps.specs.Slots.{IsIn}
+use Rattle.ten_form.specs.vl_design.specs.Syntax.{Row}
+use Rattle.cell_emit.specs.cell_form.specs.declared.cell.Write.{Write}
+use Rattle.cell_emit.specs.cell_form.specs.declared.cell.Write.TheVariants as w
+use Rattle.cell_emit.specs.cell_form.specs.Data.{ListData}
+use Rattle.cell_emit.specs.cell_form.specs.Sound.{IsWrite}
+use Rattle.cell_emit.specs.cell_form.proofs.Fitting.{all-push}
+use Rattle.cell_emit.specs.Slots.{IsIn}
 use Rattle.cell_trim.specs.Widths.{IsWithin}
-use Rattle.cell_later.specs.Pendings.{slot_of}
+use Rattle.cell_emit.specs.Pendings.{slot_of}
 use Rattle.cell_waves.specs.Lasts.{last_write, IsRegister}
 use Rattle.cell_waves.specs.Copies.{is_written, slot_or, wanted, with_write, or_before, IsHeld, Sets}
 use Rattle.cell_waves.proofs.Lasting.{last-here, last-other}

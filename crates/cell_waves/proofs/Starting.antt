@@ -1,28 +1,28 @@
 -- What a state begins with.
 use Rattle.std.proofs.Common.{◌≡◌, ◌≤◌, ◌+◌, ℕ, Bool, true, false, List, [], length, refl, sym, ap, ◌∙◌, arith, subst}
 use Rattle.std.specs.Prelude.{All, slice_index}
-use Rattle.vl_base.specs.declared.files.File.{File}
-use Rattle.vl_design.specs.Syntax.{Flat}
-use Rattle.vl_design.specs.Width.{names_of, signal_form}
-use Rattle.vl_design.specs.Value.{value_of}
-use Rattle.vl_design.specs.Sound.{IsSignal}
-use Rattle.vl_design.specs.State.{State, all_updated, sample}
-use Rattle.settling.specs.Nets.{pass}
-use Rattle.vl_settle.specs.Nets.{run}
-use Rattle.vl_answers.specs.Others.{other_at}
-use Rattle.cell_form.specs.Cycle.{masked}
-use Rattle.cell_form.specs.Data.{ListData, BankData}
-use Rattle.cell_form.specs.Sound.{Shape}
-use Rattle.cell_steps.specs.Slots.{AreSound, Grows, Longer}
-use Rattle.cell_steps.proofs.Frames.{longer-grows}
-use Rattle.cell_paths.specs.Envs.{Env, IsEntry, held_or, Fits, HasMemories, Stands}
-use Rattle.cell_paths.proofs.Staying.{fits-stays, stands-stays}
-use Rattle.cell_reads.specs.Entries.{HasCopy}
-use Rattle.cell_reads.specs.Reads.{IsRead, HasPlaces}
-use Rattle.cell_begin.specs.Begins.{Mixes, HasCopies}
-use Rattle.cell_begin.proofs.Joining.{memory-kept}
-use Rattle.cell_later.specs.Pendings.{PendingSlots, slot_of, settled, IsSite, ArePending}
-use Rattle.cell_later.proofs.Masking.{masked-none}
+use Rattle.cell_emit.specs.vl_base.specs.declared.files.File.{File}
+use Rattle.ten_form.specs.vl_design.specs.Syntax.{Flat}
+use Rattle.ten_form.specs.vl_design.specs.Width.{names_of, signal_form}
+use Rattle.ten_form.specs.vl_design.specs.Value.{value_of}
+use Rattle.ten_form.specs.vl_design.specs.Sound.{IsSignal}
+use Rattle.ten_form.specs.vl_design.specs.State.{State, all_updated, sample}
+use Rattle.ten_form.specs.vl_runs.specs.Nets.{pass}
+use Rattle.ten_form.specs.vl_runs.specs.NetsOfSettle.{run}
+use Rattle.cell_emit.specs.vl_sites.specs.Others.{other_at}
+use Rattle.cell_emit.specs.cell_form.specs.Cycle.{masked}
+use Rattle.cell_emit.specs.cell_form.specs.Data.{ListData, BankData}
+use Rattle.cell_emit.specs.cell_form.specs.Sound.{Shape}
+use Rattle.cell_emit.specs.Slots.{AreSound, Grows, Longer}
+use Rattle.cell_emit.proofs.Frames.{longer-grows}
+use Rattle.cell_emit.specs.Envs.{Env, IsEntry, held_or, Fits, HasMemories, Stands}
+use Rattle.cell_emit.proofs.Staying.{fits-stays, stands-stays}
+use Rattle.cell_emit.specs.Entries.{HasCopy}
+use Rattle.cell_emit.specs.Reads.{IsRead, HasPlaces}
+use Rattle.cell_waves.specs.BeginsOfBegin.{Mixes, HasCopies}
+use Rattle.cell_waves.proofs.Joining.{memory-kept}
+use Rattle.cell_emit.specs.Pendings.{PendingSlots, slot_of, settled, IsSite, ArePending}
+use Rattle.cell_emit.proofs.Masking.{masked-none}
 use Rattle.ten_form.specs.Registers.{places, value_register, work_register, update_register, mask_register}
 use Rattle.ten_form.specs.Nets.{cleared, IsTidy, HoldsNoOthers}
 use Rattle.ten_form.specs.Banks.{HoldsSignals, HoldsState}

@@ -5,27 +5,27 @@ use Rattle.std.specs.List.{AllByRecursion}
 use Rattle.std.proofs.Math.Pow.{pow_pos}
 use Rattle.std.proofs.lemmas.List.Elements.{All-head}
 use Rattle.std.proofs.lemmas.Option.{slice_get_within}
-use Rattle.vl_design.specs.Syntax.{Row, Flat}
-use Rattle.vl_design.specs.Rows.{has_width}
-use Rattle.vl_design.specs.Width.{names_of, signal_form, row_form}
-use Rattle.vl_design.specs.Value.{value_of, words_of}
-use Rattle.vl_design.specs.Sound.{HasValue, IsSignal}
-use Rattle.vl_design.specs.State.{State, all_updated}
-use Rattle.vl_design.specs.Laws.{IsFine}
-use Rattle.vl_settle.specs.Computed.{is_computed_row, computed_at}
-use Rattle.vl_answers.specs.Others.{other_at}
-use Rattle.cell_form.specs.declared.cell.Write.{Write}
-use Rattle.cell_form.specs.Data.{ListData, BankData}
-use Rattle.cell_form.specs.Cycle.{masked, written}
-use Rattle.cell_form.specs.Sound.{Shape, IsWrite, shape_of}
-use Rattle.cell_steps.specs.Slots.{held, IsIn, AreSound, Grows, Longer}
-use Rattle.cell_steps.proofs.Frames.{held-stays, in-stays, grows-then, longer-grows, longer-same, longer-then, longer-weaken, sound-before}
-use Rattle.cell_paths.specs.Envs.{IsSlot, held_or}
-use Rattle.cell_paths.proofs.Staying.{is-slot-stays}
-use Rattle.cell_later.specs.Pendings.{slot_of}
-use Rattle.cell_later.proofs.Masking.{masked-none}
-use Rattle.cell_reads.proofs.Reading.{each-more}
-use Rattle.cell_reads.proofs.Samples.{named}
+use Rattle.ten_form.specs.vl_design.specs.Syntax.{Row, Flat}
+use Rattle.ten_form.specs.vl_design.specs.Rows.{has_width}
+use Rattle.ten_form.specs.vl_design.specs.Width.{names_of, signal_form, row_form}
+use Rattle.ten_form.specs.vl_design.specs.Value.{value_of, words_of}
+use Rattle.ten_form.specs.vl_design.specs.Sound.{HasValue, IsSignal}
+use Rattle.ten_form.specs.vl_design.specs.State.{State, all_updated}
+use Rattle.ten_form.specs.vl_design.specs.Laws.{IsFine}
+use Rattle.ten_form.specs.vl_runs.specs.Computed.{is_computed_row, computed_at}
+use Rattle.cell_emit.specs.vl_sites.specs.Others.{other_at}
+use Rattle.cell_emit.specs.cell_form.specs.declared.cell.Write.{Write}
+use Rattle.cell_emit.specs.cell_form.specs.Data.{ListData, BankData}
+use Rattle.cell_emit.specs.cell_form.specs.Cycle.{masked, written}
+use Rattle.cell_emit.specs.cell_form.specs.Sound.{Shape, IsWrite, shape_of}
+use Rattle.cell_emit.specs.Slots.{held, IsIn, AreSound, Grows, Longer}
+use Rattle.cell_emit.proofs.Frames.{held-stays, in-stays, grows-then, longer-grows, longer-same, longer-then, longer-weaken, sound-before}
+use Rattle.cell_emit.specs.Envs.{IsSlot, held_or}
+use Rattle.cell_emit.proofs.Staying.{is-slot-stays}
+use Rattle.cell_emit.specs.Pendings.{slot_of}
+use Rattle.cell_emit.proofs.Masking.{masked-none}
+use Rattle.cell_emit.proofs.Reading.{each-more}
+use Rattle.cell_emit.proofs.Samples.{named}
 use Rattle.ten_form.specs.Registers.{answer_register, ticks_register, work_register, update_register, mask_register, register_count}
 use Rattle.ten_form.specs.Nets.{cleared, HoldsNoOthers}
 use Rattle.ten_form.specs.Banks.{IsFor, HoldsPending, HoldsSignals}
@@ -37,6 +37,7 @@ use Rattle.cell_waves.proofs.Lasting.{register-behind}
 use Rattle.cell_waves.proofs.Setting.{wanted-not, wanted-left, sets-beyond}
 use Rattle.cell_waves.proofs.Written.{both-true, is-width, value-kind, not-computed, written-if, other-unwritten}
 use Rattle.cell_waves.proofs.Ending.{signal-below, value-stays, others-stay, value-kept, entry-written, entry-left, or-none}
+use Rattle.cell_emit.specs.vl_base.proofs.Lists.{first_below as first-small}
 
 -- ---- one signal
 
@@ -50,9 +51,6 @@ pub record Updated (rows : List Row) (delayed : ℕ → Bool) (n : ℕ) (old new
   pub longer : Longer (HasSignals (length rows)) (6 * count_to delayed n) old new
   pub long : length es ≡ n
   pub each : (k : ℕ) (r : Row) → k < n → slice_get rows k ≡ Some r → HasUpdateIf (delayed k) r k new (slice_index_or es k None)
-
-pub updated-none : (rows : List Row) (delayed : ℕ → Bool) (l : ListData) → Updated rows delayed 0 l l []
-updated-none rows delayed l = record { longer = longer-same (HasSignals (length rows)) l; long = refl; each = λ k r lt. absurd (omega arith) }
 
 one-more : (q : Bool) (c : ℕ) → 6 * c + (if q then 6 else 0) ≡ 6 * (c + (if q then 1 else 0))
 one-more true c = omega arith
@@ -120,11 +118,6 @@ slot-if rows delayed n copy here old new es k long low h e = of (slice_get rows 
             (slot_or here (slot_of es k) ≡ here) ⊎ IsSlot new (slot_or here (slot_of es k)) r.width
         there true q t u = update-slot r.width k new here (slot_of es k) (u.there q (value-kind copy r.kind t.0) (not-computed copy r.kind low t.0) (is-width r.width t.1))
         there false q t u = inl (ap (slot_or here) (u.none q))
-
--- the first word of a signal fits
-first-small : (w : ℕ) (ws : List ℕ) → All (λ v. v < 2 ^ w) ws → slice_index ws 0 < 2 ^ w
-first-small w [] h = pow_pos w
-first-small w (x ∷ xs) h = All-head (λ v. v < 2 ^ w) x xs h
 
 -- ---- the whole update
 

@@ -2,20 +2,17 @@
 use Rattle.std.proofs.Common.{◌≡◌, ℕ, Bool, true, false, Option, Some, None, refl, sym, ap, ◌∙◌}
 use Rattle.std.specs.Prelude.{◌&&◌, ◌||◌, not, nat_lt, nat_le, slice_get, is_some, IfSome}
 use Rattle.std.proofs.lemmas.Bool.{le-leb, leb-true}
-use Rattle.vl_design.specs.declared.design.SigKind.{SigKind}
-use Rattle.vl_design.specs.declared.design.SigKind.TheVariants.{Net, Var, Comb, Loop, Mem, Clock}
-use Rattle.vl_design.specs.Rows.{has_width}
-use Rattle.vl_design.specs.Syntax.{Row}
-use Rattle.vl_design.specs.Width.{Names}
-use Rattle.vl_design.specs.Sound.{IsOf, IsWidth, HasValue, IsSignal}
-use Rattle.vl_settle.specs.Computed.{is_computed, is_computed_row, computed_at}
-use Rattle.vl_answers.specs.Others.{is_other, is_other_row, other_at}
-use Rattle.cell_reads.proofs.Samples.{named}
+use Rattle.ten_form.specs.vl_design.specs.declared.design.SigKind.{SigKind}
+use Rattle.ten_form.specs.vl_design.specs.declared.design.SigKind.TheVariants.{Net, Var, Comb, Loop, Mem, Clock}
+use Rattle.ten_form.specs.vl_design.specs.Rows.{has_width}
+use Rattle.ten_form.specs.vl_design.specs.Syntax.{Row}
+use Rattle.ten_form.specs.vl_design.specs.Width.{Names}
+use Rattle.ten_form.specs.vl_design.specs.Sound.{IsOf, IsWidth, HasValue, IsSignal}
+use Rattle.ten_form.specs.vl_runs.specs.Computed.{is_computed, is_computed_row, computed_at}
+use Rattle.cell_emit.specs.vl_sites.specs.Others.{is_other, is_other_row, other_at}
+use Rattle.cell_emit.proofs.Samples.{named}
 use Rattle.cell_waves.specs.Copies.{has_copy, is_written}
-
-pub both-true : (a c : Bool) → (a && c) ≡ true → (a ≡ true) × (c ≡ true)
-both-true true c e = (refl, e)
-both-true false c e = absurd (cc)
+pub use Rattle.cell_emit.specs.vl_base.proofs.Booleans.{and_parts as both-true}
 
 -- ---- widths
 

@@ -1,19 +1,19 @@
 -- The update in cells (IEEE 1364-2005, clause 11.4; own).
 use Rattle.std.specs.Prelude.{◌≡◌, ℕ, ◌≤◌, ◌<◌, ◌%◌, ◌^◌, ◌*◌, ◌==◌, ◌+◌, ◌⊎◌, Bool, true, false, List, [], length, slice_get, slice_index, All, Option, Some, None}
 use Rattle.std.specs.List.{AllByRecursion}
-use Rattle.vl_design.specs.Syntax.{Row, Flat}
-use Rattle.vl_design.specs.Width.{names_of, signal_form}
-use Rattle.vl_design.specs.Sound.{HasValue, IsWidth, IsSignal}
-use Rattle.vl_design.specs.Laws.{IsFine}
-use Rattle.vl_design.specs.State.{State, Update, all_updated}
-use Rattle.vl_design.specs.Value.{value_of}
-use Rattle.vl_settle.specs.Computed.{is_computed, computed_at}
-use Rattle.cell_form.specs.declared.cell.Write.{Write}
-use Rattle.cell_form.specs.Cycle.{masked, written}
-use Rattle.cell_form.specs.Data.{ListData, BankData}
-use Rattle.cell_form.specs.Sound.{Shape, IsWrite, shape_of}
-use Rattle.cell_steps.specs.Slots.{held, width_at, AreSound, Grows, Longer}
-use Rattle.cell_paths.specs.Envs.{IsSlot}
+use Rattle.ten_form.specs.vl_design.specs.Syntax.{Row, Flat}
+use Rattle.ten_form.specs.vl_design.specs.Width.{names_of, signal_form}
+use Rattle.ten_form.specs.vl_design.specs.Sound.{HasValue, IsWidth, IsSignal}
+use Rattle.ten_form.specs.vl_design.specs.Laws.{IsFine}
+use Rattle.ten_form.specs.vl_design.specs.State.{State, Update, all_updated}
+use Rattle.ten_form.specs.vl_design.specs.Value.{value_of}
+use Rattle.ten_form.specs.vl_runs.specs.Computed.{is_computed, computed_at}
+use Rattle.cell_emit.specs.cell_form.specs.declared.cell.Write.{Write}
+use Rattle.cell_emit.specs.cell_form.specs.Cycle.{masked, written}
+use Rattle.cell_emit.specs.cell_form.specs.Data.{ListData, BankData}
+use Rattle.cell_emit.specs.cell_form.specs.Sound.{Shape, IsWrite, shape_of}
+use Rattle.cell_emit.specs.Slots.{held, width_at, AreSound, Grows, Longer}
+use Rattle.cell_emit.specs.Envs.{IsSlot}
 use Rattle.cell_trim.specs.Widths.{IsWithin}
 use Rattle.ten_form.specs.Banks.{IsFor, HoldsSignals}
 use Rattle.ten_form.specs.Nets.{HoldsNoOthers}

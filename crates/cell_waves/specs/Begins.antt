@@ -1,20 +1,20 @@
 -- What a state begins with, in slots (IEEE 1364-2005, clauses 6.1, 9.2.2 and 11.3; own).
 use Rattle.std.specs.Prelude.{◌≡◌, ◌≤◌, ℕ, ◌+◌, ◌*◌, false, List, [], length, slice_index}
-use Rattle.vl_base.specs.declared.files.File.{File}
-use Rattle.vl_design.specs.Syntax.{Flat}
-use Rattle.vl_design.specs.Width.{names_of}
-use Rattle.vl_design.specs.Sound.{IsSignal}
-use Rattle.vl_design.specs.Laws.{IsFine}
-use Rattle.vl_design.specs.State.{State, Update, all_updated, sample}
-use Rattle.vl_design.specs.Value.{value_of}
-use Rattle.cell_form.specs.Data.{ListData, BankData}
-use Rattle.cell_form.specs.Sound.{Shape}
-use Rattle.cell_steps.specs.Slots.{AreSound}
-use Rattle.cell_paths.specs.Envs.{Env, held_or, Fits, HasMemories, Stands}
-use Rattle.vl_answers.specs.Others.{other_at}
-use Rattle.cell_reads.specs.Entries.{read_count}
-use Rattle.cell_nets.specs.Passes.{pass_count}
-use Rattle.cell_later.specs.Pendings.{PendingSlots, slot_of, settled, ArePending}
+use Rattle.cell_emit.specs.vl_base.specs.declared.files.File.{File}
+use Rattle.ten_form.specs.vl_design.specs.Syntax.{Flat}
+use Rattle.ten_form.specs.vl_design.specs.Width.{names_of}
+use Rattle.ten_form.specs.vl_design.specs.Sound.{IsSignal}
+use Rattle.ten_form.specs.vl_design.specs.Laws.{IsFine}
+use Rattle.ten_form.specs.vl_design.specs.State.{State, Update, all_updated, sample}
+use Rattle.ten_form.specs.vl_design.specs.Value.{value_of}
+use Rattle.cell_emit.specs.cell_form.specs.Data.{ListData, BankData}
+use Rattle.cell_emit.specs.cell_form.specs.Sound.{Shape}
+use Rattle.cell_emit.specs.Slots.{AreSound}
+use Rattle.cell_emit.specs.Envs.{Env, held_or, Fits, HasMemories, Stands}
+use Rattle.cell_emit.specs.vl_sites.specs.Others.{other_at}
+use Rattle.cell_emit.specs.Entries.{read_count}
+use Rattle.cell_waves.specs.Passes.{pass_count}
+use Rattle.cell_emit.specs.Pendings.{PendingSlots, slot_of, settled, ArePending}
 use Rattle.ten_form.specs.Registers.{update_register, mask_register}
 use Rattle.ten_form.specs.Nets.{IsTidy, HoldsNoOthers}
 use Rattle.ten_form.specs.Banks.{IsFor, HoldsSignals, HoldsState}

@@ -1,21 +1,21 @@
 -- The registers of signals in slots, and writes to them (own).
 use Rattle.std.specs.Prelude.{◌≡◌, ◌≢◌, ℕ, zero, suc, ◌+◌, ◌*◌, ◌==◌, ◌≤◌, nat_lt, Bool, true, false, not, ◌&&◌, ◌||◌, if◌then◌else◌, List, [], ◌∷◌, ◌++◌, length, slice_get, slice_index_or, Option, Some, None, unwrap_or, ⊤}
 use Rattle.std.specs.List.{AllByRecursion}
-use Rattle.vl_design.specs.declared.design.SigKind.{SigKind}
-use Rattle.vl_design.specs.declared.design.SigKind.TheVariants.{Loop, Mem, Clock}
-use Rattle.vl_design.specs.Rows.{has_width}
-use Rattle.vl_design.specs.Syntax.{Row}
-use Rattle.vl_design.specs.Sound.{HasValue, IsWidth}
-use Rattle.vl_settle.specs.Computed.{is_computed}
-use Rattle.vl_answers.specs.Others.{is_other}
-use Rattle.cell_form.specs.declared.cell.Write.{Write}
-use Rattle.cell_form.specs.declared.cell.Write.TheVariants as w
-use Rattle.cell_form.specs.Data.{ListData}
-use Rattle.cell_form.specs.Sound.{Shape, IsWrite}
-use Rattle.cell_steps.specs.Slots.{width_at, IsIn}
+use Rattle.ten_form.specs.vl_design.specs.declared.design.SigKind.{SigKind}
+use Rattle.ten_form.specs.vl_design.specs.declared.design.SigKind.TheVariants.{Loop, Mem, Clock}
+use Rattle.ten_form.specs.vl_design.specs.Rows.{has_width}
+use Rattle.ten_form.specs.vl_design.specs.Syntax.{Row}
+use Rattle.ten_form.specs.vl_design.specs.Sound.{HasValue, IsWidth}
+use Rattle.ten_form.specs.vl_runs.specs.Computed.{is_computed}
+use Rattle.cell_emit.specs.vl_sites.specs.Others.{is_other}
+use Rattle.cell_emit.specs.cell_form.specs.declared.cell.Write.{Write}
+use Rattle.cell_emit.specs.cell_form.specs.declared.cell.Write.TheVariants as w
+use Rattle.cell_emit.specs.cell_form.specs.Data.{ListData}
+use Rattle.cell_emit.specs.cell_form.specs.Sound.{Shape, IsWrite}
+use Rattle.cell_emit.specs.Slots.{width_at, IsIn}
 use Rattle.cell_trim.specs.Widths.{IsWithin}
-use Rattle.cell_later.specs.Pendings.{slot_of}
-use Rattle.cell_reads.specs.Entries.{HasCopy}
+use Rattle.cell_emit.specs.Pendings.{slot_of}
+use Rattle.cell_emit.specs.Entries.{HasCopy}
 use Rattle.ten_form.specs.Registers.{register_count}
 use Rattle.cell_waves.specs.Lasts.{last_write, IsRegister}
 

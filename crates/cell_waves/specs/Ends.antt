@@ -1,18 +1,18 @@
 -- The writes at the end of a segment, and of a wave (IEEE 1364-2005, clauses 9.2.2 and 11.4; own).
 use Rattle.std.specs.Prelude.{◌≡◌, ℕ, ◌<◌, ◌^◌, ◌==◌, All, Bool, false, if◌then◌else◌, List, length, None}
 use Rattle.std.specs.List.{AllByRecursion}
-use Rattle.vl_design.specs.Syntax.{Row, Flat}
-use Rattle.vl_design.specs.Width.{names_of}
-use Rattle.vl_design.specs.Sound.{IsSignal}
-use Rattle.vl_design.specs.State.{State, Update, sample}
-use Rattle.vl_design.specs.Value.{value_of}
-use Rattle.vl_settle.specs.Computed.{computed_at}
-use Rattle.cell_form.specs.declared.cell.Write.{Write}
-use Rattle.cell_form.specs.Data.{ListData, BankData}
-use Rattle.cell_form.specs.Sound.{Shape, shape_of}
-use Rattle.cell_steps.specs.Slots.{held, AreSound}
-use Rattle.cell_paths.specs.Envs.{Env, Stands}
-use Rattle.cell_later.specs.Pendings.{PendingSlots, ArePending}
+use Rattle.ten_form.specs.vl_design.specs.Syntax.{Row, Flat}
+use Rattle.ten_form.specs.vl_design.specs.Width.{names_of}
+use Rattle.ten_form.specs.vl_design.specs.Sound.{IsSignal}
+use Rattle.ten_form.specs.vl_design.specs.State.{State, Update, sample}
+use Rattle.ten_form.specs.vl_design.specs.Value.{value_of}
+use Rattle.ten_form.specs.vl_runs.specs.Computed.{computed_at}
+use Rattle.cell_emit.specs.cell_form.specs.declared.cell.Write.{Write}
+use Rattle.cell_emit.specs.cell_form.specs.Data.{ListData, BankData}
+use Rattle.cell_emit.specs.cell_form.specs.Sound.{Shape, shape_of}
+use Rattle.cell_emit.specs.Slots.{held, AreSound}
+use Rattle.cell_emit.specs.Envs.{Env, Stands}
+use Rattle.cell_emit.specs.Pendings.{PendingSlots, ArePending}
 use Rattle.ten_form.specs.Banks.{IsFor, HoldsSignals}
 use Rattle.ten_form.specs.Registers.{answer_register, value_register, work_register, update_register, mask_register}
 use Rattle.ten_form.specs.Nets.{HoldsNoOthers}

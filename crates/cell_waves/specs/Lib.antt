@@ -4,3 +4,8 @@ pub mod Copies
 pub mod Ends
 pub mod Lasts
 pub mod Rises
+pub mod Passes
+pub mod BeginsOfBegin
+pub mod Reading
+pub mod Keeping
+pub mod Applying

@@ -1,11 +1,11 @@
 -- The clock's rise in cells: a tick more begins (IEEE 1364-2005, clause 17.7.1; own).
 use Rattle.std.specs.Prelude.{◌≡◌, ℕ, ◌+◌, ◌^◌, ◌<◌}
-use Rattle.vl_design.specs.Width.{Names}
-use Rattle.vl_design.specs.State.{State, sample}
-use Rattle.cell_form.specs.Data.{ListData, BankData}
-use Rattle.cell_form.specs.Sound.{Shape}
-use Rattle.cell_steps.specs.Slots.{held, AreSound, Longer, Nothing}
-use Rattle.cell_paths.specs.Envs.{Env, IsSlot, Fits, Stands}
+use Rattle.ten_form.specs.vl_design.specs.Width.{Names}
+use Rattle.ten_form.specs.vl_design.specs.State.{State, sample}
+use Rattle.cell_emit.specs.cell_form.specs.Data.{ListData, BankData}
+use Rattle.cell_emit.specs.cell_form.specs.Sound.{Shape}
+use Rattle.cell_emit.specs.Slots.{held, AreSound, Longer, Nothing}
+use Rattle.cell_emit.specs.Envs.{Env, IsSlot, Fits, Stands}
 
 -- with at most four cells more, the entry of the time has one tick more, and a slot of 32 bits the new number of ticks
 pub record Rises (at at' : Env) (old new : ListData) (ticks : ℕ) : Type 0 where

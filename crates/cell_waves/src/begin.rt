@@ -1,25 +1,25 @@
 //! What a state begins with (IEEE 1364-2005, clauses 6.1, 9.2.2 and 11.3).
 
 ghost use Rattle.std.specs.Prelude.{◌≤◌, length, All, IfOk};
-ghost use Rattle.vl_design.specs.Sound.{IsSound};
-ghost use Rattle.vl_design.specs.Trees.{flat_of};
-ghost use Rattle.vl_design.specs.Width.{names_of};
-ghost use Rattle.settling.specs.Nets.{AllBelow};
-ghost use Rattle.vl_settle.specs.Checked.{IsChecked};
-ghost use Rattle.cell_form.specs.Views.{list_of};
-ghost use Rattle.cell_steps.specs.Slots.{Grows};
-ghost use Rattle.cell_paths.specs.Envs.{env_of};
-ghost use Rattle.cell_later.specs.Pendings.{slots_of};
+ghost use Rattle.ten_form.specs.vl_design.specs.Sound.{IsSound};
+ghost use Rattle.ten_form.specs.vl_design.specs.Trees.{flat_of};
+ghost use Rattle.ten_form.specs.vl_design.specs.Width.{names_of};
+ghost use Rattle.ten_form.specs.vl_runs.specs.Nets.{AllBelow};
+ghost use Rattle.ten_form.specs.vl_runs.specs.Checked.{IsChecked};
+ghost use Rattle.cell_emit.specs.cell_form.specs.Views.{list_of};
+ghost use Rattle.cell_emit.specs.Slots.{Grows};
+ghost use Rattle.cell_emit.specs.Envs.{env_of};
+ghost use Rattle.cell_emit.specs.Pendings.{slots_of};
 ghost use Rattle.cell_expr.specs.Bodies.{IsCellFun};
 ghost use Rattle.cell_waves.specs.Begins.{Begins};
 
+use crate::begin_begin::begin;
 use crate::begun::Begun;
 use crate::copies::pending;
-use cell_begin::begin::begin;
-use cell_form::cell::CellList;
+use cell_emit::cell::CellList;
 use std::alloc::{AllocError, Global};
+use ten_form::design::Design;
 use ten_form::places::{ANSWER, TICKS, VALUE, WORK, places};
-use vl_design::design::Design;
 
 /// The cells that a state behind time zero's wave begins with (IEEE 1364-2005, clauses 6.1 and 11.3): variables from their work
 /// copies, nets over the values committed last, in order, and pending updates from their registers. An `Err` is want of memory.

@@ -1,7 +1,7 @@
 //! The slots that a state begins with.
 
-use cell_later::pending::Pending;
-use cell_paths::at::At;
+use cell_emit::at::At;
+use cell_emit::pending::Pending;
 
 /// The slots that a state begins with.
 #[derive(Drop)]

@@ -1,21 +1,21 @@
 //! Registers of signals in slots.
 
 ghost use Rattle.std.specs.Prelude.{◌≡◌, ◌≤◌, ◌<◌, ◌+◌, false, true, if◌then◌else◌, None, [], length, map, IfOk};
-ghost use Rattle.vl_design.specs.Sound.{IsWidth, HasValue};
-ghost use Rattle.vl_design.specs.Trees.{row_of};
-ghost use Rattle.cell_form.specs.Views.{list_of};
-ghost use Rattle.cell_steps.specs.Slots.{Grows, Longer};
-ghost use Rattle.vl_answers.specs.Others.{is_other};
-ghost use Rattle.cell_reads.specs.Entries.{HasCopy, read_count};
+ghost use Rattle.ten_form.specs.vl_design.specs.Sound.{IsWidth, HasValue};
+ghost use Rattle.ten_form.specs.vl_design.specs.Trees.{row_of};
+ghost use Rattle.cell_emit.specs.cell_form.specs.Views.{list_of};
+ghost use Rattle.cell_emit.specs.Slots.{Grows, Longer};
+ghost use Rattle.cell_emit.specs.vl_sites.specs.Others.{is_other};
+ghost use Rattle.cell_emit.specs.Entries.{HasCopy, read_count};
 ghost use Rattle.cell_waves.specs.Copies.{HasSignals, AreCopies};
 
 use crate::widths::read_width;
-use cell_form::cell::CellList;
-use cell_later::pending::Pending;
-use cell_steps::steps;
+use cell_emit::cell::CellList;
+use cell_emit::pending::Pending;
+use cell_emit::steps;
 use std::alloc::{AllocError, Global};
+use ten_form::design::Signal;
 use ten_form::places::{MASK, UPDATE, register};
-use vl_design::design::Signal;
 
 /// A slot with what a register holds of a signal: none of a memory, a loop variable or a clock, and none where the signal has no width
 /// from 1 to 128 bits.

@@ -1,16 +1,15 @@
 //! The clock's rise.
 
 ghost use Rattle.std.specs.Prelude.{◌≡◌, IfOk};
-ghost use Rattle.cell_form.specs.Views.{list_of};
-ghost use Rattle.cell_steps.specs.Slots.{Grows};
-ghost use Rattle.cell_paths.specs.Envs.{env_of, IsSlot};
+ghost use Rattle.cell_emit.specs.cell_form.specs.Views.{list_of};
+ghost use Rattle.cell_emit.specs.Slots.{Grows};
+ghost use Rattle.cell_emit.specs.Envs.{env_of, IsSlot};
 ghost use Rattle.cell_waves.specs.Rises.{Rises};
 
-use cell_form::cell::CellList;
-use cell_paths::at::At;
-use cell_steps::steps;
+use cell_emit::at::At;
+use cell_emit::cell::CellList;
+use cell_emit::{BinOp, steps};
 use std::alloc::{AllocError, Global};
-use vl_base::bits::BinOp;
 
 /// The clock rises: from here on the time is one tick more. The slot, of 32 bits, of the new number of ticks. An `Err` is want of
 /// memory.

@@ -1,25 +1,24 @@
 //! The update (IEEE 1364-2005, clause 11.4).
 
 ghost use Rattle.std.specs.Prelude.{◌≡◌, ◌≤◌, ◌<◌, [], if◌then◌else◌, length, map, IfOk, OnOk};
-ghost use Rattle.vl_design.specs.Sound.{IsWidth};
-ghost use Rattle.vl_design.specs.Trees.{flat_of, row_of};
-ghost use Rattle.cell_form.specs.Cycle.{masked};
-ghost use Rattle.cell_form.specs.Data.{BankData};
-ghost use Rattle.cell_form.specs.Sound.{Shape};
-ghost use Rattle.cell_form.specs.Views.{list_of};
-ghost use Rattle.cell_steps.specs.Slots.{held, AreSound, Grows, Gives, IsIn, Longer, Nothing};
-ghost use Rattle.cell_paths.specs.Envs.{IsSlot};
+ghost use Rattle.ten_form.specs.vl_design.specs.Sound.{IsWidth};
+ghost use Rattle.ten_form.specs.vl_design.specs.Trees.{flat_of, row_of};
+ghost use Rattle.cell_emit.specs.cell_form.specs.Cycle.{masked};
+ghost use Rattle.cell_emit.specs.cell_form.specs.Data.{BankData};
+ghost use Rattle.cell_emit.specs.cell_form.specs.Sound.{Shape};
+ghost use Rattle.cell_emit.specs.cell_form.specs.Views.{list_of};
+ghost use Rattle.cell_emit.specs.Slots.{held, AreSound, Grows, Gives, IsIn, Longer, Nothing};
+ghost use Rattle.cell_emit.specs.Envs.{IsSlot};
 ghost use Rattle.cell_waves.specs.Applies.{Applies, HasOwn, HasUpdate, HasUpdateIf};
 ghost use Rattle.cell_waves.specs.Copies.{marked_one};
 
 use crate::widths::variable_width;
 use crate::writes::{is_marked, write_marked};
-use cell_form::cell::{CellList, Write};
-use cell_steps::steps;
+use cell_emit::cell::{CellList, Write};
+use cell_emit::{BinOp, steps};
 use std::alloc::{AllocError, Global};
+use ten_form::design::{Design, Signal};
 use ten_form::places::{MASK, UPDATE, VALUE, WORK, register};
-use vl_base::bits::BinOp;
-use vl_design::design::{Design, Signal};
 
 /// A slot with the bits that are set in a mask replaced by those of another one, all of so many bits.
 fn replaced(

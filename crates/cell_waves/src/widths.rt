@@ -1,14 +1,14 @@
 //! Widths of signals.
 
 ghost use Rattle.std.specs.Prelude.{◌≡◌, false, true, IfSome, None, Some};
-ghost use Rattle.vl_design.specs.Rows as rows;
-ghost use Rattle.vl_design.specs.Sound.{IsWidth, HasValue};
-ghost use Rattle.vl_design.specs.Trees.{row_of};
-ghost use Rattle.vl_settle.specs.Computed as c;
-ghost use Rattle.vl_answers.specs.Others.{is_other};
+ghost use Rattle.ten_form.specs.vl_design.specs.Rows as rows;
+ghost use Rattle.ten_form.specs.vl_design.specs.Sound.{IsWidth, HasValue};
+ghost use Rattle.ten_form.specs.vl_design.specs.Trees.{row_of};
+ghost use Rattle.ten_form.specs.vl_runs.specs.Computed as c;
+ghost use Rattle.cell_emit.specs.vl_sites.specs.Others.{is_other};
 
-use cell_begin::begin::is_computed;
-use vl_design::design::{SigKind, Signal};
+use crate::begin_begin::is_computed;
+use ten_form::design::{SigKind, Signal};
 
 /// The width of a signal's words in bits, where it is from 1 to 128.
 fn width_of(signal: &Signal) -> Option<u8>

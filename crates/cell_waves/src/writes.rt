@@ -1,15 +1,15 @@
 //! The writes of registers of signals.
 
 ghost use Rattle.std.specs.Prelude.{◌≡◌, ◌≤◌, ◌<◌, ◌+◌, ◌*◌, ◌&&◌, map, length, Some, slice_index_or, None, OnOk};
-ghost use Rattle.vl_design.specs.Trees.{row_of};
+ghost use Rattle.ten_form.specs.vl_design.specs.Trees.{row_of};
 ghost use Rattle.cell_waves.specs.Copies as s;
 
+use crate::begin_begin::is_computed;
 use crate::widths::has_width;
-use cell_begin::begin::is_computed;
-use cell_form::cell::Write;
+use cell_emit::cell::Write;
 use std::alloc::AllocError;
+use ten_form::design::{SigKind, Signal};
 use ten_form::places::{WORK, register};
-use vl_design::design::{SigKind, Signal};
 
 /// Whether a signal of a kind has a register of a copy that writes change: a memory, a loop variable and a clock have none, and of a
 /// computed signal only what is pending is written.

@@ -2,23 +2,23 @@
 use Rattle.std.proofs.Common.{◌≡◌, ℕ, ◌+◌, ◌-◌, ◌*◌, ◌<◌, ◌≤◌, Bool, true, false, List, [], ◌∷◌, Option, Some, None, length, map, refl, sym, ap, ◌∙◌, subst, arith}
 use Rattle.std.specs.Prelude.{◌&&◌, ◌||◌, not, is_some, if◌then◌else◌, slice_get, nat_le}
 use Rattle.vl_design.specs.Alone.{Origin, stop_at}
-use Rattle.cell_form.specs.Data.{BankData}
-use Rattle.fab_join.specs.Parts.{PartData}
-use Rattle.sub_nodes.specs.Code.{table_of}
-use Rattle.sub_nodes.specs.Cycles.{rises, Stage}
-use Rattle.sub_nodes.specs.Stands.{at_trap}
-use Rattle.sub_ends.specs.Left.{left, most_left}
+use Rattle.ten_core.specs.cell_form.specs.Data.{BankData}
+use Rattle.fab_core.specs.fab_join.specs.Parts.{PartData}
+use Rattle.ten_core.specs.sub_nodes.specs.Code.{table_of}
+use Rattle.ten_core.specs.sub_nodes.specs.Cycles.{rises, Stage}
+use Rattle.ten_core.specs.sub_nodes.specs.Stands.{at_trap}
+use Rattle.ten_core.specs.sub_runs.specs.Left.{left, most_left}
 use Rattle.ten_core.specs.declared.origin.Origin.{Origin as From}
 use Rattle.ten_core.specs.Runs.{after_call, after_cycle}
 use Rattle.ten_core.specs.Tenants.{origin_of}
-use Rattle.ten_run.specs.Running.{goes_on, to_come, IsRunning}
-use Rattle.ten_shell.specs.declared.shell.Shell.{Shell}
-use Rattle.ten_shell.specs.declared.shell.Why.{Why}
-use Rattle.ten_shell.specs.Leaving.{why_in}
-use Rattle.ten_shell.specs.Shells.{flat_in, is_at_boundary, is_left, left_in}
-use Rattle.fab_points.specs.Points.{but_first, called, cycled, due, is_there, order_in, rests, run_in, saved, served, waits, Point}
-use Rattle.fab_points.specs.Fabrics.{all_served, all_stepped, can_step, changed, first_of, first_waiting, held, is_of, stepped, Fabric}
-use Rattle.fab_points.specs.Worlds.{is_at_rest, weight}
+use Rattle.ten_core.specs.Running.{goes_on, to_come, IsRunning}
+use Rattle.fab_core.specs.ten_shell.specs.declared.shell.Shell.{Shell}
+use Rattle.fab_core.specs.ten_shell.specs.declared.shell.Why.{Why}
+use Rattle.fab_core.specs.ten_shell.specs.Leaving.{why_in}
+use Rattle.fab_core.specs.ten_shell.specs.Shells.{flat_in, is_at_boundary, is_left, left_in}
+use Rattle.fab_core.specs.fab_model.specs.Points.{but_first, called, cycled, due, is_there, order_in, rests, run_in, saved, served, waits, Point}
+use Rattle.fab_core.specs.fab_model.specs.Fabrics.{all_served, all_stepped, can_step, changed, first_of, first_waiting, held, is_of, stepped, Fabric}
+use Rattle.fab_core.specs.fab_model.specs.Worlds.{is_at_rest, weight}
 use Rattle.fab_core.specs.declared.cores.FabCore.{FabCore}
 use Rattle.fab_core.specs.declared.resident.Resident.{Resident}
 use Rattle.fab_core.specs.Standing.{AreStanding, IsFabric, IsPoint}

@@ -6,20 +6,20 @@ use Rattle.std.proofs.lemmas.List.{map_push}
 use mathlib.Core.HLevel.{is_prop→PathP}
 use Rattle.vl_design.specs.Alone as alone
 use Rattle.vl_design.specs.Alone.{first_tick}
-use Rattle.fab_lock.specs.declared.entry.Entry.{Entry}
-use Rattle.fab_lock.specs.declared.entry.Kind.TheVariants.{Line}
-use Rattle.ten_parcel.specs.declared.parcel.Parcel.{Parcel}
-use Rattle.ten_parcel.specs.Parcels.{is_moved, number_of, run_of, ticks_of}
-use Rattle.fab_points.specs.Points.{ended, is_there, run_in, tick_of, Point}
-use Rattle.fab_points.specs.Fabrics.{arrived, within, Fabric}
+use Rattle.fab_core.specs.fab_lock.specs.declared.entry.Entry.{Entry}
+use Rattle.fab_core.specs.fab_lock.specs.declared.entry.Kind.TheVariants.{Line}
+use Rattle.fab_core.specs.ten_parcel.specs.declared.parcel.Parcel.{Parcel}
+use Rattle.fab_core.specs.ten_parcel.specs.Parcels.{is_moved, number_of, run_of, ticks_of}
+use Rattle.fab_core.specs.fab_model.specs.Points.{ended, is_there, run_in, tick_of, Point}
+use Rattle.fab_core.specs.fab_model.specs.Fabrics.{arrived, within, Fabric}
 use Rattle.fab_core.specs.Standing.{IsFabric, IsPointOf}
-use Rattle.fab_notes.specs.declared.note.Note.{Note}
-use Rattle.fab_notes.specs.declared.transit.Stay.{Stay}
-use Rattle.fab_notes.specs.declared.transit.Transit.{Transit}
-use Rattle.fab_notes.specs.Deeds.{cost_of, deed_in, deed_of, Deed}
-use Rattle.fab_notes.specs.Ends.{EndsNotBefore}
-use Rattle.fab_notes.specs.Histories.{fits_alone, in_line, place_of, replay, Away, May, Place, Seat}
-use Rattle.fab_notes.specs.Stays.{chains}
+use Rattle.fab_core.specs.fab_model.specs.declared.note.Note.{Note}
+use Rattle.fab_core.specs.fab_model.specs.declared.transit.Stay.{Stay}
+use Rattle.fab_core.specs.fab_model.specs.declared.transit.Transit.{Transit}
+use Rattle.fab_core.specs.fab_model.specs.Deeds.{cost_of, deed_in, deed_of, Deed}
+use Rattle.fab_core.specs.fab_model.specs.Ends.{EndsNotBefore}
+use Rattle.fab_core.specs.fab_model.specs.Histories.{fits_alone, in_line, place_of, replay, Away, May, Place, Seat}
+use Rattle.fab_core.specs.fab_model.specs.Stays.{chains}
 use Rattle.fab_bay.specs.declared.berth.Berth.{Berth}
 use Rattle.fab_bay.specs.declared.noted.Label.{Label}
 use Rattle.fab_bay.specs.declared.noted.NotedCore.{NotedCore}

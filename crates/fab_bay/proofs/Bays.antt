@@ -1,13 +1,13 @@
 -- What a bay keeps.
 use Rattle.std.proofs.Common.{◌≡◌, List, [], refl, sym, ap, ◌∙◌, subst, false, Result, Ok, Err}
 use Rattle.std.specs.Prelude.{OnOk, OnErr}
-use Rattle.vl_cost.specs.declared.capacity.Cost.{Cost}
-use Rattle.fab_points.specs.Points.{Point}
-use Rattle.fab_points.specs.Fabrics.{arrived, Fabric}
+use Rattle.vl_design.specs.declared.capacity.Cost.{Cost}
+use Rattle.fab_core.specs.fab_model.specs.Points.{Point}
+use Rattle.fab_core.specs.fab_model.specs.Fabrics.{arrived, Fabric}
 use Rattle.fab_core.specs.Standing.{IsFabric, IsPointOf}
-use Rattle.ten_parcel.specs.declared.parcel.Parcel.{Parcel}
-use Rattle.fab_notes.specs.declared.note.Note.{Note}
-use Rattle.fab_notes.specs.Histories.{replay, AreLinesByFirst, IsLegal}
+use Rattle.fab_core.specs.ten_parcel.specs.declared.parcel.Parcel.{Parcel}
+use Rattle.fab_core.specs.fab_model.specs.declared.note.Note.{Note}
+use Rattle.fab_core.specs.fab_model.specs.Histories.{replay, AreLinesByFirst, IsLegal}
 use Rattle.fab_bay.specs.declared.berth.Berth.{Berth}
 use Rattle.fab_bay.specs.declared.noted.NotedCore.{NotedCore}
 use Rattle.fab_bay.specs.Berths.{seats, AreBerths, AreSettled, AreWaiters}
@@ -16,21 +16,6 @@ use Rattle.fab_bay.specs.Standing.{IsBay, IsNoted}
 -- without tenants
 abbrev nobody : Cost → Fabric
 nobody c = record { capacity = c; residents = []; line = []; holding = false }
-
-pub new-bay : (x : NotedCore) → IsFabric x.core (nobody x.label.capacity) → x.berths.items ≡ [] → x.waiting.items ≡ [] → x.notes.items ≡ [] → IsBay x
-new-bay x core berths waiting notes = record {
-  fabric = nobody x.label.capacity;
-  noted = record {
-    core = core;
-    capacity = refl;
-    residents = subst (λ (bs : List Berth). AreBerths x.label.tenants bs []) (sym berths) tt;
-    line = subst (λ (bs : List Berth). AreWaiters x.label.tenants bs []) (sym waiting) tt;
-    legal = subst (λ (ns : List Note). IsLegal x.label.fabric x.label.capacity ns) (sym notes) tt;
-    replayed = ap (replay []) notes ∙ (ap (λ (bs : List Berth). seats bs []) (sym berths) ∙ ap (seats x.berths.items) (sym waiting));
-    lines = λ any. subst (λ (ns : List Note). AreLinesByFirst ns) (sym notes) tt;
-  };
-  settled = subst (λ (bs : List Berth). AreSettled bs []) (sym berths) tt;
-}
 
 -- behind a tenant that is put in line, or isn't
 pub put-bay : (A B : Type 0) (r : Result A B) (q : Parcel) (p : Point) (x y : NotedCore) → IsBay x → IsPointOf q p → y.berths ≡ x.berths →

@@ -2,10 +2,10 @@
 use Rattle.std.proofs.Common.{◌≡◌, ℕ, List, [], ◌++◌, refl, sym, ap, ◌∙◌, subst, append_assoc, arith, inl, inr}
 use Rattle.std.proofs.lemmas.List.{append_cancel_left}
 use Rattle.std.specs.Prelude.{◌⊎◌}
-use Rattle.fab_lock.specs.declared.entry.Entry.{Entry}
-use Rattle.fab_points.specs.Fabrics.{Fabric}
-use Rattle.fab_points.specs.Worlds.{run}
-use Rattle.fab_notes.specs.declared.transit.Transit.{Transit}
+use Rattle.fab_core.specs.fab_lock.specs.declared.entry.Entry.{Entry}
+use Rattle.fab_core.specs.fab_model.specs.Fabrics.{Fabric}
+use Rattle.fab_core.specs.fab_model.specs.Worlds.{run}
+use Rattle.fab_core.specs.fab_model.specs.declared.transit.Transit.{Transit}
 use Rattle.fab_bay.specs.declared.berth.Berth.{Berth}
 use Rattle.fab_bay.specs.declared.noted.NotedCore.{NotedCore}
 use Rattle.fab_bay.specs.Berths.{AreSettled}
@@ -13,7 +13,7 @@ use Rattle.fab_bay.specs.Rounds.{IsReady}
 use Rattle.fab_bay.specs.Standing.{CanSettle, IsBay, IsNoted}
 use Rattle.fab_bay.specs.Ways.{Goes, Settles, Way}
 use Rattle.fab_bay.specs.Marks.{AreWhole}
-use Rattle.fab_notes.specs.declared.note.Note.{Note}
+use Rattle.fab_core.specs.fab_model.specs.declared.note.Note.{Note}
 use Rattle.fab_bay.proofs.Going.{andThen, noted-along, opened, stays, whole-append}
 
 -- all is the same, but room and what is told
@@ -36,9 +36,6 @@ bay-like x y s b = record {
   noted = noted-like x y b.fabric s b.noted;
   settled = subst (λ (bs : List Berth). AreSettled bs b.fabric.residents) (sym (ap (λ v. v.items) s.berths)) b.settled;
 }
-
-pub ready-like : (x y : NotedCore) → IsLike x y → IsBay x → CanSettle y → IsReady y
-ready-like x y s b room = record { fabric = b.fabric; noted = noted-like x y b.fabric s b.noted; room = room }
 
 -- a call begins at x, with nothing told at b; what it does leads to c, and what is written then to d; e is the same with what was told taken away
 module _ (k n : ℕ) (x b c d e : NotedCore) (said : List Entry) (out : List Transit) where

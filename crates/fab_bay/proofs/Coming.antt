@@ -3,23 +3,23 @@ use Rattle.std.proofs.Common.{◌≡◌, ℕ, zero, suc, ◌+◌, ◌-◌, ◌<�
 use Rattle.std.specs.Prelude.{if◌then◌else◌, vec_len, vec_capacity}
 use Rattle.std.specs.List.{remove}
 use Rattle.std.proofs.lemmas.List.{append-nil, map-append, length-append, length-drop, length-take-le, take_more}
-use Rattle.vl_cost.specs.declared.capacity.Cost.{Cost}
-use Rattle.vl_cost.specs.Costs.{saturated_cost}
+use Rattle.vl_design.specs.declared.capacity.Cost.{Cost}
+use Rattle.vl_design.specs.Costs.{saturated_cost}
 use Rattle.vl_design.specs.Cost.{cost}
-use Rattle.fab_lock.specs.declared.entry.Entry.{Entry}
-use Rattle.fab_lock.specs.declared.entry.Kind.{Kind}
-use Rattle.fab_lock.specs.declared.entry.Kind.TheVariants.{Came}
+use Rattle.fab_core.specs.fab_lock.specs.declared.entry.Entry.{Entry}
+use Rattle.fab_core.specs.fab_lock.specs.declared.entry.Kind.{Kind}
+use Rattle.fab_core.specs.fab_lock.specs.declared.entry.Kind.TheVariants.{Came}
 use Rattle.ten_core.specs.declared.origin.Origin.{Origin}
 use Rattle.ten_core.specs.Tenants.{origin_of}
-use Rattle.fab_points.specs.Points.{cost_of, Point}
-use Rattle.fab_points.specs.Fabrics.{joiners, joining, plus, rebuilt, total, within, Fabric}
-use Rattle.fab_points.specs.Worlds.{happens, is_at_rest, Rebuild, World}
+use Rattle.fab_core.specs.fab_model.specs.Points.{cost_of, Point}
+use Rattle.fab_core.specs.fab_model.specs.Fabrics.{joiners, joining, plus, rebuilt, total, within, Fabric}
+use Rattle.fab_core.specs.fab_model.specs.Worlds.{happens, is_at_rest, Rebuild, World}
 use Rattle.fab_core.specs.declared.cores.FabCore.{FabCore}
 use Rattle.fab_core.specs.Standing.{IsFabric}
-use Rattle.fab_notes.specs.declared.note.Note.{Note}
-use Rattle.fab_notes.specs.declared.transit.Transit.{Transit}
-use Rattle.fab_notes.specs.Histories.{after, changed, is_head, place_of, seated, used, Inside, May, Place, Seat}
-use Rattle.fab_notes.specs.Tokens.{out_at, put_at}
+use Rattle.fab_core.specs.fab_model.specs.declared.note.Note.{Note}
+use Rattle.fab_core.specs.fab_model.specs.declared.transit.Transit.{Transit}
+use Rattle.fab_core.specs.fab_model.specs.Histories.{after, changed, is_head, place_of, seated, used, Inside, May, Place, Seat}
+use Rattle.fab_core.specs.fab_model.specs.Tokens.{out_at, put_at}
 use Rattle.fab_bay.specs.declared.berth.Berth.{Berth}
 use Rattle.fab_bay.specs.declared.noted.Label.{Label}
 use Rattle.fab_bay.specs.declared.noted.NotedCore.{NotedCore}
@@ -32,16 +32,10 @@ use Rattle.fab_bay.proofs.Kept.{goes_by, noted_by, told_next, told_of, written_n
 use Rattle.fab_bay.proofs.Near.{short-none, short-one, short-then}
 use Rattle.fab_bay.proofs.Places.{berths_many, waiters_at, waiters_berths}
 use Rattle.fab_bay.proofs.Ran.{room_less}
-use Rattle.fab_notes.proofs.Seats.{apart_legal, came_map, changed_mid, head_map, place_mid, used_before, AreApart}
+use Rattle.fab_core.specs.fab_model.proofs.Seats.{apart_legal, came_map, changed_mid, head_map, place_mid, used_before, AreApart}
+use Rattle.vl_design.proofs.Shared.{cost_by}
 
 -- ---- what fits
-
-cost_by : (a b : Cost) → a.regs ≡ b.regs → a.cells ≡ b.cells → a.mem ≡ b.mem → a ≡ b
-cost_by a b p q r =
-    let x : a ≡ record { regs = b.regs; cells = a.cells; mem = a.mem } = ap (λ (n : ℕ). record a { regs = n }) p in
-    let y : ◌≡◌ {A = Cost} (record { regs = b.regs; cells = a.cells; mem = a.mem }) (record { regs = b.regs; cells = b.cells; mem = a.mem }) = ap (λ (n : ℕ). record b { cells = n; mem = a.mem }) q in
-    let z : ◌≡◌ {A = Cost} (record { regs = b.regs; cells = b.cells; mem = a.mem }) b = ap (λ (n : ℕ). record b { mem = n }) r in
-    x ∙ y ∙ z
 
 total-snoc : (ps : List Point) (p : Point) → total (ps ++ p ∷ []) ≡ plus (total ps) (cost_of p)
 total-snoc [] p = cost_by (plus (cost_of p) (total [])) (plus (total []) (cost_of p)) (omega arith) (omega arith) (omega arith)

@@ -9,20 +9,20 @@ use Rattle.std.proofs.lemmas.Option.{get_or_from_slice_get}
 use Rattle.std.proofs.lemmas.Bool.Decides.{nat_tests}
 use Rattle.std.specs.declared.alloc.Global.{Global}
 use Rattle.std.specs.declared.vec.Vec.{Vec}
-use Rattle.sub_nodes.specs.Code.{table_of}
-use Rattle.sub_nodes.specs.Stands.{at_trap}
-use Rattle.fab_points.specs.Points.{Point, called, run_in, saved, served, waits}
-use Rattle.fab_points.specs.Fabrics.{all_served, all_stepped, changed, first_leaving, first_of, head_fits, held, is_of, Fabric}
-use Rattle.fab_points.specs.Worlds.{serves, World, Cycle, Hold, Serve}
+use Rattle.ten_core.specs.sub_nodes.specs.Code.{table_of}
+use Rattle.ten_core.specs.sub_nodes.specs.Stands.{at_trap}
+use Rattle.fab_core.specs.fab_model.specs.Points.{Point, called, run_in, saved, served, waits}
+use Rattle.fab_core.specs.fab_model.specs.Fabrics.{all_served, all_stepped, changed, first_leaving, first_of, head_fits, held, is_of, Fabric}
+use Rattle.fab_core.specs.fab_model.specs.Worlds.{serves, World, Cycle, Hold, Serve}
 use Rattle.fab_core.specs.declared.cores.FabCore.{FabCore}
 use Rattle.fab_core.specs.Standing.{IsFabric}
-use Rattle.fab_notes.specs.declared.transit.Transit.{Transit}
-use Rattle.fab_notes.specs.Histories.{replay, IsLegal}
+use Rattle.fab_core.specs.fab_model.specs.declared.transit.Transit.{Transit}
+use Rattle.fab_core.specs.fab_model.specs.Histories.{replay, IsLegal}
 use Rattle.fab_bay.specs.declared.berth.Berth.{Berth}
 use Rattle.fab_bay.specs.declared.noted.Label.{Label}
 use Rattle.fab_bay.specs.declared.noted.NotedCore.{NotedCore}
 use Rattle.fab_bay.specs.Berths.{seats, AreBerths, AreWaiters}
-use Rattle.fab_lock.specs.declared.entry.Kind.TheVariants as kind
+use Rattle.fab_core.specs.fab_lock.specs.declared.entry.Kind.TheVariants as kind
 use Rattle.fab_bay.specs.Marks.{mark_of, save_for, Mark}
 use Rattle.fab_bay.specs.Standing.{HasRoomFor, IsNoted, IsSame}
 use Rattle.fab_bay.specs.Ways.{Goes}

@@ -1,9 +1,9 @@
 -- Where no two have one number, the first that waits or is due to leave is the one of its number.
 use Rattle.std.proofs.Common.{◌≡◌, ℕ, List, [], ◌∷◌, ◌++◌, refl, sym, Bool, true, false, cond, Some, None}
-use Rattle.ten_shell.specs.declared.shell.Why.{Why}
-use Rattle.fab_points.specs.Points.{Point, due, waits}
-use Rattle.fab_points.proofs.Finding.{leaving_found, waiting_found}
-use Rattle.fab_points.specs.Fabrics.{first_leaving, first_of, first_waiting, is_of, AreOnce, Fabric}
+use Rattle.fab_core.specs.ten_shell.specs.declared.shell.Why.{Why}
+use Rattle.fab_core.specs.fab_model.specs.Points.{Point, due, waits}
+use Rattle.fab_core.specs.fab_model.proofs.Finding.{leaving_found, waiting_found}
+use Rattle.fab_core.specs.fab_model.specs.Fabrics.{first_leaving, first_of, first_waiting, is_of, AreOnce, Fabric}
 
 -- none of a number in both is none in the first
 none-first : (t : ℕ) (xs ys : List Point) → first_of t (xs ++ ys) ≡ None → first_of t xs ≡ None

@@ -1,17 +1,17 @@
 -- The flag with which a tenant is taken out.
 use Rattle.std.proofs.Common.{◌≡◌, ℕ, suc, ◌<◌, Bool, true, false, List, [], ◌∷◌, ◌++◌, length, get_or, take, drop, map, eqb, refl, sym, ap, ap₂, ◌∙◌, subst}
 use Rattle.std.proofs.lemmas.Bool.{eqb-true}
-use Rattle.vl_cost.specs.declared.capacity.Cost.{Cost}
-use Rattle.fab_lock.specs.declared.entry.Kind.{Kind}
-use Rattle.fab_lock.specs.declared.entry.Kind.TheVariants.{Line, Came, Ran, Saved, Left}
-use Rattle.ten_parcel.specs.Parcels.{is_moved, number_of, ticks_of}
-use Rattle.fab_notes.specs.declared.note.Note.{Note}
-use Rattle.fab_notes.specs.declared.transit.Transit.{Transit}
-use Rattle.fab_notes.specs.Deeds.{deed_in, Deed}
-use Rattle.fab_notes.specs.Histories.{after, is_done, next, place_of, replay, Away, Inside, IsLegal, IsLegalFrom, May, Place, Seat}
-use Rattle.fab_notes.specs.Tokens.{out_at, outs}
-use Rattle.fab_notes.proofs.Legality.{place_here, place_other}
-use Rattle.fab_notes.proofs.Seats.{apart_legal, place_mid, AreApart}
+use Rattle.vl_design.specs.declared.capacity.Cost.{Cost}
+use Rattle.fab_core.specs.fab_lock.specs.declared.entry.Kind.{Kind}
+use Rattle.fab_core.specs.fab_lock.specs.declared.entry.Kind.TheVariants.{Line, Came, Ran, Saved, Left}
+use Rattle.fab_core.specs.ten_parcel.specs.Parcels.{is_moved, number_of, ticks_of}
+use Rattle.fab_core.specs.fab_model.specs.declared.note.Note.{Note}
+use Rattle.fab_core.specs.fab_model.specs.declared.transit.Transit.{Transit}
+use Rattle.fab_core.specs.fab_model.specs.Deeds.{deed_in, Deed}
+use Rattle.fab_core.specs.fab_model.specs.Histories.{after, is_done, next, place_of, replay, Away, Inside, IsLegal, IsLegalFrom, May, Place, Seat}
+use Rattle.fab_core.specs.fab_model.specs.Tokens.{out_at, outs}
+use Rattle.fab_core.specs.fab_model.proofs.Legality.{place_here, place_other}
+use Rattle.fab_core.specs.fab_model.proofs.Seats.{apart_legal, place_mid, AreApart}
 use Rattle.fab_bay.specs.declared.berth.Berth.{Berth}
 use Rattle.fab_bay.specs.declared.noted.Label.{Label}
 use Rattle.fab_bay.specs.declared.noted.NotedCore.{NotedCore}

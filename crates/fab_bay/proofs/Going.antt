@@ -1,20 +1,20 @@
 -- Ways one after another.
 use Rattle.std.proofs.Common.{◌≡◌, ℕ, ◌+◌, Bool, true, false, eq-eqb, List, [], ◌∷◌, ◌++◌, map, refl, sym, ap, ◌∙◌, subst, append_assoc, arith}
 use Rattle.std.proofs.lemmas.List.{append-nil, append_cancel_left}
-use Rattle.fab_lock.specs.declared.entry.Entry.{Entry}
-use Rattle.fab_lock.specs.declared.entry.Kind.{Kind}
-use Rattle.fab_lock.specs.declared.entry.Kind.TheVariants as kind
-use Rattle.fab_points.specs.Points.{Point}
-use Rattle.fab_points.specs.Fabrics.{Fabric}
-use Rattle.fab_points.specs.Worlds.{happens, run, Event, World, Load, Arrive, Cycle, Serve, Hold, Rebuild, Take, Leave}
+use Rattle.fab_core.specs.fab_lock.specs.declared.entry.Entry.{Entry}
+use Rattle.fab_core.specs.fab_lock.specs.declared.entry.Kind.{Kind}
+use Rattle.fab_core.specs.fab_lock.specs.declared.entry.Kind.TheVariants as kind
+use Rattle.fab_core.specs.fab_model.specs.Points.{Point}
+use Rattle.fab_core.specs.fab_model.specs.Fabrics.{Fabric}
+use Rattle.fab_core.specs.fab_model.specs.Worlds.{happens, run, Event, World, Load, Arrive, Cycle, Serve, Hold, Rebuild, Take, Leave}
 use Rattle.fab_core.specs.declared.cores.FabCore.{FabCore}
 use Rattle.fab_core.specs.Standing.{IsFabric}
-use Rattle.fab_notes.specs.declared.note.Note.{Note}
-use Rattle.fab_notes.specs.declared.transit.Transit.{Transit}
-use Rattle.fab_notes.specs.Deeds.{Deed, deed_in}
-use Rattle.fab_notes.specs.Histories.{after, in_line, replay, AreLinesByFirst, IsLegal, Seat}
-use Rattle.fab_notes.specs.Tokens as tokens_of
-use Rattle.fab_notes.specs.Tokens.{outs, out_at, puts, put_at, AllBear, Token}
+use Rattle.fab_core.specs.fab_model.specs.declared.note.Note.{Note}
+use Rattle.fab_core.specs.fab_model.specs.declared.transit.Transit.{Transit}
+use Rattle.fab_core.specs.fab_model.specs.Deeds.{Deed, deed_in}
+use Rattle.fab_core.specs.fab_model.specs.Histories.{after, in_line, replay, AreLinesByFirst, IsLegal, Seat}
+use Rattle.fab_core.specs.fab_model.specs.Tokens as tokens_of
+use Rattle.fab_core.specs.fab_model.specs.Tokens.{outs, out_at, puts, put_at, AllBear, Token}
 use Rattle.std.specs.Prelude.{◌==◌, if◌then◌else◌, not, Option, None, Some}
 use Rattle.fab_bay.specs.declared.berth.Berth.{Berth}
 use Rattle.fab_bay.specs.declared.noted.Label.{Label}
@@ -23,16 +23,11 @@ use Rattle.fab_bay.specs.Berths.{seats, AreBerths, AreWaiters}
 use Rattle.fab_bay.specs.Marks.{all_called_for, called_for, is_run, runs_next, stops_next, AreClosed, AreWhole, IsRunOf, mark_at, marks, Mark}
 use Rattle.fab_bay.specs.Standing.{IsNoted, IsSame}
 use Rattle.fab_bay.specs.Ways.{cycles_in, tokens, AreBelow, AreInOrder, AreOut, Goes, IsEmpty, Path}
+use Rattle.vl_design.specs.vl_base.proofs.Booleans.{not_true_false as no-run}
+pub use Rattle.fab_core.specs.fab_model.proofs.Places.{run-append}
+pub use Rattle.fab_core.specs.fab_model.proofs.Shared.{outs-append, puts-append}
 
 -- ---- notes
-
-pub outs-append : (xs ys : List Note) → outs (xs ++ ys) ≡ outs xs ++ outs ys
-outs-append [] ys = refl
-outs-append (x ∷ xs) ys = ap (λ l. out_at x.entry.kind x ++ l) (outs-append xs ys) ∙ sym (append_assoc (out_at x.entry.kind x) (outs xs) (outs ys))
-
-pub puts-append : (xs ys : List Note) → puts (xs ++ ys) ≡ puts xs ++ puts ys
-puts-append [] ys = refl
-puts-append (x ∷ xs) ys = ap (λ l. put_at x.entry.kind x ++ l) (puts-append xs ys) ∙ sym (append_assoc (put_at x.entry.kind x) (puts xs) (puts ys))
 
 pub bear-append : (k : ℕ) (xs ys : List Note) → AllBear k xs → AllBear k ys → AllBear k (xs ++ ys)
 bear-append k [] ys a b = b
@@ -62,10 +57,6 @@ stops-append t (x ∷ xs) ys h = by (x.entry.tenant == t) h (stops-append t xs y
 pub closed-append : (xs ys : List Note) → AreClosed xs → AreClosed ys → AreClosed (xs ++ ys)
 closed-append [] ys a b = b
 closed-append (x ∷ xs) ys a b = (λ r. stops-append x.entry.tenant xs ys (a.0 r), closed-append xs ys a.1 b)
-
-no-run : (b : Bool) → not b ≡ true → b ≡ false
-no-run true e = let z : ⊥ = cc in absurd z
-no-run false e = refl
 
 next-append : (t : ℕ) (xs ys : List Note) → stops_next t xs ≡ true → runs_next t (xs ++ ys) ≡ false
 next-append t [] ys h = let z : ⊥ = cc in absurd z
@@ -124,10 +115,6 @@ still-nobody (n ∷ ns) h =
     ap (λ (ss : List Seat). replay ss ns) (none-after n.entry.kind n both.0) ∙ still-nobody ns both.1
 
 -- ---- events
-
-pub run-append : (es fs : List Event) (w : World) → run (es ++ fs) w ≡ run fs (run es w)
-run-append [] fs w = refl
-run-append (e ∷ es) fs w = run-append es fs (happens w e)
 
 pub cycles-append : (es fs : List Event) → cycles_in (es ++ fs) ≡ cycles_in es + cycles_in fs
 cycles-append [] fs = omega arith

@@ -6,31 +6,31 @@ use Rattle.std.proofs.lemmas.Bool.{false≢true}
 use Rattle.std.proofs.lemmas.List.{append-nil, get_or-set_same}
 use Rattle.std.proofs.lemmas.Option.{slice_get-get_or}
 use Rattle.vl_design.specs.declared.design.End.TheVariants as end
-use Rattle.ten_parcel.specs.declared.parcel.Parcel.{Parcel}
+use Rattle.fab_core.specs.ten_parcel.specs.declared.parcel.Parcel.{Parcel}
 use Rattle.vl_design.specs.Alone.{first_tick}
-use Rattle.ten_parcel.specs.Parcels.{is_moved, number_of, run_of, ticks_of}
-use Rattle.ten_shell.specs.declared.shell.Why.{Why}
-use Rattle.ten_shell.specs.declared.shell.Why.TheVariants as why
-use Rattle.ten_shell.specs.Leaving.{why_in}
-use Rattle.fab_points.specs.Points.{departed, due, rests, run_in, tick_of, Point}
-use Rattle.fab_points.specs.Fabrics.{first_of, found, has, left, taken, without, Fabric}
-use Rattle.fab_points.specs.Worlds as worlds
-use Rattle.fab_points.specs.Worlds.{happens, is_at_rest, leaves, takes, Event, Take, Leave, World}
+use Rattle.fab_core.specs.ten_parcel.specs.Parcels.{is_moved, number_of, run_of, ticks_of}
+use Rattle.fab_core.specs.ten_shell.specs.declared.shell.Why.{Why}
+use Rattle.fab_core.specs.ten_shell.specs.declared.shell.Why.TheVariants as why
+use Rattle.fab_core.specs.ten_shell.specs.Leaving.{why_in}
+use Rattle.fab_core.specs.fab_model.specs.Points.{departed, due, rests, run_in, tick_of, Point}
+use Rattle.fab_core.specs.fab_model.specs.Fabrics.{first_of, found, has, left, taken, without, Fabric}
+use Rattle.fab_core.specs.fab_model.specs.Worlds as worlds
+use Rattle.fab_core.specs.fab_model.specs.Worlds.{happens, is_at_rest, leaves, takes, Event, Take, Leave, World}
 use Rattle.fab_core.specs.Standing.{IsFabric, IsPointOf}
-use Rattle.fab_notes.specs.declared.note.Note.{Note}
-use Rattle.fab_notes.specs.declared.transit.Transit.{Transit}
-use Rattle.fab_notes.specs.Deeds.{deed_in}
-use Rattle.fab_notes.specs.Ends.{EndsNotBefore}
-use Rattle.fab_notes.specs.Stays.{chains}
+use Rattle.fab_core.specs.fab_model.specs.declared.note.Note.{Note}
+use Rattle.fab_core.specs.fab_model.specs.declared.transit.Transit.{Transit}
+use Rattle.fab_core.specs.fab_model.specs.Deeds.{deed_in}
+use Rattle.fab_core.specs.fab_model.specs.Ends.{EndsNotBefore}
+use Rattle.fab_core.specs.fab_model.specs.Stays.{chains}
 use Rattle.fab_bay.specs.declared.berth.Berth.{Berth}
 use Rattle.fab_bay.specs.declared.noted.NotedCore.{NotedCore}
 use Rattle.fab_bay.specs.Berths.{deed_at, AreBerths, IsBerth, IsWaiter}
-use Rattle.fab_lock.specs.declared.entry.Kind.TheVariants as kind
+use Rattle.fab_core.specs.fab_lock.specs.declared.entry.Kind.TheVariants as kind
 use Rattle.fab_bay.specs.Marks.{all_called_for, is_run, leave_for, mark_of, marks, take_for, AreClosed, IsRunOf, Mark}
 use Rattle.fab_bay.specs.Standing.{CanSettle, HasRoomFor, IsNoted, IsSame}
 use Rattle.fab_bay.specs.Taking.{KeepsFlag, IsWithdrawn as IsTakenOut}
 use Rattle.fab_bay.specs.Ways.{tokens, AreOut, Goes, IsWritten, Settles}
-use Rattle.fab_lock.specs.declared.entry.Entry.{Entry}
+use Rattle.fab_core.specs.fab_lock.specs.declared.entry.Entry.{Entry}
 use Rattle.fab_bay.proofs.Going.{closed-by, closed-one, closed-run}
 use Rattle.fab_bay.proofs.Flags.{keeps-before, keeps_resident, keeps_waiter}
 use Rattle.fab_bay.proofs.Kept.{goes_by, noted_by, out-snoc, told_of, tokens-snoc, written_of, written_then}
@@ -40,6 +40,8 @@ use Rattle.fab_bay.proofs.Places.{berth-place, berths_at, berths_many, berths_re
 use Rattle.fab_bay.proofs.Pointed.{tells}
 use Rattle.fab_bay.proofs.Ran.{room_less}
 use Rattle.fab_bay.proofs.Withdrawn.{withdrawn_by}
+use Rattle.vl_design.specs.vl_base.proofs.Booleans.{never_both as none-false, or_true_right as or-last}
+pub use Rattle.vl_design.specs.vl_base.proofs.Booleans.{never_both as yes-no}
 
 -- ---- worlds
 
@@ -408,9 +410,6 @@ place_there tenant place x f e h =
     let m = berths_many x.label.tenants x.berths.items f.residents h.residents in
     omega (arith, l, m)
 
-none-false : (b : Bool) → b ≡ true → b ≡ false → ⊥
-none-false b e h = cc
-
 -- whoever is among the residents has a place
 pub place_some : (tenant : ℕ) (x : NotedCore) (f : Fabric) (p : Point) → position (λ c. c.tenant == tenant) x.berths.items ≡ None → IsNoted x f → first_of tenant f.residents ≡ Some p → ⊥
 place_some tenant x f p e h first =
@@ -433,18 +432,11 @@ has_resident tenant place x f e h =
     ap (λ (b : Bool). b || is_some (first_of tenant f.line))
     (sym (first-some tenant f.residents) ∙ ap is_some (sym (berth-place tenant x.label.tenants x.berths.items f.residents h.residents) ∙ e))
 
-or-last : (a : Bool) → (a || true) ≡ true
-or-last true = refl
-or-last false = refl
-
 pub has_waiter : (tenant place : ℕ) (x : NotedCore) (f : Fabric) → position (λ c. c.tenant == tenant) x.waiting.items ≡ Some place → IsNoted x f → has tenant f ≡ true
 has_waiter tenant place x f e h =
     ap (λ (b : Bool). is_some (first_of tenant f.residents) || b)
     (sym (first-some tenant f.line) ∙ ap is_some (sym (berth-place tenant x.label.tenants x.waiting.items f.line (waiters_berths x.label.tenants x.waiting.items f.line h.line)) ∙ e))
     ∙ or-last (is_some (first_of tenant f.residents))
-
-pub yes-no : (b : Bool) → b ≡ true → b ≡ false → ⊥
-yes-no b e h = cc
 
 -- ---- room
 

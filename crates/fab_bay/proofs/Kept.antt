@@ -1,17 +1,17 @@
 -- A core's history one note longer, and what calls write.
 use Rattle.std.proofs.Common.{◌≡◌, ℕ, ◌<◌, true, false, List, [], ◌∷◌, ◌++◌, map, refl, sym, ap, ◌∙◌, subst, append_assoc}
 use Rattle.std.proofs.lemmas.List.{append-nil}
-use Rattle.fab_lock.specs.declared.entry.Entry.{Entry}
-use Rattle.fab_lock.specs.declared.entry.Kind.{Kind}
-use Rattle.fab_points.specs.Points.{Point}
-use Rattle.fab_points.specs.Fabrics.{Fabric}
-use Rattle.fab_points.specs.Worlds.{run, Event}
+use Rattle.fab_core.specs.fab_lock.specs.declared.entry.Entry.{Entry}
+use Rattle.fab_core.specs.fab_lock.specs.declared.entry.Kind.{Kind}
+use Rattle.fab_core.specs.fab_model.specs.Points.{Point}
+use Rattle.fab_core.specs.fab_model.specs.Fabrics.{Fabric}
+use Rattle.fab_core.specs.fab_model.specs.Worlds.{run, Event}
 use Rattle.fab_core.specs.declared.cores.FabCore.{FabCore}
 use Rattle.fab_core.specs.Standing.{IsFabric}
-use Rattle.fab_notes.specs.declared.note.Note.{Note}
-use Rattle.fab_notes.specs.declared.transit.Transit.{Transit}
-use Rattle.fab_notes.specs.Histories.{after, is_line, place_of, replay, AreLinesByFirst, HasRoom, IsLegal, May}
-use Rattle.fab_notes.specs.Tokens.{out_at, outs, put_at, puts, Token}
+use Rattle.fab_core.specs.fab_model.specs.declared.note.Note.{Note}
+use Rattle.fab_core.specs.fab_model.specs.declared.transit.Transit.{Transit}
+use Rattle.fab_core.specs.fab_model.specs.Histories.{after, is_line, place_of, replay, AreLinesByFirst, HasRoom, IsLegal, May}
+use Rattle.fab_core.specs.fab_model.specs.Tokens.{out_at, outs, put_at, puts, Token}
 use Rattle.fab_bay.specs.declared.berth.Berth.{Berth}
 use Rattle.fab_bay.specs.declared.noted.Label.{Label}
 use Rattle.fab_bay.specs.declared.noted.NotedCore.{NotedCore}
@@ -19,7 +19,7 @@ use Rattle.fab_bay.specs.Berths.{seats, AreBerths, AreWaiters}
 use Rattle.fab_bay.specs.Standing.{IsNoted, IsSame}
 use Rattle.fab_bay.specs.Marks.{all_called_for, AreClosed, mark_at, marks, Mark}
 use Rattle.fab_bay.specs.Ways.{cycles_in, tokens, AreBelow, AreInOrder, AreOut, Goes, IsWritten, Settles}
-use Rattle.fab_notes.proofs.Legality.{kept_legal, kept_replay}
+use Rattle.fab_core.specs.fab_model.proofs.Legality.{kept_legal, kept_replay}
 use Rattle.fab_bay.proofs.Going.{bear-append, below-append, closed-none, marks-append, outs-append, puts-append, told-append}
 
 -- ---- a history

@@ -7,29 +7,29 @@ use Rattle.std.proofs.lemmas.List.{map-append}
 use Rattle.vl_design.specs.declared.design.End.{End}
 use Rattle.vl_design.specs.Alone as alone
 use Rattle.vl_design.specs.Alone.{first_tick}
-use Rattle.fab_lock.specs.declared.entry.Entry.{Entry}
-use Rattle.fab_lock.specs.declared.entry.Kind.{Kind}
-use Rattle.fab_lock.specs.declared.entry.Kind.TheVariants.{Left}
+use Rattle.fab_core.specs.fab_lock.specs.declared.entry.Entry.{Entry}
+use Rattle.fab_core.specs.fab_lock.specs.declared.entry.Kind.{Kind}
+use Rattle.fab_core.specs.fab_lock.specs.declared.entry.Kind.TheVariants.{Left}
 use Rattle.ten_core.specs.declared.origin.Origin.{Origin}
 use Rattle.ten_core.specs.Tenants.{origin_of}
-use Rattle.ten_parcel.specs.declared.parcel.Parcel.{Parcel}
-use Rattle.ten_parcel.specs.Parcels.{free_of, is_moved, number_of, origin_in, run_of, ticks_of}
-use Rattle.ten_plan.specs.Plans.{move_at}
-use Rattle.ten_shell.specs.declared.shell.Why.{Why}
-use Rattle.ten_shell.specs.declared.shell.Why.TheVariants as why
-use Rattle.ten_shell.specs.Leaving.{end_in, why_in, why_of}
-use Rattle.fab_points.specs.Points.{departed, due, ended, is_there, rests, run_in, tick_of, Point}
+use Rattle.fab_core.specs.ten_parcel.specs.declared.parcel.Parcel.{Parcel}
+use Rattle.fab_core.specs.ten_parcel.specs.Parcels.{free_of, is_moved, number_of, origin_in, run_of, ticks_of}
+use Rattle.ten_core.specs.ten_plan.specs.Plans.{move_at}
+use Rattle.fab_core.specs.ten_shell.specs.declared.shell.Why.{Why}
+use Rattle.fab_core.specs.ten_shell.specs.declared.shell.Why.TheVariants as why
+use Rattle.fab_core.specs.ten_shell.specs.Leaving.{end_in, why_in, why_of}
+use Rattle.fab_core.specs.fab_model.specs.Points.{departed, due, ended, is_there, rests, run_in, tick_of, Point}
 use Rattle.fab_core.specs.Standing.{IsPointOf}
-use Rattle.fab_notes.specs.declared.note.Note.{Note}
-use Rattle.fab_notes.specs.declared.transit.Stay.{Stay}
-use Rattle.fab_notes.specs.declared.transit.Transit.{Transit}
-use Rattle.fab_notes.specs.Deeds as deeds
-use Rattle.fab_notes.specs.Deeds.{deed_in, deed_of, Deed}
-use Rattle.fab_notes.specs.Ends.{EndsNotBefore}
-use Rattle.fab_notes.specs.Histories as histories
-use Rattle.fab_notes.specs.Histories.{is_done, place_of, replay, stay_now, Inside, May, MayLeave, Place, Seat}
-use Rattle.fab_notes.specs.Stays.{chains, is_idle}
-use Rattle.fab_notes.specs.Tokens.{out_at, put_at, told}
+use Rattle.fab_core.specs.fab_model.specs.declared.note.Note.{Note}
+use Rattle.fab_core.specs.fab_model.specs.declared.transit.Stay.{Stay}
+use Rattle.fab_core.specs.fab_model.specs.declared.transit.Transit.{Transit}
+use Rattle.fab_core.specs.fab_model.specs.Deeds as deeds
+use Rattle.fab_core.specs.fab_model.specs.Deeds.{deed_in, deed_of, Deed}
+use Rattle.fab_core.specs.fab_model.specs.Ends.{EndsNotBefore}
+use Rattle.fab_core.specs.fab_model.specs.Histories as histories
+use Rattle.fab_core.specs.fab_model.specs.Histories.{is_done, place_of, replay, stay_now, Inside, May, MayLeave, Place, Seat}
+use Rattle.fab_core.specs.fab_model.specs.Stays.{chains, is_idle}
+use Rattle.fab_core.specs.fab_model.specs.Tokens.{out_at, put_at, told}
 use Rattle.fab_bay.specs.declared.berth.Berth.{Berth}
 use Rattle.fab_bay.specs.declared.leaving.Leaving.{Leaving}
 use Rattle.fab_bay.specs.Ways.{is_move, IsLast}
@@ -41,17 +41,10 @@ use Rattle.fab_bay.specs.Ways.{tokens, IsWritten}
 use Rattle.fab_bay.proofs.Kept.{told_next, written_one, IsTold}
 use Rattle.fab_bay.proofs.Places.{split_at}
 use Rattle.fab_bay.proofs.Pointed.{tells, tick_there, Tells}
-use Rattle.fab_notes.proofs.Seats.{apart_legal, place_mid, without_mid, AreApart}
+use Rattle.fab_core.specs.fab_model.proofs.Seats.{apart_legal, place_mid, without_mid, AreApart}
+use Rattle.vl_design.specs.vl_base.proofs.Booleans.{and_parts as split_and, and_both as both}
 
 -- ---- one stay more
-
-both : (a b : Bool) → a ≡ true → b ≡ true → (a && b) ≡ true
-both true b p q = q
-both false b p q = let z : ⊥ = cc in absurd z
-
-split_and : (a b : Bool) → (a && b) ≡ true → (a ≡ true) × (b ≡ true)
-split_and true b e = (refl, e)
-split_and false b e = let z : ⊥ = cc in absurd z
 
 pub chains-snoc : (s k : ℕ) (xs : List Stay) (x : Stay) → chains s xs k ≡ true → x.from ≡ k → x.from ≤ x.to → chains s (xs ++ x ∷ []) x.to ≡ true
 chains-snoc s k [] x c e l =

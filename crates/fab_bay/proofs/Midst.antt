@@ -2,8 +2,8 @@
 use Rattle.std.proofs.Common.{◌≡◌, ℕ, zero, suc, true, List, [], ◌∷◌, ◌++◌, Some, map, refl, sym, ap, ◌∙◌, subst, append_assoc}
 use Rattle.std.specs.Prelude.{slice_get, slice_set}
 use Rattle.std.proofs.lemmas.List.{map-append}
-use Rattle.fab_notes.specs.Histories.{changed, moved_to, place_of, Inside, Seat}
-use Rattle.fab_notes.proofs.Seats.{changed_mid, place_mid, AreApart}
+use Rattle.fab_core.specs.fab_model.specs.Histories.{changed, moved_to, place_of, Inside, Seat}
+use Rattle.fab_core.specs.fab_model.proofs.Seats.{changed_mid, place_mid, AreApart}
 use Rattle.fab_bay.specs.declared.berth.Berth.{Berth}
 use Rattle.fab_bay.specs.Berths.{deed_at, seat}
 use Rattle.fab_bay.proofs.Places.{some-equal}

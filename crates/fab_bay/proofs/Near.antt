@@ -6,18 +6,18 @@ use Rattle.std.specs.declared.vec.Vec.{Vec}
 use Rattle.std.proofs.lemmas.Bool.Decides.{eqb_tells}
 use Rattle.std.proofs.lemmas.List.{append-nil, length-map}
 use Rattle.std.proofs.lemmas.Option.{slice_get_within}
-use Rattle.sub_nodes.specs.Code.{table_of}
-use Rattle.sub_nodes.specs.Stands.{at_trap}
-use Rattle.ten_shell.specs.Shells.{is_left}
-use Rattle.fab_join.specs.Parts.{PartData}
-use Rattle.fab_points.specs.Points.{Point, called, cycled, due, is_there, order_in, run_in, saved, served, tick_of}
-use Rattle.fab_points.specs.Fabrics.{all_served, all_stepped, can_step, changed, held, is_of, stepped, Fabric}
-use Rattle.ten_run.specs.Running.{IsRunning}
-use Rattle.fab_lock.specs.declared.entry.Kind.{Kind}
+use Rattle.ten_core.specs.sub_nodes.specs.Code.{table_of}
+use Rattle.ten_core.specs.sub_nodes.specs.Stands.{at_trap}
+use Rattle.fab_core.specs.ten_shell.specs.Shells.{is_left}
+use Rattle.fab_core.specs.fab_join.specs.Parts.{PartData}
+use Rattle.fab_core.specs.fab_model.specs.Points.{Point, called, cycled, due, is_there, order_in, run_in, saved, served, tick_of}
+use Rattle.fab_core.specs.fab_model.specs.Fabrics.{all_served, all_stepped, can_step, changed, held, is_of, stepped, Fabric}
+use Rattle.ten_core.specs.Running.{IsRunning}
+use Rattle.fab_core.specs.fab_lock.specs.declared.entry.Kind.{Kind}
 use Rattle.fab_core.specs.declared.cores.FabCore.{FabCore}
 use Rattle.fab_core.specs.declared.resident.Resident.{Resident}
 use Rattle.fab_core.specs.Standing.{AreStanding, IsFabric}
-use Rattle.fab_notes.specs.declared.note.Note.{Note}
+use Rattle.fab_core.specs.fab_model.specs.declared.note.Note.{Note}
 use Rattle.fab_bay.specs.declared.berth.Berth.{Berth}
 use Rattle.fab_bay.specs.declared.noted.NotedCore.{NotedCore}
 use Rattle.fab_bay.specs.Berths.{begun, AreSettled}

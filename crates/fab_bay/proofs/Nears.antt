@@ -1,7 +1,7 @@
 -- Nobody runs ahead by more than a tick, call by call.
 use Rattle.std.proofs.Common.{◌≡◌, List, [], ◌∷◌, ◌++◌, refl, sym, ap, ◌∙◌, subst, append_assoc}
 use Rattle.std.proofs.lemmas.List.{append-nil, append_cancel_left}
-use Rattle.fab_notes.specs.declared.note.Note.{Note}
+use Rattle.fab_core.specs.fab_model.specs.declared.note.Note.{Note}
 use Rattle.fab_bay.specs.declared.noted.NotedCore.{NotedCore}
 use Rattle.fab_bay.specs.Nearness.{IsNear}
 use Rattle.fab_bay.specs.Rounds.{IsNearOn}

@@ -1,12 +1,12 @@
 -- What calls do, one after another.
 use Rattle.std.proofs.Common.{◌≡◌, ℕ, Bool, ◌+◌, ◌<◌, List, [], ◌∷◌, ◌++◌, refl, sym, ap, ◌∙◌, subst}
 use Rattle.std.proofs.lemmas.List.{append-nil}
-use Rattle.fab_points.specs.Points.{Point}
-use Rattle.fab_points.specs.Fabrics.{Fabric}
-use Rattle.fab_points.specs.Worlds.{happens, Event}
-use Rattle.fab_notes.specs.declared.note.Note.{Note}
-use Rattle.fab_notes.specs.declared.transit.Transit.{Transit}
-use Rattle.fab_notes.specs.Tokens.{outs, puts}
+use Rattle.fab_core.specs.fab_model.specs.Points.{Point}
+use Rattle.fab_core.specs.fab_model.specs.Fabrics.{Fabric}
+use Rattle.fab_core.specs.fab_model.specs.Worlds.{happens, Event}
+use Rattle.fab_core.specs.fab_model.specs.declared.note.Note.{Note}
+use Rattle.fab_core.specs.fab_model.specs.declared.transit.Transit.{Transit}
+use Rattle.fab_core.specs.fab_model.specs.Tokens.{outs, puts}
 use Rattle.fab_bay.specs.declared.noted.NotedCore.{NotedCore}
 use Rattle.fab_bay.specs.Marks.{all_called_for, marks}
 use Rattle.fab_bay.specs.Standing.{IsNoted}

@@ -2,14 +2,14 @@
 use Rattle.std.proofs.Common.{◌≡◌, ℕ, List, [], ◌∷◌, ◌++◌, sym, ap, ◌∙◌, subst, Option, Some, Result, Ok, Err}
 use Rattle.std.specs.Prelude.{IfOk, OnErr}
 use Rattle.std.proofs.lemmas.List.{append-nil}
-use Rattle.ten_parcel.specs.Parcels.{number_of, origin_in}
-use Rattle.fab_lock.specs.declared.entry.Entry.{Entry}
-use Rattle.fab_notes.specs.declared.note.Note.{Note}
-use Rattle.fab_notes.specs.declared.transit.Transit.{Transit}
-use Rattle.fab_notes.specs.Deeds.{deed_in, deed_of, Deed}
-use Rattle.fab_notes.specs.Origins.{AreOwn, Origins, StartsFrom}
-use Rattle.fab_notes.specs.Tokens.{put_at, puts, told, Token}
-use Rattle.fab_notes.proofs.Owns.{own-append}
+use Rattle.fab_core.specs.ten_parcel.specs.Parcels.{number_of, origin_in}
+use Rattle.fab_core.specs.fab_lock.specs.declared.entry.Entry.{Entry}
+use Rattle.fab_core.specs.fab_model.specs.declared.note.Note.{Note}
+use Rattle.fab_core.specs.fab_model.specs.declared.transit.Transit.{Transit}
+use Rattle.fab_core.specs.fab_model.specs.Deeds.{deed_in, deed_of, Deed}
+use Rattle.fab_core.specs.fab_model.specs.Origins.{AreOwn, Origins, StartsFrom}
+use Rattle.fab_core.specs.fab_model.specs.Tokens.{put_at, puts, told, Token}
+use Rattle.fab_core.specs.fab_model.proofs.Owns.{own-append}
 use Rattle.fab_bay.specs.declared.leaving.Found.{Found}
 use Rattle.fab_bay.specs.declared.leaving.Found.TheVariants.{Here, Absent, Short}
 use Rattle.fab_bay.specs.declared.leaving.Receipt.{Receipt}

@@ -5,13 +5,14 @@ use Rattle.std.specs.List.{remove}
 use Rattle.std.proofs.lemmas.Bool.{eqb-true}
 use Rattle.std.proofs.lemmas.Bool.Decides.{nat_tests}
 use Rattle.std.proofs.lemmas.List.{set-get_or, set_split, append-nil}
-use Rattle.fab_points.specs.Points.{Point}
-use Rattle.fab_points.specs.Fabrics.{first_of, is_of}
+use Rattle.fab_core.specs.fab_model.specs.Points.{Point}
+use Rattle.fab_core.specs.fab_model.specs.Fabrics.{first_of, is_of}
 use Rattle.fab_core.proofs.Firsts.{FirstAt}
-use Rattle.fab_notes.specs.Histories.{place_of, Away, Inside, Seat}
+use Rattle.fab_core.specs.fab_model.specs.Histories.{place_of, Away, Inside, Seat}
 use Rattle.fab_bay.specs.declared.berth.Berth.{Berth}
 use Rattle.fab_bay.specs.Berths.{seat, seats, AreBerths, AreWaiters, IsBerth, IsWaiter}
-use Rattle.fab_notes.proofs.Legality.{not_away, place_behind}
+use Rattle.fab_core.specs.fab_model.proofs.Legality.{not_away, place_behind}
+pub use Rattle.vl_design.specs.vl_base.proofs.Options.{some_parts as some-equal}
 
 pub position-cons : {X : Type 0} (p : X → Bool) (x : X) (xs : List X) → position p (x ∷ xs) ≡ (if p x then Some 0 else option_map (λ k. k + 1) (position p xs))
 position-cons p x xs = grind (arith, nat_tests)
@@ -40,9 +41,6 @@ waiters_berths n (b ∷ bs) (p ∷ ps) h = (h.0.berth, waiters_berths n bs ps h.
 pub berth-place : (t n : ℕ) (bs : List Berth) (ps : List Point) → AreBerths n bs ps → position (λ b. b.tenant == t) bs ≡ position (is_of t) ps
 berth-place t n bs ps h =
     position-map (λ (b : Berth). b.tenant) t bs ∙ ap (position (λ k. k == t)) (berth-numbers n bs ps h) ∙ sym (position-map (λ (p : Point). p.number) t ps)
-
-pub some-equal : {X : Type 0} (x y : X) → Some x ≡ Some y → x ≡ y
-some-equal x y e = cc
 
 first-number : (t : ℕ) (ps : List Point) (p : Point) → first_of t ps ≡ Some p → p.number ≡ t
 first-number t [] p e = let z : ⊥ = cc in absurd z

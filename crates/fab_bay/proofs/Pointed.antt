@@ -4,16 +4,17 @@ use Rattle.std.specs.Prelude.{◌&&◌, ◌||◌, ◌-◌, not, nat_le, slice_ge
 use Rattle.vl_design.specs.declared.design.End.{End}
 use Rattle.vl_design.specs.declared.design.End.TheVariants as end
 use Rattle.vl_design.specs.Alone.{stop_at}
-use Rattle.sub_nodes.specs.Code.{table_of}
-use Rattle.sub_nodes.specs.Cycles.{rises}
+use Rattle.ten_core.specs.sub_nodes.specs.Code.{table_of}
+use Rattle.ten_core.specs.sub_nodes.specs.Cycles.{rises}
 use Rattle.ten_core.specs.Tenants.{origin_of}
-use Rattle.ten_parcel.specs.declared.parcel.Parcel.{Parcel}
-use Rattle.ten_parcel.specs.declared.parcel.Parcel.TheVariants as parcel
-use Rattle.ten_parcel.specs.Parcels.{free_of, is_moved, number_of, origin_in, run_of, ticks_of}
-use Rattle.ten_shell.specs.Shells.{is_left}
-use Rattle.fab_points.specs.Points.{ended, is_there, rests, run_in, tick_of, Point}
+use Rattle.fab_core.specs.ten_parcel.specs.declared.parcel.Parcel.{Parcel}
+use Rattle.fab_core.specs.ten_parcel.specs.declared.parcel.Parcel.TheVariants as parcel
+use Rattle.fab_core.specs.ten_parcel.specs.Parcels.{free_of, is_moved, number_of, origin_in, run_of, ticks_of}
+use Rattle.fab_core.specs.ten_shell.specs.Shells.{is_left}
+use Rattle.fab_core.specs.fab_model.specs.Points.{ended, is_there, rests, run_in, tick_of, Point}
 use Rattle.fab_core.specs.Standing.{IsPointOf}
 use Rattle.fab_bay.specs.Berths.{begun}
+use Rattle.vl_design.specs.vl_base.proofs.Booleans.{or_there_too as there_by}
 
 -- all that a parcel tells of the point where it stands
 pub record Tells (q : Parcel) (p : Point) : Type 0 where
@@ -24,11 +25,6 @@ pub record Tells (q : Parcel) (p : Point) : Type 0 where
   pub moved : is_moved q ≡ p.moved
   pub rests : rests p ≡ true
   pub tick : tick_of p ≡ begun p
-
-there_by : (f u l : Bool) → (f || (u && l)) ≡ true → (f || (not f && u)) ≡ true
-there_by true u l e = refl
-there_by false true l e = refl
-there_by false false l e = let z : ⊥ = cc in absurd z
 
 -- the last boundary of what rests is there
 pub tick_there : (p : Point) → rests p ≡ true → tick_of p ≡ begun p

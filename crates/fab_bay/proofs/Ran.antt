@@ -10,18 +10,18 @@ use Rattle.std.specs.declared.vec.Vec.{Vec}
 use Rattle.vl_design.specs.Alone.{Origin}
 use Rattle.ten_core.specs.declared.origin.Origin.{Origin as From}
 use Rattle.ten_core.specs.Tenants.{origin_of}
-use Rattle.fab_lock.specs.declared.entry.Entry.{Entry}
-use Rattle.fab_lock.specs.declared.entry.Kind.{Kind}
-use Rattle.fab_lock.specs.declared.entry.Kind.TheVariants.{Ran, Saved}
-use Rattle.fab_points.specs.Points.{Point, is_there, run_in, tick_of}
-use Rattle.fab_points.specs.Fabrics.{Fabric}
+use Rattle.fab_core.specs.fab_lock.specs.declared.entry.Entry.{Entry}
+use Rattle.fab_core.specs.fab_lock.specs.declared.entry.Kind.{Kind}
+use Rattle.fab_core.specs.fab_lock.specs.declared.entry.Kind.TheVariants.{Ran, Saved}
+use Rattle.fab_core.specs.fab_model.specs.Points.{Point, is_there, run_in, tick_of}
+use Rattle.fab_core.specs.fab_model.specs.Fabrics.{Fabric}
 use Rattle.fab_core.specs.Standing.{IsFabric}
-use Rattle.fab_notes.specs.declared.note.Note.{Note}
-use Rattle.fab_notes.specs.Deeds as deed
-use Rattle.fab_notes.specs.declared.transit.Transit.{Transit}
-use Rattle.fab_notes.specs.Tokens.{out_at, put_at}
-use Rattle.fab_notes.specs.Ends.{EndsNotBefore}
-use Rattle.fab_notes.specs.Histories.{after, changed, is_done, is_line, moved_to, place_of, HasNoMove, HasRoom, Inside, May, MayRun, Seat}
+use Rattle.fab_core.specs.fab_model.specs.declared.note.Note.{Note}
+use Rattle.fab_core.specs.fab_model.specs.Deeds as deed
+use Rattle.fab_core.specs.fab_model.specs.declared.transit.Transit.{Transit}
+use Rattle.fab_core.specs.fab_model.specs.Tokens.{out_at, put_at}
+use Rattle.fab_core.specs.fab_model.specs.Ends.{EndsNotBefore}
+use Rattle.fab_core.specs.fab_model.specs.Histories.{after, changed, is_done, is_line, moved_to, place_of, HasNoMove, HasRoom, Inside, May, MayRun, Seat}
 use Rattle.fab_bay.specs.declared.berth.Berth.{Berth}
 use Rattle.fab_bay.specs.declared.noted.NotedCore.{NotedCore}
 use Rattle.fab_bay.specs.Berths.{begun, deed_at, seat, seats, AreBerths, AreSettled, AreWaiters, IsBerth}
@@ -32,7 +32,7 @@ use Rattle.fab_bay.proofs.Kept.{noted_by, told_next, told_of}
 use Rattle.fab_bay.proofs.Onward.{goes-note}
 use Rattle.fab_bay.proofs.Places.{some-equal}
 use Rattle.fab_bay.proofs.Midst.{changed_at, place_at}
-use Rattle.fab_notes.proofs.Seats.{apart_legal, AreApart}
+use Rattle.fab_core.specs.fab_model.proofs.Seats.{apart_legal, AreApart}
 
 -- ---- lists of berths
 

@@ -2,15 +2,15 @@
 use Rattle.std.proofs.Common.{◌≡◌, ℕ, ◌++◌, Bool, true, false, List, [], ◌∷◌, Option, Some, refl, sym, ap, ◌∙◌, subst}
 use Rattle.std.specs.Prelude.{if◌then◌else◌, ◌&&◌, not}
 use Rattle.std.proofs.lemmas.List.{append-nil}
-use Rattle.sub_nodes.specs.Code.{table_of}
-use Rattle.sub_nodes.specs.Stands.{at_trap}
-use Rattle.fab_lock.specs.declared.entry.Kind.TheVariants as kind
-use Rattle.fab_points.specs.Points.{Point, called, run_in, saved, served, tick_of, waits}
-use Rattle.fab_points.specs.Fabrics.{all_served, first_of, Fabric}
-use Rattle.fab_points.specs.Worlds.{serves, World, Serve}
+use Rattle.ten_core.specs.sub_nodes.specs.Code.{table_of}
+use Rattle.ten_core.specs.sub_nodes.specs.Stands.{at_trap}
+use Rattle.fab_core.specs.fab_lock.specs.declared.entry.Kind.TheVariants as kind
+use Rattle.fab_core.specs.fab_model.specs.Points.{Point, called, run_in, saved, served, tick_of, waits}
+use Rattle.fab_core.specs.fab_model.specs.Fabrics.{all_served, first_of, Fabric}
+use Rattle.fab_core.specs.fab_model.specs.Worlds.{serves, World, Serve}
 use Rattle.fab_core.specs.Standing.{IsFabric}
-use Rattle.fab_notes.specs.declared.note.Note.{Note}
-use Rattle.fab_notes.specs.declared.transit.Transit.{Transit}
+use Rattle.fab_core.specs.fab_model.specs.declared.note.Note.{Note}
+use Rattle.fab_core.specs.fab_model.specs.declared.transit.Transit.{Transit}
 use Rattle.fab_bay.specs.declared.noted.NotedCore.{NotedCore}
 use Rattle.fab_bay.specs.Marks.{mark_of, save_for, AreClosed, Mark}
 use Rattle.fab_bay.specs.Standing.{IsNoted}

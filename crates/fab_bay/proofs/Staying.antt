@@ -2,15 +2,15 @@
 use Rattle.std.proofs.Common.{◌≡◌, ◌≢◌, ℕ, Bool, true, false, List, [], ◌∷◌, ◌++◌, Option, Some, None, eqb, refl, sym, ap, ◌∙◌, subst}
 use Rattle.std.specs.Prelude.{◌==◌, ◌||◌, is_some, position}
 use Rattle.std.proofs.lemmas.Bool.{eqb-true}
-use Rattle.vl_cost.specs.declared.capacity.Cost.{Cost}
-use Rattle.fab_lock.specs.declared.entry.Kind.{Kind}
-use Rattle.fab_lock.specs.declared.entry.Kind.TheVariants.{Line, Came, Ran, Saved, Left}
-use Rattle.fab_points.specs.Fabrics.{first_of, has, Fabric}
-use Rattle.fab_notes.specs.declared.note.Note.{Note}
-use Rattle.fab_notes.specs.Deeds.{deed_in, Deed}
-use Rattle.fab_notes.specs.Histories.{after, next, place_of, replay, Away, Inside, IsLegalFrom, May, Place, Seat}
-use Rattle.fab_notes.specs.Tokens.{out_at, outs, told}
-use Rattle.fab_notes.proofs.Legality.{not_away, place_here, place_other}
+use Rattle.vl_design.specs.declared.capacity.Cost.{Cost}
+use Rattle.fab_core.specs.fab_lock.specs.declared.entry.Kind.{Kind}
+use Rattle.fab_core.specs.fab_lock.specs.declared.entry.Kind.TheVariants.{Line, Came, Ran, Saved, Left}
+use Rattle.fab_core.specs.fab_model.specs.Fabrics.{first_of, has, Fabric}
+use Rattle.fab_core.specs.fab_model.specs.declared.note.Note.{Note}
+use Rattle.fab_core.specs.fab_model.specs.Deeds.{deed_in, Deed}
+use Rattle.fab_core.specs.fab_model.specs.Histories.{after, next, place_of, replay, Away, Inside, IsLegalFrom, May, Place, Seat}
+use Rattle.fab_core.specs.fab_model.specs.Tokens.{out_at, outs, told}
+use Rattle.fab_core.specs.fab_model.proofs.Legality.{not_away, place_here, place_other}
 use Rattle.fab_bay.specs.declared.berth.Berth.{Berth}
 use Rattle.fab_bay.specs.declared.noted.NotedCore.{NotedCore}
 use Rattle.fab_bay.specs.Refusals.{IsAway}

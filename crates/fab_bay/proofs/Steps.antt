@@ -11,27 +11,30 @@ use Rattle.vl_design.specs.Syntax.{Task, Print, Finish, Save, Fopen, Fread, Fget
 use Rattle.vl_design.specs.Tasks.{done, memory_read}
 use Rattle.vl_design.specs.Width.{Scope}
 use Rattle.vl_design.specs.Functions.{scope_of}
-use Rattle.cell_form.specs.Data.{BankData}
-use Rattle.sub_nodes.specs.Code.{table_of}
-use Rattle.sub_nodes.specs.Cycles.{Stage, is_trap, rises, served_by}
-use Rattle.sub_nodes.specs.Nodes.{Node, Run, Trap, Apply}
-use Rattle.sub_nodes.specs.Stands.{at_trap}
+use Rattle.ten_core.specs.cell_form.specs.Data.{BankData}
+use Rattle.ten_core.specs.sub_nodes.specs.Code.{table_of}
+use Rattle.ten_core.specs.sub_nodes.specs.Cycles.{Stage, is_trap, rises, served_by}
+use Rattle.ten_core.specs.sub_nodes.specs.Nodes.{Node, Run, Trap, Apply}
+use Rattle.ten_core.specs.sub_nodes.specs.Stands.{at_trap}
 use Rattle.ten_core.specs.declared.origin.Origin.{Origin as From}
 use Rattle.ten_core.specs.Runs.{after_call, after_cycle}
 use Rattle.ten_core.specs.Tenants.{origin_of}
-use Rattle.ten_plan.specs.Plans.{move_at}
-use Rattle.ten_run.specs.Running.{is_at_rest, IsRunning}
-use Rattle.ten_shell.specs.declared.shell.Shell.{Shell}
-use Rattle.ten_shell.specs.Leaving.{why_of}
-use Rattle.ten_shell.specs.Shells.{is_left, run_of}
-use Rattle.fab_points.specs.Points.{Point, called, cycled, ended, is_there, order_in, run_in, saved, served, tick_of}
-use Rattle.fab_points.specs.Fabrics.{can_step, changed, is_of, stepped}
-use Rattle.fab_join.specs.Parts.{PartData}
+use Rattle.ten_core.specs.ten_plan.specs.Plans.{move_at}
+use Rattle.ten_core.specs.Running.{is_at_rest, IsRunning}
+use Rattle.fab_core.specs.ten_shell.specs.declared.shell.Shell.{Shell}
+use Rattle.fab_core.specs.ten_shell.specs.Leaving.{why_of}
+use Rattle.fab_core.specs.ten_shell.specs.Shells.{is_left, run_of}
+use Rattle.fab_core.specs.fab_model.specs.Points.{Point, called, cycled, ended, is_there, order_in, run_in, saved, served, tick_of}
+use Rattle.fab_core.specs.fab_model.specs.Fabrics.{can_step, changed, is_of, stepped}
+use Rattle.fab_core.specs.fab_join.specs.Parts.{PartData}
 use Rattle.fab_core.specs.declared.resident.Resident.{Resident}
 use Rattle.fab_core.specs.Standing.{AreStanding, IsPoint}
-use Rattle.fab_notes.specs.Histories.{is_done}
+use Rattle.fab_core.specs.fab_model.specs.Histories.{is_done}
 use Rattle.fab_bay.specs.declared.berth.Berth.{Berth}
 use Rattle.fab_bay.specs.Berths.{AreBerths, IsBerth, begun, deed_at}
+use Rattle.vl_design.specs.vl_base.proofs.Booleans.{or_right_true as or-true, and_both as both}
+use Rattle.ten_core.specs.sub_nodes.proofs.Shared.{trap-low}
+use Rattle.fab_core.proofs.Points.{run-by}
 
 -- ---- what holds of all runs
 
@@ -51,9 +54,6 @@ abbrev pub OneStateLaw : Type 0
 OneStateLaw = (o : Origin) (k : ℕ) (a b : Queue) → Boundary o k a → Boundary o k b → a ≡ b
 
 -- ---- a point is on the way of its run
-
-run-by : {s : Shell} {b : BankData} {p : Point} → IsPoint s b p → run_of s ≡ run_in p
-run-by h = ap origin_of h.origin
 
 pub running : (s : Shell) (b : BankData) (p : Point) → IsPoint s b p → IsRunning (run_in p) (order_in p) p.acts p.stage
 running s b p h =
@@ -133,20 +133,12 @@ and-false : (f r : Bool) → r ≡ false → (not f && r) ≡ false
 and-false true r h = refl
 and-false false r h = h
 
-or-true : (f r : Bool) → r ≡ true → (f || r) ≡ true
-or-true true r h = refl
-or-true false r h = h
-
 up-to : (k t : ℕ) → k < t + 1 → (k ≡ t) ⊎ (k < t)
 up-to k t h = step (eqb_tells k t)
   where
     step : ((eqb k t ≡ true) × (k ≡ t)) ⊎ ((eqb k t ≡ false) × (k ≢ t)) → (k ≡ t) ⊎ (k < t)
     step (inl e) = inl e.1
     step (inr e) = let ne = e.1 in inr (omega (arith, h, ne))
-
-both : (x y : Bool) → x ≡ true → y ≡ true → (x && y) ≡ true
-both true y e h = h
-both false y e h = let z : ⊥ = cc in absurd z
 
 -- ---- a cycle
 
@@ -287,12 +279,6 @@ saved-berth n b p h = record {
   chained = h.chained;
   room = h.room;
 }
-
-trap-low : (x : Option Node) → is_trap x ≡ true → rises x ≡ false
-trap-low None e = let z : ⊥ = cc in absurd z
-trap-low (Some (Run g on)) e = let z : ⊥ = cc in absurd z
-trap-low (Some (Trap task to)) e = refl
-trap-low (Some (Apply to)) e = let z : ⊥ = cc in absurd z
 
 -- what has finished stays so
 read-over : (m : ℕ) (row : Option Row) (text : Option (List ℕ)) (s : State) → s.finished ≡ true → (memory_read m row text s).finished ≡ true

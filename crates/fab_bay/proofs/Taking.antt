@@ -1,12 +1,12 @@
 -- Calls that take a tenant out.
 use Rattle.std.proofs.Common.{◌≡◌, ℕ, ◌+◌, List, [], ◌∷◌, ◌++◌, refl, sym, subst}
-use Rattle.fab_notes.specs.declared.transit.Transit.{Transit}
+use Rattle.fab_core.specs.fab_model.specs.declared.transit.Transit.{Transit}
 use Rattle.fab_bay.specs.declared.leaving.Found.{Found}
 use Rattle.fab_bay.specs.declared.leaving.Found.TheVariants.{Here, Absent, Short}
 use Rattle.fab_bay.specs.declared.leaving.Taken.{Taken}
 use Rattle.fab_bay.specs.declared.noted.NotedCore.{NotedCore}
-use Rattle.fab_notes.specs.declared.note.Note.{Note}
-use Rattle.fab_notes.specs.Histories.{IsLegal}
+use Rattle.fab_core.specs.fab_model.specs.declared.note.Note.{Note}
+use Rattle.fab_core.specs.fab_model.specs.Histories.{IsLegal}
 use Rattle.fab_bay.specs.Nearness.{IsNear}
 use Rattle.fab_bay.specs.Refusals.{IsAway}
 use Rattle.fab_bay.specs.Rounds.{IsFoundReady, IsNearOn}

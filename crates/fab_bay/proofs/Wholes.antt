@@ -2,16 +2,16 @@
 use Rattle.std.proofs.Common.{◌≡◌, ℕ, zero, suc, ◌<◌, ◌≤◌, Bool, true, false, Some, List, [], ◌∷◌, ◌++◌, refl, sym, ap, ◌∙◌, subst, append_assoc, arith}
 use Rattle.std.specs.Prelude.{◌==◌, if◌then◌else◌, slice_get, ⊤}
 use Rattle.std.proofs.lemmas.List.{append-nil, append_cancel_left}
-use Rattle.fab_points.specs.Fabrics.{Fabric}
-use Rattle.fab_notes.specs.declared.note.Note.{Note}
-use Rattle.fab_notes.specs.Histories.{place_of, Away}
+use Rattle.fab_core.specs.fab_model.specs.Fabrics.{Fabric}
+use Rattle.fab_core.specs.fab_model.specs.declared.note.Note.{Note}
+use Rattle.fab_core.specs.fab_model.specs.Histories.{place_of, Away}
 use Rattle.fab_bay.specs.declared.berth.Berth.{Berth}
 use Rattle.fab_bay.specs.declared.noted.NotedCore.{NotedCore}
 use Rattle.fab_bay.specs.Berths.{seats}
 use Rattle.fab_bay.specs.Marks.{is_run, runs_next, AreWhole, IsRunOf}
 use Rattle.fab_bay.specs.Standing.{IsNoted}
 use Rattle.fab_bay.proofs.Places.{some-equal}
-use Rattle.fab_notes.proofs.Seats.{apart_legal, away_tail, eqb_flip, AreApart}
+use Rattle.fab_core.specs.fab_model.proofs.Seats.{apart_legal, away_tail, eqb_flip, AreApart}
 
 -- none of them is of this tenant
 abbrev pub AreOthers : ℕ → List Note → Type 0

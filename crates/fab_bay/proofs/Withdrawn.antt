@@ -6,22 +6,23 @@ use Rattle.vl_design.specs.declared.design.End.TheVariants as end
 use Rattle.vl_design.specs.Alone as alone
 use Rattle.vl_design.specs.Alone.{stop_at}
 use Rattle.ten_core.specs.Tenants.{origin_of}
-use Rattle.ten_parcel.specs.declared.parcel.Parcel.{Parcel}
-use Rattle.ten_parcel.specs.declared.parcel.Parcel.TheVariants as parcel
-use Rattle.ten_parcel.specs.Parcels.{ticks_of}
-use Rattle.ten_shell.specs.declared.shell.Why.TheVariants as why
-use Rattle.fab_points.specs.Points.{ended, tick_of, Point}
+use Rattle.fab_core.specs.ten_parcel.specs.declared.parcel.Parcel.{Parcel}
+use Rattle.fab_core.specs.ten_parcel.specs.declared.parcel.Parcel.TheVariants as parcel
+use Rattle.fab_core.specs.ten_parcel.specs.Parcels.{ticks_of}
+use Rattle.fab_core.specs.ten_shell.specs.declared.shell.Why.TheVariants as why
+use Rattle.fab_core.specs.fab_model.specs.Points.{ended, tick_of, Point}
 use Rattle.fab_core.specs.Standing.{IsPointOf}
 use Rattle.fab_core.proofs.Parcels.{stopped_is}
-use Rattle.fab_notes.specs.declared.transit.Stay.{Stay}
-use Rattle.fab_notes.specs.declared.transit.Transit.{Transit}
-use Rattle.fab_notes.specs.Moves.{ends_idle}
-use Rattle.fab_notes.specs.Stays.{is_idle}
+use Rattle.fab_core.specs.fab_model.specs.declared.transit.Stay.{Stay}
+use Rattle.fab_core.specs.fab_model.specs.declared.transit.Transit.{Transit}
+use Rattle.fab_core.specs.fab_model.specs.Moves.{ends_idle}
+use Rattle.fab_core.specs.fab_model.specs.Stays.{is_idle}
 use Rattle.fab_bay.specs.declared.berth.Berth.{Berth}
 use Rattle.fab_bay.specs.Berths.{IsBerth}
 use Rattle.fab_bay.specs.Taking.{IsWithdrawn}
 use Rattle.fab_bay.proofs.Leavers.{idle_is, IsLeaver}
 use Rattle.fab_bay.proofs.Pointed.{tells}
+use Rattle.fab_core.specs.fab_model.proofs.Passing.{ends-snoc as last-idle}
 
 -- why a run has ended, by what is read for that
 abbrev end_by : alone.Origin → (stopped finished : Bool) → ℕ → Option End
@@ -39,12 +40,6 @@ ended-one (parcel.Rests t) p r h j =
     ∙ (ap (λ (x : Bool). end_by (origin_of r.origin) x p.stage.state.finished p.stage.state.ticks) stopped
     ∙ (ap (λ (x : Bool). end_by (origin_of r.origin) r.stopped x p.stage.state.ticks) finished ∙ ap (λ (k : ℕ). end_by (origin_of r.origin) r.stopped r.stage.state.finished k) ticks))
 ended-one (parcel.Over x) p r h j = absurd h
-
--- the last of these stays decides
-last-idle : (xs : List Stay) (x : Stay) → ends_idle (xs ++ x ∷ []) ≡ is_idle x
-last-idle [] x = refl
-last-idle (y ∷ []) x = refl
-last-idle (y ∷ z ∷ zs) x = last-idle (z ∷ zs) x
 
 -- it stands where a berth's tenant does, and with one stay more where it was a resident
 pub withdrawn_by : (n : ℕ) (b : Berth) (p : Point) (t : Transit) → IsBerth n b p → b.noted ≡ tick_of p → IsLeaver (why.Ended end.Finished) p t.parcel

@@ -1,10 +1,10 @@
 -- What is still to come to residents (own).
 use Rattle.std.specs.Prelude.{ℕ, ◌+◌, ◌-◌, ◌*◌, not, ◌&&◌, if◌then◌else◌, List, [], ◌∷◌, length, slice_get}
-use Rattle.sub_nodes.specs.Code.{table_of}
-use Rattle.sub_nodes.specs.Cycles.{rises}
-use Rattle.sub_ends.specs.Left.{left, most_left}
-use Rattle.ten_shell.specs.declared.shell.Shell.{Shell}
-use Rattle.ten_shell.specs.Shells.{flat_in, left_in, run_of}
+use Rattle.ten_core.specs.sub_nodes.specs.Code.{table_of}
+use Rattle.ten_core.specs.sub_nodes.specs.Cycles.{rises}
+use Rattle.ten_core.specs.sub_runs.specs.Left.{left, most_left}
+use Rattle.fab_core.specs.ten_shell.specs.declared.shell.Shell.{Shell}
+use Rattle.fab_core.specs.ten_shell.specs.Shells.{flat_in, left_in, run_of}
 use Rattle.fab_core.specs.declared.resident.Resident.{Resident}
 use Rattle.fab_bay.specs.declared.noted.NotedCore.{NotedCore}
 

@@ -1,11 +1,11 @@
 -- What is noted of a tenant, and where it is (own).
 use Rattle.std.specs.Prelude.{◌≡◌, ℕ, ◌<◌, ◌≤◌, Bool, true, false, List, [], ◌∷◌, ◌++◌, map, None, vec_len, vec_capacity, ⊤}
 use Rattle.vl_design.specs.Alone.{first_tick}
-use Rattle.fab_points.specs.Points.{Point, ended, is_there, run_in, tick_of}
-use Rattle.fab_notes.specs.Deeds.{Deed, deed_of}
-use Rattle.fab_notes.specs.Ends.{EndsNotBefore}
-use Rattle.fab_notes.specs.Histories.{Seat, is_done, HasNoMove}
-use Rattle.fab_notes.specs.Stays.{chains}
+use Rattle.fab_core.specs.fab_model.specs.Points.{Point, ended, is_there, run_in, tick_of}
+use Rattle.fab_core.specs.fab_model.specs.Deeds.{Deed, deed_of}
+use Rattle.fab_core.specs.fab_model.specs.Ends.{EndsNotBefore}
+use Rattle.fab_core.specs.fab_model.specs.Histories.{Seat, is_done, HasNoMove}
+use Rattle.fab_core.specs.fab_model.specs.Stays.{chains}
 use Rattle.fab_bay.specs.declared.berth.Berth.{Berth}
 
 -- what was known of it when it was put in line

@@ -1,14 +1,14 @@
 -- What events call for in the history, runs left out (own).
 use Rattle.std.specs.Prelude.{◌≡◌, ℕ, ◌==◌, not, ◌&&◌, Bool, true, false, ⊤, List, [], ◌∷◌, ◌++◌, map, take, if◌then◌else◌, is_some, Option, None, Some}
-use Rattle.sub_nodes.specs.Code.{table_of}
-use Rattle.sub_nodes.specs.Stands.{at_trap}
-use Rattle.fab_lock.specs.declared.entry.Entry.{Entry}
-use Rattle.fab_lock.specs.declared.entry.Kind.{Kind}
-use Rattle.fab_lock.specs.declared.entry.Kind.TheVariants as kind
-use Rattle.fab_points.specs.Points.{cost_of, due, ended, run_in, tick_of, waits, Point}
-use Rattle.fab_points.specs.Fabrics.{first_of, found, has, joining, within, Fabric}
-use Rattle.fab_points.specs.Worlds.{happens, is_at_rest, Event, World, Load, Arrive, Cycle, Serve, Hold, Rebuild, Take, Leave}
-use Rattle.fab_notes.specs.declared.note.Note.{Note}
+use Rattle.ten_core.specs.sub_nodes.specs.Code.{table_of}
+use Rattle.ten_core.specs.sub_nodes.specs.Stands.{at_trap}
+use Rattle.fab_core.specs.fab_lock.specs.declared.entry.Entry.{Entry}
+use Rattle.fab_core.specs.fab_lock.specs.declared.entry.Kind.{Kind}
+use Rattle.fab_core.specs.fab_lock.specs.declared.entry.Kind.TheVariants as kind
+use Rattle.fab_core.specs.fab_model.specs.Points.{cost_of, due, ended, run_in, tick_of, waits, Point}
+use Rattle.fab_core.specs.fab_model.specs.Fabrics.{first_of, found, has, joining, within, Fabric}
+use Rattle.fab_core.specs.fab_model.specs.Worlds.{happens, is_at_rest, Event, World, Load, Arrive, Cycle, Serve, Hold, Rebuild, Take, Leave}
+use Rattle.fab_core.specs.fab_model.specs.declared.note.Note.{Note}
 
 -- ---- what notes tell
 

@@ -1,7 +1,7 @@
 -- How far residents are ahead of their last notes while the fabric holds (own).
 use Rattle.std.specs.Prelude.{◌≡◌, ℕ, ◌+◌, ◌≤◌, Some, slice_get}
-use Rattle.fab_points.specs.Points.{Point}
-use Rattle.fab_points.specs.Fabrics.{Fabric}
+use Rattle.fab_core.specs.fab_model.specs.Points.{Point}
+use Rattle.fab_core.specs.fab_model.specs.Fabrics.{Fabric}
 use Rattle.fab_core.specs.Standing.{IsFabric}
 use Rattle.fab_bay.specs.declared.berth.Berth.{Berth}
 use Rattle.fab_bay.specs.declared.noted.NotedCore.{NotedCore}

@@ -1,11 +1,11 @@
 -- Why a tenant can't be put in line (own).
 use Rattle.std.specs.Prelude.{◌≡◌, ◌≢◌, ℕ, false, true, List, []}
-use Rattle.vl_cost.specs.declared.capacity.Cost.{Cost}
-use Rattle.fab_points.specs.Fabrics.{within}
-use Rattle.fab_notes.specs.declared.note.Note.{Note}
-use Rattle.fab_notes.specs.Deeds.{cost_of}
-use Rattle.fab_notes.specs.Histories.{place_of, replay, Away}
-use Rattle.fab_notes.specs.Tokens.{Token}
+use Rattle.vl_design.specs.declared.capacity.Cost.{Cost}
+use Rattle.fab_core.specs.fab_model.specs.Fabrics.{within}
+use Rattle.fab_core.specs.fab_model.specs.declared.note.Note.{Note}
+use Rattle.fab_core.specs.fab_model.specs.Deeds.{cost_of}
+use Rattle.fab_core.specs.fab_model.specs.Histories.{place_of, replay, Away}
+use Rattle.fab_core.specs.fab_model.specs.Tokens.{Token}
 use Rattle.fab_bay.specs.declared.leaving.DeskError.{DeskError}
 use Rattle.fab_bay.specs.declared.leaving.DeskError.TheVariants.{TooLarge, Doubled, Memory}
 

@@ -1,11 +1,11 @@
 -- What rounds of a turn do (own).
 use Rattle.std.specs.Prelude.{◌≡◌, ℕ, ◌≤◌, ◌⊎◌, Bool, false, List, [], ◌∷◌, ◌++◌, None, Some}
-use Rattle.ten_shell.specs.declared.shell.Why.{Why}
-use Rattle.fab_points.specs.Points.{due, Point}
-use Rattle.fab_points.specs.Fabrics.{first_leaving, first_of, head_fits, Fabric}
-use Rattle.fab_notes.specs.declared.note.Note.{Note}
-use Rattle.fab_notes.specs.declared.transit.Transit.{Transit}
-use Rattle.ten_parcel.specs.Parcels.{number_of}
+use Rattle.fab_core.specs.ten_shell.specs.declared.shell.Why.{Why}
+use Rattle.fab_core.specs.fab_model.specs.Points.{due, Point}
+use Rattle.fab_core.specs.fab_model.specs.Fabrics.{first_leaving, first_of, head_fits, Fabric}
+use Rattle.fab_core.specs.fab_model.specs.declared.note.Note.{Note}
+use Rattle.fab_core.specs.fab_model.specs.declared.transit.Transit.{Transit}
+use Rattle.fab_core.specs.ten_parcel.specs.Parcels.{number_of}
 use Rattle.fab_bay.specs.declared.leaving.Found.{Found}
 use Rattle.fab_bay.specs.declared.leaving.Found.TheVariants.{Here, Absent, Short}
 use Rattle.fab_bay.specs.declared.noted.NotedCore.{NotedCore}

@@ -1,8 +1,8 @@
 -- What it means that a core with its history stands for a fabric (own).
 use Rattle.std.specs.Prelude.{◌≡◌, ℕ, ◌+◌, ◌≤◌, false, [], length, vec_len, vec_capacity}
-use Rattle.fab_points.specs.Fabrics.{Fabric}
+use Rattle.fab_core.specs.fab_model.specs.Fabrics.{Fabric}
 use Rattle.fab_core.specs.Standing.{IsFabric}
-use Rattle.fab_notes.specs.Histories.{replay, AreLinesByFirst, IsLegal}
+use Rattle.fab_core.specs.fab_model.specs.Histories.{replay, AreLinesByFirst, IsLegal}
 use Rattle.fab_bay.specs.declared.noted.NotedCore.{NotedCore}
 use Rattle.fab_bay.specs.Berths.{seats, AreBerths, AreSettled, AreWaiters}
 

@@ -1,12 +1,12 @@
 -- What taking a tenant out does (own).
 use Rattle.std.specs.Prelude.{◌≡◌, ℕ, Bool, false, true, [], ◌∷◌, None}
-use Rattle.ten_parcel.specs.Parcels.{is_moved, is_stopped, number_of, ticks_of}
-use Rattle.fab_points.specs.Points.{ended, Point}
+use Rattle.fab_core.specs.ten_parcel.specs.Parcels.{is_moved, is_stopped, number_of, ticks_of}
+use Rattle.fab_core.specs.fab_model.specs.Points.{ended, Point}
 use Rattle.fab_core.specs.Standing.{IsPointOf}
-use Rattle.fab_notes.specs.declared.transit.Transit.{Transit}
-use Rattle.fab_notes.specs.Deeds.{Deed}
-use Rattle.fab_notes.specs.Histories.{is_done, place_of, replay, Inside}
-use Rattle.fab_notes.specs.Moves.{ends_idle}
+use Rattle.fab_core.specs.fab_model.specs.declared.transit.Transit.{Transit}
+use Rattle.fab_core.specs.fab_model.specs.Deeds.{Deed}
+use Rattle.fab_core.specs.fab_model.specs.Histories.{is_done, place_of, replay, Inside}
+use Rattle.fab_core.specs.fab_model.specs.Moves.{ends_idle}
 use Rattle.fab_bay.specs.declared.leaving.Found.{Found}
 use Rattle.fab_bay.specs.declared.leaving.Found.TheVariants.{Here, Absent, Short}
 use Rattle.fab_bay.specs.declared.leaving.Taken.{Taken}

@@ -1,22 +1,22 @@
 -- What a call does with a core and its history (own).
 use Rattle.std.specs.Prelude.{◌≡◌, ℕ, suc, ◌<◌, ◌≤◌, ◌+◌, ◌⊎◌, Bool, true, false, List, [], ◌∷◌, ◌++◌, map, length, Some, None, All, ⊤}
-use Rattle.fab_lock.specs.declared.entry.Entry.{Entry}
-use Rattle.fab_lock.specs.declared.entry.Kind.{Kind}
-use Rattle.fab_lock.specs.declared.entry.Kind.TheVariants as kind
-use Rattle.ten_shell.specs.declared.shell.Why.{Why}
-use Rattle.ten_shell.specs.declared.shell.Why.TheVariants.{Move, Ended}
-use Rattle.fab_points.specs.Points.{departed, due, Point}
-use Rattle.fab_points.specs.Fabrics.{first_leaving, head_fits, Fabric}
-use Rattle.fab_points.specs.Worlds.{happens, run, Event, World, Load, Arrive, Cycle, Serve, Hold, Rebuild, Take, Leave}
+use Rattle.fab_core.specs.fab_lock.specs.declared.entry.Entry.{Entry}
+use Rattle.fab_core.specs.fab_lock.specs.declared.entry.Kind.{Kind}
+use Rattle.fab_core.specs.fab_lock.specs.declared.entry.Kind.TheVariants as kind
+use Rattle.fab_core.specs.ten_shell.specs.declared.shell.Why.{Why}
+use Rattle.fab_core.specs.ten_shell.specs.declared.shell.Why.TheVariants.{Move, Ended}
+use Rattle.fab_core.specs.fab_model.specs.Points.{departed, due, Point}
+use Rattle.fab_core.specs.fab_model.specs.Fabrics.{first_leaving, head_fits, Fabric}
+use Rattle.fab_core.specs.fab_model.specs.Worlds.{happens, run, Event, World, Load, Arrive, Cycle, Serve, Hold, Rebuild, Take, Leave}
 use Rattle.fab_core.specs.Standing.{IsPointOf}
-use Rattle.fab_notes.specs.declared.note.Note.{Note}
-use Rattle.fab_notes.specs.declared.transit.Stay.{Stay}
-use Rattle.fab_notes.specs.declared.transit.Transit.{Transit}
-use Rattle.fab_notes.specs.Stays.{is_idle}
-use Rattle.ten_parcel.specs.Parcels.{is_moved, number_of, ticks_of}
-use Rattle.fab_notes.specs.Deeds.{deed_in, deed_of}
-use Rattle.fab_notes.specs.Histories.{replay}
-use Rattle.fab_notes.specs.Tokens.{outs, puts, token_of, AllBear, Token}
+use Rattle.fab_core.specs.fab_model.specs.declared.note.Note.{Note}
+use Rattle.fab_core.specs.fab_model.specs.declared.transit.Stay.{Stay}
+use Rattle.fab_core.specs.fab_model.specs.declared.transit.Transit.{Transit}
+use Rattle.fab_core.specs.fab_model.specs.Stays.{is_idle}
+use Rattle.fab_core.specs.ten_parcel.specs.Parcels.{is_moved, number_of, ticks_of}
+use Rattle.fab_core.specs.fab_model.specs.Deeds.{deed_in, deed_of}
+use Rattle.fab_core.specs.fab_model.specs.Histories.{replay}
+use Rattle.fab_core.specs.fab_model.specs.Tokens.{outs, puts, token_of, AllBear, Token}
 use Rattle.fab_bay.specs.declared.leaving.Leaving.{Leaving}
 use Rattle.fab_bay.specs.declared.leaving.Receipt.{Receipt}
 use Rattle.fab_bay.specs.declared.leaving.Turn.{Turn}

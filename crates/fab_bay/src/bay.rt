@@ -2,13 +2,13 @@
 
 ghost use Rattle.std.specs.Prelude.{◌≡◌, ◌<◌, ◌≤◌, [], false, true, None, IfErr, IfOk, OnErr, map};
 ghost use Rattle.std.specs.Bool.{Decides};
-ghost use Rattle.ten_parcel.specs.Parcels.{number_of, origin_in};
-ghost use Rattle.fab_points.specs.Points.{ended, Point};
-ghost use Rattle.fab_points.specs.Fabrics.{within};
+ghost use Rattle.fab_core.specs.ten_parcel.specs.Parcels.{number_of, origin_in};
+ghost use Rattle.fab_core.specs.fab_model.specs.Points.{ended, Point};
+ghost use Rattle.fab_core.specs.fab_model.specs.Fabrics.{within};
 ghost use Rattle.fab_core.specs.Standing.{IsPointOf};
-ghost use Rattle.fab_notes.specs.Deeds.{cost_of, deed_of};
-ghost use Rattle.fab_notes.specs.Origins.{AreOwn, StartsFrom};
-ghost use Rattle.fab_notes.specs.Tokens.{puts, token_of};
+ghost use Rattle.fab_core.specs.fab_model.specs.Deeds.{cost_of, deed_of};
+ghost use Rattle.fab_core.specs.fab_model.specs.Origins.{AreOwn, StartsFrom};
+ghost use Rattle.fab_core.specs.fab_model.specs.Tokens.{puts, token_of};
 ghost use Rattle.fab_bay.specs.Refusals.{IsAway, IsRefusal};
 ghost use Rattle.fab_bay.specs.Standing.{IsBay};
 ghost use Rattle.fab_bay.specs.Taking.{IsTaken};
@@ -17,10 +17,10 @@ ghost use Rattle.fab_bay.specs.Ways.{IsEmpty, IsPut, Turned};
 use crate::berth::Berth;
 use crate::leaving::{Receipt, Refused, Taken, Turn};
 use crate::noted::{Label, NotedCore};
+use fab_core::Kept;
 use fab_core::cores::FabCore;
-use fab_lock::Kept;
-use fab_notes::note::Note;
-use fab_notes::transit::Transit;
+use fab_core::note::Note;
+use fab_core::transit::Transit;
 use std::alloc::{AllocError, Global};
 use std::marker::Model;
 
@@ -31,8 +31,8 @@ pub struct Bay {
 }
 
 impl Model for Bay {
-    ghost use Rattle.fab_notes.specs.Origins.{AreOwn};
-    ghost use Rattle.fab_notes.specs.Tokens.{puts};
+    ghost use Rattle.fab_core.specs.fab_model.specs.Origins.{AreOwn};
+    ghost use Rattle.fab_core.specs.fab_model.specs.Tokens.{puts};
     ghost use Rattle.fab_bay.specs.declared.noted.NotedCore.{NotedCore};
     ghost use Rattle.fab_bay.specs.Standing.{IsBay};
     ghost use Rattle.fab_bay.specs.contracts.noted.NotedCore as held;
@@ -47,7 +47,7 @@ impl Model for Bay {
 }
 
 impl Kept for Bay {
-    ghost use Rattle.fab_lock.specs.declared.entry.Entry.{Entry};
+    ghost use Rattle.fab_core.specs.fab_lock.specs.declared.entry.Entry.{Entry};
 
     type Label = Label;
 

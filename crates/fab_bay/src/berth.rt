@@ -1,6 +1,6 @@
 //! What is noted of residents and of tenants in line.
 
-use fab_notes::transit::{Stay, Transit};
+use fab_core::transit::{Stay, Transit};
 use std::snapshot::Snapshot;
 
 /// A tenant on the fabric: what its notes say of it.

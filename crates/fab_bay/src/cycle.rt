@@ -1,15 +1,15 @@
 //! Cycles of a fabric.
 
 ghost use Rattle.std.specs.Prelude.{◌≡◌, false, true, List, None};
-ghost use Rattle.fab_points.specs.Fabrics.{all_stepped, first_leaving, head_fits, held, Fabric};
+ghost use Rattle.fab_core.specs.fab_model.specs.Fabrics.{all_stepped, first_leaving, head_fits, held, Fabric};
 ghost use Rattle.fab_core.specs.Standing.{IsFabric};
-ghost use Rattle.fab_notes.specs.declared.transit.Transit.{Transit as Out};
+ghost use Rattle.fab_core.specs.fab_model.specs.declared.transit.Transit.{Transit as Out};
 ghost use Rattle.fab_bay.specs.Nearness.{IsNear};
 ghost use Rattle.fab_bay.specs.Standing.{CanSettle, IsNoted};
 ghost use Rattle.fab_bay.specs.Ways.{Goes};
 
 use crate::noted::NotedCore;
-use ten_run::laws::{a_run_at_rest_is_at_a_boundary, each_act_comes_nearer};
+use ten_core::run_laws::{a_run_at_rest_is_at_a_boundary, each_act_comes_nearer};
 use vl_design::laws::has_one_state_at_a_boundary;
 
 impl NotedCore {

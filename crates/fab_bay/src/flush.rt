@@ -1,11 +1,11 @@
 //! Notes, and room for them.
 
 ghost use Rattle.std.specs.Prelude.{◌≡◌, ◌≤◌, ◌<◌, ◌+◌, ◌++◌, ◌∷◌, [], suc, ℕ, List, Some, length, slice_get, slice_set, OnOk, OnErr};
-ghost use Rattle.fab_points.specs.Points.{tick_of, Point};
-ghost use Rattle.fab_points.specs.Fabrics.{Fabric};
+ghost use Rattle.fab_core.specs.fab_model.specs.Points.{tick_of, Point};
+ghost use Rattle.fab_core.specs.fab_model.specs.Fabrics.{Fabric};
 ghost use Rattle.fab_core.specs.Standing.{IsFabric};
-ghost use Rattle.fab_notes.specs.declared.note.Note.{Note as OneNote};
-ghost use Rattle.fab_notes.specs.declared.transit.Transit.{Transit as Out};
+ghost use Rattle.fab_core.specs.fab_model.specs.declared.note.Note.{Note as OneNote};
+ghost use Rattle.fab_core.specs.fab_model.specs.declared.transit.Transit.{Transit as Out};
 ghost use Rattle.fab_bay.specs.declared.berth.Berth.{Berth as OneBerth};
 ghost use Rattle.fab_bay.specs.Berths.{AreSettled};
 ghost use Rattle.fab_bay.specs.Marks.{marks, AreWhole, IsRunOf};
@@ -14,7 +14,7 @@ ghost use Rattle.fab_bay.specs.Standing.{CanSettle, HasRoomFor, IsNoted, IsSame}
 ghost use Rattle.fab_bay.specs.Ways.{AreShort, Settles};
 
 use crate::noted::NotedCore;
-use fab_notes::note::Note;
+use fab_core::note::Note;
 use std::alloc::{AllocError, Global};
 
 impl NotedCore {

@@ -2,15 +2,15 @@
 
 ghost use Rattle.std.specs.Prelude.{◌≡◌, ◌++◌, ◌∷◌, ◌<◌, ◌≤◌, ◌+◌, ◌==◌, [], position, length, None, false, true, List, Some, IfOk, OnErr, IfSome, IsNone, vec_len, vec_capacity};
 ghost use Rattle.vl_design.specs.Alone.{first_tick};
-ghost use Rattle.ten_parcel.specs.Parcels.{number_of, run_of, ticks_of};
-ghost use Rattle.ten_shell.specs.declared.shell.Why.{Why as Reason};
-ghost use Rattle.fab_points.specs.Points.{due, Point};
-ghost use Rattle.fab_points.specs.Fabrics.{first_of, has, Fabric};
-ghost use Rattle.fab_points.specs.Worlds.{is_at_rest};
-ghost use Rattle.fab_notes.specs.declared.note.Note.{Note as OneNote};
-ghost use Rattle.fab_notes.specs.declared.transit.Transit.{Transit as Out};
-ghost use Rattle.fab_notes.specs.Ends.{EndsNotBefore};
-ghost use Rattle.fab_notes.specs.Stays.{chains};
+ghost use Rattle.fab_core.specs.ten_parcel.specs.Parcels.{number_of, run_of, ticks_of};
+ghost use Rattle.fab_core.specs.ten_shell.specs.declared.shell.Why.{Why as Reason};
+ghost use Rattle.fab_core.specs.fab_model.specs.Points.{due, Point};
+ghost use Rattle.fab_core.specs.fab_model.specs.Fabrics.{first_of, has, Fabric};
+ghost use Rattle.fab_core.specs.fab_model.specs.Worlds.{is_at_rest};
+ghost use Rattle.fab_core.specs.fab_model.specs.declared.note.Note.{Note as OneNote};
+ghost use Rattle.fab_core.specs.fab_model.specs.declared.transit.Transit.{Transit as Out};
+ghost use Rattle.fab_core.specs.fab_model.specs.Ends.{EndsNotBefore};
+ghost use Rattle.fab_core.specs.fab_model.specs.Stays.{chains};
 ghost use Rattle.fab_bay.specs.Nearness.{IsNear};
 ghost use Rattle.fab_bay.specs.Standing.{CanSettle, HasRoomFor, IsNoted};
 ghost use Rattle.fab_bay.specs.Taking.{IsWithdrawn, KeepsFlag};
@@ -20,10 +20,10 @@ use crate::berth::Berth;
 use crate::leaving::Leaving;
 use crate::line::berth_of;
 use crate::noted::NotedCore;
-use fab_notes::note::Note;
-use fab_notes::transit::{Stay, Transit};
+use fab_core::note::Note;
+use fab_core::parcel::Parcel;
+use fab_core::transit::{Stay, Transit};
 use std::alloc::{AllocError, Global};
-use ten_parcel::parcel::Parcel;
 
 impl Berth {
     /// A resident as it leaves a fabric: with one stay more.

@@ -1,9 +1,9 @@
 //! What calls answer.
 
-use fab_lock::Entry;
-use fab_notes::transit::Transit;
-use ten_shell::shell::Why;
-use vl_cost::capacity::Cost;
+use fab_core::Entry;
+use fab_core::shell::Why;
+use fab_core::transit::Transit;
+use vl_design::capacity::Cost;
 
 /// A tenant that comes out, and why.
 #[derive(Drop)]

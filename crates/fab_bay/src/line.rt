@@ -1,14 +1,14 @@
 //! Tenants that are put in line.
 
 ghost use Rattle.std.specs.Prelude.{◌≡◌, ◌<◌, ◌≤◌, ◌+◌, ◌++◌, ◌∷◌, ◌||◌, ◌==◌, [], ℕ, false, true, None, Some, is_some, length, position, vec_len, vec_capacity, IfErr, IfOk, OnErr, OnOk};
-ghost use Rattle.fab_lock.specs.declared.entry.Kind.TheVariants as kind;
-ghost use Rattle.fab_points.specs.Points.{ended, Point};
-ghost use Rattle.fab_points.specs.Fabrics.{arrived, within, Fabric};
+ghost use Rattle.fab_core.specs.fab_lock.specs.declared.entry.Kind.TheVariants as kind;
+ghost use Rattle.fab_core.specs.fab_model.specs.Points.{ended, Point};
+ghost use Rattle.fab_core.specs.fab_model.specs.Fabrics.{arrived, within, Fabric};
 ghost use Rattle.fab_core.specs.Standing.{IsPointOf};
-ghost use Rattle.fab_notes.specs.declared.note.Note.{Note as OneNote};
-ghost use Rattle.fab_notes.specs.Deeds.{cost_of, deed_in, deed_of};
-ghost use Rattle.fab_notes.specs.Tokens.{token_of};
-ghost use Rattle.ten_parcel.specs.Parcels.{is_moved, number_of, ticks_of};
+ghost use Rattle.fab_core.specs.fab_model.specs.declared.note.Note.{Note as OneNote};
+ghost use Rattle.fab_core.specs.fab_model.specs.Deeds.{cost_of, deed_in, deed_of};
+ghost use Rattle.fab_core.specs.fab_model.specs.Tokens.{token_of};
+ghost use Rattle.fab_core.specs.ten_parcel.specs.Parcels.{is_moved, number_of, ticks_of};
 ghost use Rattle.fab_bay.specs.Refusals.{IsAway, IsRefusal};
 ghost use Rattle.fab_bay.specs.Standing.{IsNoted};
 ghost use Rattle.fab_bay.specs.Ways.{IsPut};
@@ -17,11 +17,11 @@ use crate::berth::Berth;
 use crate::leaving::{DeskError, Receipt, Refused};
 use crate::noted::NotedCore;
 use fab_core::laws::points_tell_of_tenants;
-use fab_notes::note::Note;
-use fab_notes::transit::Transit;
+use fab_core::note::Note;
+use fab_core::transit::Transit;
 use std::alloc::{AllocError, Global};
 use std::snapshot::Snapshot;
-use vl_cost::capacity::Cost;
+use vl_design::capacity::Cost;
 
 /// The place of the first of a number.
 pub(crate) fn berth_of(berths: &[Berth], number: u32) -> Option<usize>

@@ -1,12 +1,12 @@
 //! A core with its history.
 
 use crate::berth::Berth;
+use fab_core::Entry;
 use fab_core::cores::FabCore;
-use fab_lock::Entry;
-use fab_notes::note::Note;
+use fab_core::note::Note;
 use std::snapshot::Snapshot;
 use ten_core::origin::Origin;
-use vl_cost::capacity::Cost;
+use vl_design::capacity::Cost;
 
 /// What never changes of a bay.
 #[derive(Drop)]

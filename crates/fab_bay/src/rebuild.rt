@@ -1,16 +1,16 @@
 //! The joined bank made anew.
 
 ghost use Rattle.std.specs.Prelude.{◌≡◌, ◌≤◌, ◌+◌, ◌++◌, true, length, vec_len, vec_capacity, List};
-ghost use Rattle.fab_points.specs.Fabrics.{Fabric};
-ghost use Rattle.fab_points.specs.Worlds.{is_at_rest};
-ghost use Rattle.fab_notes.specs.declared.note.Note.{Note as OneNote};
-ghost use Rattle.fab_notes.specs.declared.transit.Transit.{Transit as Out};
+ghost use Rattle.fab_core.specs.fab_model.specs.Fabrics.{Fabric};
+ghost use Rattle.fab_core.specs.fab_model.specs.Worlds.{is_at_rest};
+ghost use Rattle.fab_core.specs.fab_model.specs.declared.note.Note.{Note as OneNote};
+ghost use Rattle.fab_core.specs.fab_model.specs.declared.transit.Transit.{Transit as Out};
 ghost use Rattle.fab_bay.specs.Nearness.{IsNear};
 ghost use Rattle.fab_bay.specs.Standing.{CanSettle, HasRoomFor, IsNoted};
 ghost use Rattle.fab_bay.specs.Ways.{AreShort, Goes};
 
 use crate::noted::NotedCore;
-use fab_notes::note::Note;
+use fab_core::note::Note;
 use std::alloc::{AllocError, Global};
 
 impl NotedCore {

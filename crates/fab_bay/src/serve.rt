@@ -1,11 +1,11 @@
 //! What residents wait for.
 
 ghost use Rattle.std.specs.Prelude.{◌≡◌, ◌++◌, ◌∷◌, ◌+◌, ◌<◌, [], false, true, ℕ, IfOk, List, Some, length};
-ghost use Rattle.fab_lock.specs.declared.entry.Kind.TheVariants as kind;
-ghost use Rattle.fab_points.specs.Points.{tick_of, waits, Point};
-ghost use Rattle.fab_points.specs.Fabrics.{first_of, Fabric};
-ghost use Rattle.fab_notes.specs.declared.note.Note.{Note as OneNote};
-ghost use Rattle.fab_notes.specs.declared.transit.Transit.{Transit as Out};
+ghost use Rattle.fab_core.specs.fab_lock.specs.declared.entry.Kind.TheVariants as kind;
+ghost use Rattle.fab_core.specs.fab_model.specs.Points.{tick_of, waits, Point};
+ghost use Rattle.fab_core.specs.fab_model.specs.Fabrics.{first_of, Fabric};
+ghost use Rattle.fab_core.specs.fab_model.specs.declared.note.Note.{Note as OneNote};
+ghost use Rattle.fab_core.specs.fab_model.specs.declared.transit.Transit.{Transit as Out};
 ghost use Rattle.fab_bay.specs.Acts.{acts_to_come, saves_to_come};
 ghost use Rattle.fab_bay.specs.Marks.{AreClosed};
 ghost use Rattle.fab_bay.specs.Nearness.{IsNear};
@@ -14,9 +14,9 @@ ghost use Rattle.fab_bay.specs.Ways.{AreShort, Goes, IsWritten};
 
 use crate::line::berth_of;
 use crate::noted::NotedCore;
-use fab_notes::note::Note;
+use fab_core::note::Note;
 use std::alloc::{AllocError, Global};
-use ten_run::laws::each_act_comes_nearer;
+use ten_core::run_laws::each_act_comes_nearer;
 
 impl NotedCore {
     /// Writes that a snapshot of a resident was made, and before that its run up to there.

@@ -1,10 +1,10 @@
 //! Tenants that are taken out.
 
 ghost use Rattle.std.specs.Prelude.{◌≡◌, ◌<◌, ℕ, [], List, ◌∷◌, false, true, None, IfOk, OnErr};
-ghost use Rattle.ten_parcel.specs.Parcels.{number_of};
-ghost use Rattle.fab_points.specs.Fabrics.{first_waiting, held, Fabric};
-ghost use Rattle.fab_points.specs.Worlds.{is_at_rest};
-ghost use Rattle.fab_notes.specs.declared.transit.Transit.{Transit as Out};
+ghost use Rattle.fab_core.specs.ten_parcel.specs.Parcels.{number_of};
+ghost use Rattle.fab_core.specs.fab_model.specs.Fabrics.{first_waiting, held, Fabric};
+ghost use Rattle.fab_core.specs.fab_model.specs.Worlds.{is_at_rest};
+ghost use Rattle.fab_core.specs.fab_model.specs.declared.transit.Transit.{Transit as Out};
 ghost use Rattle.fab_bay.specs.Acts.{acts_to_come};
 ghost use Rattle.fab_bay.specs.Refusals.{IsAway};
 ghost use Rattle.fab_bay.specs.Rounds.{IsFoundReady, IsNearOn, IsReady};
@@ -15,7 +15,7 @@ ghost use Rattle.fab_bay.specs.Ways.{Goes};
 use crate::leaving::{Found, Taken};
 use crate::noted::NotedCore;
 use std::alloc::{AllocError, Global};
-use ten_run::laws::each_act_comes_nearer;
+use ten_core::run_laws::each_act_comes_nearer;
 
 impl NotedCore {
     /// It holds.

@@ -2,9 +2,9 @@
 
 ghost use Rattle.std.specs.Prelude.{◌≡◌, ◌≤◌, ◌<◌, [], All, List, IfOk, OnOk, OnErr, false, true};
 ghost use Rattle.std.specs.Bool.{Decides};
-ghost use Rattle.fab_points.specs.Fabrics.{Fabric};
-ghost use Rattle.fab_points.specs.Worlds.{is_at_rest};
-ghost use Rattle.fab_notes.specs.declared.transit.Transit.{Transit as Out};
+ghost use Rattle.fab_core.specs.fab_model.specs.Fabrics.{Fabric};
+ghost use Rattle.fab_core.specs.fab_model.specs.Worlds.{is_at_rest};
+ghost use Rattle.fab_core.specs.fab_model.specs.declared.transit.Transit.{Transit as Out};
 ghost use Rattle.fab_bay.specs.Standing.{IsBay, IsNoted};
 ghost use Rattle.fab_bay.specs.Rounds.{IsDue, IsNearOn, IsReady, IsVacant, MayCycle, Rounds};
 ghost use Rattle.fab_bay.specs.Ways.{transits, Goes, IsEmpty, LeftFor, Turned};

@@ -3,12 +3,12 @@ use Rattle.std.proofs.Common.{◌≡◌, ℕ, ◌+◌, ◌-◌, ◌<◌, List, [
 use Rattle.std.specs.List.{All}
 use Rattle.std.proofs.lemmas.List.{get_or_append_left, get_or-append_right, get_or-map, length-append, length-map}
 use Rattle.std.proofs.lemmas.Bool.{cases_lt}
-use Rattle.vl_cost.specs.declared.capacity.Cost.{Cost}
-use Rattle.cell_form.specs.Sound.{shape_of}
+use Rattle.vl_design.specs.declared.capacity.Cost.{Cost}
+use Rattle.ten_core.specs.cell_form.specs.Sound.{shape_of}
 use Rattle.fab_join.specs.Parts.{PartData, no_part, part_at}
-use Rattle.ten_parcel.specs.declared.tenant.Tenant.{Tenant}
-use Rattle.fab_points.specs.Points.{Point}
-use Rattle.fab_points.specs.Fabrics.{joiners, joining, plus, rebuilt, total, within, Fabric, AreOnce}
+use Rattle.fab_model.specs.ten_parcel.specs.declared.tenant.Tenant.{Tenant}
+use Rattle.fab_model.specs.Points.{Point}
+use Rattle.fab_model.specs.Fabrics.{joiners, joining, plus, rebuilt, total, within, Fabric, AreOnce}
 use Rattle.fab_core.specs.declared.cores.FabCore.{FabCore}
 use Rattle.fab_core.specs.declared.resident.Resident.{Resident}
 use Rattle.fab_core.specs.Alone.{part_for, tenants_of, AreAlone, AreNumbered, HasPoint, IsOn}
@@ -139,15 +139,3 @@ pub record IsBack (x : FabCore) (y : FabCore) : Type 0 where
   pub apart : ArePartsApart y.residents.items
   pub residents : (ps : List Point) → AreStanding x.joined x.residents.items ps → AreStanding y.joined y.residents.items ps
   pub line : y.line.items ≡ x.line.items
-
-pub back_fabric : (x y : FabCore) (f : Fabric) → IsFabric x f → IsBack x y → IsFabric y f
-back_fabric x y f h w = record {
-  capacity = w.capacity ∙ h.capacity;
-  used = w.used ∙ h.used;
-  fits = h.fits;
-  holding = w.holding ∙ h.holding;
-  apart = w.apart;
-  once = h.once;
-  residents = w.residents f.residents h.residents;
-  line = subst (λ (ts : List Tenant). AreWaiting ts f.line) (sym w.line) h.line;
-}

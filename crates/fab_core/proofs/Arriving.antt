@@ -1,17 +1,17 @@
 -- Parcels at points, and a tenant that is last in the line.
 use Rattle.std.proofs.Common.{◌≡◌, ◌+◌, List, [], ◌∷◌, ◌++◌, ap, sym, ◌∙◌, subst, true, false}
-use Rattle.vl_cost.specs.declared.capacity.Cost.{Cost}
-use Rattle.vl_cost.specs.Costs.{saturated_cost, Fits}
+use Rattle.vl_design.specs.declared.capacity.Cost.{Cost}
+use Rattle.vl_design.specs.Costs.{saturated_cost, Fits}
 use Rattle.vl_design.specs.Alone as alone
 use Rattle.vl_design.specs.Cost.{cost}
-use Rattle.cell_form.specs.Views.{bank_of}
-use Rattle.ten_parcel.specs.declared.parcel.Parcel.{Parcel}
-use Rattle.ten_parcel.specs.declared.parcel.Parcel.TheVariants as parcel
-use Rattle.ten_parcel.specs.declared.tenant.Tenant.{Tenant}
-use Rattle.ten_parcel.specs.Parcels as parcels
-use Rattle.ten_parcel.specs.Parcels.{number_of, IsParcel, IsTenant}
-use Rattle.fab_points.specs.Points.{cost_of, Point}
-use Rattle.fab_points.specs.Fabrics.{arrived, nothing, within, Fabric, AreOnce}
+use Rattle.ten_core.specs.cell_form.specs.Views.{bank_of}
+use Rattle.fab_model.specs.ten_parcel.specs.declared.parcel.Parcel.{Parcel}
+use Rattle.fab_model.specs.ten_parcel.specs.declared.parcel.Parcel.TheVariants as parcel
+use Rattle.fab_model.specs.ten_parcel.specs.declared.tenant.Tenant.{Tenant}
+use Rattle.fab_model.specs.ten_parcel.specs.Parcels as parcels
+use Rattle.fab_model.specs.ten_parcel.specs.Parcels.{number_of, IsParcel, IsTenant}
+use Rattle.fab_model.specs.Points.{cost_of, Point}
+use Rattle.fab_model.specs.Fabrics.{arrived, nothing, within, Fabric, AreOnce}
 use Rattle.fab_core.specs.declared.cores.FabCore.{FabCore}
 use Rattle.fab_core.specs.Standing.{AreStanding, AreWaiting, ArePartsApart, IsAtRest, IsFabric, IsPointOf}
 use Rattle.fab_core.proofs.Costs.{not_within, nothing_plus, within_from}

@@ -4,20 +4,12 @@ use Rattle.std.specs.Prelude.{nat_le}
 use Rattle.std.specs.List.{remove}
 use Rattle.std.proofs.lemmas.List.{at_drop_more, at_drop_all, take_more}
 use Rattle.std.proofs.lemmas.Bool.{cases_Bool, and_parts, and_from, leb-true, le-leb, cond-true, cond-false, false_from_ne_true}
-use Rattle.vl_cost.specs.declared.capacity.Cost.{Cost}
-use Rattle.vl_cost.specs.Costs.{Fits}
-use Rattle.fab_points.specs.Points.{cost_of, Point}
-use Rattle.fab_points.specs.Fabrics.{joiners, nothing, plus, total, within}
-
-pub cost_by : (a b : Cost) → a.regs ≡ b.regs → a.cells ≡ b.cells → a.mem ≡ b.mem → a ≡ b
-cost_by a b p q r =
-    let x : a ≡ record { regs = b.regs; cells = a.cells; mem = a.mem } = ap (λ (n : ℕ). record a { regs = n }) p in
-    let y : ◌≡◌ {A = Cost} (record { regs = b.regs; cells = a.cells; mem = a.mem }) (record { regs = b.regs; cells = b.cells; mem = a.mem }) = ap (λ (n : ℕ). record b { cells = n; mem = a.mem }) q in
-    let z : ◌≡◌ {A = Cost} (record { regs = b.regs; cells = b.cells; mem = a.mem }) b = ap (λ (n : ℕ). record b { mem = n }) r in
-    x ∙ y ∙ z
-
-pub plus_same : (a b c d : Cost) → a ≡ b → c ≡ d → plus a c ≡ plus b d
-plus_same a b c d p q = ap (λ (x : Cost). plus x c) p ∙ ap (λ (x : Cost). plus b x) q
+use Rattle.vl_design.specs.declared.capacity.Cost.{Cost}
+use Rattle.vl_design.specs.Costs.{Fits}
+use Rattle.fab_model.specs.Points.{cost_of, Point}
+use Rattle.fab_model.specs.Fabrics.{joiners, nothing, plus, total, within}
+pub use Rattle.vl_design.proofs.Shared.{cost_by}
+pub use Rattle.fab_model.proofs.Shared.{fits-within as within_from}
 
 pub plus_assoc : (a b c : Cost) → plus (plus a b) c ≡ plus a (plus b c)
 plus_assoc a b c = cost_by (plus (plus a b) c) (plus a (plus b c)) (omega arith) (omega arith) (omega arith)
@@ -32,14 +24,6 @@ pub plus_swap : (a b c : Cost) → plus a (plus b c) ≡ plus b (plus a c)
 plus_swap a b c = cost_by (plus a (plus b c)) (plus b (plus a c)) (omega arith) (omega arith) (omega arith)
 
 -- ---- what fits
-
-pub within_from : (u m c : Cost) → Fits u m c → within (plus u m) c ≡ true
-within_from u m c h =
-    let regs = h.regs in
-    let cells = h.cells in
-    let mem = h.mem in
-    and_from (nat_le (u.regs + m.regs) c.regs) (nat_le (u.cells + m.cells) c.cells && nat_le (u.mem + m.mem) c.mem) (le-leb (u.regs + m.regs) c.regs regs)
-    (and_from (nat_le (u.cells + m.cells) c.cells) (nat_le (u.mem + m.mem) c.mem) (le-leb (u.cells + m.cells) c.cells cells) (le-leb (u.mem + m.mem) c.mem mem))
 
 pub record IsWithin (a c : Cost) : Type 0 where
   pub regs : a.regs ≤ c.regs

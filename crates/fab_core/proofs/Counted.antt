@@ -1,12 +1,12 @@
 -- How many of a line were found to join.
 use Rattle.std.proofs.Common.{◌≡◌, ℕ, ◌+◌, ◌<◌, ◌≤◌, List, [], ◌∷◌, length, get_or, take, drop, arith, ap, sym, ◌∙◌, subst, true, false}
 use Rattle.std.specs.Arc.{arc_value}
-use Rattle.vl_cost.specs.declared.capacity.Cost.{Cost}
-use Rattle.vl_cost.specs.Costs.{Fits}
-use Rattle.cell_form.specs.Views.{bank_of}
-use Rattle.ten_parcel.specs.declared.tenant.Tenant.{Tenant}
-use Rattle.fab_points.specs.Points.{cost_of, Point}
-use Rattle.fab_points.specs.Fabrics.{joiners, plus, total, within}
+use Rattle.vl_design.specs.declared.capacity.Cost.{Cost}
+use Rattle.vl_design.specs.Costs.{Fits}
+use Rattle.ten_core.specs.cell_form.specs.Views.{bank_of}
+use Rattle.fab_model.specs.ten_parcel.specs.declared.tenant.Tenant.{Tenant}
+use Rattle.fab_model.specs.Points.{cost_of, Point}
+use Rattle.fab_model.specs.Fabrics.{joiners, plus, total, within}
 use Rattle.fab_core.specs.Standing.{AreWaiting, IsAtRest}
 use Rattle.fab_core.proofs.Costs.{joiners_end, joiners_more, joiners_none, not_within, plus_assoc, plus_nothing, total_more, within_from}
 use Rattle.fab_core.proofs.Lists.{waiting_at, waiting_many}
@@ -19,12 +19,6 @@ cost_in t = (arc_value t.shell.engine.origin).image.cost
 pub record AreCounted (line : List Tenant) (used capacity : Cost) (i : ℕ) (all : Cost) : Type 0 where
   pub joins : (ps : List Point) → AreWaiting line ps → joiners capacity used ps ≡ i + joiners capacity all (drop i ps)
   pub uses : (ps : List Point) → AreWaiting line ps → all ≡ plus used (total (take i ps))
-
-pub counted_none : (line : List Tenant) (used capacity : Cost) → AreCounted line used capacity 0 used
-counted_none line used capacity = record {
-  joins = λ ps h. omega arith;
-  uses = λ ps h. sym (plus_nothing used);
-}
 
 -- where a line isn't empty there is a point
 some_point : (line : List Tenant) (ps : List Point) (i : ℕ) → i < length line → AreWaiting line ps → Point

@@ -4,13 +4,13 @@ use Rattle.std.specs.List.{All}
 use Rattle.std.proofs.Math.ListN.{length-set}
 use Rattle.std.proofs.lemmas.List.{get_or-set_same, get_or-set_other, get_or_read}
 use Rattle.std.proofs.lemmas.Bool.{cases_eq, cases_lt}
-use Rattle.cell_form.specs.Data.{BankData}
-use Rattle.cell_form.specs.Sound.{shape_of}
-use Rattle.cell_form.specs.Views.{bank_of}
+use Rattle.ten_core.specs.cell_form.specs.Data.{BankData}
+use Rattle.ten_core.specs.cell_form.specs.Sound.{shape_of}
+use Rattle.ten_core.specs.cell_form.specs.Views.{bank_of}
 use Rattle.fab_join.specs.Parts.{PartData, no_part, part_at, with_bank}
 use Rattle.ten_core.specs.Tenants.{table_in}
 use Rattle.ten_shell.specs.declared.shell.Shell.{Shell}
-use Rattle.fab_points.specs.Points.{Point}
+use Rattle.fab_model.specs.Points.{Point}
 use Rattle.fab_core.specs.declared.resident.Resident.{Resident}
 use Rattle.fab_core.specs.Alone.{AreAlone, IsSwapped}
 use Rattle.fab_core.specs.Standing.{ArePartsApart, AreStanding, HasPart, IsPoint}
@@ -36,15 +36,6 @@ pub record AreSwapped (j : List PartData) (rs : List Resident) (k : List PartDat
   pub same : (n : ℕ) (d : Resident) → n < length rs → IsSame (get_or rs n d) (get_or ss n d)
   pub done : (n : ℕ) (d : Resident) → n < i → n < length rs → IsDone j (get_or rs n d) k (get_or ss n d)
   pub left : (n : ℕ) (d : Resident) → i ≤ n → n < length rs → IsLeft j (get_or rs n d) k (get_or ss n d)
-
-pub swapped_none : (j : List PartData) (rs : List Resident) → AreSwapped j rs j rs 0
-swapped_none j rs = record {
-  many = refl;
-  long = refl;
-  same = λ n d lt. record { shell = refl; part = refl };
-  done = λ n d lt within. absurd (omega arith);
-  left = λ n d le within. record { resident = refl; part = refl };
-}
 
 -- the part of one resident has changed, and no other's
 other_part : (k m : List PartData) (p q : ℕ) (x : PartData) → m ≡ set k p x → q ≢ p → part_at m q ≡ part_at k q

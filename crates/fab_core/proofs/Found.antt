@@ -4,13 +4,13 @@ use Rattle.std.specs.Prelude.{is_some}
 use Rattle.std.specs.List.{remove, slice_get}
 use Rattle.std.proofs.lemmas.Bool.{and_parts, cond-true, cond-false, or_left, or_right}
 use Rattle.std.proofs.lemmas.Option.{get_or_from_slice_get, slice_get-get_or}
-use Rattle.vl_cost.specs.declared.capacity.Cost.{Cost}
+use Rattle.vl_design.specs.declared.capacity.Cost.{Cost}
 use Rattle.fab_join.specs.Parts.{part_at}
 use Rattle.ten_shell.specs.declared.shell.Why.{Why}
 use Rattle.ten_shell.specs.declared.shell.Why.TheVariants.{Ended, Move}
-use Rattle.fab_points.specs.Points.{departed, rests, Point}
-use Rattle.fab_points.specs.Fabrics.{first_of, found, has, is_still, left, taken, without, Fabric}
-use Rattle.fab_points.specs.Worlds.{is_at_rest}
+use Rattle.fab_model.specs.Points.{departed, rests, Point}
+use Rattle.fab_model.specs.Fabrics.{first_of, found, has, is_still, left, taken, without, Fabric}
+use Rattle.fab_model.specs.Worlds.{is_at_rest}
 use Rattle.fab_core.specs.declared.cores.FabCore.{FabCore}
 use Rattle.fab_core.specs.declared.resident.Resident.{Resident}
 use Rattle.fab_core.specs.Standing.{IsFabric}

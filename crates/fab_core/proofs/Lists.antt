@@ -2,18 +2,13 @@
 use Rattle.std.proofs.Common.{◌≡◌, ℕ, ◌+◌, ◌<◌, List, [], ◌∷◌, ◌++◌, length, get_or, take, drop, arith, refl, ap, suc, zero}
 use Rattle.std.specs.List.{All, remove}
 use Rattle.fab_join.specs.Parts.{PartData}
-use Rattle.ten_parcel.specs.declared.tenant.Tenant.{Tenant}
-use Rattle.fab_points.specs.Points.{Point}
+use Rattle.fab_model.specs.ten_parcel.specs.declared.tenant.Tenant.{Tenant}
+use Rattle.fab_model.specs.Points.{Point}
 use Rattle.fab_core.specs.declared.resident.Resident.{Resident}
 use Rattle.fab_core.specs.Standing.{AreStanding, AreWaiting, HasPart, IsAtRest, Stands}
+pub use Rattle.fab_core.proofs.Residents.{standing-long as standing_many, waiting-long as waiting_many}
 
 -- ---- residents that stand, by their places
-
-pub standing_many : (j : List PartData) (rs : List Resident) (ps : List Point) → AreStanding j rs ps → length rs ≡ length ps
-standing_many j [] [] h = refl
-standing_many j [] (p ∷ ps) h = absurd h
-standing_many j (r ∷ rs) [] h = absurd h
-standing_many j (r ∷ rs) (p ∷ ps) h = ap suc (standing_many j rs ps h.1)
 
 pub standing_at : (j : List PartData) (rs : List Resident) (ps : List Point) (k : ℕ) (r : Resident) (p : Point) → AreStanding j rs ps → k < length rs → Stands j (get_or rs k r) (get_or ps k p)
 standing_at j [] [] k r p h lt = absurd (omega arith)
@@ -29,12 +24,6 @@ standing_from j (r ∷ rs) [] e h = absurd (omega arith)
 standing_from j (r ∷ rs) (p ∷ ps) e h = (h 0 r p (omega arith), standing_from j rs ps (omega arith) (λ k s q lt. h (suc k) s q (omega arith)))
 
 -- ---- tenants that wait
-
-pub waiting_many : (ts : List Tenant) (ps : List Point) → AreWaiting ts ps → length ts ≡ length ps
-waiting_many [] [] h = refl
-waiting_many [] (p ∷ ps) h = absurd h
-waiting_many (t ∷ ts) [] h = absurd h
-waiting_many (t ∷ ts) (p ∷ ps) h = ap suc (waiting_many ts ps h.1)
 
 pub waiting_at : (ts : List Tenant) (ps : List Point) (k : ℕ) (t : Tenant) (p : Point) → AreWaiting ts ps → k < length ts → IsAtRest (get_or ts k t) (get_or ps k p)
 waiting_at [] [] k t p h lt = absurd (omega arith)
@@ -55,12 +44,6 @@ waiting_drop (suc n) [] [] h = tt
 waiting_drop (suc n) [] (p ∷ ps) h = absurd h
 waiting_drop (suc n) (t ∷ ts) [] h = absurd h
 waiting_drop (suc n) (t ∷ ts) (p ∷ ps) h = waiting_drop n ts ps h.1
-
-pub waiting_join : (ts us : List Tenant) (ps qs : List Point) → AreWaiting ts ps → AreWaiting us qs → AreWaiting (ts ++ us) (ps ++ qs)
-waiting_join [] us [] qs h more = more
-waiting_join [] us (p ∷ ps) qs h more = absurd h
-waiting_join (t ∷ ts) us [] qs h more = absurd h
-waiting_join (t ∷ ts) us (p ∷ ps) qs h more = (h.0, waiting_join ts us ps qs h.1 more)
 
 pub waiting_take : (n : ℕ) (ts : List Tenant) (ps : List Point) → AreWaiting ts ps → AreWaiting (take n ts) (take n ps)
 waiting_take zero ts ps h = tt

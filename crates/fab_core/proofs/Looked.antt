@@ -3,8 +3,8 @@ use Rattle.std.proofs.Common.{◌≡◌, ℕ, List, refl, ap, sym, ◌∙◌, tr
 use Rattle.std.specs.Prelude.{◌==◌, is_some, Option}
 use Rattle.std.specs.List.{position}
 use Rattle.std.proofs.lemmas.Bool.{true≢false}
-use Rattle.ten_parcel.specs.declared.tenant.Tenant.{Tenant}
-use Rattle.fab_points.specs.Fabrics.{has, Fabric}
+use Rattle.fab_model.specs.ten_parcel.specs.declared.tenant.Tenant.{Tenant}
+use Rattle.fab_model.specs.Fabrics.{has, Fabric}
 use Rattle.fab_core.specs.declared.cores.FabCore.{FabCore}
 use Rattle.fab_core.specs.declared.resident.Resident.{Resident}
 use Rattle.fab_core.specs.Standing.{IsFabric}

@@ -2,9 +2,9 @@
 use Rattle.std.proofs.Common.{◌≡◌, ℕ, suc, ◌+◌, ◌<◌, ◌≤◌, Bool, true, Option, Some, List, [], ◌∷◌, length, get_or, drop, refl, sym, ap, ◌∙◌, arith, subst}
 use Rattle.std.specs.Prelude.{◌&&◌, if◌then◌else◌, is_some, slice_get}
 use Rattle.std.proofs.lemmas.List.{at_drop_more}
-use Rattle.ten_parcel.specs.declared.tenant.Tenant.{Tenant}
-use Rattle.fab_points.specs.Points.{Point, cost_of, due, rests, waits}
-use Rattle.fab_points.specs.Fabrics.{Fabric, can_step, first_leaving, first_waiting, head_fits, is_still, plus, steppers, total, within}
+use Rattle.fab_model.specs.ten_parcel.specs.declared.tenant.Tenant.{Tenant}
+use Rattle.fab_model.specs.Points.{Point, cost_of, due, rests, waits}
+use Rattle.fab_model.specs.Fabrics.{Fabric, can_step, first_leaving, first_waiting, head_fits, is_still, plus, steppers, total, within}
 use Rattle.fab_core.specs.declared.cores.FabCore.{FabCore}
 use Rattle.fab_core.specs.declared.resident.Resident.{Resident}
 use Rattle.fab_core.specs.Standing.{AreWaiting, IsAtRest, IsFabric}

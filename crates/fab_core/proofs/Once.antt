@@ -2,8 +2,8 @@
 use Rattle.std.proofs.Common.{◌≡◌, ℕ, zero, suc, Bool, true, false, Option, Some, None, List, [], ◌∷◌, ◌++◌}
 use Rattle.std.specs.List.{remove}
 use Rattle.std.specs.Prelude.{if◌then◌else◌}
-use Rattle.fab_points.specs.Points.{Point}
-use Rattle.fab_points.specs.Fabrics.{first_of, is_of, AreOnce}
+use Rattle.fab_model.specs.Points.{Point}
+use Rattle.fab_model.specs.Fabrics.{first_of, is_of, AreOnce}
 
 none_both : (b : Bool) (p : Point) (x y : Option Point) → (x ≡ None → y ≡ None) → (if b then Some p else x) ≡ None → (if b then Some p else y) ≡ None
 none_both true p x y f e = let z : ⊥ = cc in absurd z

@@ -7,23 +7,24 @@ use Rattle.vl_design.specs.Alone as alone
 use Rattle.vl_design.specs.Alone.{Boundary, reason_at, stop_at}
 use Rattle.vl_design.specs.Queue.{Queue}
 use Rattle.vl_design.specs.State.{State}
-use Rattle.sub_nodes.specs.Code.{table_of}
-use Rattle.sub_nodes.specs.Cycles.{Stage, rises}
+use Rattle.ten_core.specs.sub_nodes.specs.Code.{table_of}
+use Rattle.ten_core.specs.sub_nodes.specs.Cycles.{Stage, rises}
 use Rattle.ten_core.specs.Tenants.{origin_of}
-use Rattle.ten_run.specs.Running.{is_at_rest, IsRunning}
+use Rattle.ten_core.specs.Running.{is_at_rest, IsRunning}
 use Rattle.ten_shell.specs.declared.shell.Shell.{Shell}
 use Rattle.ten_shell.specs.Leaving.{end_in, resting}
 use Rattle.ten_shell.specs.Shells as shells
 use Rattle.ten_shell.specs.Shells.{flat_in, free_in, is_left, left_in}
-use Rattle.ten_parcel.specs.declared.parcel.Parcel.{Parcel}
-use Rattle.ten_parcel.specs.declared.parcel.Parcel.TheVariants as parcel
-use Rattle.ten_parcel.specs.declared.tenant.Tenant.{Tenant}
-use Rattle.ten_parcel.specs.Parcels as parcels
-use Rattle.ten_parcel.specs.Parcels.{free_of, is_moved, is_stopped, number_of, origin_in, run_of, ticks_of, IsParcel, IsTenant}
-use Rattle.fab_points.specs.Points.{ended, is_there, rests, run_in, tick_of, Point}
+use Rattle.fab_model.specs.ten_parcel.specs.declared.parcel.Parcel.{Parcel}
+use Rattle.fab_model.specs.ten_parcel.specs.declared.parcel.Parcel.TheVariants as parcel
+use Rattle.fab_model.specs.ten_parcel.specs.declared.tenant.Tenant.{Tenant}
+use Rattle.fab_model.specs.ten_parcel.specs.Parcels as parcels
+use Rattle.fab_model.specs.ten_parcel.specs.Parcels.{free_of, is_moved, is_stopped, number_of, origin_in, run_of, ticks_of, IsParcel, IsTenant}
+use Rattle.fab_model.specs.Points.{ended, is_there, rests, run_in, tick_of, Point}
 use Rattle.fab_core.specs.Standing.{IsAtRest, IsPointOf}
 use Rattle.fab_core.proofs.Arriving.{parcel_is, parcel_tenant}
 use Rattle.fab_core.proofs.Points.{run-by}
+use Rattle.vl_design.specs.vl_base.proofs.Booleans.{or_there_too as there_by}
 
 -- ---- a point of a tenant at rest
 
@@ -85,11 +86,6 @@ rests_of (parcel.Over x) p h = absurd h
 
 run_is : (q : Parcel) (p : Point) → IsPointOf q p → run_of q ≡ run_in p
 run_is q p h = ap origin_of (origin_is q p h)
-
-there_by : (f u l : Bool) → (f || (u && l)) ≡ true → (f || (not f && u)) ≡ true
-there_by true u l e = refl
-there_by false true l e = refl
-there_by false false l e = let z : ⊥ = cc in absurd z
 
 pub tick_is : (q : Parcel) (p : Point) → IsPointOf q p → tick_of p ≡ p.stage.state.ticks
 tick_is q p h =

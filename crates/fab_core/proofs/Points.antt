@@ -2,22 +2,22 @@
 use Rattle.std.proofs.Common.{◌≡◌, Bool, true, false, None, sym, ap, ◌∙◌}
 use Rattle.std.specs.Prelude.{◌&&◌, ◌||◌, ◌-◌, not, nat_le, is_some, slice_get, if◌then◌else◌}
 use Rattle.std.specs.Arc.{arc_value}
-use Rattle.vl_cost.specs.Costs.{saturated_cost}
+use Rattle.vl_design.specs.Costs.{saturated_cost}
 use Rattle.vl_design.specs.Alone.{Origin, stop_at}
 use Rattle.vl_design.specs.Cost.{cost}
-use Rattle.cell_form.specs.Data.{BankData}
-use Rattle.sub_nodes.specs.Code.{table_of}
-use Rattle.sub_nodes.specs.Cycles.{rises}
-use Rattle.sub_nodes.specs.Stands.{at_trap}
+use Rattle.ten_core.specs.cell_form.specs.Data.{BankData}
+use Rattle.ten_core.specs.sub_nodes.specs.Code.{table_of}
+use Rattle.ten_core.specs.sub_nodes.specs.Cycles.{rises}
+use Rattle.ten_core.specs.sub_nodes.specs.Stands.{at_trap}
 use Rattle.ten_core.specs.declared.origin.Origin.{Origin as From}
 use Rattle.ten_core.specs.Tenants.{origin_of}
-use Rattle.ten_plan.specs.Plans.{move_at}
-use Rattle.ten_run.specs.Running.{ends_at, goes_on}
+use Rattle.ten_core.specs.ten_plan.specs.Plans.{move_at}
+use Rattle.ten_core.specs.Running.{ends_at, goes_on}
 use Rattle.ten_shell.specs.declared.shell.Shell.{Shell}
 use Rattle.ten_shell.specs.Leaving.{end_in, why_in}
 use Rattle.ten_shell.specs.Shells.{flat_in, is_at_boundary, is_left, left_in, rests_in, run_of, waits_in, MayCycle}
-use Rattle.fab_points.specs.Points.{Point, cost_of, due, is_there, rests, tick_of, waits, run_in, order_in}
-use Rattle.fab_points.specs.Fabrics.{can_step}
+use Rattle.fab_model.specs.Points.{Point, cost_of, due, is_there, rests, tick_of, waits, run_in, order_in}
+use Rattle.fab_model.specs.Fabrics.{can_step}
 use Rattle.fab_core.specs.Standing.{IsPoint}
 use Rattle.fab_core.proofs.Tests.{due-none, end-none, going, left-same, never-both, none-left, or-left-false, or-right-false, rest-same, step-due, step-waits, why-none, Goes}
 

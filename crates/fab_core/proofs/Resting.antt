@@ -3,17 +3,17 @@ use Rattle.std.proofs.Common.{◌≡◌, ℕ, List, [], ◌∷◌, refl, ap, sym
 use Rattle.std.specs.Arc.{arc_value}
 use Rattle.std.specs.Prelude.{slice_get, if◌then◌else◌}
 use Rattle.std.proofs.lemmas.Bool.{cases_Bool, or_cases, or_left, or_right, and_parts, and_from, not_from_false, cond-true, both_ways}
-use Rattle.vl_cost.specs.Costs.{saturated_cost}
+use Rattle.vl_design.specs.Costs.{saturated_cost}
 use Rattle.vl_design.specs.Alone as alone
 use Rattle.vl_design.specs.Cost.{cost}
 use Rattle.vl_design.specs.Syntax.{Flat}
-use Rattle.cell_form.specs.Data.{BankData}
-use Rattle.sub_nodes.specs.Code.{table_of}
-use Rattle.sub_nodes.specs.Cycles.{rises}
+use Rattle.ten_core.specs.cell_form.specs.Data.{BankData}
+use Rattle.ten_core.specs.sub_nodes.specs.Code.{table_of}
+use Rattle.ten_core.specs.sub_nodes.specs.Cycles.{rises}
 use Rattle.ten_shell.specs.declared.shell.Shell.{Shell}
 use Rattle.ten_shell.specs.Leaving.{why_in}
 use Rattle.ten_shell.specs.Shells.{flat_in, is_left, left_in, rests_in, run_of, Rests}
-use Rattle.fab_points.specs.Points.{cost_of, due, rests, run_in, Point}
+use Rattle.fab_model.specs.Points.{cost_of, due, rests, run_in, Point}
 use Rattle.fab_core.specs.Standing.{IsPoint}
 use Rattle.fab_core.proofs.Points.{run-by}
 
@@ -23,9 +23,6 @@ nothing_left (name ∷ names) h = cc
 
 nothing_of : (names : List (List ℕ)) → names ≡ [] → not (is_left names) ≡ true
 nothing_of names e = ap (λ ns. not (is_left ns)) e
-
-rises_at : Flat → ℕ → Bool
-rises_at d n = rises (slice_get (table_of d).nodes n)
 
 module _ (s : Shell) (b : BankData) (p : Point) (h : IsPoint s b p) where
   flat_same : flat_in s ≡ (run_in p).flat

@@ -3,22 +3,20 @@ use Rattle.std.proofs.Common.{◌≡◌, ℕ, ◌≤◌, Bool, true, false, refl
 use Rattle.std.specs.Prelude.{map}
 use Rattle.std.specs.Arc.{arc_value}
 use Rattle.std.specs.List.{AllByRecursion}
-use Rattle.vl_base.specs.Files.{IsFileSet}
+use Rattle.vl_design.specs.vl_base.specs.Files.{IsFileSet}
 use Rattle.vl_design.specs.Alone as alone
 use Rattle.vl_design.specs.Laws.{StartsOpen}
-use Rattle.cell_form.specs.Data.{BankData}
-use Rattle.sub_nodes.specs.Cycles.{Stage}
+use Rattle.ten_core.specs.cell_form.specs.Data.{BankData}
+use Rattle.ten_core.specs.sub_nodes.specs.Cycles.{Stage}
 use Rattle.ten_core.specs.Runs.{IsAt}
 use Rattle.ten_core.specs.Tenants.{origin_of, tenant_of}
-use Rattle.ten_hold.specs.Holding.{CanBeHeld}
-use Rattle.ten_plan.specs.Held.{free_of}
-use Rattle.ten_plan.specs.Plans.{IsPlan}
-use Rattle.ten_run.specs.Running.{IsRunning}
+use Rattle.ten_core.specs.Holding.{CanBeHeld}
+use Rattle.ten_core.specs.ten_plan.specs.Held.{free_of}
+use Rattle.ten_core.specs.ten_plan.specs.Plans.{IsPlan}
+use Rattle.ten_core.specs.Running.{IsRunning}
 use Rattle.ten_shell.specs.declared.shell.Shell.{Shell}
 use Rattle.ten_shell.specs.Shells.{flat_in, is_at_boundary, left_in, run_of, IsSameTenant, IsUnchanged, KeepsIn, StandsFor}
-
-pub same-run : (r s : Shell) → IsSameTenant r s → run_of s ≡ run_of r
-same-run r s a = ap (λ x. origin_of (arc_value x)) a.origin
+pub use Rattle.ten_shell.proofs.Shared.{same-run}
 
 module _ (r s : Shell) (a b : BankData) (u : IsUnchanged r s a b) where
   run-is : run_of s ≡ run_of r

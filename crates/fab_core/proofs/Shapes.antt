@@ -4,31 +4,24 @@ use Rattle.std.specs.Prelude.{slice_get, slice_index}
 use Rattle.std.specs.Arc.{arc_value}
 use Rattle.std.proofs.lemmas.List.{length-map}
 use Rattle.vl_design.specs.Syntax.{Flat}
-use Rattle.cell_form.specs.Data.{ListData, BankData, StateData}
-use Rattle.cell_form.specs.Cycle.{cycled}
-use Rattle.cell_form.specs.Sound.{Shape, shape_of, IsList}
-use Rattle.cell_form.specs.States.{state_cycled, table_cycled}
-use Rattle.cell_form.proofs.Cycling.{same-shape}
-use Rattle.sub_nodes.specs.Code.{table_of}
-use Rattle.sub_nodes.specs.Cycles.{Stage, is_trap}
-use Rattle.sub_nodes.specs.Nodes.{Node, Run, Trap, Apply, Go, Branch, Switch, Commit}
-use Rattle.sub_facts.specs.Early.{early_from}
-use Rattle.ten_form.specs.Banks.{cell_nodes, IsFor}
-use Rattle.ten_image.specs.States.{slots_in, IsStateOf}
+use Rattle.ten_core.specs.cell_form.specs.Data.{ListData, BankData, StateData}
+use Rattle.ten_core.specs.cell_form.specs.Cycle.{cycled}
+use Rattle.ten_core.specs.cell_form.specs.Sound.{Shape, shape_of, IsList}
+use Rattle.ten_core.specs.cell_form.specs.States.{state_cycled, table_cycled}
+use Rattle.ten_core.specs.cell_form.proofs.Cycling.{same-shape}
+use Rattle.ten_core.specs.sub_nodes.specs.Code.{table_of}
+use Rattle.ten_core.specs.sub_nodes.specs.Cycles.{Stage, is_trap}
+use Rattle.ten_core.specs.sub_nodes.specs.Nodes.{Node, Run, Trap, Apply, Go, Branch, Switch, Commit}
+use Rattle.ten_core.specs.sub_nodes.specs.Early.{early_from}
+use Rattle.ten_core.specs.ten_form.specs.Banks.{cell_nodes, IsFor}
+use Rattle.ten_core.specs.ten_form.specs.States.{slots_in, IsStateOf}
 use Rattle.ten_core.specs.Tenants.{states_of, table_in}
 use Rattle.ten_shell.specs.declared.shell.Shell.{Shell}
 use Rattle.ten_shell.specs.Shells.{flat_in, StandsFor}
+use Rattle.ten_core.specs.cell_form.proofs.Shared.{list_shape}
+use Rattle.vl_design.specs.vl_base.proofs.Lists.{take_get as take-get}
 
 -- ---- lists
-
-list_shape : (b : BankData) (l : ListData) → IsList (shape_of b) l → shape_of (cycled l b) ≡ shape_of b
-list_shape b l h =
-    let e = same-shape l b h in
-    let f : List ℕ → ℕ = λ m. length m in
-    let m : length (cycled l b).mems ≡ length b.mems = sym (length-map (cycled l b).mems f) ∙ ap (λ (ns : List ℕ). length ns) e.mems ∙ length-map b.mems f in
-    ap (λ (n : ℕ). record { regs = n; mems = length (cycled l b).mems; slots = length (cycled l b).slots }) e.regs
-    ∙ ap (λ (n : ℕ). record { regs = length b.regs; mems = n; slots = length (cycled l b).slots }) m
-    ∙ ap (λ (n : ℕ). record { regs = length b.regs; mems = length b.mems; slots = n }) e.slots
 
 -- where one of two lists of one length has an item, the other has one too
 both : {X Y : Type 0} (xs : List X) (ys : List Y) (n : ℕ) (x : X) → length xs ≡ length ys → slice_get xs n ≡ Some x → (y : Y) × (slice_get ys n ≡ Some y)
@@ -36,12 +29,6 @@ both [] ys n x e h = let z : ⊥ = cc in absurd z
 both (x ∷ xs) [] n z e h = let z : ⊥ = omega (arith, e) in absurd z
 both (x ∷ xs) (y ∷ ys) zero z e h = (y, refl)
 both (x ∷ xs) (y ∷ ys) (suc n) z e h = both xs ys n z (omega (arith, e)) h
-
-take-get : {X : Type 0} (k : ℕ) (xs : List X) (n : ℕ) (x : X) → slice_get (take k xs) n ≡ Some x → slice_get xs n ≡ Some x
-take-get zero xs n x h = let z : ⊥ = cc in absurd z
-take-get (suc k) [] n x h = h
-take-get (suc k) (y ∷ xs) zero x h = h
-take-get (suc k) (y ∷ xs) (suc n) x h = take-get k xs n x h
 
 -- ---- the state of a node
 

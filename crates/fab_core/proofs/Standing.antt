@@ -4,35 +4,35 @@ use Rattle.std.specs.Prelude.{◌&&◌, ◌||◌, not, if◌then◌else◌, slic
 use Rattle.std.specs.Arc.{arc_value}
 use Rattle.std.proofs.Math.Nat.{mod-eq_of_lt}
 use Rattle.std.proofs.lemmas.List.{get_or-set_same, length-set, set-set}
-use Rattle.vl_base.specs.Files.{contents}
+use Rattle.vl_design.specs.vl_base.specs.Files.{contents}
 use Rattle.vl_design.specs.Alone.{Origin}
 use Rattle.vl_design.specs.Functions.{scope_of}
 use Rattle.vl_design.specs.State.{State}
 use Rattle.vl_design.specs.Syntax.{Task, Print, Finish, Save, Fopen, Fread, Fgetc, Feof, Fclose, ReadHex, Row}
 use Rattle.vl_design.specs.Tasks.{done, memory_read}
 use Rattle.vl_design.specs.Width.{Scope}
-use Rattle.cell_form.specs.declared.bank.Bank.{Bank}
-use Rattle.cell_form.specs.Data.{BankData}
-use Rattle.cell_form.specs.Sound.{shape_of}
-use Rattle.cell_form.specs.States.{table_cycled}
-use Rattle.cell_form.specs.Views as cells
-use Rattle.cell_form.specs.Views.{bank_of}
-use Rattle.sub_nodes.specs.Code.{table_of}
-use Rattle.sub_nodes.specs.Cycles.{Stage, rises, served_by}
-use Rattle.sub_nodes.specs.Nodes.{Node, Run, Trap, Apply}
-use Rattle.sub_nodes.specs.Stands.{at_trap}
+use Rattle.ten_core.specs.cell_form.specs.declared.bank.Bank.{Bank}
+use Rattle.ten_core.specs.cell_form.specs.Data.{BankData}
+use Rattle.ten_core.specs.cell_form.specs.Sound.{shape_of}
+use Rattle.ten_core.specs.cell_form.specs.States.{table_cycled}
+use Rattle.ten_core.specs.cell_form.specs.Views as cells
+use Rattle.ten_core.specs.cell_form.specs.Views.{bank_of}
+use Rattle.ten_core.specs.sub_nodes.specs.Code.{table_of}
+use Rattle.ten_core.specs.sub_nodes.specs.Cycles.{Stage, rises, served_by}
+use Rattle.ten_core.specs.sub_nodes.specs.Nodes.{Node, Run, Trap, Apply}
+use Rattle.ten_core.specs.sub_nodes.specs.Stands.{at_trap}
 use Rattle.fab_join.specs.Parts.{PartData, no_part, part_at, state_in, stepped, with_bank}
 use Rattle.ten_core.specs.declared.origin.Origin as started
 use Rattle.ten_core.specs.Runs.{after_call, after_cycle}
 use Rattle.ten_core.specs.Tenants.{table_in}
-use Rattle.ten_form.specs.Registers.{state_register}
-use Rattle.ten_plan.specs.Held.{free_of}
+use Rattle.ten_core.specs.ten_form.specs.Registers.{state_register}
+use Rattle.ten_core.specs.ten_plan.specs.Held.{free_of}
 use Rattle.ten_shell.specs.declared.shell.Shell.{Shell}
 use Rattle.ten_shell.specs.Shells.{flat_in, is_at_boundary, is_left, left_at, left_in, run_of, IsSameTenant, IsUnchanged, MayCycle, StandsFor}
-use Rattle.ten_parcel.specs.declared.tenant.Tenant.{Tenant}
-use Rattle.fab_points.specs.Points.{Point, but_first, called, cycled, rests, saved, served, waits, run_in, order_in}
-use Rattle.fab_points.specs.Fabrics as fabric
-use Rattle.fab_points.specs.Fabrics.{can_step}
+use Rattle.fab_model.specs.ten_parcel.specs.declared.tenant.Tenant.{Tenant}
+use Rattle.fab_model.specs.Points.{Point, but_first, called, cycled, rests, saved, served, waits, run_in, order_in}
+use Rattle.fab_model.specs.Fabrics as fabric
+use Rattle.fab_model.specs.Fabrics.{can_step}
 use Rattle.fab_core.specs.declared.resident.Resident.{Resident}
 use Rattle.fab_core.specs.Standing.{IsPoint, Stands}
 use Rattle.fab_core.proofs.Points.{may-cycle, order-is, run-by, trap-is}

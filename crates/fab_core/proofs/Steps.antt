@@ -4,10 +4,10 @@ use Rattle.std.specs.Prelude.{if◌then◌else◌}
 use Rattle.std.proofs.lemmas.List.{length-map, length-take-le, get_or-append_right, get_or-drop, append-nil, drop_all, take_all}
 use Rattle.std.proofs.lemmas.List.Edits.{map_over_more}
 use Rattle.fab_join.specs.Parts.{PartData}
-use Rattle.sub_nodes.specs.Code.{table_of}
-use Rattle.sub_nodes.specs.Stands.{at_trap}
-use Rattle.fab_points.specs.Points.{Point, called, cost_of, cycled, saved, served, run_in}
-use Rattle.fab_points.specs.Fabrics.{can_step, changed, is_of, plus, stepped, steppers, total}
+use Rattle.ten_core.specs.sub_nodes.specs.Code.{table_of}
+use Rattle.ten_core.specs.sub_nodes.specs.Stands.{at_trap}
+use Rattle.fab_model.specs.Points.{Point, called, cost_of, cycled, saved, served, run_in}
+use Rattle.fab_model.specs.Fabrics.{can_step, changed, is_of, plus, stepped, steppers, total}
 use Rattle.fab_core.specs.declared.resident.Resident.{Resident}
 use Rattle.fab_core.specs.Standing.{ArePartsApart, AreStanding, Stands}
 use Rattle.fab_core.proofs.Residents.{Changes, SomePoint, some-point, standing-set}

@@ -4,13 +4,13 @@ use Rattle.std.specs.List.{AllByRecursion, slice_get}
 use Rattle.std.specs.Arc.{arc_value}
 use Rattle.std.proofs.lemmas.Option.{slice_get-get_or, slice_get_within}
 use Rattle.vl_design.specs.Syntax.{Flat}
-use Rattle.cell_form.specs.Data.{BankData, ListData, StateData, CellData}
-use Rattle.cell_form.specs.declared.cell.Write.{Write}
-use Rattle.cell_form.specs.Sound.{Shape, shape_of, IsList, AreCells, IsWrite}
-use Rattle.sub_nodes.specs.Cycles.{Stage}
-use Rattle.sub_nodes.specs.Nodes.{Node, Run, Trap, Apply, Go, Branch, Switch, Commit}
-use Rattle.ten_form.specs.Banks.{cell_nodes, IsFor}
-use Rattle.ten_image.specs.States.{AreStates, IsStateOf, slots_in}
+use Rattle.ten_core.specs.cell_form.specs.Data.{BankData, ListData, StateData, CellData}
+use Rattle.ten_core.specs.cell_form.specs.declared.cell.Write.{Write}
+use Rattle.ten_core.specs.cell_form.specs.Sound.{Shape, shape_of, IsList, AreCells, IsWrite}
+use Rattle.ten_core.specs.sub_nodes.specs.Cycles.{Stage}
+use Rattle.ten_core.specs.sub_nodes.specs.Nodes.{Node, Run, Trap, Apply, Go, Branch, Switch, Commit}
+use Rattle.ten_core.specs.ten_form.specs.Banks.{cell_nodes, IsFor}
+use Rattle.ten_core.specs.ten_form.specs.States.{AreStates, IsStateOf, slots_in}
 use Rattle.ten_core.specs.Tenants.{states_of, table_in}
 use Rattle.ten_shell.specs.declared.shell.Shell.{Shell}
 use Rattle.ten_shell.specs.Shells.{StandsFor, flat_in}

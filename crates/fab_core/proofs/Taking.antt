@@ -5,15 +5,15 @@ use Rattle.std.specs.List.{remove}
 use Rattle.std.proofs.Math.ListN.{length-set}
 use Rattle.std.proofs.lemmas.List.{get_or-set_other, get_or-take, get_or-drop, get_or_append_left, get_or-append_right, get_or_read, length-append, length-take-le, length-drop}
 use Rattle.std.proofs.lemmas.Bool.{cases_lt}
-use Rattle.vl_cost.specs.declared.capacity.Cost.{Cost}
-use Rattle.cell_form.specs.Data.{BankData}
-use Rattle.cell_form.specs.Sound.{shape_of}
-use Rattle.cell_form.specs.Views.{bank_of}
+use Rattle.vl_design.specs.declared.capacity.Cost.{Cost}
+use Rattle.ten_core.specs.cell_form.specs.Data.{BankData}
+use Rattle.ten_core.specs.cell_form.specs.Sound.{shape_of}
+use Rattle.ten_core.specs.cell_form.specs.Views.{bank_of}
 use Rattle.fab_join.specs.Parts.{PartData, no_part, part_at, with_bank}
-use Rattle.ten_parcel.specs.declared.tenant.Tenant.{Tenant}
+use Rattle.fab_model.specs.ten_parcel.specs.declared.tenant.Tenant.{Tenant}
 use Rattle.ten_shell.specs.declared.shell.Shell.{Shell}
-use Rattle.fab_points.specs.Points.{cost_of, Point}
-use Rattle.fab_points.specs.Fabrics.{plus, total, Fabric}
+use Rattle.fab_model.specs.Points.{cost_of, Point}
+use Rattle.fab_model.specs.Fabrics.{plus, total, Fabric}
 use Rattle.fab_core.specs.declared.cores.FabCore.{FabCore}
 use Rattle.fab_core.specs.declared.resident.Resident.{Resident}
 use Rattle.fab_core.specs.Alone.{IsOn, IsSwapped}

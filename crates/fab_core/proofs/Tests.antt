@@ -2,19 +2,20 @@
 use Rattle.std.proofs.Common.{◌≡◌, ◌↔◌, ℕ, ◌+◌, ◌≤◌, IsTrue, arith, Bool, true, false, List, [], ◌∷◌, Option, Some, None, Result, Ok, Err, refl, sym, ap, ◌∙◌}
 use Rattle.std.specs.Prelude.{◌&&◌, ◌||◌, not, is_some, nat_le, if◌then◌else◌, OnOk}
 use Rattle.std.proofs.lemmas.Bool.Decides.{nat_tests}
-use Rattle.vl_cost.specs.declared.capacity.Cost.{Cost}
-use Rattle.vl_cost.specs.Costs.{Fits}
+use Rattle.vl_design.specs.declared.capacity.Cost.{Cost}
+use Rattle.vl_design.specs.Costs.{Fits}
 use Rattle.vl_design.specs.declared.design.End.{End}
 use Rattle.vl_design.specs.declared.design.End.TheVariants as end
-use Rattle.sub_nodes.specs.Cycles.{is_trap, rises}
-use Rattle.sub_nodes.specs.Nodes.{Node, Run, Trap, Apply}
+use Rattle.ten_core.specs.sub_nodes.specs.Cycles.{is_trap, rises}
+use Rattle.ten_core.specs.sub_nodes.specs.Nodes.{Node, Run, Trap, Apply}
 use Rattle.ten_shell.specs.declared.shell.Why.{Why}
 use Rattle.ten_shell.specs.Leaving.{why_of}
 use Rattle.ten_shell.specs.Shells.{is_left}
-use Rattle.fab_points.specs.Fabrics.{plus, within}
-
-pub clash : (x : Bool) → x ≡ true → x ≡ false → ⊥
-clash x e h = cc
+use Rattle.fab_model.specs.Fabrics.{plus, within}
+pub use Rattle.vl_design.specs.vl_base.proofs.Booleans.{never_both as clash, or_left_false as or-left-false, or_right_false as or-right-false, or_then as or-then, or_else as or-else}
+pub use Rattle.ten_core.specs.sub_nodes.proofs.Shared.{trap-low}
+use Rattle.vl_design.specs.vl_base.proofs.Numbers.{le_true as le-true, le_from as le-back}
+use Rattle.fab_model.proofs.Shared.{fits-within}
 
 pub never-both : (x : Bool) → (x ≡ true → x ≡ false) → x ≡ false
 never-both true h = h refl
@@ -38,29 +39,7 @@ none-left false x e h = let z : ⊥ = cc in absurd z
 
 -- ---- tests joined
 
-pub or-left-false : (w x : Bool) → (w || x) ≡ false → w ≡ false
-or-left-false true x e = e
-or-left-false false x e = refl
-
-pub or-right-false : (w x : Bool) → (w || x) ≡ false → x ≡ false
-or-right-false true x e = let z : ⊥ = cc in absurd z
-or-right-false false x e = e
-
-pub or-then : (x w y : Bool) → x ≡ w → x ≡ true → x ≡ (w || y)
-or-then x true y e h = h
-or-then x false y e h = let z : ⊥ = cc in absurd z
-
-pub or-else : (x w y : Bool) → w ≡ false → x ≡ y → x ≡ (w || y)
-or-else x true y e h = let z : ⊥ = cc in absurd z
-or-else x false y e h = h
-
 -- ---- what fits
-
-le-true : (a b : ℕ) → a ≤ b → nat_le a b ≡ true
-le-true a b h = grind (arith, nat_tests)
-
-le-back : (a b : ℕ) → nat_le a b ≡ true → a ≤ b
-le-back a b h = grind (arith, nat_tests)
 
 and-all : (x y z : Bool) → x ≡ true → y ≡ true → z ≡ true → (x && (y && z)) ≡ true
 and-all x y z e f g = rw e (rw f g)
@@ -78,11 +57,6 @@ and-3 : (x y z : Bool) → (x && (y && z)) ≡ true → z ≡ true
 and-3 true true z e = e
 and-3 true false z e = let w : ⊥ = cc in absurd w
 and-3 false y z e = let w : ⊥ = cc in absurd w
-
-fits-within : (u m c : Cost) → Fits u m c → within (plus u m) c ≡ true
-fits-within u m c h =
-    and-all (nat_le (u.regs + m.regs) c.regs) (nat_le (u.cells + m.cells) c.cells) (nat_le (u.mem + m.mem) c.mem)
-    (le-true (u.regs + m.regs) c.regs h.regs) (le-true (u.cells + m.cells) c.cells h.cells) (le-true (u.mem + m.mem) c.mem h.mem)
 
 within-fits : (u m c : Cost) → within (plus u m) c ≡ true → Fits u m c
 within-fits u m c h =
@@ -163,12 +137,6 @@ pub steps-held : (w d h r y : Bool) → w ≡ false → d ≡ false → h ≡ tr
 steps-held w d h r y e f g k = rw e (rw f (rw g k))
 
 -- ---- nodes
-
-pub trap-low : (x : Option Node) → is_trap x ≡ true → rises x ≡ false
-trap-low None e = let z : ⊥ = cc in absurd z
-trap-low (Some (Run g on)) e = let z : ⊥ = cc in absurd z
-trap-low (Some (Trap task to)) e = refl
-trap-low (Some (Apply to)) e = let z : ⊥ = cc in absurd z
 
 -- a node at which it rests and waits is a call's behind `$finish`
 pub over-there : (w f u l : Bool) → (w ≡ true → u ≡ false) → (w || ((not f && u) && l)) ≡ true → (f || (u && not l)) ≡ true → f ≡ true

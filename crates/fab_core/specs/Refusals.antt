@@ -1,7 +1,7 @@
 -- Why a tenant can't arrive at a fabric (own).
 use Rattle.std.specs.Prelude.{◌≡◌, false, true}
-use Rattle.fab_points.specs.Points.{cost_of, Point}
-use Rattle.fab_points.specs.Fabrics.{Fabric, has, within}
+use Rattle.fab_model.specs.Points.{cost_of, Point}
+use Rattle.fab_model.specs.Fabrics.{Fabric, has, within}
 use Rattle.fab_core.specs.declared.cores.CoreError.{CoreError}
 use Rattle.fab_core.specs.declared.cores.CoreError.TheVariants.{TooLarge, Doubled, Memory}
 

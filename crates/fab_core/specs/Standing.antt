@@ -2,18 +2,18 @@
 use Rattle.std.specs.Prelude.{◌≡◌, ℕ, ◌<◌, true, List, [], ◌∷◌, ◌++◌, length, ⊤}
 use Rattle.std.specs.Arc.{arc_value}
 use Rattle.std.specs.List.{AllPairs}
-use Rattle.cell_form.specs.Data.{BankData}
-use Rattle.cell_form.specs.Sound.{shape_of}
-use Rattle.cell_form.specs.Views.{bank_of}
+use Rattle.ten_core.specs.cell_form.specs.Data.{BankData}
+use Rattle.ten_core.specs.cell_form.specs.Sound.{shape_of}
+use Rattle.ten_core.specs.cell_form.specs.Views.{bank_of}
 use Rattle.fab_join.specs.Parts.{PartData, part_at}
 use Rattle.ten_core.specs.Tenants.{table_in}
-use Rattle.ten_parcel.specs.declared.parcel.Parcel.{Parcel}
-use Rattle.ten_parcel.specs.declared.parcel.Parcel.TheVariants as parcel
-use Rattle.ten_parcel.specs.declared.tenant.Tenant.{Tenant}
+use Rattle.fab_model.specs.ten_parcel.specs.declared.parcel.Parcel.{Parcel}
+use Rattle.fab_model.specs.ten_parcel.specs.declared.parcel.Parcel.TheVariants as parcel
+use Rattle.fab_model.specs.ten_parcel.specs.declared.tenant.Tenant.{Tenant}
 use Rattle.ten_shell.specs.declared.shell.Shell.{Shell}
 use Rattle.ten_shell.specs.Shells.{flat_in, free_in, is_at_boundary, left_in, StandsFor}
-use Rattle.fab_points.specs.Points.{Point, rests}
-use Rattle.fab_points.specs.Fabrics.{Fabric, total, within, AreOnce}
+use Rattle.fab_model.specs.Points.{Point, rests}
+use Rattle.fab_model.specs.Fabrics.{Fabric, total, within, AreOnce}
 use Rattle.fab_core.specs.declared.cores.FabCore.{FabCore}
 use Rattle.fab_core.specs.declared.resident.Resident.{Resident}
 

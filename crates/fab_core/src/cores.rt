@@ -1,18 +1,18 @@
 //! Cores of fabrics.
 
 ghost use Rattle.std.specs.Prelude.{◌≡◌, false, true, [], None, IfErr, OnOk, OnErr};
-ghost use Rattle.fab_points.specs.Points.{cost_of, ended, Point};
-ghost use Rattle.fab_points.specs.Fabrics.{arrived, has, held, within, Fabric};
+ghost use Rattle.fab_model.specs.Points.{cost_of, ended, Point};
+ghost use Rattle.fab_model.specs.Fabrics.{arrived, has, held, within, Fabric};
 ghost use Rattle.fab_core.specs.Refusals.{IsRefusal};
 ghost use Rattle.fab_core.specs.Standing.{IsFabric, IsPointOf};
 
 use crate::resident::Resident;
 use fab_join::joined::Joined;
-use fab_points::laws::each_number_stays_once;
+use fab_model::laws::each_number_stays_once;
+use fab_model::parcel::Parcel;
+use fab_model::tenant::Tenant;
 use std::alloc::Global;
-use ten_parcel::parcel::Parcel;
-use ten_parcel::tenant::Tenant;
-use vl_cost::capacity::{Cost, fits};
+use vl_design::capacity::{Cost, fits};
 
 /// A cost of nothing.
 const NOTHING: Cost = Cost {

@@ -1,15 +1,15 @@
 //! A cycle of a fabric.
 
 ghost use Rattle.std.specs.Prelude.{◌≡◌, ◌+◌, ◌≤◌, ◌<◌, ◌^◌, map, true, slice_set, List, if◌then◌else◌};
-ghost use Rattle.fab_points.specs.Points.{cycled, Point};
-ghost use Rattle.fab_points.specs.Fabrics.{all_stepped, can_step, stepped, steppers, Fabric};
+ghost use Rattle.fab_model.specs.Points.{cycled, Point};
+ghost use Rattle.fab_model.specs.Fabrics.{all_stepped, can_step, stepped, steppers, Fabric};
 ghost use Rattle.fab_join.specs.Parts.{part_at, PartData};
 ghost use Rattle.fab_core.specs.Standing.{ArePartsApart, AreStanding, IsFabric, Stands};
 
 use crate::cores::FabCore;
 use crate::resident::Resident;
 use fab_join::joined::Joined;
-use fab_points::laws::each_number_stays_once;
+use fab_model::laws::each_number_stays_once;
 use ten_shell::laws::a_shells_cycle_leads_to_a_state;
 
 impl Resident {

@@ -1,13 +1,13 @@
 //! Where tenants are.
 
 ghost use Rattle.std.specs.Prelude.{◌≡◌, ◌<◌, ◌==◌, length, slice_get, Some, position};
-ghost use Rattle.fab_points.specs.Points.{tick_of, Point};
-ghost use Rattle.fab_points.specs.Fabrics.{has, Fabric};
+ghost use Rattle.fab_model.specs.Points.{tick_of, Point};
+ghost use Rattle.fab_model.specs.Fabrics.{has, Fabric};
 ghost use Rattle.fab_core.specs.Standing.{IsFabric};
 
 use crate::cores::FabCore;
 use crate::resident::Resident;
-use ten_parcel::tenant::Tenant;
+use fab_model::tenant::Tenant;
 
 /// The place of the first resident of a number.
 pub(crate) fn resident_of(residents: &[Resident], number: u32) -> Option<usize>

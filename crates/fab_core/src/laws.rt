@@ -4,12 +4,12 @@ ghost use Rattle.std.specs.Prelude.{◌≡◌, Some, if◌then◌else◌};
 ghost use Rattle.vl_design.specs.declared.design.End.TheVariants.{Stopped};
 ghost use Rattle.vl_design.specs.Alone.{Boundary, reason_at};
 ghost use Rattle.vl_design.specs.Queue.{Queue};
-ghost use Rattle.ten_parcel.specs.declared.parcel.Parcel.{Parcel as OneParcel};
-ghost use Rattle.ten_parcel.specs.Parcels.{free_of, is_moved, is_stopped, number_of, origin_in, run_of, ticks_of, IsParcel, IsTenant};
-ghost use Rattle.fab_points.specs.Points.{ended, tick_of, Point};
+ghost use Rattle.fab_model.specs.ten_parcel.specs.declared.parcel.Parcel.{Parcel as OneParcel};
+ghost use Rattle.fab_model.specs.ten_parcel.specs.Parcels.{free_of, is_moved, is_stopped, number_of, origin_in, run_of, ticks_of, IsParcel, IsTenant};
+ghost use Rattle.fab_model.specs.Points.{ended, tick_of, Point};
 ghost use Rattle.fab_core.specs.Standing.{IsPointOf};
 
-use ten_run::laws::a_run_at_rest_is_at_a_boundary;
+use ten_core::run_laws::a_run_at_rest_is_at_a_boundary;
 use vl_design::laws::has_one_state_at_a_boundary;
 
 /// A tenant at rest stands at a point, unless its run has finished in time zero.

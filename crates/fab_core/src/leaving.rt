@@ -3,16 +3,16 @@
 ghost use Rattle.std.specs.Prelude.{◌≡◌, ◌<◌, false, length, slice_get, true, Some, IfNone, IfSome};
 ghost use Rattle.std.specs.List.{remove};
 ghost use Rattle.ten_shell.specs.declared.shell.Why.{Why as Reason};
-ghost use Rattle.fab_points.specs.Points.{departed, due, Point};
-ghost use Rattle.fab_points.specs.Fabrics.{first_of, found, has, left, taken, Fabric};
-ghost use Rattle.fab_points.specs.Worlds.{is_at_rest};
+ghost use Rattle.fab_model.specs.Points.{departed, due, Point};
+ghost use Rattle.fab_model.specs.Fabrics.{first_of, found, has, left, taken, Fabric};
+ghost use Rattle.fab_model.specs.Worlds.{is_at_rest};
 ghost use Rattle.fab_core.specs.Alone.{IsOn};
 ghost use Rattle.fab_core.specs.Standing.{IsFabric, IsPointOf};
 
 use crate::cores::FabCore;
 use crate::finding::{resident_of, waiter_of};
-use ten_parcel::parcel::Parcel;
-use ten_parcel::tenant::Tenant;
+use fab_model::parcel::Parcel;
+use fab_model::tenant::Tenant;
 use ten_shell::shell::Why;
 
 /// A tenant that comes out, and why.

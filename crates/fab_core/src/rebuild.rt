@@ -1,9 +1,9 @@
 //! The joined bank made anew.
 
 ghost use Rattle.std.specs.Prelude.{◌≡◌, ◌+◌, ◌++◌, ◌<◌, ◌≤◌, ◌^◌, ◌∷◌, [], true, take, drop, map, All, List, length, vec_len, vec_capacity, IfOk, OnOk, OnErr};
-ghost use Rattle.fab_points.specs.Points.{Point};
-ghost use Rattle.fab_points.specs.Fabrics.{joiners, plus, rebuilt, total, Fabric};
-ghost use Rattle.fab_points.specs.Worlds.{is_at_rest};
+ghost use Rattle.fab_model.specs.Points.{Point};
+ghost use Rattle.fab_model.specs.Fabrics.{joiners, plus, rebuilt, total, Fabric};
+ghost use Rattle.fab_model.specs.Worlds.{is_at_rest};
 ghost use Rattle.fab_core.specs.Alone.{part_for, tenants_of, AreNumbered, HasPoint};
 ghost use Rattle.fab_core.specs.Standing.{AreWaiting, IsFabric};
 
@@ -11,10 +11,10 @@ use crate::cores::FabCore;
 use crate::resident::Resident;
 use crate::swapping::swap_all;
 use fab_join::joined::Joined;
-use fab_points::laws::each_number_stays_once;
+use fab_model::laws::each_number_stays_once;
+use fab_model::tenant::Tenant;
 use std::alloc::{AllocError, Global};
-use ten_parcel::tenant::Tenant;
-use vl_cost::capacity::{Cost, fits};
+use vl_design::capacity::{Cost, fits};
 
 /// The tenants at the head of a line that join the residents.
 #[derive(Clone, Copy)]

@@ -1,6 +1,6 @@
 //! Residents.
 
-use ten_parcel::tenant::Tenant;
+use fab_model::tenant::Tenant;
 
 /// A tenant whose bank is a part of a fabric's joined bank.
 #[derive(Drop)]

@@ -1,10 +1,10 @@
 //! What residents wait for.
 
 ghost use Rattle.std.specs.Prelude.{◌≡◌, not, true, Some, slice_set, IfOk, OnOk, OnErr};
-ghost use Rattle.sub_nodes.specs.Code.{table_of};
-ghost use Rattle.sub_nodes.specs.Stands.{at_trap};
-ghost use Rattle.fab_points.specs.Points.{run_in, served, waits, Point};
-ghost use Rattle.fab_points.specs.Fabrics.{all_served, first_of, Fabric};
+ghost use Rattle.ten_core.specs.sub_nodes.specs.Code.{table_of};
+ghost use Rattle.ten_core.specs.sub_nodes.specs.Stands.{at_trap};
+ghost use Rattle.fab_model.specs.Points.{run_in, served, waits, Point};
+ghost use Rattle.fab_model.specs.Fabrics.{all_served, first_of, Fabric};
 ghost use Rattle.fab_join.specs.Parts.{part_at};
 ghost use Rattle.fab_core.specs.Standing.{IsFabric, Stands};
 
@@ -12,7 +12,7 @@ use crate::cores::FabCore;
 use crate::finding::resident_of;
 use crate::resident::Resident;
 use fab_join::joined::Joined;
-use fab_points::laws::each_number_stays_once;
+use fab_model::laws::each_number_stays_once;
 use std::alloc::{AllocError, Global};
 
 impl Resident {

@@ -1,7 +1,7 @@
 //! Residents whose own banks and parts of the joined bank change places.
 
 ghost use Rattle.std.specs.Prelude.{List, All};
-ghost use Rattle.fab_points.specs.Points.{Point};
+ghost use Rattle.fab_model.specs.Points.{Point};
 ghost use Rattle.fab_core.specs.Alone.{AreAlone, IsSwapped};
 ghost use Rattle.fab_core.specs.Standing.{ArePartsApart, AreStanding, HasPart};
 

@@ -1,11 +1,11 @@
 //! What may happen next. None of these takes memory.
 
 ghost use Rattle.std.specs.Prelude.{◌≡◌, ◌<◌, ◌↔◌, IsTrue};
-ghost use Rattle.fab_points.specs.Fabrics.{first_leaving, first_waiting, head_fits, is_still, steppers, Fabric};
+ghost use Rattle.fab_model.specs.Fabrics.{first_leaving, first_waiting, head_fits, is_still, steppers, Fabric};
 ghost use Rattle.fab_core.specs.Standing.{IsFabric};
 
 use crate::cores::FabCore;
-use vl_cost::capacity::fits;
+use vl_design::capacity::fits;
 
 impl FabCore {
     /// No resident starts another tick.

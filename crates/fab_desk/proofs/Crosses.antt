@@ -3,11 +3,11 @@
 use denote.Builtin.{u32}
 use denote.Param.Send.{IsSend, IsSync, sendable, view_send, view_sync}
 use denote.Param.SendFields.{declared_send, declared_sync}
-use Rattle.fab_lock.proofs.lock.Lock.TheSendSync as lock
-use Rattle.fab_lock.proofs.seat.LockSeat.TheSendSync as seat
-use Rattle.fab_lock.specs.contracts.lock.Lock as Lock
-use Rattle.fab_lock.specs.contracts.seat.LockSeat as LockSeat
-use Rattle.fab_notes.specs.contracts.note.Note as Note
+use Rattle.fab_bay.specs.fab_lock.proofs.lock.Lock.TheSendSync as lock
+use Rattle.fab_bay.specs.fab_lock.proofs.seat.LockSeat.TheSendSync as seat
+use Rattle.fab_bay.specs.fab_lock.specs.contracts.lock.Lock as Lock
+use Rattle.fab_bay.specs.fab_lock.specs.contracts.seat.LockSeat as LockSeat
+use Rattle.fab_bay.specs.fab_model.specs.contracts.note.Note as Note
 use Rattle.fab_bay.proofs.Crosses as bays
 use Rattle.fab_bay.proofs.Crosses.{Bay-send}
 use Rattle.fab_bay.specs.contracts.bay.Bay as Bay

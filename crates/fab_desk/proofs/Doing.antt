@@ -1,11 +1,11 @@
 -- What calls at a desk do.
 use Rattle.std.proofs.Common.{◌≡◌, ℕ, List, [], ◌∷◌, ◌++◌, sym, ap, ◌∙◌, subst, append-nil}
 use Rattle.std.specs.Bool.{Decides}
-use Rattle.fab_lock.specs.declared.entry.Entry.{Entry}
-use Rattle.fab_lock.specs.Views.{after_grab}
-use Rattle.fab_notes.specs.declared.note.Note.{Note}
-use Rattle.fab_notes.specs.declared.transit.Transit.{Transit}
-use Rattle.fab_notes.specs.Tokens.{token_of, AllBear}
+use Rattle.fab_bay.specs.fab_lock.specs.declared.entry.Entry.{Entry}
+use Rattle.fab_bay.specs.fab_lock.specs.Views.{after_grab}
+use Rattle.fab_bay.specs.fab_model.specs.declared.note.Note.{Note}
+use Rattle.fab_bay.specs.fab_model.specs.declared.transit.Transit.{Transit}
+use Rattle.fab_bay.specs.fab_model.specs.Tokens.{token_of, AllBear}
 use Rattle.fab_bay.specs.declared.leaving.Receipt.{Receipt}
 use Rattle.fab_bay.specs.declared.leaving.Refused.{Refused}
 use Rattle.fab_bay.specs.declared.leaving.Taken.{Taken}

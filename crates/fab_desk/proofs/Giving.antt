@@ -2,16 +2,16 @@
 use Rattle.std.proofs.Common.{◌≡◌, ℕ, ◌<◌, false, List, [], ◌∷◌, ◌++◌, map, sym, refl, ap, ◌∙◌, subst, append-nil}
 use Rattle.std.proofs.Math.Seq.{drop-append_seam}
 use Rattle.std.proofs.lemmas.List.{map-append}
-use Rattle.fab_lock.specs.declared.entry.Entry.{Entry}
-use Rattle.fab_lock.specs.Facts.{Finds as LockFinds}
-use Rattle.fab_lock.specs.Histories.{Adds, Reaches}
-use Rattle.fab_lock.specs.Views.{after_give}
-use Rattle.fab_notes.specs.declared.note.Note.{Note}
-use Rattle.fab_notes.specs.declared.transit.Transit.{Transit}
-use Rattle.fab_notes.specs.Histories.{IsLegal}
-use Rattle.fab_notes.specs.Origins.{AreOwn}
-use Rattle.fab_notes.specs.Tokens.{puts}
-use Rattle.ten_parcel.specs.Parcels.{number_of}
+use Rattle.fab_bay.specs.fab_lock.specs.declared.entry.Entry.{Entry}
+use Rattle.fab_bay.specs.fab_lock.specs.Facts.{Finds as LockFinds}
+use Rattle.fab_bay.specs.fab_lock.specs.Histories.{Adds, Reaches}
+use Rattle.fab_bay.specs.fab_lock.specs.Views.{after_give}
+use Rattle.fab_bay.specs.fab_model.specs.declared.note.Note.{Note}
+use Rattle.fab_bay.specs.fab_model.specs.declared.transit.Transit.{Transit}
+use Rattle.fab_bay.specs.fab_model.specs.Histories.{IsLegal}
+use Rattle.fab_bay.specs.fab_model.specs.Origins.{AreOwn}
+use Rattle.fab_bay.specs.fab_model.specs.Tokens.{puts}
+use Rattle.fab_bay.specs.ten_parcel.specs.Parcels.{number_of}
 use Rattle.fab_bay.specs.declared.leaving.Found.{Found}
 use Rattle.fab_bay.specs.declared.leaving.Found.TheVariants.{Here, Absent, Short}
 use Rattle.fab_bay.specs.declared.leaving.Receipt.{Receipt}
@@ -21,7 +21,8 @@ use Rattle.fab_bay.specs.declared.noted.NotedCore.{NotedCore}
 use Rattle.fab_bay.specs.Standing.{IsBay}
 use Rattle.fab_bay.specs.Taking.{IsTaken, IsFound as IsOutcome}
 use Rattle.fab_bay.specs.Ways.{Way, IsPut, Took}
-use Rattle.fab_desk.specs.Desks.{entry_of, itself, serving, DeskView, Finds, Gives, IsFound}
+use Rattle.fab_bay.specs.fab_model.specs.Histories.{entry_of}
+use Rattle.fab_desk.specs.Desks.{itself, serving, DeskView, Finds, Gives, IsFound}
 use Rattle.fab_desk.proofs.Histories.{bears, reaches_notes}
 
 -- a seat finds the history of a bay
@@ -44,16 +45,6 @@ found_by label v x words b o e f = record {
 -- no note is given
 pub gives_none : (tenants number : ℕ) (taken now : List Note) → now ≡ taken → Gives tenants number taken now []
 gives_none tenants number taken now e = record { added = []; notes = e ∙ sym (append-nil taken); told = refl; bear = tt; few = tt }
-
--- the note of a tenant that is put in line
-pub gives_put : (tenants number : ℕ) (x y : NotedCore) (t : Transit) (r : Receipt) → number_of t.parcel < tenants → IsPut number x y t r → Gives tenants number x.notes.items y.notes.items (r.entry ∷ [])
-gives_put tenants number x y t r l p = let e = p.entry ∙ p.tells in record {
-  added = p.note ∷ [];
-  notes = p.notes;
-  told = ap (λ (o : Entry). o ∷ []) (sym p.entry);
-  bear = (ap (λ (o : Entry). o.seat) e, tt);
-  few = (subst (λ (k : ℕ). k < tenants) (sym (ap (λ (o : Entry). o.tenant) e)) l, tt);
-}
 
 -- the notes of a way
 pub gives_goes : (number cycles : ℕ) (x y : NotedCore) (said said' : List Entry) (out left : List Transit) (entries : List Entry) → (g : Way number cycles x y said said' out left) → entries ≡ map (λ n. n.entry) g.added

@@ -3,13 +3,14 @@ use Rattle.std.proofs.Common.{rules, ◌≡◌, ℕ, ◌<◌, ◌+◌, Bool, con
 use Rattle.std.specs.Prelude.{All}
 use Rattle.std.proofs.lemmas.List.{take_more}
 use Rattle.std.proofs.lemmas.List.Elements.{All-cons}
-use Rattle.fab_lock.specs.declared.entry.Entry.{Entry}
-use Rattle.fab_lock.specs.Histories.{high, Reaches}
+use Rattle.fab_bay.specs.fab_lock.specs.declared.entry.Entry.{Entry}
+use Rattle.fab_bay.specs.fab_lock.specs.Histories.{high, Reaches}
 use Rattle.fab_desk.proofs.Raising.{raised}
-use Rattle.fab_notes.specs.declared.note.Note.{Note}
-use Rattle.fab_notes.specs.Tokens.{AllBear}
+use Rattle.fab_bay.specs.fab_model.specs.declared.note.Note.{Note}
+use Rattle.fab_bay.specs.fab_model.specs.Tokens.{AllBear}
 use Rattle.fab_bay.specs.Ways.{AreBelow}
-use Rattle.fab_desk.specs.Desks.{entry_of, itself}
+use Rattle.fab_bay.specs.fab_model.specs.Histories.{entry_of}
+use Rattle.fab_desk.specs.Desks.{itself}
 
 -- each bears the number
 pub bears : (k : ℕ) (ns : List Note) → AllBear k ns → All (λ n. n.entry.seat ≡ k) ns

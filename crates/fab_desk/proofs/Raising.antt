@@ -2,8 +2,8 @@
 use Rattle.std.proofs.Common.{◌≡◌, ℕ, ◌<◌, eqb, Bool, true, false, List, [], ◌∷◌, ◌++◌, length, set, get_or, sym, refl, ap, ◌∙◌, arith, length-set, cond, max, eq-eqb, ne_eqb, get_or-set_same, get_or-set_other}
 use mathlib.Core.Logic.{dite}
 use native.Mathlib.Decide.{ℕ_discrete}
-use Rattle.fab_lock.specs.declared.entry.Entry.{Entry}
-use Rattle.fab_lock.specs.Histories.{high, Reaches}
+use Rattle.fab_bay.specs.fab_lock.specs.declared.entry.Entry.{Entry}
+use Rattle.fab_bay.specs.fab_lock.specs.Histories.{high, Reaches}
 
 ends : (b : Bool) (k : ℕ) → cond b (max k 0) 0 ≡ cond b (max 0 k) 0
 ends true k = omega arith

@@ -1,15 +1,15 @@
 -- What a call at a desk finds, and what its seat knows afterwards (own).
 use Rattle.std.specs.Prelude.{◌≡◌, ℕ, ◌+◌, ◌<◌, ◌≤◌, false, List, [], ◌∷◌, ◌++◌, map, All, length, Option, Some, None}
 use Rattle.std.specs.Bool.{Decides}
-use Rattle.fab_lock.specs.declared.entry.Entry.{Entry}
-use Rattle.fab_lock.specs.declared.view.View.{View}
-use Rattle.fab_lock.specs.Facts.{LockFacts, SeatFacts}
-use Rattle.fab_lock.specs.Histories.{StartsWith, notes_of, high}
-use Rattle.fab_notes.specs.declared.note.Note.{Note}
-use Rattle.fab_notes.specs.declared.transit.Transit.{Transit}
-use Rattle.fab_notes.specs.Histories.{AreLinesByFirst, IsLegal}
-use Rattle.fab_notes.specs.Origins.{AreOwn}
-use Rattle.fab_notes.specs.Tokens.{puts, token_of, AllBear}
+use Rattle.fab_bay.specs.fab_lock.specs.declared.entry.Entry.{Entry}
+use Rattle.fab_bay.specs.fab_lock.specs.declared.view.View.{View}
+use Rattle.fab_bay.specs.fab_lock.specs.Facts.{LockFacts, SeatFacts}
+use Rattle.fab_bay.specs.fab_lock.specs.Histories.{StartsWith, notes_of, high}
+use Rattle.fab_bay.specs.fab_model.specs.declared.note.Note.{Note}
+use Rattle.fab_bay.specs.fab_model.specs.declared.transit.Transit.{Transit}
+use Rattle.fab_bay.specs.fab_model.specs.Histories.{entry_of, AreLinesByFirst, IsLegal}
+use Rattle.fab_bay.specs.fab_model.specs.Origins.{AreOwn}
+use Rattle.fab_bay.specs.fab_model.specs.Tokens.{puts, token_of, AllBear}
 use Rattle.fab_bay.specs.declared.leaving.Receipt.{Receipt}
 use Rattle.fab_bay.specs.declared.leaving.Refused.{Refused}
 use Rattle.fab_bay.specs.declared.leaving.Taken.{Taken}
@@ -23,9 +23,6 @@ use Rattle.fab_bay.specs.Ways.{AreBelow, IsEmpty, IsPut, Turned}
 
 abbrev pub DeskView : Type 0
 DeskView = View Label Note
-
-abbrev pub entry_of : Note → Entry
-entry_of n = n.entry
 
 abbrev pub itself : Entry → Entry
 itself e = e

@@ -1,23 +1,24 @@
 //! What threads do at a desk.
 
 ghost use Rattle.std.specs.Prelude.{◌≡◌, ◌<◌, ◌≤◌, ◌++◌, List, false, true, None, All, IfErr, IfOk, OnErr};
-ghost use Rattle.ten_parcel.specs.Parcels.{number_of, origin_in};
-ghost use Rattle.fab_lock.specs.Facts.{IsSeatOf};
-ghost use Rattle.fab_lock.specs.declared.entry.Entry.{Entry as Told};
-ghost use Rattle.fab_lock.specs.Histories.{high, Reaches, StartsWith};
-ghost use Rattle.fab_lock.specs.Views.{after_glance, after_grab, after_join, first_view, lower_half, upper_half};
-ghost use Rattle.fab_points.specs.Points.{ended, Point};
-ghost use Rattle.fab_core.specs.Standing.{IsPointOf};
-ghost use Rattle.fab_notes.specs.declared.note.Note.{Note};
-ghost use Rattle.fab_notes.specs.Origins.{StartsFrom};
-ghost use Rattle.fab_desk.specs.Desks.{entry_of, itself, serving, DidNothing, DidPut, DidRefuse, DidTake, DidTurn, Finds, Gives, IsFound};
+ghost use Rattle.fab_bay.specs.ten_parcel.specs.Parcels.{number_of, origin_in};
+ghost use Rattle.fab_bay.specs.fab_lock.specs.Facts.{IsSeatOf};
+ghost use Rattle.fab_bay.specs.fab_lock.specs.declared.entry.Entry.{Entry as Told};
+ghost use Rattle.fab_bay.specs.fab_lock.specs.Histories.{high, Reaches, StartsWith};
+ghost use Rattle.fab_bay.specs.fab_lock.specs.Views.{after_glance, after_grab, after_join, first_view, lower_half, upper_half};
+ghost use Rattle.fab_bay.specs.fab_model.specs.Points.{ended, Point};
+ghost use Rattle.fab_bay.specs.fab_core.specs.Standing.{IsPointOf};
+ghost use Rattle.fab_bay.specs.fab_model.specs.declared.note.Note.{Note};
+ghost use Rattle.fab_bay.specs.fab_model.specs.Origins.{StartsFrom};
+ghost use Rattle.fab_bay.specs.fab_model.specs.Histories.{entry_of};
+ghost use Rattle.fab_desk.specs.Desks.{itself, serving, DidNothing, DidPut, DidRefuse, DidTake, DidTurn, Finds, Gives, IsFound};
 
 use crate::desk::{Desk, DeskSeat};
 use fab_bay::bay::Bay;
 use fab_bay::leaving::{Receipt, Refused, Taken, Turn};
 use fab_bay::noted::Label;
-use fab_lock::{Entry, Lock, LockSeat};
-use fab_notes::transit::Transit;
+use fab_bay::transit::Transit;
+use fab_bay::{Entry, Lock, LockSeat};
 use std::alloc::{AllocError, Global};
 use std::sync::Wait;
 

@@ -3,7 +3,7 @@
 ghost use Rattle.std.specs.Prelude.{◌≡◌};
 
 use fab_bay::bay::Bay;
-use fab_lock::{Lock, LockSeat};
+use fab_bay::{Lock, LockSeat};
 use std::marker::Model;
 
 /// A bay behind its lock, with a progress word for each tenant. A contract sees which lock it is, its label, and how many words it has.
@@ -18,7 +18,7 @@ impl Model for Desk {
     ghost use Rattle.std.specs.Coded.{codes};
     ghost use Rattle.fab_bay.specs.contracts.noted.Label as label;
     ghost use Rattle.fab_bay.specs.declared.noted.Label.{Label};
-    ghost use Rattle.fab_lock.specs.Facts.{LockFacts};
+    ghost use Rattle.fab_bay.specs.fab_lock.specs.Facts.{LockFacts};
 
     ghost Value = { LockFacts Label };
 
@@ -39,11 +39,11 @@ pub struct DeskSeat {
 impl Model for DeskSeat {
     ghost use Rattle.std.specs.Prelude.{◌≡◌, false};
     ghost use Rattle.std.specs.Coded.{codes};
-    ghost use Rattle.vl_design.specs.contracts.design.StmtNode as stmt;
+    ghost use Rattle.fab_bay.specs.vl_design.specs.contracts.design.StmtNode as stmt;
     ghost use Rattle.fab_bay.specs.contracts.noted.Label as label;
     ghost use Rattle.fab_bay.specs.declared.noted.Label.{Label};
-    ghost use Rattle.fab_lock.specs.Facts.{SeatFacts};
-    ghost use Rattle.fab_notes.specs.declared.note.Note.{Note};
+    ghost use Rattle.fab_bay.specs.fab_lock.specs.Facts.{SeatFacts};
+    ghost use Rattle.fab_bay.specs.fab_model.specs.declared.note.Note.{Note};
 
     ghost Value = { SeatFacts Label Note };
 

@@ -2,7 +2,7 @@
 
 use crate::desk::{Desk, DeskSeat};
 use fab_bay::bay::Bay;
-use fab_notes::transit::Transit;
+use fab_bay::transit::Transit;
 
 fn may_be_shared<X: Sync>(_: &X) {}
 

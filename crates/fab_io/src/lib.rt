@@ -1,5 +1,9 @@
-//! The outside of the host: where files are read and written, where text goes, and a gate that
-//! tests use to hold a worker.
+//! The outside of the host: stores of files and sinks of output, in memory and real, and a gate that tests use to hold a worker.
+//!
+//! Proved: stores and sinks in memory give, keep and fail exactly as their record says (`files`, `calls`, `failed_if_listed`, `not_there`,
+//! `too_long`, `count`); the adapters count each failure (`failed`, `not_there`, `too_long`) and read at most the limit (`short`).
+//!
+//! Tested: what a real file or terminal gives or takes: rows of `value_rows`, section `files`, and what `fabhost` prints.
 #![tactic(auto)]
 
 mod calls;

@@ -2,7 +2,7 @@
 use Rattle.std.proofs.Common.{◌≡◌, ℕ, ◌+◌, ◌-◌, ◌≤◌, inl, inr, List, ◌++◌, length, drop, take, map, arith, refl, ap, sym, ◌∙◌}
 use Rattle.std.proofs.lemmas.List.{take-map, drop-map, take_at, drop_at, take_all, take-append-le, drop-append-le, length-append, length-take-le, length-drop, drop-drop, drop-take, append_assoc, map-append, length-map, take-take}
 use lib.Seq.{take-append-add}
-use Rattle.cell_form.specs.Data.{BankData}
+use Rattle.trap_runtime.specs.cell_form.specs.Data.{BankData}
 use Rattle.fab_join.specs.Banks.{pasted, IsClear}
 
 pub part_mapped : {V W : Type 0} (f : V → W) (xs : List V) (a n : ℕ) → map f (take n (drop a xs)) ≡ take n (drop a (map f xs))

@@ -5,10 +5,10 @@ use Rattle.std.specs.List.{All}
 use Rattle.std.proofs.lemmas.List.{length-append, map_push}
 use Rattle.std.proofs.lemmas.List.Elements.{All-weaker, All-push}
 use Rattle.std.proofs.lemmas.List.Quantifiers.{all_pairs_push}
-use Rattle.cell_form.specs.declared.bank.Port.{Port}
-use Rattle.cell_form.specs.Data.{BankData, TableData}
-use Rattle.cell_form.specs.Sound.{Shape, shape_of}
-use Rattle.cell_form.specs.Views.{table_of}
+use Rattle.trap_runtime.specs.cell_form.specs.declared.bank.Port.{Port}
+use Rattle.trap_runtime.specs.cell_form.specs.Data.{BankData, TableData}
+use Rattle.trap_runtime.specs.cell_form.specs.Sound.{Shape, shape_of}
+use Rattle.trap_runtime.specs.cell_form.specs.Views.{table_of}
 use Rattle.fab_join.specs.declared.joined.Part.{Part}
 use Rattle.fab_join.specs.Banks.{part, IsWithin, AreApart, with_part, side_by_side, BeginsAs, IsLonger}
 use Rattle.fab_join.specs.Laid.{shape_of_span, part_data, IsPart, PartsApart, IsLaid}

@@ -4,10 +4,10 @@ use Rattle.std.specs.Prelude.{slice_index}
 use Rattle.std.specs.List.{All, AllPairs}
 use Rattle.std.proofs.lemmas.List.{get_or-map, get_or_default, length-drop, length-take-le}
 use Rattle.std.proofs.lemmas.Bool.{cases_lt}
-use Rattle.cell_form.specs.Data.{BankData, TableData}
-use Rattle.cell_form.specs.Sound.{Shape, shape_of}
-use Rattle.cell_form.specs.States.{table_cycled}
-use Rattle.cell_form.specs.Views.{table_of}
+use Rattle.trap_runtime.specs.cell_form.specs.Data.{BankData, TableData}
+use Rattle.trap_runtime.specs.cell_form.specs.Sound.{Shape, shape_of}
+use Rattle.trap_runtime.specs.cell_form.specs.States.{table_cycled}
+use Rattle.trap_runtime.specs.cell_form.specs.Views.{table_of}
 use Rattle.fab_join.specs.declared.joined.Part.{Part}
 use Rattle.fab_join.specs.Banks.{part, IsClear, IsWithin, AreApart}
 use Rattle.fab_join.specs.Laid.{shape_of_span, part_data, IsPart, PartsApart, IsLaid}

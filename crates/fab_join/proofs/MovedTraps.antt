@@ -2,19 +2,19 @@
 use Rattle.std.proofs.Common.{◌≡◌, ℕ, ◌+◌, ◌^◌, ◌<◌, Option, Some, None, List, [], ◌∷◌, ◌++◌, length, map, set, get_or, refl, sym, ap, ◌∙◌, arith, subst}
 use Rattle.std.specs.Prelude.{ℤ, codes, slice_index, if◌then◌else◌}
 use Rattle.std.proofs.lemmas.List.{length-set}
-use Rattle.vl_base.specs.declared.files.File.{File}
-use Rattle.vl_base.specs.declared.files.OpenFile.{OpenFile}
-use Rattle.vl_base.specs.Display.{letter_text}
-use Rattle.vl_base.specs.Files as file
-use Rattle.vl_design.specs.ReadHex.{words_read}
-use Rattle.vl_design.specs.Rows.{lower_of, range_width}
-use Rattle.cell_form.specs.declared.table.FormatPart.{FormatPart}
-use Rattle.cell_form.specs.declared.table.FormatPart.TheVariants as part_of
-use Rattle.cell_form.specs.declared.table.Trap.{Trap}
-use Rattle.cell_form.specs.declared.table.TrapCall.{TrapCall}
-use Rattle.cell_form.specs.declared.table.TrapCall.TheVariants as call
-use Rattle.cell_form.specs.Data.{BankData}
-use Rattle.cell_form.specs.Sound.{Shape, shape_of}
+use Rattle.cell_eval.specs.vl_base.specs.declared.files.File.{File}
+use Rattle.cell_eval.specs.vl_base.specs.declared.files.OpenFile.{OpenFile}
+use Rattle.cell_eval.specs.vl_base.specs.Display.{letter_text}
+use Rattle.cell_eval.specs.vl_base.specs.Files as file
+use Rattle.trap_runtime.specs.vl_design.specs.ReadHex.{words_read}
+use Rattle.trap_runtime.specs.vl_design.specs.Rows.{lower_of, range_width}
+use Rattle.trap_runtime.specs.cell_form.specs.declared.table.FormatPart.{FormatPart}
+use Rattle.trap_runtime.specs.cell_form.specs.declared.table.FormatPart.TheVariants as part_of
+use Rattle.trap_runtime.specs.cell_form.specs.declared.table.Trap.{Trap}
+use Rattle.trap_runtime.specs.cell_form.specs.declared.table.TrapCall.{TrapCall}
+use Rattle.trap_runtime.specs.cell_form.specs.declared.table.TrapCall.TheVariants as call
+use Rattle.trap_runtime.specs.cell_form.specs.Data.{BankData}
+use Rattle.trap_runtime.specs.cell_form.specs.Sound.{Shape, shape_of}
 use Rattle.trap_runtime.specs.Served.{Works, held, parts_text, loaded, served_call, served}
 use Rattle.trap_runtime.specs.Traps.{Holds, HaveValues, HasDescriptor, IsVariable, IsMemory, CanServe, IsTrap}
 use Rattle.fab_join.specs.Banks.{part, IsWithin, AreApart}

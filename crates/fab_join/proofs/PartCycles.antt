@@ -3,24 +3,25 @@ use Rattle.std.proofs.Common.{◌≡◌, ℕ, zero, suc, ◌+◌, ◌-◌, ◌<�
 use Rattle.std.specs.Prelude.{ℤ, ◌==◌, if◌then◌else◌, slice_get, slice_index}
 use Rattle.std.specs.List.{AllByRecursion}
 use Rattle.std.proofs.lemmas.List.{get_or-take, get_or-drop, drop-set-add, drop-set-lt, take-set-le, length-map, get_or-map}
-use Rattle.cell_form.specs.declared.cell.CellOp.{CellOp}
-use Rattle.cell_form.specs.declared.cell.CellOp.TheVariants as o
-use Rattle.cell_form.specs.declared.cell.Write.{Write}
-use Rattle.cell_form.specs.declared.cell.Write.TheVariants as w
-use Rattle.cell_form.specs.Data.{CellData, ListData, BankData, StateData, TableData}
-use Rattle.cell_form.specs.Values.{Slot, slot_at, found, applied, operands, cell_slot, slots_behind, slots_of}
-use Rattle.cell_form.specs.Cycle.{with_word, wrote, written, put_at, values_of, filled, value_at, cycled}
-use Rattle.cell_form.specs.Sound.{Shape, shape_of, Names, arity, Makes, IsAmong, IsCell, AreCells, IsWrite, IsList}
-use Rattle.cell_form.specs.States.{state_cycled, table_cycled}
-use Rattle.cell_form.specs.declared.table.State.{State}
-use Rattle.cell_form.specs.Views.{list_of, state_of}
+use Rattle.trap_runtime.specs.cell_form.specs.declared.cell.CellOp.{CellOp}
+use Rattle.trap_runtime.specs.cell_form.specs.declared.cell.CellOp.TheVariants as o
+use Rattle.trap_runtime.specs.cell_form.specs.declared.cell.Write.{Write}
+use Rattle.trap_runtime.specs.cell_form.specs.declared.cell.Write.TheVariants as w
+use Rattle.trap_runtime.specs.cell_form.specs.Data.{CellData, ListData, BankData, StateData, TableData}
+use Rattle.trap_runtime.specs.cell_form.specs.Values.{Slot, slot_at, found, applied, operands, cell_slot, slots_behind, slots_of}
+use Rattle.trap_runtime.specs.cell_form.specs.Cycle.{with_word, wrote, written, put_at, values_of, filled, value_at, cycled}
+use Rattle.trap_runtime.specs.cell_form.specs.Sound.{Shape, shape_of, Names, arity, Makes, IsAmong, IsCell, AreCells, IsWrite, IsList}
+use Rattle.trap_runtime.specs.cell_form.specs.States.{state_cycled, table_cycled}
+use Rattle.trap_runtime.specs.cell_form.specs.declared.table.State.{State}
+use Rattle.trap_runtime.specs.cell_form.specs.Views.{list_of, state_of}
 use Rattle.std.proofs.lemmas.Option.{slice_get_read, slice_get_past}
-use Rattle.cell_form.proofs.Cycling.{values-length, same-shape}
-use Rattle.cell_form.proofs.Fitting.{all-at}
+use Rattle.trap_runtime.specs.cell_form.proofs.Cycling.{values-length, same-shape}
+use Rattle.trap_runtime.specs.cell_form.proofs.Fitting.{all-at}
 use Rattle.fab_join.specs.Banks.{part, IsClear, IsWithin, AreApart}
 use Rattle.fab_join.specs.Numbers.{behind, numbered_op, numbered_cell, numbered_write, numbered_list, numbered_state, numbered_table}
 use Rattle.fab_join.specs.Parts.{IsTable}
 use Rattle.fab_join.proofs.Grown.{put_in_part, pasted_elsewhere}
+use Rattle.trap_runtime.specs.cell_form.proofs.Shared.{list_shape}
 
 -- ---- one item of a part
 
@@ -298,16 +299,6 @@ module _ (a s : Shape) (b : BankData) (within : IsWithin a s (shape_of b)) where
   pub table_elsewhere : (c t : Shape) (x : TableData) → AreApart a s c t → IsTable s x → part c t (table_cycled (numbered_table (behind a) x) b) ≡ part c t b
   table_elsewhere c t x apart h = state_elsewhere c t x.states (slice_index b.regs (a.regs + x.state)) apart h.states
 
--- a cycle leaves as many registers, memories and slots
-list_shape : (b : BankData) (l : ListData) → IsList (shape_of b) l → shape_of (cycled l b) ≡ shape_of b
-list_shape b l h =
-    let e = same-shape l b h in
-    let f : List ℕ → ℕ = λ m. length m in
-    let m : length (cycled l b).mems ≡ length b.mems = sym (length-map (cycled l b).mems f) ∙ ap (λ (ns : List ℕ). length ns) e.mems ∙ length-map b.mems f in
-    ap (λ (n : ℕ). record { regs = n; mems = length (cycled l b).mems; slots = length (cycled l b).slots }) e.regs
-    ∙ ap (λ (n : ℕ). record { regs = length b.regs; mems = n; slots = length (cycled l b).slots }) m
-    ∙ ap (λ (n : ℕ). record { regs = length b.regs; mems = length b.mems; slots = n }) e.slots
-
 state_shape : (b : BankData) (xs : List StateData) (k : ℕ) → AllByRecursion (λ (x : StateData). IsList (shape_of b) x.cells) xs → shape_of (state_cycled (slice_get xs k) b) ≡ shape_of b
 state_shape b [] k h = refl
 state_shape b (x ∷ xs) zero h = list_shape b x.cells h.0
@@ -332,6 +323,3 @@ module _ (xs : List State) (k : ℕ) (x : State) (lt : k < length xs) (read : x 
 
   pub state_there : slice_get (map state_of xs) k ≡ Some (state_of x)
   state_there = slice_get_read (map state_of xs) (length (map state_of xs)) k (state_of x) refl there (sym same_state)
-
-pub state_missing : (xs : List State) (k : ℕ) → length xs ≤ k → slice_get (map state_of xs) k ≡ None
-state_missing xs k past = slice_get_past (map state_of xs) k (rw length-map past)

@@ -1,12 +1,12 @@
 -- The trap of a part in a joined bank.
 use Rattle.std.proofs.Common.{◌≡◌, ℕ, zero, suc, ◌<◌, Option, Some, None, List, [], ◌∷◌, length, map, set, get_or, refl, sym, ap, ◌∙◌, subst}
 use Rattle.std.specs.Prelude.{slice_get, slice_index, option_map, option_and_then, IfSome}
-use Rattle.vl_base.specs.declared.files.File.{File}
-use Rattle.vl_base.specs.declared.files.OpenFile.{OpenFile}
-use Rattle.cell_form.specs.declared.table.Trap.{Trap}
-use Rattle.cell_form.specs.Data.{BankData, StateData, TableData}
-use Rattle.cell_form.specs.Sound.{Shape, shape_of}
-use Rattle.cell_form.specs.Views.{table_of}
+use Rattle.cell_eval.specs.vl_base.specs.declared.files.File.{File}
+use Rattle.cell_eval.specs.vl_base.specs.declared.files.OpenFile.{OpenFile}
+use Rattle.trap_runtime.specs.cell_form.specs.declared.table.Trap.{Trap}
+use Rattle.trap_runtime.specs.cell_form.specs.Data.{BankData, StateData, TableData}
+use Rattle.trap_runtime.specs.cell_form.specs.Sound.{Shape, shape_of}
+use Rattle.trap_runtime.specs.cell_form.specs.Views.{table_of}
 use Rattle.trap_runtime.specs.Served.{Works}
 use Rattle.trap_runtime.specs.Traps.{IsTrap}
 use Rattle.fab_join.specs.declared.joined.Part.{Part}

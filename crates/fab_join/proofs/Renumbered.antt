@@ -1,16 +1,16 @@
 -- Numbers that are raised and counted from the first again.
 use Rattle.std.proofs.Common.{◌≡◌, ℕ, ◌+◌, ◌-◌, Bool, true, false, List, [], ◌∷◌, map, arith, refl, ap, ◌∙◌, Option, Some, None}
 use Rattle.std.specs.Option.{option_map}
-use Rattle.cell_form.specs.declared.bank.Port.{Port}
-use Rattle.cell_form.specs.declared.cell.CellOp.{CellOp}
-use Rattle.cell_form.specs.declared.cell.CellOp.TheVariants as o
-use Rattle.cell_form.specs.declared.cell.Write.{Write}
-use Rattle.cell_form.specs.declared.cell.Write.TheVariants as w
-use Rattle.cell_form.specs.declared.table.Trap.{Trap}
-use Rattle.cell_form.specs.declared.table.TrapCall.{TrapCall}
-use Rattle.cell_form.specs.declared.table.TrapCall.TheVariants as call
-use Rattle.cell_form.specs.Data.{CellData, ListData, StateData, TableData}
-use Rattle.cell_form.specs.Sound.{Shape}
+use Rattle.trap_runtime.specs.cell_form.specs.declared.bank.Port.{Port}
+use Rattle.trap_runtime.specs.cell_form.specs.declared.cell.CellOp.{CellOp}
+use Rattle.trap_runtime.specs.cell_form.specs.declared.cell.CellOp.TheVariants as o
+use Rattle.trap_runtime.specs.cell_form.specs.declared.cell.Write.{Write}
+use Rattle.trap_runtime.specs.cell_form.specs.declared.cell.Write.TheVariants as w
+use Rattle.trap_runtime.specs.cell_form.specs.declared.table.Trap.{Trap}
+use Rattle.trap_runtime.specs.cell_form.specs.declared.table.TrapCall.{TrapCall}
+use Rattle.trap_runtime.specs.cell_form.specs.declared.table.TrapCall.TheVariants as call
+use Rattle.trap_runtime.specs.cell_form.specs.Data.{CellData, ListData, StateData, TableData}
+use Rattle.trap_runtime.specs.cell_form.specs.Sound.{Shape}
 use Rattle.fab_join.specs.Numbers.{behind, from_first, numbered_op, numbered_cell, numbered_write, numbered_list, numbered_target, numbered_trap, numbered_state, numbered_table, numbered_place, numbered_port}
 
 down : (a n : ℕ) → (a + n) - a ≡ n

@@ -1,8 +1,8 @@
 -- Parts of banks, and banks that grow or in which a part is set (own).
 use Rattle.std.specs.Prelude.{ℕ, ◌≡◌, ◌+◌, ◌≤◌, ◌⊎◌, List, ◌++◌, length, take, drop}
 use Rattle.std.specs.Global.{Vec}
-use Rattle.cell_form.specs.Data.{BankData}
-use Rattle.cell_form.specs.Sound.{Shape}
+use Rattle.trap_runtime.specs.cell_form.specs.Data.{BankData}
+use Rattle.trap_runtime.specs.cell_form.specs.Sound.{Shape}
 
 abbrev pub words_of : Vec ℕ → List ℕ
 words_of v = v.items

@@ -1,9 +1,9 @@
 -- How parts lie in a joined bank (own).
 use Rattle.std.specs.Prelude.{◌≡◌, List, map, All, AllPairs}
-use Rattle.cell_form.specs.declared.bank.Port.{Port}
-use Rattle.cell_form.specs.Data.{TableData, BankData}
-use Rattle.cell_form.specs.Sound.{Shape, shape_of}
-use Rattle.cell_form.specs.Views.{table_of}
+use Rattle.trap_runtime.specs.cell_form.specs.declared.bank.Port.{Port}
+use Rattle.trap_runtime.specs.cell_form.specs.Data.{TableData, BankData}
+use Rattle.trap_runtime.specs.cell_form.specs.Sound.{Shape, shape_of}
+use Rattle.trap_runtime.specs.cell_form.specs.Views.{table_of}
 use Rattle.fab_join.specs.declared.joined.Part.{Part}
 use Rattle.fab_join.specs.declared.span.Span.{Span}
 use Rattle.fab_join.specs.Banks.{part, IsWithin, AreApart}

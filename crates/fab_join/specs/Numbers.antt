@@ -1,16 +1,16 @@
 -- Cells, writes, traps, states and ports under other numbers for registers, memories and slots (own).
 use Rattle.std.specs.Prelude.{ℕ, ◌+◌, ◌-◌, Bool, if◌then◌else◌, map}
 use Rattle.std.specs.Option.{option_map}
-use Rattle.cell_form.specs.declared.bank.Port.{Port}
-use Rattle.cell_form.specs.declared.cell.CellOp.{CellOp}
-use Rattle.cell_form.specs.declared.cell.CellOp.TheVariants as o
-use Rattle.cell_form.specs.declared.cell.Write.{Write}
-use Rattle.cell_form.specs.declared.cell.Write.TheVariants as w
-use Rattle.cell_form.specs.declared.table.Trap.{Trap}
-use Rattle.cell_form.specs.declared.table.TrapCall.{TrapCall}
-use Rattle.cell_form.specs.declared.table.TrapCall.TheVariants as call
-use Rattle.cell_form.specs.Data.{CellData, ListData, StateData, TableData}
-use Rattle.cell_form.specs.Sound.{Shape}
+use Rattle.trap_runtime.specs.cell_form.specs.declared.bank.Port.{Port}
+use Rattle.trap_runtime.specs.cell_form.specs.declared.cell.CellOp.{CellOp}
+use Rattle.trap_runtime.specs.cell_form.specs.declared.cell.CellOp.TheVariants as o
+use Rattle.trap_runtime.specs.cell_form.specs.declared.cell.Write.{Write}
+use Rattle.trap_runtime.specs.cell_form.specs.declared.cell.Write.TheVariants as w
+use Rattle.trap_runtime.specs.cell_form.specs.declared.table.Trap.{Trap}
+use Rattle.trap_runtime.specs.cell_form.specs.declared.table.TrapCall.{TrapCall}
+use Rattle.trap_runtime.specs.cell_form.specs.declared.table.TrapCall.TheVariants as call
+use Rattle.trap_runtime.specs.cell_form.specs.Data.{CellData, ListData, StateData, TableData}
+use Rattle.trap_runtime.specs.cell_form.specs.Sound.{Shape}
 
 -- the new number of each register, of each memory, and of each slot
 pub record Numbering : Type 0 where

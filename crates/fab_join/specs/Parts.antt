@@ -1,10 +1,10 @@
 -- The parts of a joined bank, each by its own numbers (own).
 use Rattle.std.specs.Prelude.{ℕ, ◌<◌, List, [], slice_index, slice_index_or}
 use Rattle.std.specs.List.{AllByRecursion}
-use Rattle.cell_form.specs.declared.bank.Port.{Port}
-use Rattle.cell_form.specs.Data.{BankData, TableData}
-use Rattle.cell_form.specs.Sound.{Shape, IsList}
-use Rattle.cell_form.specs.States.{table_cycled}
+use Rattle.trap_runtime.specs.cell_form.specs.declared.bank.Port.{Port}
+use Rattle.trap_runtime.specs.cell_form.specs.Data.{BankData, TableData}
+use Rattle.trap_runtime.specs.cell_form.specs.Sound.{Shape, IsList}
+use Rattle.trap_runtime.specs.cell_form.specs.States.{table_cycled}
 
 -- a part: its states, its ports, and what its registers, memories and slots hold
 pub record PartData : Type 0 where

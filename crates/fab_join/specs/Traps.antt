@@ -1,10 +1,10 @@
 -- The trap of the state that a part stands in, and what serving it does (own).
 use Rattle.std.specs.Prelude.{ℕ, List, Option, Some, None, option_and_then}
-use Rattle.vl_base.specs.declared.files.File.{File}
-use Rattle.vl_base.specs.declared.files.OpenFile.{OpenFile}
-use Rattle.cell_form.specs.declared.table.Trap.{Trap}
-use Rattle.cell_form.specs.Data.{BankData, TableData}
-use Rattle.cell_form.specs.States.{present}
+use Rattle.cell_eval.specs.vl_base.specs.declared.files.File.{File}
+use Rattle.cell_eval.specs.vl_base.specs.declared.files.OpenFile.{OpenFile}
+use Rattle.trap_runtime.specs.cell_form.specs.declared.table.Trap.{Trap}
+use Rattle.trap_runtime.specs.cell_form.specs.Data.{BankData, TableData}
+use Rattle.trap_runtime.specs.cell_form.specs.States.{present}
 use Rattle.trap_runtime.specs.declared.served.Served.{Served}
 use Rattle.trap_runtime.specs.declared.served.Served.TheVariants as way
 use Rattle.trap_runtime.specs.Served.{Works, served, way_of}

@@ -1,14 +1,14 @@
 //! Parts of banks.
 
 ghost use Rattle.std.specs.Prelude.{◌≡◌, ◌+◌, ◌≤◌, ◌++◌, length, map, take, drop, IfOk, OnOk};
-ghost use Rattle.cell_form.specs.Views.{bank_of};
-ghost use Rattle.cell_form.specs.Sound.{shape_of};
+ghost use Rattle.trap_runtime.specs.cell_form.specs.Views.{bank_of};
+ghost use Rattle.trap_runtime.specs.cell_form.specs.Sound.{shape_of};
 ghost use Rattle.fab_join.specs.Banks.{words_of, part, IsWithin, pasted, with_part, side_by_side, BeginsAs, IsLonger};
 ghost use Rattle.fab_join.specs.Laid.{shape_of_span};
 
 use crate::span::Span;
-use cell_form::bank::Bank;
 use std::alloc::{AllocError, Global};
+use trap_runtime::Bank;
 
 /// Adds copies of memories.
 fn push_copies(

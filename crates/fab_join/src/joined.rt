@@ -1,9 +1,9 @@
 //! One bank of several parts.
 
 ghost use Rattle.std.specs.Prelude.{◌≡◌, ◌+◌, ◌<◌, ◌%◌, ◌^◌, ◌++◌, ◌∷◌, [], length, slice_set, IfOk, IfSome, OnOk, OnErr};
-ghost use Rattle.cell_form.specs.Views.{table_of, bank_of};
-ghost use Rattle.cell_form.specs.Sound.{shape_of};
-ghost use Rattle.ten_files.specs.Tables.{open_files, IsTableOf};
+ghost use Rattle.trap_runtime.specs.cell_form.specs.Views.{table_of, bank_of};
+ghost use Rattle.trap_runtime.specs.cell_form.specs.Sound.{shape_of};
+ghost use Rattle.trap_runtime.specs.ten_files.specs.Tables.{open_files, IsTableOf};
 ghost use Rattle.trap_runtime.specs.Traps.{IsTrap};
 ghost use Rattle.fab_join.specs.Traps.{trap_in, part_served, way_of_trap};
 
@@ -12,13 +12,12 @@ use crate::numbers::{ports_at, table_at};
 use crate::serving::serve_present;
 use crate::span::{Span, extent};
 use crate::stepping::{cycle_present, state_register};
-use cell_form::bank::{Bank, PortMap};
-use cell_form::table::StateTable;
+use cell_eval::files::FileSet;
 use std::alloc::{AllocError, Global};
 use std::marker::Model;
-use ten_files::table::Table;
 use trap_runtime::served::Served;
-use vl_base::files::FileSet;
+use trap_runtime::table::StateTable;
+use trap_runtime::{Bank, PortMap, Table};
 
 /// A part: its table and its ports with their numbers in the joined bank, and where it stands there.
 #[derive(Drop)]
@@ -38,7 +37,7 @@ pub struct Joined {
 
 impl Model for Joined {
     ghost use Rattle.std.specs.Prelude.{List, map};
-    ghost use Rattle.cell_form.specs.Views.{bank_of};
+    ghost use Rattle.trap_runtime.specs.cell_form.specs.Views.{bank_of};
     ghost use Rattle.fab_join.specs.Parts.{PartData};
 
     ghost Value = { List PartData };

@@ -2,17 +2,17 @@
 
 ghost use Rattle.std.specs.Prelude.{◌≡◌, ◌+◌, map, IfOk};
 ghost use Rattle.std.specs.Option.{option_map};
-ghost use Rattle.cell_form.specs.Views.{cell_of, list_of, state_of, table_of};
+ghost use Rattle.trap_runtime.specs.cell_form.specs.Views.{cell_of, list_of, state_of, table_of};
 ghost use Rattle.fab_join.specs.Laid.{shape_of_span};
 ghost use Rattle.fab_join.specs.Numbers.{behind, numbered_op, numbered_cell, numbered_write, numbered_list, numbered_target, numbered_trap, numbered_state, numbered_table, numbered_port};
 
 use crate::span::Span;
-use cell_form::bank::{Port, PortMap};
-use cell_form::cell::{Cell, CellList, CellOp, Write};
-use cell_form::table::{FormatPart, State, StateTable, Trap, TrapCall};
+use cell_eval::{Items, Nums, Text};
 use smallvec::SmallVec;
 use std::alloc::{AllocError, Global};
-use vl_base::items::{Items, Nums, Text};
+use trap_runtime::cell::{Cell, CellList, CellOp, Write};
+use trap_runtime::table::{FormatPart, State, StateTable, Trap, TrapCall};
+use trap_runtime::{Port, PortMap};
 
 /// A number behind so many others; one of more than 32 bits wants memory that there isn't.
 fn raised(base: u32, number: u32) -> Result<u32, AllocError>

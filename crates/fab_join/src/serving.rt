@@ -1,18 +1,17 @@
 //! The trap of the state that a table stands in.
 
 ghost use Rattle.std.specs.Prelude.{◌≡◌, ◌<◌, length, IfSome, IfOk, OnOk, OnErr, option_copied};
-ghost use Rattle.cell_form.specs.Views.{bank_of, table_of};
-ghost use Rattle.ten_files.specs.Tables.{open_files, IsTableOf};
+ghost use Rattle.trap_runtime.specs.cell_form.specs.Views.{bank_of, table_of};
+ghost use Rattle.trap_runtime.specs.ten_files.specs.Tables.{open_files, IsTableOf};
 ghost use Rattle.trap_runtime.specs.Traps.{IsTrap};
 ghost use Rattle.fab_join.specs.Traps.{trap_at, trap_served, way_of_trap};
 
-use cell_form::bank::Bank;
-use cell_form::table::{StateTable, Trap};
+use cell_eval::files::FileSet;
 use std::alloc::{AllocError, Global};
-use ten_files::table::Table;
 use trap_runtime::serve::serve;
 use trap_runtime::served::Served;
-use vl_base::files::FileSet;
+use trap_runtime::table::{StateTable, Trap};
+use trap_runtime::{Bank, Table};
 
 /// The trap of the state that the state register names.
 fn present_trap<'a>(states: &'a StateTable, bank: &Bank) -> Option<&'a Trap>

@@ -1,12 +1,12 @@
 //! Places and sizes in a bank.
 
 ghost use Rattle.std.specs.Prelude.{◌≡◌, IfOk};
-ghost use Rattle.cell_form.specs.Views.{bank_of};
-ghost use Rattle.cell_form.specs.Sound.{shape_of};
+ghost use Rattle.trap_runtime.specs.cell_form.specs.Views.{bank_of};
+ghost use Rattle.trap_runtime.specs.cell_form.specs.Sound.{shape_of};
 ghost use Rattle.fab_join.specs.Laid.{shape_of_span};
 
-use cell_form::bank::Bank;
 use std::alloc::AllocError;
+use trap_runtime::Bank;
 
 /// So many registers, memories and slots.
 #[derive(Clone, Copy, Debug, PartialEq, Eq)]

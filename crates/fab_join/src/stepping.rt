@@ -1,14 +1,14 @@
 //! One cycle of a table of states.
 
 ghost use Rattle.std.specs.Prelude.{◌≡◌, ◌<◌, ◌%◌, ◌^◌, length, slice_index};
-ghost use Rattle.cell_form.specs.Views.{bank_of, table_of};
-ghost use Rattle.cell_form.specs.Sound.{shape_of};
-ghost use Rattle.cell_form.specs.States.{table_cycled};
+ghost use Rattle.trap_runtime.specs.cell_form.specs.Views.{bank_of, table_of};
+ghost use Rattle.trap_runtime.specs.cell_form.specs.Sound.{shape_of};
+ghost use Rattle.trap_runtime.specs.cell_form.specs.States.{table_cycled};
 ghost use Rattle.fab_join.specs.Parts.{IsTable};
 
 use cell_eval::cycle::cycle;
-use cell_form::bank::Bank;
-use cell_form::table::StateTable;
+use trap_runtime::Bank;
+use trap_runtime::table::StateTable;
 
 /// One cycle of the cells of the state that the state register names; nothing where it names none.
 pub(crate) fn cycle_present(table: &StateTable, bank: &mut Bank)

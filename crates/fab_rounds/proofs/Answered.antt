@@ -9,45 +9,46 @@ use Rattle.std.specs.declared.snapshot.Snapshot.{Snapshot}
 use Rattle.std.proofs.lemmas.Bool.{eqb-true}
 use Rattle.std.proofs.lemmas.List.Elements.{All-weaker}
 use Rattle.std.proofs.lemmas.Option.{none-some}
-use Rattle.vl_design.specs.declared.design.End.{End}
-use Rattle.vl_design.specs.declared.design.End.TheVariants.{Stopped}
-use Rattle.vl_design.specs.Alone as alone
-use Rattle.vl_design.specs.Alone.{first_tick, reason_at, Boundary, Ends}
-use Rattle.vl_design.specs.Queue.{Queue}
-use Rattle.ten_core.specs.Tenants.{origin_of}
-use Rattle.ten_parcel.specs.declared.parcel.Parcel.{Parcel}
-use Rattle.ten_parcel.specs.Parcels.{is_moved, is_stopped, number_of, run_of, ticks_of}
-use Rattle.fab_points.specs.Points.{ended, Point}
+use Rattle.fab_core.specs.vl_design.specs.declared.design.End.{End}
+use Rattle.fab_core.specs.vl_design.specs.declared.design.End.TheVariants.{Stopped}
+use Rattle.fab_core.specs.vl_design.specs.Alone as alone
+use Rattle.fab_core.specs.vl_design.specs.Alone.{first_tick, reason_at, Boundary, Ends}
+use Rattle.fab_core.specs.vl_design.specs.Queue.{Queue}
+use Rattle.fab_core.specs.ten_core.specs.Tenants.{origin_of}
+use Rattle.fab_core.specs.ten_parcel.specs.declared.parcel.Parcel.{Parcel}
+use Rattle.fab_core.specs.ten_parcel.specs.Parcels.{is_moved, is_stopped, number_of, run_of, ticks_of}
+use Rattle.fab_core.specs.fab_model.specs.Points.{ended, Point}
 use Rattle.fab_core.specs.Standing.{IsPointOf}
 use Rattle.fab_core.proofs.Arriving.{parcel_is}
-use Rattle.fab_notes.specs.declared.transit.Stay.{Stay}
-use Rattle.fab_notes.specs.declared.transit.Transit.{Transit}
-use Rattle.fab_notes.specs.Ends.{EndsNotBefore}
-use Rattle.fab_notes.specs.Moves.{ends_idle}
-use Rattle.fab_notes.specs.Stays.{chains}
-use Rattle.fab_notes.specs.Tokens.{token_of, Token}
-use Rattle.fab_bay.specs.declared.noted.Label.{Label}
+use Rattle.fab_core.specs.fab_model.specs.declared.transit.Stay.{Stay}
+use Rattle.fab_core.specs.fab_model.specs.declared.transit.Transit.{Transit}
+use Rattle.fab_core.specs.fab_model.specs.Ends.{EndsNotBefore}
+use Rattle.fab_core.specs.fab_model.specs.Moves.{ends_idle}
+use Rattle.fab_core.specs.fab_model.specs.Stays.{chains}
+use Rattle.fab_core.specs.fab_model.specs.Tokens.{token_of, Token}
+use Rattle.fab_desk.specs.fab_bay.specs.declared.noted.Label.{Label}
 use Rattle.fab_rounds.specs.declared.ledgers.Ledger.{Ledger}
 use Rattle.fab_rounds.specs.declared.ledgers.Moving.{Moving}
-use Rattle.fab_rounds.specs.declared.outcomes.Answer.{Answer}
-use Rattle.fab_rounds.specs.declared.outcomes.Cause.{Cause}
-use Rattle.fab_rounds.specs.declared.outcomes.Finding.{Finding}
-use Rattle.fab_rounds.specs.declared.outcomes.Order.{Order}
-use Rattle.fab_rounds.specs.declared.outcomes.Reached.{Reached}
-use Rattle.fab_rounds.specs.declared.outcomes.Reached.TheVariants as reached
-use Rattle.fab_rounds.specs.declared.outcomes.Start.{Start}
-use Rattle.fab_rounds.specs.declared.outcomes.Wanted.{Wanted}
-use Rattle.fab_rounds.specs.declared.outcomes.Wanted.TheVariants as wanted
-use Rattle.fab_rounds.specs.Totals.{total}
-use Rattle.fab_rounds.specs.Starts.{origins_of, AreStarts, IsOwn}
-use Rattle.fab_rounds.specs.Orders.{ended_by, ended_for, found_by, gain_by, gain_for, loss_by, loss_for, put_by, put_for, ticks_told, with_save, IsAbove}
-use Rattle.fab_rounds.specs.Outcomes.{GoesOn, IsUnended}
+use Rattle.fab_orders.specs.declared.outcomes.Answer.{Answer}
+use Rattle.fab_orders.specs.declared.outcomes.Cause.{Cause}
+use Rattle.fab_orders.specs.declared.outcomes.Finding.{Finding}
+use Rattle.fab_orders.specs.declared.outcomes.Order.{Order}
+use Rattle.fab_orders.specs.declared.outcomes.Reached.{Reached}
+use Rattle.fab_orders.specs.declared.outcomes.Reached.TheVariants as reached
+use Rattle.fab_orders.specs.declared.outcomes.Start.{Start}
+use Rattle.fab_orders.specs.declared.outcomes.Wanted.{Wanted}
+use Rattle.fab_orders.specs.declared.outcomes.Wanted.TheVariants as wanted
+use Rattle.fab_orders.specs.Totals.{total}
+use Rattle.fab_orders.specs.Starts.{origins_of, AreStarts, IsOwn}
+use Rattle.fab_orders.specs.Orders.{ended_by, ended_for, found_by, gain_by, gain_for, loss_by, loss_for, put_by, put_for, ticks_told, with_save, IsAbove}
+use Rattle.fab_orders.specs.Outcomes.{GoesOn, IsUnended}
 use Rattle.fab_rounds.specs.Ledgers.{all_outs, all_puts, ended_at, found_there, moving_sum, put_there, reach_in, seat_outs, seat_puts, stop_told, stopped_at, stops_told, transit_sum, AreFirsts, DeskSeatFacts, DeskFacts, HasEnded, IsFinding, IsKept, IsLedger, IsSound, KeepsBalance}
 use Rattle.fab_rounds.specs.Tries.{is_watch, Answers, IsHolding, IsNext, IsStopped, IsWithin, MayTell, Tells}
 use Rattle.fab_rounds.proofs.Kept.{answered_balance, answered_kept, more_ended, stops_more, within_more}
 use Rattle.fab_rounds.proofs.Lists.{own_origin, own_within}
 use Rattle.fab_rounds.proofs.Taken.{All-insert}
-use Rattle.fab_rounds.proofs.Totals.{total-append, total-insert}
+use Rattle.fab_orders.proofs.Totals.{total-append, total-insert}
+use Rattle.fab_core.specs.vl_base.proofs.Booleans.{false_by as not_so}
 
 -- ---- an answer for which a tenant was taken out
 
@@ -370,10 +371,6 @@ may_tell_far l t k its n begun above within = record {
 }
 
 -- ---- an answer for one that has ended
-
-not_so : (b : Bool) → (b ≡ true → ⊥) → b ≡ false
-not_so true h = absurd (h refl)
-not_so false h = refl
 
 put_ended : (f : ℕ → Token → ℕ) (w : Wanted) (k : ℕ) (x : Finding) → put_for f w (reached.Ended k) (Some x) ≡ 0
 put_ended f (wanted.Move g) k x = refl

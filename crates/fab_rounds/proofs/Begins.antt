@@ -7,18 +7,18 @@ use Rattle.std.specs.declared.alloc.Global.{Global}
 use Rattle.std.specs.declared.snapshot.Snapshot.{Snapshot}
 use Rattle.std.proofs.lemmas.Bool.{eqb-true}
 use Rattle.std.proofs.lemmas.List.Elements.{All-head, All-tail}
-use Rattle.vl_design.specs.Alone as alone
-use Rattle.vl_design.specs.Alone.{Ends}
-use Rattle.ten_core.specs.Tenants.{origin_of}
-use Rattle.ten_parcel.specs.Parcels.{number_of, run_of, ticks_of}
-use Rattle.fab_notes.specs.declared.transit.Transit.{Transit}
-use Rattle.fab_notes.specs.Tokens.{token_of, Token}
+use Rattle.fab_core.specs.vl_design.specs.Alone as alone
+use Rattle.fab_core.specs.vl_design.specs.Alone.{Ends}
+use Rattle.fab_core.specs.ten_core.specs.Tenants.{origin_of}
+use Rattle.fab_core.specs.ten_parcel.specs.Parcels.{number_of, run_of, ticks_of}
+use Rattle.fab_core.specs.fab_model.specs.declared.transit.Transit.{Transit}
+use Rattle.fab_core.specs.fab_model.specs.Tokens.{token_of, Token}
 use Rattle.fab_rounds.specs.declared.ledgers.Ledger.{Ledger}
 use Rattle.fab_rounds.specs.declared.ledgers.Moving.{Moving}
-use Rattle.fab_rounds.specs.declared.outcomes.Answer.{Answer}
-use Rattle.fab_rounds.specs.declared.outcomes.Start.{Start}
-use Rattle.fab_rounds.specs.Totals.{total}
-use Rattle.fab_rounds.specs.Outcomes.{IsUnended}
+use Rattle.fab_orders.specs.declared.outcomes.Answer.{Answer}
+use Rattle.fab_orders.specs.declared.outcomes.Start.{Start}
+use Rattle.fab_orders.specs.Totals.{total}
+use Rattle.fab_orders.specs.Outcomes.{IsUnended}
 use Rattle.fab_rounds.specs.Ledgers.{in_hand, moving_sum, reach_in, start_sum, stops_told, transit_sum, HasEnded, HasStoppedBy, HaveBegun, IsKept, KeepsReach}
 use Rattle.fab_rounds.proofs.Lists.{own_origin}
 

@@ -5,36 +5,26 @@ use Rattle.std.specs.declared.alloc.Global.{Global}
 use Rattle.std.specs.declared.snapshot.Snapshot.{Snapshot}
 use Rattle.std.proofs.lemmas.List.{get_or_default}
 use Rattle.std.proofs.lemmas.List.Elements.{All-nil, All-weaker}
-use Rattle.ten_parcel.specs.Parcels.{number_of, ticks_of}
-use Rattle.fab_lock.specs.Facts.{IsSeatOf}
-use Rattle.fab_notes.specs.declared.note.Note.{Note}
-use Rattle.fab_notes.specs.Tokens.{outs, puts, token_of, Token}
-use Rattle.fab_notes.specs.Origins.{Origins}
-use Rattle.fab_bay.specs.declared.leaving.Leaving.{Leaving}
-use Rattle.fab_bay.specs.declared.noted.Label.{Label}
+use Rattle.fab_core.specs.ten_parcel.specs.Parcels.{number_of, ticks_of}
+use Rattle.fab_core.specs.fab_lock.specs.Facts.{IsSeatOf}
+use Rattle.fab_core.specs.fab_model.specs.declared.note.Note.{Note}
+use Rattle.fab_core.specs.fab_model.specs.Tokens.{outs, puts, token_of, Token}
+use Rattle.fab_core.specs.fab_model.specs.Origins.{Origins}
+use Rattle.fab_desk.specs.fab_bay.specs.declared.leaving.Leaving.{Leaving}
+use Rattle.fab_desk.specs.fab_bay.specs.declared.noted.Label.{Label}
 use Rattle.fab_rounds.specs.declared.ledgers.Ledger.{Ledger}
-use Rattle.fab_rounds.specs.declared.outcomes.Answer.{Answer}
-use Rattle.fab_rounds.specs.declared.outcomes.Start.{Start}
+use Rattle.fab_orders.specs.declared.outcomes.Answer.{Answer}
+use Rattle.fab_orders.specs.declared.outcomes.Start.{Start}
 use Rattle.fab_rounds.specs.declared.posts.Opened.{Opened}
 use Rattle.fab_rounds.specs.declared.workers.Worker.{Worker}
 use Rattle.fab_rounds.specs.Openings.{AreSeated}
-use Rattle.fab_rounds.specs.Totals.{total}
-use Rattle.fab_rounds.specs.Starts.{NamesOrigins}
-use Rattle.fab_rounds.specs.Orders.{gain_by, loss_by}
+use Rattle.fab_orders.specs.Totals.{total}
+use Rattle.fab_orders.specs.Starts.{NamesOrigins}
+use Rattle.fab_orders.specs.Orders.{gain_by, loss_by}
 use Rattle.fab_rounds.specs.Ledgers.{in_hand, leaving_sum, pile_sum, reach_in, seat_outs, seat_puts, start_sum, worker_outs, worker_piles, AreHandedOver, AreLeft, AreOut, AreWorkers, DeskSeatFacts, DeskFacts, IsAtDesk, IsBetween, IsKept, IsLedger, IsLeft, IsOut, IsSameAnswers, IsSameRun, IsTurned, IsWorker, KeepsReach, KeepsSums, Operates, TakesOver, WeighsNoLeaver}
 use Rattle.fab_rounds.proofs.Begins.{begun_still, have_begun}
-use Rattle.fab_rounds.proofs.Totals.{total_all, total_same, total_tied}
+use Rattle.fab_orders.proofs.Totals.{total_all, total_same, total_tied}
 use Rattle.fab_rounds.proofs.Puts.{is_own, label_at, labels_long}
-
--- each worker sits at a desk
-pub at_desks : (desks : List DeskFacts) (ws : List Worker) → AreWorkers desks ws → All (IsAtDesk desks) ws
-at_desks desks ws a k w lt =
-    let n = a.count in
-    let l : k < length desks = omega (arith, n, lt) in
-    let f = a.fabric k w l in record {
-      there = subst (λ (j : ℕ). j < length desks) (sym f) l;
-      worker = λ d. subst (λ (j : ℕ). IsWorker (get_or desks j d) (get_or ws k w)) (sym f) (a.each k d w l);
-    }
 
 -- what came out where its origin is named
 left_out : (starts : List Start) (o : Origins) (l : Leaving) → NamesOrigins starts o → IsOut o l → IsLeft starts l

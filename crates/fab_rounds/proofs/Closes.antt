@@ -2,16 +2,17 @@
 use Rattle.std.proofs.Common.{◌≡◌, ◌≢◌, ◌≤◌, ℕ, false, List, ◌∷◌, ◌++◌, refl, sym, ap, ◌∙◌, subst, arith}
 use Rattle.std.specs.Prelude.{All}
 use Rattle.std.proofs.lemmas.List.Elements.{All-head, All-weaker}
-use Rattle.fab_lock.specs.Histories.{high, notes_of, StartsWith}
-use Rattle.fab_lock.specs.Views.{after_join}
-use Rattle.fab_notes.specs.declared.note.Note.{Note}
-use Rattle.fab_notes.specs.Histories.{IsLegal}
-use Rattle.fab_notes.specs.Origins.{AreOwn}
-use Rattle.fab_notes.specs.Tokens.{outs, puts}
-use Rattle.fab_bay.specs.declared.noted.Label.{Label}
-use Rattle.fab_bay.specs.declared.noted.NotedCore.{NotedCore}
-use Rattle.fab_desk.specs.Desks.{entry_of, DeskView, Finds}
-use Rattle.fab_rounds.specs.Totals.{total}
+use Rattle.fab_core.specs.fab_lock.specs.Histories.{high, notes_of, StartsWith}
+use Rattle.fab_core.specs.fab_lock.specs.Views.{after_join}
+use Rattle.fab_core.specs.fab_model.specs.declared.note.Note.{Note}
+use Rattle.fab_core.specs.fab_model.specs.Histories.{IsLegal}
+use Rattle.fab_core.specs.fab_model.specs.Origins.{AreOwn}
+use Rattle.fab_core.specs.fab_model.specs.Tokens.{outs, puts}
+use Rattle.fab_desk.specs.fab_bay.specs.declared.noted.Label.{Label}
+use Rattle.fab_desk.specs.fab_bay.specs.declared.noted.NotedCore.{NotedCore}
+use Rattle.fab_core.specs.fab_model.specs.Histories.{entry_of}
+use Rattle.fab_desk.specs.Desks.{DeskView, Finds}
+use Rattle.fab_orders.specs.Totals.{total}
 use Rattle.fab_rounds.specs.Ledgers.{reach, DeskSeatFacts, IsShut}
 use Rattle.fab_rounds.proofs.Conserved.{by_others, outs_apart, puts_by_zero}
 use Rattle.fab_rounds.proofs.Reach.{heard_within, high_starts}

@@ -3,22 +3,22 @@ use Rattle.std.proofs.Common.{◌≡◌, ◌≢◌, ℕ, ◌+◌, ◌≤◌, Boo
 use Rattle.std.proofs.lemmas.Bool.{eqb-true}
 use Rattle.std.specs.List.{AllByRecursion as ByRecursion}
 use Rattle.std.specs.Prelude.{not, ◌||◌, ◌==◌, filter, if◌then◌else◌}
-use Rattle.vl_design.specs.Alone.{FreeSave}
-use Rattle.fab_lock.specs.declared.entry.Entry.{Entry}
-use Rattle.fab_lock.specs.declared.entry.Kind.{Kind}
-use Rattle.fab_lock.specs.declared.entry.Kind.TheVariants.{Line, Came, Ran, Saved, Left}
-use Rattle.fab_lock.specs.Histories.{notes_of}
-use Rattle.fab_notes.specs.declared.transit.Stay.{Stay}
-use Rattle.fab_notes.specs.declared.note.Note.{Note}
-use Rattle.fab_notes.specs.Deeds.{Deed, deed_in}
-use Rattle.fab_notes.specs.Histories.{Place, Away, Inside, put, next, stay_now, stay_at, stays_from, stays_of, of_tenant, is_line, AreLinesByFirst, IsLawful, May, MayLeave}
-use Rattle.fab_notes.specs.Tokens.{told, put_at, out_at, puts, outs, Token}
-use Rattle.fab_notes.proofs.Legality.{each_is_lawful}
-use Rattle.fab_desk.specs.Desks.{entry_of}
-use Rattle.fab_bay.specs.declared.noted.NotedCore.{NotedCore}
-use Rattle.fab_rounds.specs.Totals.{total}
-use Rattle.fab_rounds.specs.Outcomes.{stays_there, IsClosed}
-use Rattle.fab_rounds.proofs.Totals.{total-append, total_none, total_zero}
+use Rattle.fab_core.specs.vl_design.specs.Alone.{FreeSave}
+use Rattle.fab_core.specs.fab_lock.specs.declared.entry.Entry.{Entry}
+use Rattle.fab_core.specs.fab_lock.specs.declared.entry.Kind.{Kind}
+use Rattle.fab_core.specs.fab_lock.specs.declared.entry.Kind.TheVariants.{Line, Came, Ran, Saved, Left}
+use Rattle.fab_core.specs.fab_lock.specs.Histories.{notes_of}
+use Rattle.fab_core.specs.fab_model.specs.declared.transit.Stay.{Stay}
+use Rattle.fab_core.specs.fab_model.specs.declared.note.Note.{Note}
+use Rattle.fab_core.specs.fab_model.specs.Deeds.{Deed, deed_in}
+use Rattle.fab_core.specs.fab_model.specs.Histories.{Place, Away, Inside, put, next, stay_now, stay_at, stays_from, stays_of, of_tenant, is_line, AreLinesByFirst, IsLawful, May, MayLeave}
+use Rattle.fab_core.specs.fab_model.specs.Tokens.{told, put_at, out_at, puts, outs, Token}
+use Rattle.fab_core.specs.fab_model.proofs.Legality.{each_is_lawful}
+use Rattle.fab_core.specs.fab_model.specs.Histories.{entry_of}
+use Rattle.fab_desk.specs.fab_bay.specs.declared.noted.NotedCore.{NotedCore}
+use Rattle.fab_orders.specs.Totals.{total}
+use Rattle.fab_orders.specs.Outcomes.{stays_there, IsClosed}
+use Rattle.fab_orders.proofs.Totals.{total-append, total_none, total_zero}
 
 -- the worth of a token, whoever's, and of the one that is inside
 abbrev pub price : (List FreeSave → ℕ) → (Stay → ℕ) → Token → ℕ

@@ -4,44 +4,42 @@ use Rattle.std.proofs.lemmas.Bool.{cases_lt, eqb-true, false≢true, le-leb, le-
 use Rattle.std.proofs.lemmas.Option.{get_or_from_slice_get}
 use Rattle.std.specs.List.{AllByRecursion as ByRecursion}
 use Rattle.std.specs.Prelude.{not, ◌&&◌, ◌||◌, ◌==◌, if◌then◌else◌, is_some, nat_le, nat_lt, All}
-use Rattle.vl_cost.specs.declared.capacity.Cost.{Cost}
-use Rattle.ten_core.specs.declared.origin.Origin.{Origin}
-use Rattle.ten_core.specs.Tenants.{origin_of}
-use Rattle.ten_parcel.specs.declared.parcel.Parcel.{Parcel}
-use Rattle.ten_parcel.specs.Parcels.{is_moved, number_of, origin_in, run_of, ticks_of}
-use Rattle.ten_plan.specs.Plans.{move_at}
-use Rattle.fab_notes.specs.declared.transit.Stay.{Stay}
-use Rattle.fab_notes.specs.declared.transit.Transit.{Transit}
-use Rattle.fab_notes.specs.declared.note.Note.{Note}
-use Rattle.fab_notes.specs.Deeds.{run_in}
-use Rattle.fab_notes.specs.Histories.{after, next, of_tenant, place_of, replay, Away, Inside, IsLegalFrom, Place, Seat}
-use Rattle.fab_notes.specs.Moves as moves
-use Rattle.fab_notes.specs.Moves.{ends_idle, left_for, passed, HaveMoveAt}
-use Rattle.fab_notes.specs.Tokens.{outs, puts, token_of, Token}
-use Rattle.fab_notes.proofs.Legality.{place_here, place_other}
-use Rattle.fab_notes.proofs.Passing.{moves_told}
-use Rattle.fab_bay.specs.declared.noted.Label.{Label}
-use Rattle.fab_bay.specs.declared.noted.NotedCore.{NotedCore}
-use Rattle.fab_rounds.specs.declared.outcomes.Cause.{Cause}
-use Rattle.fab_rounds.specs.declared.outcomes.Reason.{Reason}
-use Rattle.fab_rounds.specs.declared.outcomes.Reason.TheVariants.{First, Errand}
-use Rattle.fab_rounds.specs.declared.outcomes.Start.{Start}
-use Rattle.fab_rounds.specs.Totals.{total}
-use Rattle.fab_rounds.specs.Starts.{AreStarts, IsOwn, IsStart}
-use Rattle.fab_rounds.specs.Outcomes.{cause_of, goes_to, line_of, IsCause, IsReason, IsUnended}
+use Rattle.fab_core.specs.vl_design.specs.declared.capacity.Cost.{Cost}
+use Rattle.fab_core.specs.ten_core.specs.declared.origin.Origin.{Origin}
+use Rattle.fab_core.specs.ten_core.specs.Tenants.{origin_of}
+use Rattle.fab_core.specs.ten_parcel.specs.declared.parcel.Parcel.{Parcel}
+use Rattle.fab_core.specs.ten_parcel.specs.Parcels.{is_moved, number_of, origin_in, run_of, ticks_of}
+use Rattle.fab_core.specs.ten_plan.specs.Plans.{move_at}
+use Rattle.fab_core.specs.fab_model.specs.declared.transit.Stay.{Stay}
+use Rattle.fab_core.specs.fab_model.specs.declared.transit.Transit.{Transit}
+use Rattle.fab_core.specs.fab_model.specs.declared.note.Note.{Note}
+use Rattle.fab_core.specs.fab_model.specs.Deeds.{run_in}
+use Rattle.fab_core.specs.fab_model.specs.Histories.{after, next, of_tenant, place_of, replay, Away, Inside, IsLegalFrom, Place, Seat}
+use Rattle.fab_core.specs.fab_model.specs.Moves as moves
+use Rattle.fab_core.specs.fab_model.specs.Moves.{ends_idle, left_for, passed, HaveMoveAt}
+use Rattle.fab_core.specs.fab_model.specs.Tokens.{outs, puts, token_of, Token}
+use Rattle.fab_core.specs.fab_model.proofs.Legality.{place_here, place_other}
+use Rattle.fab_core.specs.fab_model.proofs.Passing.{moves_told}
+use Rattle.fab_desk.specs.fab_bay.specs.declared.noted.Label.{Label}
+use Rattle.fab_desk.specs.fab_bay.specs.declared.noted.NotedCore.{NotedCore}
+use Rattle.fab_orders.specs.declared.outcomes.Cause.{Cause}
+use Rattle.fab_orders.specs.declared.outcomes.Reason.{Reason}
+use Rattle.fab_orders.specs.declared.outcomes.Reason.TheVariants.{First, Errand}
+use Rattle.fab_orders.specs.declared.outcomes.Start.{Start}
+use Rattle.fab_orders.specs.Totals.{total}
+use Rattle.fab_orders.specs.Starts.{AreStarts, IsOwn, IsStart}
+use Rattle.fab_orders.specs.Outcomes.{cause_of, goes_to, line_of, IsCause, IsReason, IsUnended}
 use Rattle.fab_rounds.specs.Ledgers.{errand_of, errands_of}
 use Rattle.fab_rounds.proofs.Conserved.{each, finally, held, nothing, outs_in, puts_in, still, IsOneClosed}
 use Rattle.fab_rounds.proofs.Lists.{own_origin, start_of}
-use Rattle.fab_rounds.proofs.Totals.{total_all, total_split}
+use Rattle.fab_orders.proofs.Totals.{total_all, total_split}
+use Rattle.fab_core.specs.vl_base.proofs.Booleans.{from_true_false as no}
 
 -- ---- yes and no
 
 -- 1 for yes
 abbrev pub one : Bool → ℕ
 one b = if b then 1 else 0
-
-no : {X : Type 0} → true ≡ false → X
-no e = absurd (false≢true (sym e))
 
 off : (b v : Bool) → b ≡ false → one (b && v) ≡ 0
 off true v e = no e

@@ -8,8 +8,8 @@ use Rattle.std.proofs.Crossing.{Vec-send}
 use Rattle.std.specs.contracts.alloc.Global as Heap
 use Rattle.std.specs.contracts.impls.GlobalAllocator.TheImpl.{ghosts}
 use Rattle.std.specs.contracts.vec.Vec as Vec
-use Rattle.fab_bay.specs.contracts.leaving.Leaving as Leaving
-use Rattle.fab_bay.proofs.Crosses.{Leaving-send}
+use Rattle.fab_desk.specs.fab_bay.specs.contracts.leaving.Leaving as Leaving
+use Rattle.fab_desk.specs.fab_bay.proofs.Crosses.{Leaving-send}
 use Rattle.fab_desk.proofs.Crosses.{DeskSeat-send}
 use Rattle.fab_rounds.specs.contracts.workers.Crew as Crew
 use Rattle.fab_rounds.specs.contracts.workers.Worker as Worker

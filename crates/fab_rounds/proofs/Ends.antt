@@ -7,41 +7,41 @@ use Rattle.std.proofs.lemmas.Bool.{eqb-true, false≢true, le-ltb, lt-ltb, ltb-f
 use Rattle.std.proofs.lemmas.List.{append-nil, get_or-map, get_or_default, length-map}
 use Rattle.std.proofs.lemmas.List.Elements.{recursion_from_All}
 use Rattle.std.proofs.lemmas.Option.{none-some}
-use Rattle.vl_design.specs.declared.design.End.{End}
-use Rattle.vl_design.specs.Alone as alone
-use Rattle.vl_design.specs.Alone.{reason_at, Boundary, Ends, FreeSave}
-use Rattle.vl_design.specs.Queue.{Queue}
-use Rattle.ten_core.specs.Tenants.{origin_of}
-use Rattle.ten_parcel.specs.Parcels.{free_of, is_moved, is_stopped, number_of, origin_in, run_of, ticks_of}
-use Rattle.ten_plan.specs.Plans.{move_at}
-use Rattle.fab_notes.specs.declared.transit.Stay.{Stay}
-use Rattle.fab_notes.specs.declared.transit.Transit.{Transit}
-use Rattle.fab_notes.specs.Histories.{IsLegal}
-use Rattle.fab_notes.specs.Moves.{ends_idle, is_behind, is_for, left_for, passed}
-use Rattle.fab_notes.specs.Origins.{AreOwn}
-use Rattle.fab_notes.specs.Tokens.{puts, token_of, Token}
-use Rattle.fab_bay.specs.declared.noted.Label.{Label}
-use Rattle.fab_bay.specs.declared.noted.NotedCore.{NotedCore}
+use Rattle.fab_core.specs.vl_design.specs.declared.design.End.{End}
+use Rattle.fab_core.specs.vl_design.specs.Alone as alone
+use Rattle.fab_core.specs.vl_design.specs.Alone.{reason_at, Boundary, Ends, FreeSave}
+use Rattle.fab_core.specs.vl_design.specs.Queue.{Queue}
+use Rattle.fab_core.specs.ten_core.specs.Tenants.{origin_of}
+use Rattle.fab_core.specs.ten_parcel.specs.Parcels.{free_of, is_moved, is_stopped, number_of, origin_in, run_of, ticks_of}
+use Rattle.fab_core.specs.ten_plan.specs.Plans.{move_at}
+use Rattle.fab_core.specs.fab_model.specs.declared.transit.Stay.{Stay}
+use Rattle.fab_core.specs.fab_model.specs.declared.transit.Transit.{Transit}
+use Rattle.fab_core.specs.fab_model.specs.Histories.{IsLegal}
+use Rattle.fab_core.specs.fab_model.specs.Moves.{ends_idle, is_behind, is_for, left_for, passed}
+use Rattle.fab_core.specs.fab_model.specs.Origins.{AreOwn}
+use Rattle.fab_core.specs.fab_model.specs.Tokens.{puts, token_of, Token}
+use Rattle.fab_desk.specs.fab_bay.specs.declared.noted.Label.{Label}
+use Rattle.fab_desk.specs.fab_bay.specs.declared.noted.NotedCore.{NotedCore}
 use Rattle.fab_rounds.specs.declared.ledgers.Ledger.{Ledger}
-use Rattle.fab_rounds.specs.declared.outcomes.Answer.{Answer}
-use Rattle.fab_rounds.specs.declared.outcomes.Finding.{Finding}
-use Rattle.fab_rounds.specs.declared.outcomes.Order.{Order}
-use Rattle.fab_rounds.specs.declared.outcomes.Reached.{Reached}
-use Rattle.fab_rounds.specs.declared.outcomes.Reached.TheVariants as reached
-use Rattle.fab_rounds.specs.declared.outcomes.Start.{Start}
-use Rattle.fab_rounds.specs.declared.outcomes.Wanted.{Wanted}
-use Rattle.fab_rounds.specs.declared.outcomes.Wanted.TheVariants as wanted
+use Rattle.fab_orders.specs.declared.outcomes.Answer.{Answer}
+use Rattle.fab_orders.specs.declared.outcomes.Finding.{Finding}
+use Rattle.fab_orders.specs.declared.outcomes.Order.{Order}
+use Rattle.fab_orders.specs.declared.outcomes.Reached.{Reached}
+use Rattle.fab_orders.specs.declared.outcomes.Reached.TheVariants as reached
+use Rattle.fab_orders.specs.declared.outcomes.Start.{Start}
+use Rattle.fab_orders.specs.declared.outcomes.Wanted.{Wanted}
+use Rattle.fab_orders.specs.declared.outcomes.Wanted.TheVariants as wanted
 use Rattle.fab_rounds.specs.declared.workers.Worker.{Worker}
-use Rattle.fab_rounds.specs.Totals.{total}
-use Rattle.fab_rounds.specs.Starts.{IsStart}
-use Rattle.fab_rounds.specs.Orders.{back_at, ended_by, found_by, gain_by, loss_by, moved_at, put_by, reached_in, saves_in, saves_of, stop_of, ticks_in, ticks_told}
-use Rattle.fab_rounds.specs.Outcomes.{alone as stops_alone, cause_of, goes_to, is_past, lefts_there, line_of, lines_at, lines_there, ordered, stays_there, HasStopped, IsCause, IsClosed, IsEnded, IsFoundAt, IsOutcome, IsTrue, IsUnended}
+use Rattle.fab_orders.specs.Totals.{total}
+use Rattle.fab_orders.specs.Starts.{IsStart}
+use Rattle.fab_orders.specs.Orders.{back_at, ended_by, found_by, gain_by, loss_by, moved_at, put_by, reached_in, saves_in, saves_of, stop_of, ticks_in, ticks_told}
+use Rattle.fab_orders.specs.Outcomes.{alone as stops_alone, cause_of, goes_to, is_past, lefts_there, line_of, lines_at, lines_there, ordered, stays_there, HasStopped, IsCause, IsClosed, IsEnded, IsFoundAt, IsOutcome, IsTrue, IsUnended}
 use Rattle.fab_rounds.specs.Ledgers.{all_outs, all_puts, ended_at, errands_of, found_there, in_hand, moving_sum, put_there, reach_in, start_sum, stopped_at, stops_told, worker_outs, AreAll, Balanced, HasEnded, HasStoppedBy, IsFinding, IsKept, IsSound, WeighsNoLeaver}
 use Rattle.fab_rounds.proofs.Conserved.{each, nobody_left, nothing, outs_in, puts_in, settled, still, worth, IsOneClosed}
 use Rattle.fab_rounds.proofs.Counted.{all_have_move, begins_once, errand_left, fresh, goes_some, has_move, is_nil, lines_counted, moveless, moves_once, nil_of, none_first, one, told_all, IsLeftFor}
 use Rattle.fab_rounds.proofs.Lists.{own_origin}
 use Rattle.fab_rounds.proofs.Told.{free_early, later, lines_by, none_by, other, same_by, saves_by, saves_one, split_by, stop_none, stop_some, stop_such, such, ticks_one, AreSound, IsBlind, IsSoundAnswer}
-use Rattle.fab_rounds.proofs.Totals.{total_at, total_each, total_none, total_zero}
+use Rattle.fab_orders.proofs.Totals.{total_at, total_each, total_none, total_zero}
 
 one_and : (a b : Bool) → one (a && b) ≡ cond a (one b) 0
 one_and true b = refl

@@ -5,24 +5,24 @@ use Rattle.std.specs.declared.alloc.Global.{Global}
 use Rattle.std.proofs.lemmas.Bool.{eqb-true}
 use Rattle.std.proofs.lemmas.List.{map-append, reverse-append}
 use Rattle.std.proofs.lemmas.List.Elements.{All-append, All-cons, All-head, All-nil, All-push, All-tail, All-weaker}
-use Rattle.ten_parcel.specs.Parcels.{number_of, ticks_of}
-use Rattle.fab_notes.specs.declared.transit.Transit.{Transit}
-use Rattle.fab_notes.specs.Tokens.{Token}
+use Rattle.fab_core.specs.ten_parcel.specs.Parcels.{number_of, ticks_of}
+use Rattle.fab_core.specs.fab_model.specs.declared.transit.Transit.{Transit}
+use Rattle.fab_core.specs.fab_model.specs.Tokens.{Token}
 use Rattle.fab_rounds.specs.declared.ledgers.Ledger.{Ledger}
-use Rattle.fab_rounds.specs.declared.outcomes.Answer.{Answer}
-use Rattle.fab_rounds.specs.declared.outcomes.Cause.{Cause}
-use Rattle.fab_rounds.specs.declared.outcomes.Finding.{Finding}
-use Rattle.fab_rounds.specs.declared.outcomes.Order.{Order}
-use Rattle.fab_rounds.specs.declared.outcomes.Reached.{Reached}
-use Rattle.fab_rounds.specs.declared.outcomes.Reached.TheVariants as reached
-use Rattle.fab_rounds.specs.declared.outcomes.Start.{Start}
-use Rattle.fab_rounds.specs.declared.outcomes.Wanted.{Wanted}
-use Rattle.fab_rounds.specs.declared.outcomes.Wanted.TheVariants as wanted
-use Rattle.fab_rounds.specs.Totals.{total}
-use Rattle.fab_rounds.specs.Orders.{ended_by, found_by, gain_by, loss_by, put_by, ticks_in, ticks_told, AreAbove, IsAbove, IsOrder}
+use Rattle.fab_orders.specs.declared.outcomes.Answer.{Answer}
+use Rattle.fab_orders.specs.declared.outcomes.Cause.{Cause}
+use Rattle.fab_orders.specs.declared.outcomes.Finding.{Finding}
+use Rattle.fab_orders.specs.declared.outcomes.Order.{Order}
+use Rattle.fab_orders.specs.declared.outcomes.Reached.{Reached}
+use Rattle.fab_orders.specs.declared.outcomes.Reached.TheVariants as reached
+use Rattle.fab_orders.specs.declared.outcomes.Start.{Start}
+use Rattle.fab_orders.specs.declared.outcomes.Wanted.{Wanted}
+use Rattle.fab_orders.specs.declared.outcomes.Wanted.TheVariants as wanted
+use Rattle.fab_orders.specs.Totals.{total}
+use Rattle.fab_orders.specs.Orders.{ended_by, found_by, gain_by, loss_by, put_by, ticks_in, ticks_told, AreAbove, IsAbove, IsOrder}
 use Rattle.fab_rounds.specs.Ledgers.{ended_at, errands_of, found_there, put_there, reach_in, stop_told, stopped_at, stops_told, transit_sum, AreSoundAnswers, DeskSeatFacts, HasEnded, HasStoppedBy, IsFinding, IsFindingIf, IsKept, IsSound, KeepsBalance}
 use Rattle.fab_rounds.specs.Tries.{IsWithin}
-use Rattle.fab_rounds.proofs.Totals.{total-append}
+use Rattle.fab_orders.proofs.Totals.{total-append}
 
 -- ---- what was told stays true
 

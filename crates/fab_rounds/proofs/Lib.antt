@@ -1,4 +1,3 @@
-pub mod Totals
 pub mod Reach
 pub mod Sets
 pub mod Kept

@@ -3,17 +3,17 @@ use Rattle.std.proofs.Common.{◌≡◌, ℕ, ◌<◌, List, [], ◌∷◌, ◌+
 use Rattle.std.specs.Prelude.{slice_get}
 use Rattle.std.proofs.lemmas.List.{get_or-map, get_or_append_left, get_or_push, length-append, length-map}
 use Rattle.std.proofs.lemmas.Option.{get_or_from_slice_get, slice_get-get_or, slice_get_within}
-use Rattle.ten_core.specs.declared.origin.Origin.{Origin}
-use Rattle.ten_core.specs.Tenants.{origin_of}
-use Rattle.vl_cost.specs.Costs.{saturated_cost}
-use Rattle.vl_design.specs.Cost.{cost}
-use Rattle.ten_parcel.specs.declared.parcel.Parcel.{Parcel}
-use Rattle.ten_parcel.specs.Parcels.{number_of, origin_in, run_of}
-use Rattle.ten_plan.specs.Plans.{move_at}
-use Rattle.fab_points.specs.Fabrics.{within}
-use Rattle.fab_bay.specs.declared.noted.Label.{Label}
-use Rattle.fab_rounds.specs.declared.outcomes.Start.{Start}
-use Rattle.fab_rounds.specs.Starts.{origins_of, AreStarts, HasPlaceFor, IsOwn}
+use Rattle.fab_core.specs.ten_core.specs.declared.origin.Origin.{Origin}
+use Rattle.fab_core.specs.ten_core.specs.Tenants.{origin_of}
+use Rattle.fab_core.specs.vl_design.specs.Costs.{saturated_cost}
+use Rattle.fab_core.specs.vl_design.specs.Cost.{cost}
+use Rattle.fab_core.specs.ten_parcel.specs.declared.parcel.Parcel.{Parcel}
+use Rattle.fab_core.specs.ten_parcel.specs.Parcels.{number_of, origin_in, run_of}
+use Rattle.fab_core.specs.ten_plan.specs.Plans.{move_at}
+use Rattle.fab_core.specs.fab_model.specs.Fabrics.{within}
+use Rattle.fab_desk.specs.fab_bay.specs.declared.noted.Label.{Label}
+use Rattle.fab_orders.specs.declared.outcomes.Start.{Start}
+use Rattle.fab_orders.specs.Starts.{origins_of, AreStarts, HasPlaceFor, IsOwn}
 
 abbrev origin_at : Start → Origin
 origin_at s = origin_in s.transit.parcel

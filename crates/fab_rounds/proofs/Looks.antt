@@ -9,52 +9,53 @@ use Rattle.std.proofs.lemmas.Bool.{eqb-true}
 use Rattle.std.proofs.lemmas.List.{append_cancel_left, get_or_default}
 use Rattle.std.proofs.lemmas.List.Elements.{All-cons, All-head, All-nil, All-tail}
 use Rattle.std.proofs.lemmas.Option.{get_or_from_slice_get, same_Some}
-use Rattle.vl_design.specs.Alone as alone
-use Rattle.vl_design.specs.Alone.{first_tick}
-use Rattle.vl_cost.specs.Costs.{saturated_cost}
-use Rattle.vl_design.specs.Cost.{cost}
-use Rattle.ten_core.specs.declared.origin.Origin.{Origin}
-use Rattle.ten_core.specs.Tenants.{origin_of}
-use Rattle.ten_parcel.specs.Parcels.{cost_of, is_moved, number_of, origin_in, run_of, ticks_of}
-use Rattle.fab_lock.specs.Facts.{IsSeatOf}
-use Rattle.fab_lock.specs.Histories.{high, notes_of}
-use Rattle.fab_lock.specs.Views.{after_glance}
-use Rattle.fab_points.specs.Fabrics.{within}
-use Rattle.fab_points.specs.Points.{Point}
-use Rattle.fab_points.specs.Worlds.{run}
+use Rattle.fab_core.specs.vl_design.specs.Alone as alone
+use Rattle.fab_core.specs.vl_design.specs.Alone.{first_tick}
+use Rattle.fab_core.specs.vl_design.specs.Costs.{saturated_cost}
+use Rattle.fab_core.specs.vl_design.specs.Cost.{cost}
+use Rattle.fab_core.specs.ten_core.specs.declared.origin.Origin.{Origin}
+use Rattle.fab_core.specs.ten_core.specs.Tenants.{origin_of}
+use Rattle.fab_core.specs.ten_parcel.specs.Parcels.{cost_of, is_moved, number_of, origin_in, run_of, ticks_of}
+use Rattle.fab_core.specs.fab_lock.specs.Facts.{IsSeatOf}
+use Rattle.fab_core.specs.fab_lock.specs.Histories.{high, notes_of}
+use Rattle.fab_core.specs.fab_lock.specs.Views.{after_glance}
+use Rattle.fab_core.specs.fab_model.specs.Fabrics.{within}
+use Rattle.fab_core.specs.fab_model.specs.Points.{Point}
+use Rattle.fab_core.specs.fab_model.specs.Worlds.{run}
 use Rattle.fab_core.specs.Standing.{IsPointOf}
-use Rattle.fab_notes.specs.declared.note.Note.{Note}
-use Rattle.fab_notes.specs.declared.transit.Stay.{Stay}
-use Rattle.fab_notes.specs.declared.transit.Transit.{Transit}
-use Rattle.fab_notes.specs.Deeds as deeds
-use Rattle.fab_notes.specs.Moves.{ends_idle}
-use Rattle.fab_notes.specs.Origins.{AreOwn, Origins, StartsFrom}
-use Rattle.fab_notes.specs.Stays.{chains}
-use Rattle.fab_notes.specs.Tokens.{outs, puts, token_of, Token}
-use Rattle.fab_notes.proofs.Owns.{leavers_own, own-parts}
-use Rattle.fab_bay.specs.declared.leaving.Found.TheVariants.{Here, Absent}
-use Rattle.fab_bay.specs.declared.leaving.Taken.{Taken}
-use Rattle.fab_bay.specs.declared.noted.Label.{Label}
-use Rattle.fab_bay.specs.declared.noted.NotedCore.{NotedCore}
-use Rattle.fab_bay.specs.Standing.{IsNoted}
-use Rattle.fab_bay.specs.Taking as taking
-use Rattle.fab_bay.specs.Ways.{AreOut}
-use Rattle.fab_desk.specs.Desks.{entry_of, DeskView, DidTake}
+use Rattle.fab_core.specs.fab_model.specs.declared.note.Note.{Note}
+use Rattle.fab_core.specs.fab_model.specs.declared.transit.Stay.{Stay}
+use Rattle.fab_core.specs.fab_model.specs.declared.transit.Transit.{Transit}
+use Rattle.fab_core.specs.fab_model.specs.Deeds as deeds
+use Rattle.fab_core.specs.fab_model.specs.Moves.{ends_idle}
+use Rattle.fab_core.specs.fab_model.specs.Origins.{AreOwn, Origins, StartsFrom}
+use Rattle.fab_core.specs.fab_model.specs.Stays.{chains}
+use Rattle.fab_core.specs.fab_model.specs.Tokens.{outs, puts, token_of, Token}
+use Rattle.fab_core.specs.fab_model.proofs.Owns.{leavers_own, own-parts}
+use Rattle.fab_desk.specs.fab_bay.specs.declared.leaving.Found.TheVariants.{Here, Absent}
+use Rattle.fab_desk.specs.fab_bay.specs.declared.leaving.Taken.{Taken}
+use Rattle.fab_desk.specs.fab_bay.specs.declared.noted.Label.{Label}
+use Rattle.fab_desk.specs.fab_bay.specs.declared.noted.NotedCore.{NotedCore}
+use Rattle.fab_desk.specs.fab_bay.specs.Standing.{IsNoted}
+use Rattle.fab_desk.specs.fab_bay.specs.Taking as taking
+use Rattle.fab_desk.specs.fab_bay.specs.Ways.{AreOut}
+use Rattle.fab_core.specs.fab_model.specs.Histories.{entry_of}
+use Rattle.fab_desk.specs.Desks.{DeskView, DidTake}
 use Rattle.fab_rounds.specs.declared.ledgers.Ledger.{Ledger}
-use Rattle.fab_rounds.specs.declared.outcomes.Answer.{Answer}
-use Rattle.fab_rounds.specs.declared.outcomes.Cause.{Cause}
-use Rattle.fab_rounds.specs.declared.outcomes.Finding.{Finding}
-use Rattle.fab_rounds.specs.declared.outcomes.Reached.{Reached}
-use Rattle.fab_rounds.specs.declared.outcomes.Reached.TheVariants as reached
-use Rattle.fab_rounds.specs.declared.outcomes.Reason.{Reason}
-use Rattle.fab_rounds.specs.declared.outcomes.Reason.TheVariants.{First, Errand}
-use Rattle.fab_rounds.specs.declared.outcomes.Start.{Start}
-use Rattle.fab_rounds.specs.declared.outcomes.Wanted.{Wanted}
-use Rattle.fab_rounds.specs.declared.outcomes.Wanted.TheVariants as wanted
-use Rattle.fab_rounds.specs.Totals.{total}
-use Rattle.fab_rounds.specs.Starts.{HasPlaceFor, IsLabel, IsOwn, NamesOrigins}
-use Rattle.fab_rounds.specs.Orders.{put_by, put_for, with_save}
-use Rattle.fab_rounds.specs.Outcomes.{cause_of, IsCause, IsReason, IsUnended}
+use Rattle.fab_orders.specs.declared.outcomes.Answer.{Answer}
+use Rattle.fab_orders.specs.declared.outcomes.Cause.{Cause}
+use Rattle.fab_orders.specs.declared.outcomes.Finding.{Finding}
+use Rattle.fab_orders.specs.declared.outcomes.Reached.{Reached}
+use Rattle.fab_orders.specs.declared.outcomes.Reached.TheVariants as reached
+use Rattle.fab_orders.specs.declared.outcomes.Reason.{Reason}
+use Rattle.fab_orders.specs.declared.outcomes.Reason.TheVariants.{First, Errand}
+use Rattle.fab_orders.specs.declared.outcomes.Start.{Start}
+use Rattle.fab_orders.specs.declared.outcomes.Wanted.{Wanted}
+use Rattle.fab_orders.specs.declared.outcomes.Wanted.TheVariants as wanted
+use Rattle.fab_orders.specs.Totals.{total}
+use Rattle.fab_orders.specs.Starts.{HasPlaceFor, IsLabel, IsOwn, NamesOrigins}
+use Rattle.fab_orders.specs.Orders.{put_by, put_for, with_save}
+use Rattle.fab_orders.specs.Outcomes.{cause_of, IsCause, IsReason, IsUnended}
 use Rattle.fab_rounds.specs.Ledgers.{errand_of, errands_of, found_there, put_there, reach, reach_in, seat_puts, AreFirsts, DeskSeatFacts, DeskFacts, IsFinding, IsFirst, IsKept, IsLedger, IsSound}
 use Rattle.fab_rounds.specs.Tries.{Seeks, TakesOut}
 use Rattle.fab_rounds.proofs.Begins.{total_least, total_some}
@@ -65,8 +66,9 @@ use Rattle.fab_rounds.proofs.Reach.{glanced_far, glanced_reach, served_high, ser
 use Rattle.fab_rounds.proofs.Sets.{set_firsts, set_outs, set_puts, set_reach, set_there}
 use Rattle.fab_rounds.proofs.Steps.{outs-append, puts-append, served_outs, served_puts}
 use Rattle.fab_rounds.proofs.Taken.{all_last}
-use Rattle.fab_rounds.proofs.Totals.{total-append, total_none}
+use Rattle.fab_orders.proofs.Totals.{total-append, total_none}
 use Rattle.fab_rounds.proofs.Visits.{chains_on, outs_seen, puts_first, puts_fit}
+use Rattle.fab_core.specs.vl_base.proofs.Lists.{all_both as both_all}
 
 -- ---- why it was put in line at all
 
@@ -134,9 +136,6 @@ has_begun l n k some d =
 one_origin : (starts : List Start) (o : Origins) (n : ℕ) (a b : Origin) → NamesOrigins starts o → StartsFrom o n a → StartsFrom o n b → a ≡ b
 one_origin starts None n a b h p q = absurd h
 one_origin starts (Some all) n a b h p q = same_Some a b (sym p ∙ q)
-
-both_all : {X : Type 0} (P Q : X → Type 0) (xs : List X) → All P xs → All Q xs → All (λ x. P x × Q x) xs
-both_all P Q xs a b i d lt = (a i d lt, b i d lt)
 
 own_all : (o : Origins) (xs : List Token) → AreOwn o xs → All (λ z. StartsFrom o z.tenant z.deed.origin) xs
 own_all o [] h = All-nil (λ (z : Token). StartsFrom o z.tenant z.deed.origin)

@@ -5,15 +5,15 @@ use Rattle.std.specs.Prelude.{All, Vec, slice_get}
 use Rattle.std.specs.declared.alloc.Global.{Global}
 use Rattle.std.proofs.lemmas.List.Elements.{All-cons, All-nil}
 use Rattle.std.proofs.lemmas.Option.{slice_get-get_or}
-use Rattle.ten_parcel.specs.Parcels.{number_of}
-use Rattle.fab_lock.specs.Facts.{IsSeatOf}
-use Rattle.fab_lock.specs.Views.{first_view, lower_half, upper_half}
-use Rattle.fab_bay.specs.declared.noted.Label.{Label}
+use Rattle.fab_core.specs.ten_parcel.specs.Parcels.{number_of}
+use Rattle.fab_core.specs.fab_lock.specs.Facts.{IsSeatOf}
+use Rattle.fab_core.specs.fab_lock.specs.Views.{first_view, lower_half, upper_half}
+use Rattle.fab_desk.specs.fab_bay.specs.declared.noted.Label.{Label}
 use Rattle.fab_desk.specs.Desks.{DeskView}
-use Rattle.fab_rounds.specs.declared.outcomes.Start.{Start}
+use Rattle.fab_orders.specs.declared.outcomes.Start.{Start}
 use Rattle.fab_rounds.specs.declared.posts.Opened.{Opened}
 use Rattle.fab_rounds.specs.declared.workers.Worker.{Worker}
-use Rattle.fab_rounds.specs.Starts.{AreStarts, IsStart}
+use Rattle.fab_orders.specs.Starts.{AreStarts, IsStart}
 use Rattle.fab_rounds.specs.Ledgers.{labels_of, AreFirsts, AreOut, DeskSeatFacts, DeskFacts, IsFirst, IsWorker}
 use Rattle.fab_rounds.specs.Openings.{AreSeated, Opens}
 

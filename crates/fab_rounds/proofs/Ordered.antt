@@ -4,34 +4,35 @@ use Rattle.std.specs.Prelude.{◌&&◌, if◌then◌else◌, is_some, All, IfOk,
 use Rattle.std.specs.declared.alloc.AllocError.{AllocError}
 use Rattle.std.specs.declared.alloc.Global.{Global}
 use Rattle.std.specs.declared.snapshot.Snapshot.{Snapshot}
-use Rattle.ten_parcel.specs.Parcels.{is_stopped, number_of, run_of, ticks_of}
+use Rattle.fab_core.specs.ten_parcel.specs.Parcels.{is_stopped, number_of, run_of, ticks_of}
 use Rattle.std.proofs.lemmas.Bool.{false≢true}
 use Rattle.std.proofs.lemmas.List.{length-append}
-use Rattle.vl_design.specs.declared.design.End.{End}
-use Rattle.vl_design.specs.declared.design.End.TheVariants.{Stopped}
-use Rattle.vl_design.specs.Alone.{reason_at, Boundary, Ends}
-use Rattle.vl_design.specs.Queue.{Queue}
-use Rattle.fab_points.specs.Points.{ended, Point}
+use Rattle.fab_core.specs.vl_design.specs.declared.design.End.{End}
+use Rattle.fab_core.specs.vl_design.specs.declared.design.End.TheVariants.{Stopped}
+use Rattle.fab_core.specs.vl_design.specs.Alone.{reason_at, Boundary, Ends}
+use Rattle.fab_core.specs.vl_design.specs.Queue.{Queue}
+use Rattle.fab_core.specs.fab_model.specs.Points.{ended, Point}
 use Rattle.fab_core.specs.Standing.{IsPointOf}
 use Rattle.std.proofs.lemmas.List.Elements.{All-weaker}
-use Rattle.fab_notes.specs.declared.transit.Transit.{Transit}
-use Rattle.fab_notes.specs.Tokens.{token_of, Token}
+use Rattle.fab_core.specs.fab_model.specs.declared.transit.Transit.{Transit}
+use Rattle.fab_core.specs.fab_model.specs.Tokens.{token_of, Token}
 use Rattle.fab_rounds.specs.declared.ledgers.Ledger.{Ledger}
 use Rattle.fab_rounds.specs.declared.ledgers.Moving.{Moving}
-use Rattle.fab_rounds.specs.declared.outcomes.Order.{Order}
-use Rattle.fab_rounds.specs.declared.outcomes.Reached.TheVariants as reached
-use Rattle.fab_rounds.specs.declared.outcomes.Start.{Start}
-use Rattle.fab_rounds.specs.declared.outcomes.Wanted.{Wanted}
+use Rattle.fab_orders.specs.declared.outcomes.Order.{Order}
+use Rattle.fab_orders.specs.declared.outcomes.Reached.TheVariants as reached
+use Rattle.fab_orders.specs.declared.outcomes.Start.{Start}
+use Rattle.fab_orders.specs.declared.outcomes.Wanted.{Wanted}
 use Rattle.fab_rounds.specs.declared.seeking.Hit.{Hit}
-use Rattle.fab_rounds.specs.declared.outcomes.Wanted.TheVariants as wanted
-use Rattle.fab_rounds.specs.Totals.{total}
-use Rattle.fab_rounds.specs.Orders.{gain_by, loss_by, ticks_told, IsOrder}
-use Rattle.fab_rounds.specs.Outcomes.{IsUnended}
+use Rattle.fab_orders.specs.declared.outcomes.Wanted.TheVariants as wanted
+use Rattle.fab_orders.specs.Totals.{total}
+use Rattle.fab_orders.specs.Orders.{gain_by, loss_by, ticks_told, IsOrder}
+use Rattle.fab_orders.specs.Outcomes.{IsUnended}
 use Rattle.fab_rounds.specs.Ledgers.{all_come, all_gone, all_outs, all_puts, ended_at, moving_sum, reach_in, transit_sum, AreAll, AreFirsts, DeskSeatFacts, DeskFacts, HaveBegun, IsKept, IsLedger, Operates}
 use Rattle.fab_rounds.specs.Tries.{is_watch, Answers, IsHolding, IsNext, MayTell, Seeks, TakesOut, Tells}
 use Rattle.fab_rounds.proofs.Answered.{may_tell_far, BoundaryLaw, EndLaw}
 use Rattle.fab_rounds.proofs.Begins.{total_least}
 use Rattle.fab_rounds.proofs.Taken.{all_last}
+use Rattle.fab_core.specs.vl_design.proofs.Shared.{none_of}
 
 -- ---- a ledger where a tenant was looked for
 
@@ -144,10 +145,6 @@ operates_answers desks n g t a b c k none s r = record {
   reach = λ m. let x = s.reach m in let y = r.reach m in omega (arith, x, y);
 }
 
--- by which order it was doesn't count
-pub answers_popped : (desks : List DeskFacts) (held : (Token → ℕ) → ℕ) (l l' : Ledger) (os : Vec Order Global) → Answers desks held (record l { orders = os }) l' → Answers desks held l l'
-answers_popped desks held l l' os a = record { ledger = a.ledger; same = a.same; moving = a.moving; balance = a.balance; reach = a.reach }
-
 -- the tenant of the next order was taken out
 pub holding : (desks : List DeskFacts) (o : Order) (q : Snapshot Order) (g : ℕ) (t : Transit) (b l : Ledger) (os : Vec Order Global) → q.value ≡ o → IsLedger desks b → TakesOut desks (number_of t.parcel) g t b l → IsNext (number_of t.parcel) false l.orders.items → l.orders.items ≡ os.items ++ o ∷ []
     → IsHolding desks q.value g t (record l { orders = os })
@@ -249,20 +246,12 @@ ended_some (Some e) A P s h a = let r = h a in (e, r.0, r.1)
 pub found_ends : (t : Transit) (x : Option End) → is_some x ≡ true → IfSome x (λ e. is_stopped t.parcel ≡ false → (q : Queue) × Ends (run_of t.parcel) (ticks_of t.parcel) e q) → is_stopped t.parcel ≡ false → (e : End) × (q : Queue) × Ends (run_of t.parcel) (ticks_of t.parcel) e q
 found_ends t x s h lives = ended_some x (is_stopped t.parcel ≡ false) (λ e q. Ends (run_of t.parcel) (ticks_of t.parcel) e q) s h lives
 
-none_of : (e : Option End) → is_some e ≡ false → e ≡ None
-none_of None n = refl
-none_of (Some e) n = let z : ⊥ = cc in absurd z
-
 -- and where it has none
 pub found_lives : (t : Transit) (x : Option End) → is_some x ≡ false → ((q : Queue) → Boundary (run_of t.parcel) (ticks_of t.parcel) q → x ≡ (if is_stopped t.parcel then Some Stopped else reason_at (run_of t.parcel).plan (ticks_of t.parcel) q)) → ((p : Point) × IsPointOf t.parcel p)
     → EndLaw → BoundaryLaw → (p : Point) × IsPointOf t.parcel p × (ended p ≡ None)
 found_lives t x none reason at told boundary =
     let b = boundary t.parcel at.0 at.1 in
     (at.0, at.1, told t.parcel at.0 b.0 at.1 b.1 ∙ sym (reason b.0 b.1) ∙ none_of x none)
-
--- no watch is done so
-pub no_watch : (w : Wanted) → w ≡ wanted.Watch → is_watch w ≡ false → ⊥
-no_watch w e n = let z = ap is_watch (sym e) ∙ n in false≢true (sym z)
 
 -- ---- what a search for its tenant came to
 

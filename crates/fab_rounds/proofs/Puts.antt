@@ -5,27 +5,27 @@ use Rattle.std.specs.declared.alloc.Global.{Global}
 use Rattle.std.specs.declared.snapshot.Snapshot.{Snapshot}
 use Rattle.std.proofs.lemmas.List.{get_or-map, length-map}
 use Rattle.std.proofs.lemmas.List.Elements.{All-push, All-weaker}
-use Rattle.ten_core.specs.declared.origin.Origin.{Origin}
-use Rattle.ten_parcel.specs.declared.parcel.Parcel.{Parcel}
-use Rattle.ten_parcel.specs.Parcels.{cost_of, number_of, origin_in, ticks_of}
-use Rattle.fab_points.specs.Fabrics.{within}
-use Rattle.fab_notes.specs.declared.transit.Transit.{Transit}
-use Rattle.fab_notes.specs.Origins.{Origins, StartsFrom}
-use Rattle.fab_notes.specs.Tokens.{token_of, Token}
-use Rattle.fab_bay.specs.declared.noted.Label.{Label}
+use Rattle.fab_core.specs.ten_core.specs.declared.origin.Origin.{Origin}
+use Rattle.fab_core.specs.ten_parcel.specs.declared.parcel.Parcel.{Parcel}
+use Rattle.fab_core.specs.ten_parcel.specs.Parcels.{cost_of, number_of, origin_in, ticks_of}
+use Rattle.fab_core.specs.fab_model.specs.Fabrics.{within}
+use Rattle.fab_core.specs.fab_model.specs.declared.transit.Transit.{Transit}
+use Rattle.fab_core.specs.fab_model.specs.Origins.{Origins, StartsFrom}
+use Rattle.fab_core.specs.fab_model.specs.Tokens.{token_of, Token}
+use Rattle.fab_desk.specs.fab_bay.specs.declared.noted.Label.{Label}
 use Rattle.fab_rounds.specs.declared.ledgers.Ledger.{Ledger}
 use Rattle.fab_rounds.specs.declared.ledgers.Moving.{Moving}
-use Rattle.fab_rounds.specs.declared.outcomes.Cause.{Cause}
-use Rattle.fab_rounds.specs.declared.outcomes.Start.{Start}
-use Rattle.fab_rounds.specs.Totals.{total}
-use Rattle.fab_rounds.specs.Starts.{IsLabel, IsOwn, NamesOrigins}
-use Rattle.fab_rounds.specs.Orders.{ticks_told}
-use Rattle.fab_rounds.specs.Outcomes.{cause_of, IsCause, IsReason}
+use Rattle.fab_orders.specs.declared.outcomes.Cause.{Cause}
+use Rattle.fab_orders.specs.declared.outcomes.Start.{Start}
+use Rattle.fab_orders.specs.Totals.{total}
+use Rattle.fab_orders.specs.Starts.{IsLabel, IsOwn, NamesOrigins}
+use Rattle.fab_orders.specs.Orders.{ticks_told}
+use Rattle.fab_orders.specs.Outcomes.{cause_of, IsCause, IsReason}
 use Rattle.fab_rounds.specs.Ledgers.{errand_of, errands_of, found_there, labels_of, put_there, reach, reach_in, seat_outs, seat_puts, AreFirsts, DeskSeatFacts, DeskFacts, IsFirst, IsLedger, IsMoving, PutsOne}
 use Rattle.fab_rounds.proofs.Kept.{more_answers}
 use Rattle.fab_rounds.proofs.Lists.{own_within}
 use Rattle.fab_rounds.proofs.Sets.{set_firsts, set_outs, set_puts, set_reach, set_there}
-use Rattle.fab_rounds.proofs.Totals.{total-append}
+use Rattle.fab_orders.proofs.Totals.{total-append}
 
 -- the label at a place
 pub label_at : (desks : List DeskFacts) (labels : List Label) → labels_of desks ≡ labels → (i : ℕ) (d : DeskFacts) (e : Label) → i < length desks → get_or labels i e ≡ (get_or desks i d).label

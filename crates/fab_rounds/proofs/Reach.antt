@@ -3,10 +3,11 @@ use Rattle.std.proofs.Common.{◌≡◌, ℕ, zero, suc, ◌+◌, ◌<◌, ◌�
 use Rattle.std.specs.Prelude.{All}
 use Rattle.std.proofs.lemmas.Bool.{eqb-true}
 use Rattle.std.proofs.lemmas.List.Elements.{All-head, All-tail}
-use Rattle.fab_lock.specs.Histories.{high, StartsWith}
-use Rattle.fab_lock.specs.Views.{after_glance}
-use Rattle.fab_notes.specs.declared.note.Note.{Note}
-use Rattle.fab_desk.specs.Desks.{entry_of, serving, DeskView}
+use Rattle.fab_core.specs.fab_lock.specs.Histories.{high, StartsWith}
+use Rattle.fab_core.specs.fab_lock.specs.Views.{after_glance}
+use Rattle.fab_core.specs.fab_model.specs.declared.note.Note.{Note}
+use Rattle.fab_core.specs.fab_model.specs.Histories.{entry_of}
+use Rattle.fab_desk.specs.Desks.{serving, DeskView}
 use Rattle.fab_rounds.specs.Ledgers.{heard, reach, reach_in, DeskSeatFacts}
 
 -- ---- histories

@@ -3,11 +3,11 @@ use Rattle.std.proofs.Common.{◌≡◌, ℕ, ◌+◌, ◌<◌, ◌≤◌, List,
 use mathlib.Core.Logic.{dite}
 use native.Mathlib.Decide.{ℕ_discrete}
 use Rattle.std.proofs.lemmas.List.{get_or_default}
-use Rattle.fab_notes.specs.Tokens.{Token}
-use Rattle.fab_rounds.specs.Totals.{total}
+use Rattle.fab_core.specs.fab_model.specs.Tokens.{Token}
+use Rattle.fab_orders.specs.Totals.{total}
 use Rattle.fab_rounds.specs.Ledgers.{fabric_in, found_there, put_there, reach, reach_in, seat_outs, seat_puts, AreFirsts, DeskSeatFacts, DeskFacts, IsFirst}
 use Rattle.fab_rounds.proofs.Reach.{reach_at, reach_set}
-use Rattle.fab_rounds.proofs.Totals.{total-set}
+use Rattle.fab_orders.proofs.Totals.{total-set}
 
 module _ (desks : List DeskFacts) (seats : List DeskSeatFacts) (firsts : AreFirsts desks seats) (i : ℕ) (desk : DeskFacts) (is : desk ≡ get_or desks i desk) (lt : i < length desks) (fabric : desk.label.fabric ≡ i)
     (old seat : DeskSeatFacts) (was : old ≡ get_or seats i old) (first : IsFirst desk seat) where

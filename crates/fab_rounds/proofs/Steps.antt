@@ -3,41 +3,34 @@ use Rattle.std.proofs.Common.{◌≡◌, ℕ, ◌+◌, ◌≤◌, true, false, L
 use Rattle.std.specs.Prelude.{All, Vec}
 use Rattle.std.specs.declared.alloc.Global.{Global}
 use Rattle.std.proofs.lemmas.List.Elements.{All-nil, All-cons, All-head, All-tail, All-push}
-use Rattle.fab_lock.specs.declared.entry.Entry.{Entry}
-use Rattle.fab_lock.specs.declared.entry.Kind.{Kind}
-use Rattle.fab_lock.specs.declared.entry.Kind.TheVariants as kind
-use Rattle.fab_lock.specs.Facts.{IsSeatOf}
-use Rattle.fab_notes.specs.declared.note.Note.{Note}
-use Rattle.fab_notes.specs.declared.transit.Transit.{Transit}
-use Rattle.fab_notes.specs.Deeds.{deed_in, deed_of}
-use Rattle.fab_notes.specs.Origins.{AreOwn, Origins}
-use Rattle.fab_notes.specs.Tokens.{out_at, outs, put_at, puts, told, token_of, Token}
-use Rattle.fab_notes.proofs.Owns.{leavers_own, own-parts}
-use Rattle.fab_bay.specs.declared.leaving.Leaving.{Leaving}
-use Rattle.vl_cost.specs.declared.capacity.Cost.{Cost}
-use Rattle.ten_parcel.specs.Parcels.{cost_of, number_of, ticks_of}
-use Rattle.fab_points.specs.Fabrics.{within}
-use Rattle.fab_bay.specs.declared.leaving.DeskError.TheVariants.{TooLarge}
-use Rattle.fab_bay.specs.declared.leaving.Receipt.{Receipt}
-use Rattle.fab_bay.specs.declared.leaving.Refused.{Refused}
-use Rattle.fab_bay.specs.Refusals.{IsRefusal}
-use Rattle.fab_bay.specs.declared.leaving.Turn.{Turn}
-use Rattle.fab_bay.specs.declared.noted.Label.{Label}
-use Rattle.fab_bay.specs.Ways.{tokens, transits, LeftFor}
+use Rattle.fab_core.specs.fab_lock.specs.declared.entry.Entry.{Entry}
+use Rattle.fab_core.specs.fab_lock.specs.declared.entry.Kind.{Kind}
+use Rattle.fab_core.specs.fab_lock.specs.declared.entry.Kind.TheVariants as kind
+use Rattle.fab_core.specs.fab_lock.specs.Facts.{IsSeatOf}
+use Rattle.fab_core.specs.fab_model.specs.declared.note.Note.{Note}
+use Rattle.fab_core.specs.fab_model.specs.declared.transit.Transit.{Transit}
+use Rattle.fab_core.specs.fab_model.specs.Deeds.{deed_in, deed_of}
+use Rattle.fab_core.specs.fab_model.specs.Origins.{AreOwn, Origins}
+use Rattle.fab_core.specs.fab_model.specs.Tokens.{out_at, outs, put_at, puts, told, token_of, Token}
+use Rattle.fab_core.specs.fab_model.proofs.Owns.{leavers_own, own-parts}
+use Rattle.fab_desk.specs.fab_bay.specs.declared.leaving.Leaving.{Leaving}
+use Rattle.fab_core.specs.vl_design.specs.declared.capacity.Cost.{Cost}
+use Rattle.fab_core.specs.ten_parcel.specs.Parcels.{cost_of, number_of, ticks_of}
+use Rattle.fab_core.specs.fab_model.specs.Fabrics.{within}
+use Rattle.fab_desk.specs.fab_bay.specs.declared.leaving.DeskError.TheVariants.{TooLarge}
+use Rattle.fab_desk.specs.fab_bay.specs.declared.leaving.Receipt.{Receipt}
+use Rattle.fab_desk.specs.fab_bay.specs.declared.leaving.Refused.{Refused}
+use Rattle.fab_desk.specs.fab_bay.specs.Refusals.{IsRefusal}
+use Rattle.fab_desk.specs.fab_bay.specs.declared.leaving.Turn.{Turn}
+use Rattle.fab_desk.specs.fab_bay.specs.declared.noted.Label.{Label}
+use Rattle.fab_desk.specs.fab_bay.specs.Ways.{tokens, transits, LeftFor}
 use Rattle.fab_desk.specs.Desks.{serving, DeskView, DidNothing, DidPut, DidRefuse, DidTurn}
 use Rattle.fab_rounds.specs.declared.workers.Worker.{Worker}
-use Rattle.fab_rounds.specs.Totals.{total}
+use Rattle.fab_orders.specs.Totals.{total}
 use Rattle.fab_rounds.specs.Ledgers.{leaving_sum, pile_sum, reach, seat_outs, AreOut, DeskFacts, DeskSeatFacts, IsOut, IsWorker, Steps}
 use Rattle.fab_rounds.proofs.Reach.{high_last, served_high, served_reach}
-use Rattle.fab_rounds.proofs.Totals.{total-append, total-map}
-
-pub outs-append : (xs ys : List Note) → outs (xs ++ ys) ≡ outs xs ++ outs ys
-outs-append [] ys = refl
-outs-append (x ∷ xs) ys = ap (λ (l : List Token). out_at x.entry.kind x ++ l) (outs-append xs ys) ∙ sym (append_assoc (out_at x.entry.kind x) (outs xs) (outs ys))
-
-pub puts-append : (xs ys : List Note) → puts (xs ++ ys) ≡ puts xs ++ puts ys
-puts-append [] ys = refl
-puts-append (x ∷ xs) ys = ap (λ (l : List Token). put_at x.entry.kind x ++ l) (puts-append xs ys) ∙ sym (append_assoc (put_at x.entry.kind x) (puts xs) (puts ys))
+use Rattle.fab_orders.proofs.Totals.{total-append, total-map}
+pub use Rattle.fab_core.specs.fab_model.proofs.Shared.{outs-append, puts-append}
 
 module _ (v v' : DeskView) (found added : List Note) (s : v' ≡ serving v found added) where
   own : v'.own ≡ v.own ++ added

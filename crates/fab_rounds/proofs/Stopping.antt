@@ -3,33 +3,34 @@ use Rattle.std.proofs.Common.{◌≡◌, ℕ, Bool, true, false, List, [], ◌�
 use Rattle.std.specs.Prelude.{not, ◌&&◌, ◌||◌, slice_get, if◌then◌else◌}
 use Rattle.std.specs.Arc.{arc_value}
 use Rattle.std.proofs.lemmas.Option.{none-some}
-use Rattle.vl_design.specs.declared.design.End.{End}
-use Rattle.vl_design.specs.declared.design.End.TheVariants.{Finished, Stopped}
-use Rattle.vl_design.specs.Alone as alone
-use Rattle.vl_design.specs.Alone.{first_tick, FreeSave}
-use Rattle.cell_form.specs.Data.{BankData}
-use Rattle.cell_form.specs.Views.{bank_of}
-use Rattle.sub_nodes.specs.Code.{table_of}
-use Rattle.sub_nodes.specs.Cycles.{Stage, rises}
-use Rattle.ten_core.specs.declared.origin.Origin.{Origin}
-use Rattle.ten_core.specs.Tenants.{origin_of}
-use Rattle.ten_shell.specs.declared.shell.Shell.{Shell}
-use Rattle.ten_shell.specs.Shells.{flat_in, free_in, is_at_boundary, is_left, left_in, StandsFor}
-use Rattle.ten_parcel.specs.declared.parcel.Parcel.{Parcel}
-use Rattle.ten_parcel.specs.declared.parcel.Parcel.TheVariants as parcel
-use Rattle.ten_parcel.specs.declared.tenant.Tenant.{Tenant}
-use Rattle.ten_parcel.specs.Parcels.{run_of, ticks_of}
-use Rattle.fab_points.specs.Points.{ended, rests, run_in, Point}
+use Rattle.fab_core.specs.vl_design.specs.declared.design.End.{End}
+use Rattle.fab_core.specs.vl_design.specs.declared.design.End.TheVariants.{Finished, Stopped}
+use Rattle.fab_core.specs.vl_design.specs.Alone as alone
+use Rattle.fab_core.specs.vl_design.specs.Alone.{first_tick, FreeSave}
+use Rattle.fab_core.specs.cell_form.specs.Data.{BankData}
+use Rattle.fab_core.specs.cell_form.specs.Views.{bank_of}
+use Rattle.fab_core.specs.sub_nodes.specs.Code.{table_of}
+use Rattle.fab_core.specs.sub_nodes.specs.Cycles.{Stage, rises}
+use Rattle.fab_core.specs.ten_core.specs.declared.origin.Origin.{Origin}
+use Rattle.fab_core.specs.ten_core.specs.Tenants.{origin_of}
+use Rattle.fab_core.specs.ten_shell.specs.declared.shell.Shell.{Shell}
+use Rattle.fab_core.specs.ten_shell.specs.Shells.{flat_in, free_in, is_at_boundary, is_left, left_in, StandsFor}
+use Rattle.fab_core.specs.ten_parcel.specs.declared.parcel.Parcel.{Parcel}
+use Rattle.fab_core.specs.ten_parcel.specs.declared.parcel.Parcel.TheVariants as parcel
+use Rattle.fab_core.specs.ten_parcel.specs.declared.tenant.Tenant.{Tenant}
+use Rattle.fab_core.specs.ten_parcel.specs.Parcels.{run_of, ticks_of}
+use Rattle.fab_core.specs.fab_model.specs.Points.{ended, rests, run_in, Point}
 use Rattle.fab_core.specs.Standing.{IsAtRest, IsPoint, IsPointOf}
 use Rattle.fab_core.proofs.Arriving.{parcel_is, parcel_number}
 use Rattle.fab_core.proofs.Parcels.{free_is, moved_is, origin_is, stopped_is, ticks_is}
-use Rattle.fab_notes.specs.declared.transit.Stay.{Stay}
-use Rattle.fab_notes.specs.declared.transit.Transit.{Transit}
-use Rattle.fab_notes.specs.Deeds.{Deed}
-use Rattle.fab_notes.specs.Ends.{EndsNotBefore}
-use Rattle.fab_notes.specs.Stays.{chains}
-use Rattle.fab_notes.specs.Tokens.{Token}
+use Rattle.fab_core.specs.fab_model.specs.declared.transit.Stay.{Stay}
+use Rattle.fab_core.specs.fab_model.specs.declared.transit.Transit.{Transit}
+use Rattle.fab_core.specs.fab_model.specs.Deeds.{Deed}
+use Rattle.fab_core.specs.fab_model.specs.Ends.{EndsNotBefore}
+use Rattle.fab_core.specs.fab_model.specs.Stays.{chains}
+use Rattle.fab_core.specs.fab_model.specs.Tokens.{Token}
 use Rattle.fab_rounds.specs.Tries.{IsStopped, Saves}
+use Rattle.fab_core.specs.ten_shell.proofs.Tests.{none-left as nothing_left}
 
 -- ---- shells
 
@@ -66,10 +67,6 @@ lacking true u l h e = let z : ⊥ = cc in absurd z
 lacking false true true h e = let z : ⊥ = cc in absurd z
 lacking false true false h e = refl
 lacking false false l h e = let z : ⊥ = cc in absurd z
-
-nothing_left : (names : List (List ℕ)) → is_left names ≡ false → names ≡ []
-nothing_left [] e = refl
-nothing_left (x ∷ xs) e = let z : ⊥ = cc in absurd z
 
 module _ (t : Tenant) (p : Point) (a : IsAtRest t p) (n : ended p ≡ None) where
   alive : p.stage.state.finished ≡ false

@@ -7,38 +7,40 @@ use Rattle.std.proofs.lemmas.Bool.{false≢true}
 use Rattle.std.proofs.lemmas.List.Elements.{All-append, All-cons, All-drop, All-head, All-nil, All-push, All-tail, All-take}
 use Rattle.std.proofs.lemmas.List.{length-append, reverse-append}
 use Rattle.std.proofs.lemmas.Option.{get_or_from_slice_get, none-some}
-use Rattle.vl_design.specs.declared.design.End.{End}
-use Rattle.vl_design.specs.declared.design.End.TheVariants.{Stopped}
-use Rattle.vl_design.specs.Alone as alone
-use Rattle.vl_design.specs.Alone.{reason_at, Boundary, Ends}
-use Rattle.vl_design.specs.Queue.{Queue}
-use Rattle.ten_core.specs.Tenants.{origin_of}
-use Rattle.ten_parcel.specs.declared.parcel.Parcel.{Parcel}
-use Rattle.ten_parcel.specs.Parcels.{is_moved, is_stopped, number_of, run_of, ticks_of, IsParcel, IsTenant}
-use Rattle.ten_plan.specs.Plans.{move_at}
-use Rattle.ten_shell.specs.declared.shell.Why.TheVariants.{Ended, Move}
-use Rattle.ten_shell.specs.Leaving.{why_of}
-use Rattle.fab_points.specs.Points.{ended, rests, run_in, Point}
+use Rattle.fab_core.specs.vl_design.specs.declared.design.End.{End}
+use Rattle.fab_core.specs.vl_design.specs.declared.design.End.TheVariants.{Stopped}
+use Rattle.fab_core.specs.vl_design.specs.Alone as alone
+use Rattle.fab_core.specs.vl_design.specs.Alone.{reason_at, Boundary, Ends}
+use Rattle.fab_core.specs.vl_design.specs.Queue.{Queue}
+use Rattle.fab_core.specs.ten_core.specs.Tenants.{origin_of}
+use Rattle.fab_core.specs.ten_parcel.specs.declared.parcel.Parcel.{Parcel}
+use Rattle.fab_core.specs.ten_parcel.specs.Parcels.{is_moved, is_stopped, number_of, run_of, ticks_of, IsParcel, IsTenant}
+use Rattle.fab_core.specs.ten_plan.specs.Plans.{move_at}
+use Rattle.fab_core.specs.ten_shell.specs.declared.shell.Why.TheVariants.{Ended, Move}
+use Rattle.fab_core.specs.ten_shell.specs.Leaving.{why_of}
+use Rattle.fab_core.specs.fab_model.specs.Points.{ended, rests, run_in, Point}
 use Rattle.fab_core.specs.Standing.{IsPointOf}
 use Rattle.fab_core.proofs.Arriving.{parcel_is}
 use Rattle.fab_core.proofs.Parcels.{moved_is, origin_is, stopped_is, ticks_is}
-use Rattle.fab_notes.specs.declared.transit.Stay.{Stay}
-use Rattle.fab_notes.specs.declared.transit.Transit.{Transit}
-use Rattle.fab_notes.specs.Moves.{ends_idle}
-use Rattle.fab_notes.specs.Stays.{is_idle}
-use Rattle.fab_notes.specs.Tokens.{token_of}
-use Rattle.fab_bay.specs.declared.noted.Label.{Label}
+use Rattle.fab_core.specs.fab_model.specs.declared.transit.Stay.{Stay}
+use Rattle.fab_core.specs.fab_model.specs.declared.transit.Transit.{Transit}
+use Rattle.fab_core.specs.fab_model.specs.Moves.{ends_idle}
+use Rattle.fab_core.specs.fab_model.specs.Stays.{is_idle}
+use Rattle.fab_core.specs.fab_model.specs.Tokens.{token_of}
+use Rattle.fab_desk.specs.fab_bay.specs.declared.noted.Label.{Label}
 use Rattle.fab_rounds.specs.declared.ledgers.Ledger.{Ledger}
 use Rattle.fab_rounds.specs.declared.ledgers.Moving.{Moving}
-use Rattle.fab_rounds.specs.declared.outcomes.Answer.{Answer}
-use Rattle.fab_rounds.specs.declared.outcomes.Reason.TheVariants.{First, Errand}
-use Rattle.fab_rounds.specs.declared.outcomes.Start.{Start}
-use Rattle.fab_rounds.specs.Totals.{total}
-use Rattle.fab_rounds.specs.Starts.{AreStarts, IsOwn, IsStart}
+use Rattle.fab_orders.specs.declared.outcomes.Answer.{Answer}
+use Rattle.fab_orders.specs.declared.outcomes.Reason.TheVariants.{First, Errand}
+use Rattle.fab_orders.specs.declared.outcomes.Start.{Start}
+use Rattle.fab_orders.specs.Totals.{total}
+use Rattle.fab_orders.specs.Starts.{AreStarts, IsOwn, IsStart}
 use Rattle.fab_rounds.specs.Ledgers.{HasEnded, IsKept, IsLeft, IsMoving, TakesOver}
 use Rattle.fab_rounds.proofs.Kept.{more_answers}
-use Rattle.fab_rounds.proofs.Totals.{total-insert}
+use Rattle.fab_orders.proofs.Totals.{total-insert}
 use Rattle.fab_rounds.proofs.Lists.{own_start, start_of}
+use Rattle.fab_core.specs.fab_model.proofs.Passing.{ends-snoc as last_idle}
+use Rattle.fab_core.specs.vl_design.proofs.Shared.{none_of}
 
 pub All-insert : {X : Type 0} (P : X → Type 0) (xs : List X) (i : ℕ) (x : X) → All P xs → P x → All P (insert xs i x)
 All-insert P xs i x h p = All-append P (take i xs) (x ∷ drop i xs) (All-take P i xs h) (All-cons P x (drop i xs) p (All-drop P i xs h))
@@ -140,12 +142,6 @@ ends_by true None (Some h') true end h = let z : ⊥ = cc in absurd z
 ends_by true None None m end h = let z : ⊥ = cc in absurd z
 ends_by false x to m end h = let z : ⊥ = cc in absurd z
 
--- the last of these stays decides
-last_idle : (xs : List Stay) (x : Stay) → ends_idle (xs ++ x ∷ []) ≡ is_idle x
-last_idle [] x = refl
-last_idle (y ∷ []) x = refl
-last_idle (y ∷ z ∷ zs) x = last_idle (z ∷ zs) x
-
 never_nil : (xs : List Stay) (x : Stay) → xs ++ x ∷ [] ≡ [] → ⊥
 never_nil xs x e = omega (arith, ap length e, length-append xs (x ∷ []))
 
@@ -193,23 +189,7 @@ pub left_ended : (starts : List Start) (told : List Answer) (t : Transit) (x : E
     → IfSome end (λ e. is_stopped t.parcel ≡ false → (q : Queue) × Ends (run_of t.parcel) (ticks_of t.parcel) e q) → HasEnded starts told t
 left_ended starts told t x end h some e = over_at starts told t h.left.0 end h.left.1 h.left.3 h.left.4.flag (λ n. never_nil h.left.4.before h.left.4.stay (sym h.left.4.stays ∙ n)) h.own some e
 
--- where it leaves as one that has ended, it has
-pub left_has_ended : (t : Transit) (x : End) (end : Option End) (starts : List Start) → IsLeft starts (record { transit = t; why = Ended x })
-    → ((q : Parcel) (p : Point) → IsPointOf q p → (b : Queue) × Boundary (run_of q) (ticks_of q) b × (b.state ≡ p.stage.state))
-    → ((q : Parcel) (p : Point) (b : Queue) → IsPointOf q p → Boundary (run_of q) (ticks_of q) b → ended p ≡ (if is_stopped q then Some Stopped else reason_at (run_of q).plan (ticks_of q) b))
-    → ((q : Queue) → Boundary (run_of t.parcel) (ticks_of t.parcel) q → end ≡ (if is_stopped t.parcel then Some Stopped else reason_at (run_of t.parcel).plan (ticks_of t.parcel) q))
-    → is_some end ≡ true
-left_has_ended t x end starts h boundary told reason =
-    let p = h.left.0 in
-    let b = boundary t.parcel p h.left.1 in
-    let e = ends_by (rests p) (ended p) (move_at p.stage.state.ticks (run_in p).plan.errands) p.moved x h.left.2 in
-    ap is_some (reason b.0 b.1 ∙ sym (told t.parcel p b.0 h.left.1 b.1) ∙ e)
-
 -- ---- one that is loaded
-
-none_of : (e : Option End) → is_some e ≡ false → e ≡ None
-none_of None n = refl
-none_of (Some e) n = let z : ⊥ = cc in absurd z
 
 is_none_of : (e : Option End) → is_some e ≡ false → IsNone e
 is_none_of None n = search rules

@@ -3,27 +3,27 @@ use Rattle.std.proofs.Common.{◌≡◌, ℕ, zero, suc, ◌+◌, ◌<◌, ◌�
 use Rattle.std.proofs.lemmas.Bool.{eqb-true, le-ltb}
 use Rattle.std.specs.List.{AllByRecursion as ByRecursion}
 use Rattle.std.specs.Prelude.{not, ◌&&◌, ◌==◌, if◌then◌else◌, nat_lt}
-use Rattle.vl_design.specs.Alone.{FreeSave}
-use Rattle.ten_parcel.specs.declared.parcel.Parcel.{Parcel}
-use Rattle.ten_parcel.specs.declared.parcel.Parcel.TheVariants as parcel
-use Rattle.ten_parcel.specs.Parcels.{free_of, number_of, ticks_of, IsParcel}
-use Rattle.fab_notes.specs.declared.transit.Transit.{Transit}
-use Rattle.fab_notes.specs.Tokens.{token_of, Token}
-use Rattle.fab_rounds.specs.declared.outcomes.Answer.{Answer}
-use Rattle.fab_rounds.specs.declared.outcomes.Cause.{Cause}
-use Rattle.fab_rounds.specs.declared.outcomes.Finding.{Finding}
-use Rattle.fab_rounds.specs.declared.outcomes.Reached.{Reached}
-use Rattle.fab_rounds.specs.declared.outcomes.Reached.TheVariants as reached
-use Rattle.fab_rounds.specs.declared.outcomes.Start.{Start}
-use Rattle.fab_rounds.specs.declared.outcomes.Wanted.{Wanted}
-use Rattle.fab_rounds.specs.declared.outcomes.Wanted.TheVariants as wanted
-use Rattle.fab_rounds.specs.Totals.{total}
-use Rattle.fab_rounds.specs.Orders.{back_at, backs_in, ended_by, ended_for, found_by, found_for, gain_by, gain_for, loss_by, loss_for, moved_at, moves_in, or_else, put_by, put_for, saves_in, saves_of, stop_in, stop_of, ticks_in, ticks_told, with_save}
-use Rattle.fab_rounds.specs.Outcomes.{line_of}
+use Rattle.fab_core.specs.vl_design.specs.Alone.{FreeSave}
+use Rattle.fab_core.specs.ten_parcel.specs.declared.parcel.Parcel.{Parcel}
+use Rattle.fab_core.specs.ten_parcel.specs.declared.parcel.Parcel.TheVariants as parcel
+use Rattle.fab_core.specs.ten_parcel.specs.Parcels.{free_of, number_of, ticks_of, IsParcel}
+use Rattle.fab_core.specs.fab_model.specs.declared.transit.Transit.{Transit}
+use Rattle.fab_core.specs.fab_model.specs.Tokens.{token_of, Token}
+use Rattle.fab_orders.specs.declared.outcomes.Answer.{Answer}
+use Rattle.fab_orders.specs.declared.outcomes.Cause.{Cause}
+use Rattle.fab_orders.specs.declared.outcomes.Finding.{Finding}
+use Rattle.fab_orders.specs.declared.outcomes.Reached.{Reached}
+use Rattle.fab_orders.specs.declared.outcomes.Reached.TheVariants as reached
+use Rattle.fab_orders.specs.declared.outcomes.Start.{Start}
+use Rattle.fab_orders.specs.declared.outcomes.Wanted.{Wanted}
+use Rattle.fab_orders.specs.declared.outcomes.Wanted.TheVariants as wanted
+use Rattle.fab_orders.specs.Totals.{total}
+use Rattle.fab_orders.specs.Orders.{back_at, backs_in, ended_by, ended_for, found_by, found_for, gain_by, gain_for, loss_by, loss_for, moved_at, moves_in, or_else, put_by, put_for, saves_in, saves_of, stop_in, stop_of, ticks_in, ticks_told, with_save}
+use Rattle.fab_orders.specs.Outcomes.{line_of}
 use Rattle.fab_rounds.specs.Ledgers.{stop_told, stopped_at, stops_told, IsFinding, IsSound}
 use Rattle.fab_rounds.proofs.Conserved.{nothing, worth}
 use Rattle.fab_rounds.proofs.Counted.{one}
-use Rattle.fab_rounds.proofs.Totals.{total-append, total_each}
+use Rattle.fab_orders.proofs.Totals.{total-append, total_each}
 
 -- it doesn't look at the snapshots that were made besides
 abbrev pub IsBlind : (Token → ℕ) → Type 0

@@ -3,25 +3,26 @@ use Rattle.std.proofs.Common.{◌≡◌, ℕ, ◌≤◌, eqb, Bool, true, false,
 use Rattle.std.specs.Prelude.{All, ◌&&◌, nat_le}
 use Rattle.std.proofs.lemmas.Bool.{eqb-true, leb-true}
 use Rattle.std.proofs.lemmas.List.Elements.{All-append, All-cons, All-nil, All-weaker}
-use Rattle.vl_cost.specs.declared.capacity.Cost.{Cost}
-use Rattle.fab_lock.specs.declared.entry.Entry.{Entry}
-use Rattle.fab_lock.specs.declared.entry.Kind.{Kind}
-use Rattle.fab_lock.specs.declared.entry.Kind.TheVariants.{Line, Came, Ran, Saved, Left}
-use Rattle.fab_lock.specs.Histories.{high}
-use Rattle.fab_points.specs.Fabrics.{within}
-use Rattle.fab_notes.specs.declared.note.Note.{Note}
-use Rattle.fab_notes.specs.declared.transit.Stay.{Stay}
-use Rattle.fab_notes.specs.Deeds.{cost_of, deed_in, Deed}
-use Rattle.fab_notes.specs.Histories.{after, fits_alone, place_of, Away, HasRoom, Inside, stays_of, IsLegalFrom, May, Place, Seat}
-use Rattle.fab_notes.specs.Stays.{chains}
-use Rattle.fab_notes.specs.Tokens.{out_at, outs, put_at, puts, told, Token}
-use Rattle.fab_desk.specs.Desks.{entry_of}
-use Rattle.fab_bay.specs.declared.noted.NotedCore.{NotedCore}
-use Rattle.fab_rounds.specs.Totals.{total}
-use Rattle.fab_rounds.specs.Outcomes.{stays_there}
+use Rattle.fab_core.specs.vl_design.specs.declared.capacity.Cost.{Cost}
+use Rattle.fab_core.specs.fab_lock.specs.declared.entry.Entry.{Entry}
+use Rattle.fab_core.specs.fab_lock.specs.declared.entry.Kind.{Kind}
+use Rattle.fab_core.specs.fab_lock.specs.declared.entry.Kind.TheVariants.{Line, Came, Ran, Saved, Left}
+use Rattle.fab_core.specs.fab_lock.specs.Histories.{high}
+use Rattle.fab_core.specs.fab_model.specs.Fabrics.{within}
+use Rattle.fab_core.specs.fab_model.specs.declared.note.Note.{Note}
+use Rattle.fab_core.specs.fab_model.specs.declared.transit.Stay.{Stay}
+use Rattle.fab_core.specs.fab_model.specs.Deeds.{cost_of, deed_in, Deed}
+use Rattle.fab_core.specs.fab_model.specs.Histories.{after, fits_alone, place_of, Away, HasRoom, Inside, stays_of, IsLegalFrom, May, Place, Seat}
+use Rattle.fab_core.specs.fab_model.specs.Stays.{chains}
+use Rattle.fab_core.specs.fab_model.specs.Tokens.{out_at, outs, put_at, puts, told, Token}
+use Rattle.fab_core.specs.fab_model.specs.Histories.{entry_of}
+use Rattle.fab_desk.specs.fab_bay.specs.declared.noted.NotedCore.{NotedCore}
+use Rattle.fab_orders.specs.Totals.{total}
+use Rattle.fab_orders.specs.Outcomes.{stays_there}
 use Rattle.fab_rounds.proofs.Conserved.{each, kept_all, nothing, worth, IsOneClosed}
-use Rattle.fab_rounds.proofs.Totals.{total_none}
+use Rattle.fab_orders.proofs.Totals.{total_none}
 use Rattle.fab_rounds.proofs.Reach.{high_head, high_tail}
+use Rattle.fab_core.specs.vl_base.proofs.Booleans.{and_parts as same_from}
 
 -- ---- ticks
 
@@ -76,11 +77,6 @@ pub puts_first : (t : ℕ) (y : NotedCore) → IsOneClosed y → total (worth t 
 puts_first t y k = let a = kept_all t each nothing (y ∷ []) (k, tt) in let b : stays_there t nothing y ≡ 0 = total_none nothing (λ x. refl) (stays_of y.label.fabric t y.notes.items) in omega (arith, a, b)
 
 -- ---- stays
-
-same_from : (a b : Bool) → (a && b) ≡ true → (a ≡ true) × (b ≡ true)
-same_from true true e = (refl, refl)
-same_from true false e = let z : ⊥ = cc in absurd z
-same_from false b e = let z : ⊥ = cc in absurd z
 
 -- stays that chain go on from the first tick
 pub chains_on : (s : ℕ) (xs : List Stay) (k : ℕ) → chains s xs k ≡ true → s ≤ k

@@ -1,40 +1,40 @@
 -- What the main thread and the workers know between calls (own).
 use Rattle.std.specs.Prelude.{◌≡◌, ◌≢◌, ◌⊎◌, ℕ, ◌+◌, ◌<◌, ◌≤◌, ◌==◌, ◌&&◌, false, true, List, [], ◌∷◌, ◌++◌, map, reverse, length, max, slice_index_or, if◌then◌else◌, All, Option, Some, None, Vec, ⊤}
-use Rattle.vl_design.specs.declared.design.End.{End}
-use Rattle.vl_design.specs.Alone.{Ends}
-use Rattle.vl_design.specs.Queue.{Queue}
-use Rattle.ten_parcel.specs.Parcels.{is_moved, is_stopped, number_of, origin_in, run_of, ticks_of, IsParcel}
-use Rattle.fab_points.specs.Points.{ended, Point}
+use Rattle.fab_core.specs.vl_design.specs.declared.design.End.{End}
+use Rattle.fab_core.specs.vl_design.specs.Alone.{Ends}
+use Rattle.fab_core.specs.vl_design.specs.Queue.{Queue}
+use Rattle.fab_core.specs.ten_parcel.specs.Parcels.{is_moved, is_stopped, number_of, origin_in, run_of, ticks_of, IsParcel}
+use Rattle.fab_core.specs.fab_model.specs.Points.{ended, Point}
 use Rattle.fab_core.specs.Standing.{IsPointOf}
-use Rattle.fab_lock.specs.Facts.{IsSeatOf, LockFacts, SeatFacts}
-use Rattle.fab_lock.specs.Histories.{high}
-use Rattle.fab_notes.specs.declared.note.Note.{Note}
-use Rattle.fab_notes.specs.declared.transit.Transit.{Transit}
-use Rattle.fab_notes.specs.Moves.{ends_idle}
-use Rattle.fab_notes.specs.Origins.{Origins, StartsFrom}
-use Rattle.fab_notes.specs.Tokens.{outs, puts, token_of, Token}
-use Rattle.fab_bay.specs.declared.leaving.Leaving.{Leaving}
-use Rattle.fab_bay.specs.declared.noted.Label.{Label}
-use Rattle.fab_bay.specs.declared.noted.NotedCore.{NotedCore}
-use Rattle.fab_bay.specs.Ways.{LeftFor}
-use Rattle.fab_desk.specs.Desks.{entry_of}
-use Rattle.fab_rounds.specs.declared.outcomes.Answer.{Answer}
-use Rattle.fab_rounds.specs.declared.outcomes.Cause.{Cause}
-use Rattle.fab_rounds.specs.declared.outcomes.Finding.{Finding}
-use Rattle.fab_rounds.specs.declared.outcomes.Reached.{Reached}
-use Rattle.fab_rounds.specs.declared.outcomes.Reached.TheVariants as reached
-use Rattle.fab_rounds.specs.declared.outcomes.Reason.{Reason}
-use Rattle.fab_rounds.specs.declared.outcomes.Reason.TheVariants.{First, Errand}
-use Rattle.fab_rounds.specs.declared.outcomes.Start.{Start}
-use Rattle.fab_rounds.specs.declared.outcomes.Wanted.{Wanted}
-use Rattle.fab_rounds.specs.declared.outcomes.Wanted.TheVariants as wanted
+use Rattle.fab_core.specs.fab_lock.specs.Facts.{IsSeatOf, LockFacts, SeatFacts}
+use Rattle.fab_core.specs.fab_lock.specs.Histories.{high}
+use Rattle.fab_core.specs.fab_model.specs.declared.note.Note.{Note}
+use Rattle.fab_core.specs.fab_model.specs.declared.transit.Transit.{Transit}
+use Rattle.fab_core.specs.fab_model.specs.Moves.{ends_idle}
+use Rattle.fab_core.specs.fab_model.specs.Origins.{Origins, StartsFrom}
+use Rattle.fab_core.specs.fab_model.specs.Tokens.{outs, puts, token_of, Token}
+use Rattle.fab_desk.specs.fab_bay.specs.declared.leaving.Leaving.{Leaving}
+use Rattle.fab_desk.specs.fab_bay.specs.declared.noted.Label.{Label}
+use Rattle.fab_desk.specs.fab_bay.specs.declared.noted.NotedCore.{NotedCore}
+use Rattle.fab_desk.specs.fab_bay.specs.Ways.{LeftFor}
+use Rattle.fab_core.specs.fab_model.specs.Histories.{entry_of}
+use Rattle.fab_orders.specs.declared.outcomes.Answer.{Answer}
+use Rattle.fab_orders.specs.declared.outcomes.Cause.{Cause}
+use Rattle.fab_orders.specs.declared.outcomes.Finding.{Finding}
+use Rattle.fab_orders.specs.declared.outcomes.Reached.{Reached}
+use Rattle.fab_orders.specs.declared.outcomes.Reached.TheVariants as reached
+use Rattle.fab_orders.specs.declared.outcomes.Reason.{Reason}
+use Rattle.fab_orders.specs.declared.outcomes.Reason.TheVariants.{First, Errand}
+use Rattle.fab_orders.specs.declared.outcomes.Start.{Start}
+use Rattle.fab_orders.specs.declared.outcomes.Wanted.{Wanted}
+use Rattle.fab_orders.specs.declared.outcomes.Wanted.TheVariants as wanted
 use Rattle.fab_rounds.specs.declared.ledgers.Ledger.{Ledger}
 use Rattle.fab_rounds.specs.declared.ledgers.Moving.{Moving}
 use Rattle.fab_rounds.specs.declared.workers.Worker.{Worker}
-use Rattle.fab_rounds.specs.Totals.{total}
-use Rattle.fab_rounds.specs.Starts.{AreLabels, AreStarts, HasPlaceFor, IsOwn}
-use Rattle.fab_rounds.specs.Orders.{ended_by, found_by, gain_by, loss_by, put_by, ticks_told, AreAbove, AreOrders}
-use Rattle.fab_rounds.specs.Outcomes.{cause_of, GoesOn, IsCause, IsClosed, IsReason, IsUnended}
+use Rattle.fab_orders.specs.Totals.{total}
+use Rattle.fab_orders.specs.Starts.{AreLabels, AreStarts, HasPlaceFor, IsOwn}
+use Rattle.fab_orders.specs.Orders.{ended_by, found_by, gain_by, loss_by, put_by, ticks_told, AreAbove, AreOrders}
+use Rattle.fab_orders.specs.Outcomes.{cause_of, GoesOn, IsCause, IsClosed, IsReason, IsUnended}
 
 abbrev pub DeskFacts : Type 0
 DeskFacts = LockFacts Label

@@ -1,6 +1,6 @@
 -- Desks that are opened (own).
 use Rattle.std.specs.Prelude.{◌≡◌, ℕ, ◌<◌, ◌∷◌, length, slice_index_or}
-use Rattle.fab_bay.specs.declared.noted.Label.{Label}
+use Rattle.fab_desk.specs.fab_bay.specs.declared.noted.Label.{Label}
 use Rattle.fab_rounds.specs.declared.posts.Opened.{Opened}
 use Rattle.fab_rounds.specs.declared.workers.Worker.{Worker}
 use Rattle.fab_rounds.specs.Ledgers.{labels_of, AreEmpty, AreFirsts, AreFresh, AreFreshWorkers, DeskFacts, IsWorker}

@@ -1,21 +1,21 @@
 -- How orders are tried (own).
 use Rattle.std.specs.Prelude.{◌≡◌, ℕ, ◌+◌, ◌<◌, ◌≤◌, Bool, true, false, List, [], ◌∷◌, ◌++◌, length, Option, Some, None, ⊤}
 use Rattle.std.specs.declared.snapshot.Snapshot.{Snapshot}
-use Rattle.ten_parcel.specs.Parcels.{is_stopped, number_of, ticks_of, IsParcel}
-use Rattle.fab_points.specs.Points.{ended, Point}
+use Rattle.fab_core.specs.ten_parcel.specs.Parcels.{is_stopped, number_of, ticks_of, IsParcel}
+use Rattle.fab_core.specs.fab_model.specs.Points.{ended, Point}
 use Rattle.fab_core.specs.Standing.{IsPointOf}
-use Rattle.fab_notes.specs.declared.transit.Transit.{Transit}
-use Rattle.fab_notes.specs.Tokens.{token_of, Token}
-use Rattle.fab_bay.specs.Taking.{IsWithdrawn}
+use Rattle.fab_core.specs.fab_model.specs.declared.transit.Transit.{Transit}
+use Rattle.fab_core.specs.fab_model.specs.Tokens.{token_of, Token}
+use Rattle.fab_desk.specs.fab_bay.specs.Taking.{IsWithdrawn}
 use Rattle.fab_rounds.specs.declared.ledgers.Ledger.{Ledger}
-use Rattle.fab_rounds.specs.declared.outcomes.Order.{Order}
-use Rattle.fab_rounds.specs.declared.outcomes.Reached.{Reached}
-use Rattle.fab_rounds.specs.declared.outcomes.Reached.TheVariants as reached
-use Rattle.fab_rounds.specs.declared.outcomes.Wanted.{Wanted}
-use Rattle.fab_rounds.specs.declared.outcomes.Wanted.TheVariants as wanted
-use Rattle.fab_rounds.specs.Totals.{total}
-use Rattle.fab_rounds.specs.Starts.{HasPlaceFor}
-use Rattle.fab_rounds.specs.Orders.{with_save, IsAbove}
+use Rattle.fab_orders.specs.declared.outcomes.Order.{Order}
+use Rattle.fab_orders.specs.declared.outcomes.Reached.{Reached}
+use Rattle.fab_orders.specs.declared.outcomes.Reached.TheVariants as reached
+use Rattle.fab_orders.specs.declared.outcomes.Wanted.{Wanted}
+use Rattle.fab_orders.specs.declared.outcomes.Wanted.TheVariants as wanted
+use Rattle.fab_orders.specs.Totals.{total}
+use Rattle.fab_orders.specs.Starts.{HasPlaceFor}
+use Rattle.fab_orders.specs.Orders.{with_save, IsAbove}
 use Rattle.fab_rounds.specs.Ledgers.{all_come, all_gone, found_there, put_there, reach_in, AreFirsts, DeskFacts, IsFinding, IsKept, IsLedger, IsSameRun, IsSound, KeepsBalance, KeepsReach}
 
 abbrev pub is_watch : Wanted → Bool

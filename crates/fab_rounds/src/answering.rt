@@ -1,30 +1,30 @@
 //! What comes of orders.
 
 ghost use Rattle.std.specs.Prelude.{◌≡◌, ◌<◌, ◌≤◌, [], length, None, OnOk, IfOk, true, false};
-ghost use Rattle.vl_design.specs.declared.design.End.{End};
-ghost use Rattle.vl_design.specs.Alone.{Ends};
-ghost use Rattle.vl_design.specs.Queue.{Queue};
-ghost use Rattle.ten_parcel.specs.Parcels.{number_of, run_of, ticks_of};
-ghost use Rattle.fab_points.specs.Points.{ended, Point};
+ghost use Rattle.fab_core.specs.vl_design.specs.declared.design.End.{End};
+ghost use Rattle.fab_core.specs.vl_design.specs.Alone.{Ends};
+ghost use Rattle.fab_core.specs.vl_design.specs.Queue.{Queue};
+ghost use Rattle.fab_core.specs.ten_parcel.specs.Parcels.{number_of, run_of, ticks_of};
+ghost use Rattle.fab_core.specs.fab_model.specs.Points.{ended, Point};
 ghost use Rattle.fab_core.specs.Standing.{IsPointOf};
-ghost use Rattle.fab_notes.specs.Tokens.{token_of};
-ghost use Rattle.fab_rounds.specs.declared.outcomes.Wanted.TheVariants as wanted;
+ghost use Rattle.fab_core.specs.fab_model.specs.Tokens.{token_of};
+ghost use Rattle.fab_orders.specs.declared.outcomes.Wanted.TheVariants as wanted;
 ghost use Rattle.fab_rounds.specs.declared.ledgers.Ledger.{Ledger as AnyLedger};
 ghost use Rattle.fab_rounds.specs.Ledgers.{AreAll, HaveBegun, IsKept, IsLedger, Operates};
 ghost use Rattle.fab_rounds.specs.Tries.{is_watch, Answers, IsHolding, IsNext, MayTell, Seeks, TakesOut, Tells};
 
 use crate::ledgers::Ledger;
-use crate::outcomes::{Answer, Finding, Order, Reached, Wanted};
 use crate::putting::put_again;
 use crate::seeking::{Hit, Next, ticks_among};
 use crate::shells::{saved, stopped};
 use crate::sorting::insert_done;
+use fab_core::Text;
 use fab_core::laws::points_tell_of_tenants;
 use fab_desk::desk::Desk;
+use fab_orders::outcomes::{Answer, Finding, Order, Reached, Wanted};
 use std::alloc::{AllocError, Global};
 use std::snapshot::Snapshot;
 use std::sync::Wait;
-use vl_base::items::Text;
 
 impl Ledger {
     /// Answers the next order, for which nobody was taken out. An `Err` is want of memory alone.

@@ -1,15 +1,15 @@
 //! Closing the desks.
 
 ghost use Rattle.std.specs.Prelude.{◌≡◌, ◌≢◌, false, [], length, IfOk};
-ghost use Rattle.fab_lock.specs.Facts.{IsSeatOf};
+ghost use Rattle.fab_core.specs.fab_lock.specs.Facts.{IsSeatOf};
 ghost use Rattle.fab_rounds.specs.Ledgers.{AreAll, IsBetween, IsFirst, IsShut};
-ghost use Rattle.fab_rounds.specs.Outcomes.{IsOutcome};
+ghost use Rattle.fab_orders.specs.Outcomes.{IsOutcome};
 
 use crate::ledgers::Ledger;
-use crate::outcomes::Outcome;
 use crate::workers::Worker;
-use fab_bay::bay::Bay;
+use fab_desk::bay::Bay;
 use fab_desk::desk::{Desk, DeskSeat};
+use fab_orders::outcomes::Outcome;
 use std::alloc::{AllocError, Global};
 use std::sync::Wait;
 

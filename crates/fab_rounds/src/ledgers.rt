@@ -1,9 +1,9 @@
 //! What the main thread has of all tenants.
 
-use crate::outcomes::{Answer, Cause, Order, Reason, Start};
-use fab_bay::noted::Label;
+use fab_core::transit::Transit;
 use fab_desk::desk::DeskSeat;
-use fab_notes::transit::Transit;
+use fab_desk::noted::Label;
+use fab_orders::outcomes::{Answer, Cause, Order, Reason, Start};
 use std::snapshot::Snapshot;
 
 /// A tenant that is to be put in line: why, and on which fabric.

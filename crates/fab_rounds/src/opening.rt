@@ -1,19 +1,19 @@
 //! The desks, with the seats of the main thread and of the workers; and the ledger before anything is put in line.
 
 ghost use Rattle.std.specs.Prelude.{◌≡◌, ◌<◌, ◌≤◌, ◌∷◌, ℕ, [], length, reverse, slice_index_or, All, IfOk, OnOk};
-ghost use Rattle.fab_bay.specs.declared.noted.Label.{Label as AnyLabel};
-ghost use Rattle.fab_notes.specs.Tokens.{Token};
-ghost use Rattle.fab_rounds.specs.Starts.{AreLabels, AreStarts};
-ghost use Rattle.fab_rounds.specs.Orders.{AreOrders};
+ghost use Rattle.fab_desk.specs.fab_bay.specs.declared.noted.Label.{Label as AnyLabel};
+ghost use Rattle.fab_core.specs.fab_model.specs.Tokens.{Token};
+ghost use Rattle.fab_orders.specs.Starts.{AreLabels, AreStarts};
+ghost use Rattle.fab_orders.specs.Orders.{AreOrders};
 ghost use Rattle.fab_rounds.specs.Ledgers.{in_hand, labels_of, start_sum, AreFresh, IsKept};
 ghost use Rattle.fab_rounds.specs.Openings.{AreSeated, Opens};
 
 use crate::ledgers::Ledger;
-use crate::outcomes::{Order, Start};
 use crate::posts::Opened;
 use crate::workers::Worker;
-use fab_bay::noted::Label;
 use fab_desk::desk::{Desk, DeskSeat};
+use fab_desk::noted::Label;
+use fab_orders::outcomes::{Order, Start};
 use std::alloc::{AllocError, Global};
 use std::snapshot::Snapshot;
 

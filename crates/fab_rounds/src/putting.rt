@@ -1,19 +1,19 @@
 //! Putting tenants in line.
 
 ghost use Rattle.std.specs.Prelude.{◌≡◌, ◌<◌, ◌≤◌, ◌+◌, ℕ, [], true, None, All, IfOk, OnOk};
-ghost use Rattle.ten_parcel.specs.Parcels.{cost_of, number_of, origin_in, ticks_of};
-ghost use Rattle.fab_points.specs.Fabrics.{within};
-ghost use Rattle.fab_points.specs.Points.{ended, Point};
+ghost use Rattle.fab_core.specs.ten_parcel.specs.Parcels.{cost_of, number_of, origin_in, ticks_of};
+ghost use Rattle.fab_core.specs.fab_model.specs.Fabrics.{within};
+ghost use Rattle.fab_core.specs.fab_model.specs.Points.{ended, Point};
 ghost use Rattle.fab_core.specs.Standing.{IsPointOf};
-ghost use Rattle.fab_notes.specs.Origins.{StartsFrom};
-ghost use Rattle.fab_notes.specs.Tokens.{token_of, Token};
+ghost use Rattle.fab_core.specs.fab_model.specs.Origins.{StartsFrom};
+ghost use Rattle.fab_core.specs.fab_model.specs.Tokens.{token_of, Token};
 ghost use Rattle.fab_rounds.specs.Ledgers.{reach, reach_in, seat_outs, seat_puts, IsFirst, IsLedger, IsMoving, IsSameAnswers, IsSameRun, KeepsReach, KeepsSums, PutsOne};
 
 use crate::ledgers::{Ledger, Moving};
-use crate::outcomes::Cause;
-use fab_bay::leaving::DeskError;
+use fab_core::transit::Transit;
 use fab_desk::desk::{Desk, DeskSeat};
-use fab_notes::transit::Transit;
+use fab_desk::leaving::DeskError;
+use fab_orders::outcomes::Cause;
 use std::alloc::AllocError;
 use std::snapshot::Snapshot;
 use std::sync::Wait;

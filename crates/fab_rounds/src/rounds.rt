@@ -2,22 +2,22 @@
 
 ghost use Rattle.std.specs.Prelude.{◌≡◌, ◌<◌, ℕ, [], slice_index_or, vec_len, All, IfOk};
 ghost use Rattle.fab_rounds.specs.declared.workers.Worker.{Worker as AnyWorker};
-ghost use Rattle.fab_rounds.specs.Starts.{AreLabels, AreStarts};
-ghost use Rattle.fab_rounds.specs.Orders.{AreOrders};
-ghost use Rattle.fab_rounds.specs.Outcomes.{IsOutcome};
+ghost use Rattle.fab_orders.specs.Starts.{AreLabels, AreStarts};
+ghost use Rattle.fab_orders.specs.Orders.{AreOrders};
+ghost use Rattle.fab_orders.specs.Outcomes.{IsOutcome};
 ghost use Rattle.fab_rounds.specs.Ledgers.{AreAll, HaveBegun, IsAtDesk, IsBetween, IsLedger, IsSameRun, IsTurned, Operates};
 
 use crate::closing::closed;
 use crate::ledgers::Ledger;
 use crate::opening::{begun, open_all};
 use crate::operating::{finished, operated};
-use crate::outcomes::{Order, Outcome, Start};
 use crate::posts::Opened;
 use crate::sorting::are_all;
 use crate::workers::{Crew, Worker, turned};
-use fab_bay::noted::Label;
 use fab_desk::desk::Desk;
+use fab_desk::noted::Label;
 use fab_io::gate::Gate;
+use fab_orders::outcomes::{Order, Outcome, Start};
 use std::alloc::{AllocError, Global};
 use std::snapshot::Snapshot;
 use std::sync::Wait;

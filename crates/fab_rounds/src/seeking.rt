@@ -2,15 +2,15 @@
 
 ghost use Rattle.std.specs.Prelude.{◌≡◌, ◌<◌, ◌≤◌, [], length, max, IfOk, IfSome, MatchOption};
 ghost use Rattle.fab_rounds.specs.declared.ledgers.Ledger.{Ledger as AnyLedger};
-ghost use Rattle.fab_rounds.specs.Totals.{total};
+ghost use Rattle.fab_orders.specs.Totals.{total};
 ghost use Rattle.fab_rounds.specs.Ledgers.{ended_at, reach_in, IsLedger};
 ghost use Rattle.fab_rounds.specs.Tries.{is_watch, DidSeek, IsNext, Seeks, TakesOut};
 
 use crate::ledgers::Ledger;
-use crate::outcomes::Wanted;
-use fab_bay::leaving::{Found, Taken};
+use fab_core::transit::Transit;
 use fab_desk::desk::Desk;
-use fab_notes::transit::Transit;
+use fab_desk::leaving::{Found, Taken};
+use fab_orders::outcomes::Wanted;
 use std::alloc::{AllocError, Global};
 use std::sync::Wait;
 

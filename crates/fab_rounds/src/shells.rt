@@ -1,14 +1,14 @@
 //! Tenants that are stopped, or of which a snapshot is made, where they rest.
 
 ghost use Rattle.std.specs.Prelude.{◌≡◌, ◌++◌, ◌∷◌, [], true, None, IfOk, OnOk};
-ghost use Rattle.fab_points.specs.Points.{ended, Point};
+ghost use Rattle.fab_core.specs.fab_model.specs.Points.{ended, Point};
 ghost use Rattle.fab_core.specs.Standing.{IsPointOf};
 ghost use Rattle.fab_rounds.specs.Tries.{IsStopped, Saves};
 
-use fab_notes::transit::Transit;
+use fab_core::Text;
+use fab_core::parcel::Parcel;
+use fab_core::transit::Transit;
 use std::alloc::{AllocError, Global};
-use ten_parcel::parcel::Parcel;
-use vl_base::items::Text;
 
 /// Ends a run where it rests.
 fn stop(parcel: &mut Parcel)

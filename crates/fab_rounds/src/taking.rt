@@ -1,19 +1,19 @@
 //! Taking over tenants that are loaded or that came out.
 
 ghost use Rattle.std.specs.Prelude.{◌≡◌, ℕ, ◌<◌, [], length, slice_get, All, OnOk, Some};
-ghost use Rattle.fab_notes.specs.Tokens.{token_of};
-ghost use Rattle.ten_parcel.specs.Parcels.{number_of};
-ghost use Rattle.fab_rounds.specs.Starts.{IsStart};
+ghost use Rattle.fab_core.specs.fab_model.specs.Tokens.{token_of};
+ghost use Rattle.fab_core.specs.ten_parcel.specs.Parcels.{number_of};
+ghost use Rattle.fab_orders.specs.Starts.{IsStart};
 ghost use Rattle.fab_rounds.specs.Ledgers.{leaving_sum, pile_sum, worker_piles, AreHandedOver, AreLeft, IsKept, IsLeft, TakesOver};
 
 use crate::ledgers::{Ledger, Moving};
-use crate::outcomes::{Reason, Start};
 use crate::sorting::{insert_done, insert_moving};
 use crate::workers::Worker;
-use fab_bay::leaving::Leaving;
 use fab_core::laws::{points_tell_of_tenants, tenants_at_rest_have_points};
+use fab_core::shell::Why;
+use fab_desk::leaving::Leaving;
+use fab_orders::outcomes::{Reason, Start};
 use std::alloc::{AllocError, Global};
-use ten_shell::shell::Why;
 
 impl Ledger {
     /// Takes over a tenant as it is loaded: it has ended, or it is to be put in line.

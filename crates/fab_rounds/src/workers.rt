@@ -4,8 +4,8 @@ ghost use Rattle.std.specs.Prelude.{◌≡◌, ◌<◌, ℕ, [], All, IfOk, slic
 ghost use Rattle.fab_rounds.specs.declared.workers.Worker.{Worker as AnyWorker};
 ghost use Rattle.fab_rounds.specs.Ledgers.{IsAtDesk, IsTurned, IsWorker, Steps};
 
-use fab_bay::leaving::Leaving;
 use fab_desk::desk::{Desk, DeskSeat};
+use fab_desk::leaving::Leaving;
 use fab_io::gate::Gate;
 use std::alloc::{AllocError, Global};
 use std::sync::Wait;

@@ -1,11 +1,16 @@
-//! Runs the host over the real files and the real output.
+//! The program: it runs the host over the real files and the real output.
+//!
+//! Proved: safe, and ends.
+//!
+//! Tested: that `main` joins `host` to the real files and output, in a thread with a stack of 1 GiB of addresses: its stored run; that this
+//! is enough for the deepest sources: `tools/too_deep.py`.
 #![tactic(auto)]
 
-use fab_io::dir_store::DirStore;
-use fab_io::gate::NoGate;
-use fab_io::std_sink::StdSink;
 use host_run::bays::Bays;
+use host_run::dir_store::DirStore;
+use host_run::gate::NoGate;
 use host_run::host::host;
+use host_run::std_sink::StdSink;
 use std::alloc::{AllocError, Global};
 use std::fs::Files;
 use std::io::ErrorKind;

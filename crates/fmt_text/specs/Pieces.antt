@@ -1,6 +1,6 @@
 -- What pieces of a display print (IEEE 1364-2005, clause 17.1.1).
 use Rattle.std.specs.Prelude.{ℕ, List, IsSome, ⊤}
-use Rattle.vl_base.specs.Display.{format_of, letter_text}
+use Rattle.vl_design.specs.vl_base.specs.Display.{format_of, letter_text}
 use Rattle.fmt_text.specs.declared.piece.Piece.{Piece}
 use Rattle.fmt_text.specs.declared.piece.Piece.TheVariants.{Lit, Val}
 

@@ -1,7 +1,6 @@
 //! What a display is made of.
 
-use vl_base::bits::Bits;
-use vl_base::items::Text;
+use vl_design::{Bits, Text};
 
 /// A piece of a display (IEEE 1364-2005, clause 17.1.1).
 #[derive(Drop)]

@@ -3,9 +3,9 @@
 ghost use Rattle.std.specs.Prelude.{◌≡◌, ◌++◌, All, OnOk, OnErr, flat_map};
 ghost use Rattle.fmt_text.specs.Pieces.{IsPiece, piece_text};
 
+use crate::item::push_item;
 use crate::piece::Piece;
 use std::alloc::{AllocError, Global};
-use vl_show::item::push_item;
 
 /// Adds the text of a piece.
 fn push_piece(alloc: Global, piece: &Piece, printed: &mut Vec<u8>) -> Result<(), AllocError>

@@ -1,16 +1,16 @@
 -- What is said of a source that is accepted, or that was refused.
 use Rattle.std.proofs.Common.{◌≡◌, ℕ, List, Result, Ok, Err, refl}
 use Rattle.std.specs.Prelude.{IfOk}
-use Rattle.vl_base.specs.declared.place.Place.{Place}
-use Rattle.vl_design.specs.Cost as sums
-use Rattle.vl_design.specs.Cost.{cost}
-use Rattle.vl_cost.specs.Costs.{saturated_cost}
-use Rattle.vl_cost.specs.declared.capacity.Cost.{Cost}
-use Rattle.cell_accept.specs.declared.accept.Accepted.{Accepted as Design}
+use Rattle.vl_front.specs.vl_base.specs.declared.place.Place.{Place}
+use Rattle.vl_front.specs.vl_design.specs.Cost as sums
+use Rattle.vl_front.specs.vl_design.specs.Cost.{cost}
+use Rattle.vl_front.specs.vl_design.specs.Costs.{saturated_cost}
+use Rattle.vl_front.specs.vl_design.specs.declared.capacity.Cost.{Cost}
+use Rattle.vl_front.specs.vl_accept.specs.declared.accept.Accepted.{Accepted as Design}
 use Rattle.vl_front.specs.declared.fault.Kind.{Kind}
 use Rattle.vl_front.specs.Sources.{IsRefusal, IsAcceptedOf}
 use Rattle.ten_build.specs.Builds.{HasCost}
-use Rattle.host_form.specs.Origins.{Accepted, Faulty}
+use Rattle.host_judge.specs.host_form.specs.Origins.{Accepted, Faulty}
 use Rattle.host_judge.specs.Judged.{kind_words}
 use Rattle.host_check.specs.declared.check.Checked.{Checked}
 use Rattle.host_check.specs.Checks.{cost_line, refused_line, HasChecked}

@@ -1,9 +1,9 @@
 -- What is said of a source that is checked (own).
 use Rattle.std.specs.Prelude.{◌≡◌, ℕ, List, ◌++◌, codes}
-use Rattle.vl_base.specs.declared.place.Place.{Place}
-use Rattle.vl_design.specs.Cost.{Cost, cost}
-use Rattle.report_text.specs.Report.{number}
-use Rattle.host_form.specs.Origins.{Source, Accepted, Faulty}
+use Rattle.vl_front.specs.vl_base.specs.declared.place.Place.{Place}
+use Rattle.vl_front.specs.vl_design.specs.Cost.{Cost, cost}
+use Rattle.host_judge.specs.host_text.specs.Report.{number}
+use Rattle.host_judge.specs.host_form.specs.Origins.{Source, Accepted, Faulty}
 use Rattle.host_judge.specs.Judged.{judged}
 use Rattle.host_check.specs.declared.check.Checked.{Checked}
 

@@ -1,22 +1,20 @@
 //! What is said of a source.
 
 ghost use Rattle.std.specs.Prelude.{◌≡◌, ◌++◌, ℕ, List, codes, IfOk, OnOk};
-ghost use Rattle.vl_cost.specs.Costs.{saturated_cost};
-ghost use Rattle.vl_design.specs.Cost.{Cost as Sums};
+ghost use Rattle.vl_front.specs.vl_design.specs.Costs.{saturated_cost};
+ghost use Rattle.vl_front.specs.vl_design.specs.Cost.{Cost as Sums};
 ghost use Rattle.vl_front.specs.Sources.{IsAcceptedOf};
-ghost use Rattle.report_text.specs.Report.{number as number_word};
+ghost use Rattle.host_judge.specs.host_text.specs.Report.{number as number_word};
 ghost use Rattle.host_judge.specs.Judged.{kind_words};
 ghost use Rattle.host_check.specs.Checks.{cost_line, refused_line, HasChecked};
 
-use cell_accept::accept::Accepted;
 use host_judge::kinds::source_text;
 use host_judge::room::is_exact;
 use std::alloc::{AllocError, Global};
 use ten_build::build::cost_of;
-use vl_base::place::Place;
-use vl_cost::capacity::Cost;
 use vl_front::fault::{BuildError, Kind};
 use vl_front::front::front;
+use vl_front::{Accepted, Cost, Place};
 
 /// What is said of a source.
 #[derive(Drop)]

@@ -3,12 +3,12 @@ use Rattle.std.proofs.Common.{◌≡◌, ℕ, zero, suc, ◌%◌, ◌==◌, fals
 use Rattle.std.specs.Prelude.{⊤, fold, None, if◌then◌else◌}
 use Rattle.std.specs.Fmt.{decimal}
 use Rattle.std.specs.List.{slice_split}
-use Rattle.script_line.specs.Statements.{says, Move}
-use Rattle.script_text.specs.declared.script.FabricLine.{FabricLine}
-use Rattle.script_text.specs.declared.script.TenantLine.{TenantLine}
-use Rattle.script_text.specs.declared.script.Script.{Script}
-use Rattle.script_text.specs.Scripts.{due_of}
-use Rattle.script_text.specs.Reading.{with_said, cause_behind, is_bare}
+use Rattle.host_text.specs.Statements.{says, Move}
+use Rattle.host_text.specs.declared.script.FabricLine.{FabricLine}
+use Rattle.host_text.specs.declared.script.TenantLine.{TenantLine}
+use Rattle.host_text.specs.declared.script.Script.{Script}
+use Rattle.host_text.specs.Scripts.{due_of}
+use Rattle.host_text.specs.Reading.{with_said, cause_behind, is_bare}
 use Rattle.host_demo.specs.Texts.{tenant, home, away}
 use Rattle.host_demo.specs.Sources.{name_of}
 

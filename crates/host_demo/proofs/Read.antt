@@ -7,20 +7,21 @@ use Rattle.std.proofs.lemmas.Fmt.{length-decimal-le}
 use Rattle.std.proofs.lemmas.Slice.Eq.{bytes_eq-Decides}
 use Rattle.std.proofs.lemmas.List.{length-append}
 use Rattle.std.proofs.lemmas.List.Sums.{fold-append}
-use Rattle.fab_io.specs.Outside.{Files, with_file}
-use Rattle.script_line.specs.Statements.{says}
-use Rattle.script_line.specs.Words.{lines, without_empty_rest}
-use Rattle.script_text.specs.declared.script.FileLine.{FileLine}
-use Rattle.script_text.specs.declared.script.TenantLine.{TenantLine}
-use Rattle.script_text.specs.declared.script.Script.{Script}
-use Rattle.script_text.specs.Reading.{with_said, script_of, fault_or, first_fault, is_bare, reading, reading_of}
-use Rattle.script_text.specs.Scripts.{nothing}
-use Rattle.host_load.specs.Reading.{IsAvailable, source, file, snapshot}
-use Rattle.host_load.specs.Steps.{IsWithin}
+use Rattle.host_files.specs.fab_io.specs.Outside.{Files, with_file}
+use Rattle.host_text.specs.Statements.{says}
+use Rattle.host_text.specs.Words.{lines, without_empty_rest}
+use Rattle.host_text.specs.declared.script.FileLine.{FileLine}
+use Rattle.host_text.specs.declared.script.TenantLine.{TenantLine}
+use Rattle.host_text.specs.declared.script.Script.{Script}
+use Rattle.host_text.specs.Reading.{with_said, script_of, fault_or, first_fault, is_bare, reading, reading_of}
+use Rattle.host_text.specs.Scripts.{nothing}
+use Rattle.host_files.specs.Reading.{IsAvailable, source, file, snapshot}
+use Rattle.host_files.specs.Steps.{IsWithin}
 use Rattle.host_demo.specs.Texts as t
 use Rattle.host_demo.specs.Sources.{files_of, name_of}
 use Rattle.host_demo.proofs.Expected.{fabric_lines, lines_of, tenant_lines, fabrics, tenant_line, tenants, expected, AreClean, after}
 use Rattle.host_demo.proofs.Nexts.{next}
+use Rattle.host_text.specs.vl_base.proofs.Lists.{all_push as push-each}
 
 -- ---- the lines
 
@@ -113,10 +114,6 @@ supplied-more : (files : Files) (name bytes : List ℕ) (xs : List TenantLine) �
 supplied-more files name bytes [] l h = tt
 supplied-more files name bytes (x ∷ xs) l h =
     (record { told = with-more files name bytes x.source l h.0.told; no_files = h.0.no_files; anew = h.0.anew }, supplied-more files name bytes xs l h.1)
-
-push-each : {X : Type 0} (P : X → Type 0) (xs : List X) (x : X) → AllByRecursion P xs → P x → AllByRecursion P (xs ++ x ∷ [])
-push-each P [] x h here = (here, tt)
-push-each P (y ∷ ys) x h here = (h.0, push-each P ys x h.1 here)
 
 supplied : (n : ℕ) → n ≤ 32 → AllByRecursion (IsSupplied (files_of n)) (tenants n)
 supplied zero l = tt

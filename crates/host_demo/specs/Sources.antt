@@ -1,7 +1,7 @@
 -- The files of the demonstration (own).
 use Rattle.std.specs.Prelude.{ℕ, zero, suc, List, ◌++◌, None, codes}
 use Rattle.std.specs.Fmt.{decimal}
-use Rattle.fab_io.specs.Outside.{with_file, Files}
+use Rattle.host_files.specs.fab_io.specs.Outside.{with_file, Files}
 use Rattle.host_demo.specs.Texts.{source}
 
 -- the source of tenant i is `ti.v`

@@ -1,9 +1,9 @@
 -- What the demonstration says of its tenants (own).
 use Rattle.std.specs.Prelude.{ℕ, List, ◌++◌, length, sum, flat_map, codes}
-use Rattle.report_text.specs.declared.block.RunBlock.{RunBlock}
-use Rattle.report_text.specs.declared.block.Block.{Block}
-use Rattle.report_text.specs.declared.block.Block.TheVariants.{Ran, Refused}
-use Rattle.report_text.specs.Report.{number, refused_line, status_word}
+use Rattle.host_text.specs.declared.block.RunBlock.{RunBlock}
+use Rattle.host_text.specs.declared.block.Block.{Block}
+use Rattle.host_text.specs.declared.block.Block.TheVariants.{Ran, Refused}
+use Rattle.host_text.specs.Report.{number, refused_line, status_word}
 
 -- `demo NAME STATUS TICKS CYCLES BYTES SUM`: the number of the printed bytes, and their sum
 abbrev pub ran_line : RunBlock → List ℕ

@@ -1,9 +1,9 @@
 //! What follows from the definitions alone.
 
 ghost use Rattle.std.specs.Prelude.{◌≡◌, ◌≤◌, ℕ, Ok};
-ghost use Rattle.script_text.specs.declared.script.Script.{Script};
-ghost use Rattle.script_text.specs.Reading.{reading};
-ghost use Rattle.host_load.specs.Reading.{IsAvailable};
+ghost use Rattle.host_text.specs.declared.script.Script.{Script};
+ghost use Rattle.host_text.specs.Reading.{reading};
+ghost use Rattle.host_files.specs.Reading.{IsAvailable};
 ghost use Rattle.host_demo.specs.Sources.{files_of};
 ghost use Rattle.host_demo.specs.Texts as t;
 

@@ -2,14 +2,14 @@
 
 ghost use Rattle.std.specs.Prelude.{◌≡◌, ◌≢◌, ◌≤◌, ◌↔◌, length, IfOk, OnErr, OnOk, IsErrOf, Err, Some, option_map};
 ghost use Rattle.std.specs.String.{string_bytes};
-ghost use Rattle.fab_io.specs.Memory as m;
-ghost use Rattle.fab_io.specs.Outside.{with_file, IsAbsent, IsTold, IsTooLong};
+ghost use Rattle.host_files.specs.fab_io.specs.Memory as m;
+ghost use Rattle.host_files.specs.fab_io.specs.Outside.{with_file, IsAbsent, IsTold, IsTooLong};
 ghost use Rattle.host_demo.specs.Sources as s;
 ghost use Rattle.host_demo.specs.Texts as t;
 
 use crate::source::source_text;
-use fab_io::mem_store::MemStore;
-use fab_io::store::{ReadError, Store, WriteError};
+use host_files::mem_store::MemStore;
+use host_files::store::{ReadError, Store, WriteError};
 use std::alloc::{AllocError, Global};
 use std::marker::Model;
 
@@ -21,7 +21,7 @@ pub struct SteadyStore {
 }
 
 impl Model for SteadyStore {
-    ghost use Rattle.fab_io.specs.Memory.{StoreMemory};
+    ghost use Rattle.host_files.specs.fab_io.specs.Memory.{StoreMemory};
 
     ghost Value = { StoreMemory };
 
@@ -29,7 +29,7 @@ impl Model for SteadyStore {
 }
 
 impl Store for SteadyStore {
-    ghost use Rattle.fab_io.specs.Memory.{told_files};
+    ghost use Rattle.host_files.specs.fab_io.specs.Memory.{told_files};
 
     ghost told = { told_files };
 

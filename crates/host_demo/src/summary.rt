@@ -1,11 +1,11 @@
 //! What the demonstration says of its tenants.
 
 ghost use Rattle.std.specs.Prelude.{◌≡◌, ◌++◌, IfOk, OnOk, sum};
-ghost use Rattle.report_text.specs.Report as r;
+ghost use Rattle.host_text.specs.Report as r;
 ghost use Rattle.host_demo.specs.Summary as s;
 
-use report_text::block::{Block, RunBlock, Status};
-use report_text::report::report;
+use host_text::block::{Block, RunBlock, Status};
+use host_text::report::report;
 use std::alloc::{AllocError, Global};
 
 /// Adds a number in decimal behind a space.

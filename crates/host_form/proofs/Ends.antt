@@ -1,17 +1,17 @@
 -- The ticks at which tenants end.
 use Rattle.std.proofs.Common.{◌≡◌, ◌⊎◌, inl, inr, ℕ, suc, ◌<◌, ◌≤◌, Bool, true, false, nat_le, if◌then◌else◌, List, map, Option, Some, None, refl, sym, subst, ap, ◌∙◌, arith}
 use Rattle.std.proofs.lemmas.Bool.{le-leb, leb-true, leb-false}
-use Rattle.vl_design.specs.declared.design.End.{End}
-use Rattle.vl_design.specs.declared.design.End.TheVariants.{Finished, Budget, Stopped}
-use Rattle.vl_design.specs.Cost.{cost}
-use Rattle.vl_design.specs.Queue.{Queue}
-use Rattle.vl_design.specs.Alone.{Plan, Origin, Boundary, begun, ticked, first_tick, stop_at, reason_at}
-use Rattle.vl_design.specs.Snapshots as run
-use Rattle.vl_design.specs.Syntax.{Flat}
-use Rattle.vl_design.proofs.Settling.{at_first}
-use Rattle.vl_base.specs.declared.files.File.{File}
-use Rattle.script_text.specs.declared.script.FabricLine.{FabricLine}
-use Rattle.ten_plan.specs.Plans.{errand_of}
+use Rattle.host_text.specs.vl_design.specs.declared.design.End.{End}
+use Rattle.host_text.specs.vl_design.specs.declared.design.End.TheVariants.{Finished, Budget, Stopped}
+use Rattle.host_text.specs.vl_design.specs.Cost.{cost}
+use Rattle.host_text.specs.vl_design.specs.Queue.{Queue}
+use Rattle.host_text.specs.vl_design.specs.Alone.{Plan, Origin, Boundary, begun, ticked, first_tick, stop_at, reason_at}
+use Rattle.host_text.specs.vl_design.specs.Snapshots as run
+use Rattle.host_text.specs.vl_design.specs.Syntax.{Flat}
+use Rattle.host_text.specs.vl_design.proofs.Settling.{at_first}
+use Rattle.host_text.specs.vl_base.specs.declared.files.File.{File}
+use Rattle.host_text.specs.declared.script.FabricLine.{FabricLine}
+use Rattle.host_text.specs.ten_plan.specs.Plans.{errand_of}
 use Rattle.host_form.specs.Origins.{Tenant, Starts, anew, resumed}
 use Rattle.host_form.specs.Histories.{Histories}
 use Rattle.host_form.specs.Orders.{Answered, stop_of}
@@ -50,7 +50,7 @@ not_past {o} {k} {q} a at first = by (nat_le k o.plan.budget) refl
         let there = earlier o.plan.budget a (omega (arith, past)) at in
         absurd (spent o.plan there.0 (first o.plan.budget there.0 past there.1))
 
-starts_within : {d : Flat} {files : List File} {budget : ℕ} {bytes : Option (List ℕ)} {start : Option run.Snapshot} → Starts d files budget bytes start → first_tick start ≤ budget
+pub starts_within : {d : Flat} {files : List File} {budget : ℕ} {bytes : Option (List ℕ)} {start : Option run.Snapshot} → Starts d files budget bytes start → first_tick start ≤ budget
 starts_within anew = omega arith
 starts_within (resumed s e l) = l
 

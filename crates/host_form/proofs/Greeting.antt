@@ -3,20 +3,21 @@ use Rattle.std.proofs.Common.{◌≡◌, ℕ, zero, suc, ◌==◌, List, [], ◌
 use Rattle.std.specs.Fmt.{digits}
 use Rattle.std.specs.List.{AllByRecursion}
 use Rattle.fab_io.specs.Outside.{Files}
-use Rattle.vl_design.specs.declared.design.End.TheVariants.{Budget}
-use Rattle.vl_design.specs.Queue.{Queue}
-use Rattle.vl_design.specs.Alone.{Ends}
-use Rattle.vl_design.specs.Examples.{greets}
-use Rattle.vl_design.proofs.Ending.{ends_by}
-use Rattle.report_text.specs.declared.block.Status.TheVariants as status
-use Rattle.report_text.specs.declared.block.Block.TheVariants as b
-use Rattle.report_text.specs.Report.{report}
+use Rattle.host_text.specs.vl_design.specs.declared.design.End.TheVariants.{Budget}
+use Rattle.host_text.specs.vl_design.specs.Queue.{Queue}
+use Rattle.host_text.specs.vl_design.specs.Alone.{Ends}
+use Rattle.host_text.specs.vl_design.specs.Examples.{greets}
+use Rattle.host_text.specs.vl_design.proofs.Ending.{ends_by}
+use Rattle.host_text.specs.declared.block.Status.TheVariants as status
+use Rattle.host_text.specs.declared.block.Block.TheVariants as b
+use Rattle.host_text.specs.Report.{report}
 use Rattle.host_form.specs.Origins.{Source, Accepted, Tenant, anew}
 use Rattle.host_form.proofs.Times.{each-by-lists}
 use Rattle.host_form.specs.Histories.{history_of, lines_of, visits_on}
 use Rattle.host_form.specs.Runs.{alone, RunsAsNoted, IsPutNowhere, at_once, Run, IsRun, Ran}
 use Rattle.host_form.specs.Reports.{IsReport}
 use Rattle.host_form.specs.Examples.{greeting_line, greeting_script, greeting_origin}
+use Rattle.host_form.proofs.Tight.{nowhere as greeting-nowhere}
 
 greeting-end : (q : Queue) × Ends greeting_origin 0 Budget q × (q.state.printed ≡ codes "hi\n") × (q.state.count ≡ 3)
 unfolding digits
@@ -25,10 +26,6 @@ greeting-end = (_, ends_by greeting_origin 9 0 Budget _ refl refl refl refl, ref
 greeting-each : (g : ℕ) → filter (λ v. v.fabric == g) [] ≡ visits_on ([] ∷ []) 0 g
 greeting-each zero = refl
 greeting-each (suc g) = refl
-
-greeting-nowhere : IsPutNowhere ([] ∷ []) 0
-greeting-nowhere zero = refl
-greeting-nowhere (suc g) = refl
 
 greeting-noted : (g : ℕ) → AllByRecursion (λ m. RunsAsNoted greeting_origin m.origin) (lines_of 0 (history_of ([] ∷ []) g))
 greeting-noted zero = tt

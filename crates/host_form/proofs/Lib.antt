@@ -13,3 +13,4 @@ pub mod Ends
 pub mod Times
 pub mod Ordered
 pub mod Reordered
+pub mod Shared

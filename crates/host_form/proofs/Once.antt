@@ -1,8 +1,8 @@
 -- What a store tells of a line is one tenant.
 use Rattle.std.proofs.Common.{◌≡◌, ℕ, List, [], ◌∷◌, Option, Some, None, refl, sym, subst, ap₂, ◌∙◌}
-use Rattle.vl_base.specs.declared.files.File.{File}
-use Rattle.script_text.specs.declared.script.FileLine.{FileLine}
-use Rattle.script_text.specs.declared.script.TenantLine.{TenantLine}
+use Rattle.host_text.specs.vl_base.specs.declared.files.File.{File}
+use Rattle.host_text.specs.declared.script.FileLine.{FileLine}
+use Rattle.host_text.specs.declared.script.TenantLine.{TenantLine}
 use Rattle.fab_io.specs.Outside.{Files}
 use Rattle.host_form.specs.Origins.{Source, Tenant, AreFilesAt, IsSnapshotAt, IsRead}
 use Rattle.host_form.specs.Reports.{AreRead}

@@ -3,17 +3,17 @@ use Rattle.std.proofs.Common.{◌≡◌, ℕ, zero, suc, ◌==◌, ◌&&◌, Lis
 use Rattle.std.specs.Fmt.{digits}
 use Rattle.std.specs.List.{AllByRecursion}
 use Rattle.fab_io.specs.Outside.{Files, with_file}
-use Rattle.vl_design.specs.declared.design.End.TheVariants.{Budget}
-use Rattle.vl_design.specs.Snapshots.{Saved}
-use Rattle.vl_design.specs.Queue.{Queue}
-use Rattle.vl_design.specs.Alone.{Ends, FreeSave, Keeps}
-use Rattle.vl_design.specs.Examples.{counter}
-use Rattle.vl_design.proofs.Ending.{boundary_by, ends_by}
-use Rattle.script_text.specs.declared.script.Free.TheVariants as free
-use Rattle.report_text.specs.declared.block.Status.TheVariants as status
-use Rattle.report_text.specs.declared.block.Block.TheVariants as b
-use Rattle.report_text.specs.declared.block.Reply.TheVariants as reply_is
-use Rattle.report_text.specs.Report.{report}
+use Rattle.host_text.specs.vl_design.specs.declared.design.End.TheVariants.{Budget}
+use Rattle.host_text.specs.vl_design.specs.Snapshots.{Saved}
+use Rattle.host_text.specs.vl_design.specs.Queue.{Queue}
+use Rattle.host_text.specs.vl_design.specs.Alone.{Ends, FreeSave, Keeps}
+use Rattle.host_text.specs.vl_design.specs.Examples.{counter}
+use Rattle.host_text.specs.vl_design.proofs.Ending.{boundary_by, ends_by}
+use Rattle.host_text.specs.declared.script.Free.TheVariants as free
+use Rattle.host_text.specs.declared.block.Status.TheVariants as status
+use Rattle.host_text.specs.declared.block.Block.TheVariants as b
+use Rattle.host_text.specs.declared.block.Reply.TheVariants as reply_is
+use Rattle.host_text.specs.Report.{report}
 use Rattle.host_form.specs.Origins.{Source, Accepted, Tenant, IsOrigin, anew}
 use Rattle.host_form.proofs.Times.{each-by-lists}
 use Rattle.host_form.specs.Histories.{Visit, visits_on, history_of, lines_of, lines_at, Leaves}

@@ -2,16 +2,16 @@
 use Rattle.std.proofs.Common.{◌≡◌, ℕ, ◌≤◌, Bool, true, false, cond, ◌&&◌, ◌||◌, ◌==◌, nat_lt, not, List, [], ◌∷◌, ◌++◌, map, filter, refl, sym, ap, ◌∙◌}
 use Rattle.std.specs.List.{AllByRecursion}
 use Rattle.std.proofs.lemmas.Bool.{ltb-false}
-use Rattle.vl_design.specs.Cost.{Cost}
-use Rattle.vl_design.specs.Alone.{stops, stop_at, save_name, save_names}
-use Rattle.ten_plan.specs.declared.plan.Due.{Due}
-use Rattle.ten_plan.specs.declared.plan.Due.TheVariants as due
-use Rattle.ten_plan.specs.declared.plan.Errand.{Errand}
-use Rattle.script_text.specs.declared.script.FabricLine.{FabricLine}
-use Rattle.script_text.specs.declared.script.TenantLine.{TenantLine}
-use Rattle.script_text.specs.Scripts.{comes_before, is_save}
-use Rattle.script_text.specs.Laws.{AreOrdered}
-use Rattle.ten_plan.specs.Plans.{due_of, errand_of}
+use Rattle.host_text.specs.vl_design.specs.Cost.{Cost}
+use Rattle.host_text.specs.vl_design.specs.Alone.{stops, stop_at, save_name, save_names}
+use Rattle.host_text.specs.ten_plan.specs.declared.plan.Due.{Due}
+use Rattle.host_text.specs.ten_plan.specs.declared.plan.Due.TheVariants as due
+use Rattle.host_text.specs.ten_plan.specs.declared.plan.Errand.{Errand}
+use Rattle.host_text.specs.declared.script.FabricLine.{FabricLine}
+use Rattle.host_text.specs.declared.script.TenantLine.{TenantLine}
+use Rattle.host_text.specs.Scripts.{comes_before, is_save}
+use Rattle.host_text.specs.Laws.{AreOrdered}
+use Rattle.host_text.specs.ten_plan.specs.Plans.{due_of, errand_of}
 use Rattle.host_form.specs.Origins.{is_planned, plan_of}
 use Rattle.host_form.specs.Laws.{AreAscending}
 

@@ -10,13 +10,14 @@ use Rattle.std.proofs.lemmas.List.Folds.{list_any-append}
 use Rattle.std.proofs.lemmas.List.Sums.{sum_by-cons}
 use Rattle.fab_io.specs.Outside.{Files, with_file}
 use Rattle.fab_io.proofs.Files.{with_file-swap, with_file-twice}
-use Rattle.ten_plan.specs.Written.{bytes_of}
-use Rattle.vl_design.specs.State.{State}
-use Rattle.vl_design.specs.Queue.{Queue}
-use Rattle.vl_design.specs.Snapshots.{Snapshot, Saved, snapshot_of, saved_over, all_saved}
-use Rattle.vl_design.specs.Alone.{Origin, FreeSave, Keeps, at_first, at_next, first_tick, due_at, free_names, saved_at}
-use Rattle.vl_design.proofs.Settling.{boundary_once}
+use Rattle.host_text.specs.ten_plan.specs.Written.{bytes_of}
+use Rattle.host_text.specs.vl_design.specs.State.{State}
+use Rattle.host_text.specs.vl_design.specs.Queue.{Queue}
+use Rattle.host_text.specs.vl_design.specs.Snapshots.{Snapshot, Saved, snapshot_of, saved_over, all_saved}
+use Rattle.host_text.specs.vl_design.specs.Alone.{Origin, FreeSave, Keeps, at_first, at_next, first_tick, due_at, free_names, saved_at}
+use Rattle.host_text.specs.vl_design.proofs.Settling.{boundary_once}
 use Rattle.host_form.specs.Saves.{path_of, with_saves, IsReordered}
+use Rattle.host_text.specs.vl_design.proofs.Shared.{from_first}
 
 -- ---- paths
 
@@ -156,10 +157,6 @@ any-reordered test k due free others h =
     list_any-append test due (free_names k free) ∙ ap (λ b. list_any test due || b) same ∙ sym (list_any-append test due (free_names k others))
 
 -- ---- tick by tick
-
-from_first : {o : Origin} {free : List FreeSave} {k : ℕ} {saved : List Saved} → Keeps o free k saved → first_tick o.resume ≤ k
-from_first (at_first e b) = omega (arith, e)
-from_first (at_next x b) = omega (arith, from_first x)
 
 keeps-apart : {o : Origin} {free : List FreeSave} {k : ℕ} {saved : List Saved} → Keeps o free k saved → AreApart saved
 keeps-apart {o} {free} {k} (at_first {q = q} e b) = apart-all [] (due_at o.plan k q.state ++ free_names k free) (snapshot_of o.flat.rows q.state) tt

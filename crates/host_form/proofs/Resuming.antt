@@ -1,10 +1,10 @@
 -- Snapshots of counters.
 use Rattle.std.proofs.Common.{◌≡◌, [], ◌∷◌, codes, Ok, Err, refl, arith}
 use Rattle.std.specs.Fmt.{digits}
-use Rattle.vl_design.specs.Examples.{counter}
-use Rattle.snap_form.specs.declared.snapshot.Snapshot.{Snapshot}
-use Rattle.snap_form.specs.declared.snapshot.SnapError.TheVariants.{Bad}
-use Rattle.snap_form.specs.Reading.{read, number, number_if, same_number, same_bytes, heading_at, row_at, rows_at, words_at, slot_at, name_at, place_at, flag_at, file_at, files_at, last_at, snapshot_at}
+use Rattle.host_text.specs.vl_design.specs.Examples.{counter}
+use Rattle.host_text.specs.snap_form.specs.declared.snapshot.Snapshot.{Snapshot}
+use Rattle.host_text.specs.snap_form.specs.declared.snapshot.SnapError.TheVariants.{Bad}
+use Rattle.host_text.specs.snap_form.specs.Reading.{read, number, number_if, same_number, same_bytes, heading_at, row_at, rows_at, words_at, slot_at, name_at, place_at, flag_at, file_at, files_at, last_at, snapshot_at}
 use Rattle.host_form.specs.Origins.{rows_of, IsOrigin, resumed, late, misspelt, IsRefused, for_its_snapshot, no_place, snapshot_kind}
 use Rattle.host_form.specs.Examples.{lone_script, counter_bytes, narrow, resumed_tenant, resumed_origin}
 

@@ -2,10 +2,10 @@
 use Rattle.std.proofs.Common.{◌≡◌, ℕ, zero, suc, List, [], ◌∷◌, codes, Some, None, refl}
 use Rattle.std.specs.Fmt.{digits}
 use Rattle.fab_io.specs.Outside.{Files}
-use Rattle.vl_design.specs.Cost.{cost}
-use Rattle.vl_design.specs.Examples.{counter}
-use Rattle.report_text.specs.declared.block.Block.TheVariants as b
-use Rattle.report_text.specs.Report.{report}
+use Rattle.host_text.specs.vl_design.specs.Cost.{cost}
+use Rattle.host_text.specs.vl_design.specs.Examples.{counter}
+use Rattle.host_text.specs.declared.block.Block.TheVariants as b
+use Rattle.host_text.specs.Report.{report}
 use Rattle.host_form.specs.Origins.{Source, Accepted, Tenant, no_place, cost_kind, IsRefused, for_its_cost}
 use Rattle.host_form.specs.Runs.{Refused, IsPutNowhere}
 use Rattle.host_form.specs.Reports.{IsReport}
@@ -14,7 +14,7 @@ use Rattle.host_form.specs.Examples.{lone_line, tight_script}
 abbrev tight-tenant : Tenant
 tight-tenant = record { line = lone_line; source = Accepted counter; files = []; snapshot = None }
 
-nowhere : IsPutNowhere ([] ∷ []) 0
+pub nowhere : IsPutNowhere ([] ∷ []) 0
 nowhere zero = refl
 nowhere (suc g) = refl
 

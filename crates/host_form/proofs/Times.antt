@@ -4,6 +4,7 @@ use Rattle.std.specs.List.{AllByRecursion}
 use Rattle.std.proofs.lemmas.Bool.{eqb-true, eq-eqb}
 use Rattle.std.proofs.lemmas.Bool.Decides.{nat_tests}
 use Rattle.host_form.specs.Histories.{Note, Histories, Visit, history_of, notes_of, is_came, next_left, visit_to, visits_in, visits_on, comes_before, is_same, times, AreOrdered, Chain, AreVisits}
+use Rattle.host_text.specs.vl_base.proofs.Numbers.{back_ranks, over_ranks}
 
 -- ---- the same
 
@@ -16,7 +17,7 @@ three_true a b c d e f h = (grind (arith, nat_tests), grind (arith, nat_tests), 
 same-is : (v w : Visit) → is_same v w ≡ true → v ≡ w
 same-is v w h = let all = three_true v.fabric w.fabric v.from w.from v.to w.to h in fields v w all.0 all.1 all.2
 
-same-self : (v : Visit) → is_same v v ≡ true
+pub same-self : (v : Visit) → is_same v v ≡ true
 same-self v =
     let g = eq-eqb v.fabric v.fabric refl in
     let a = eq-eqb v.from v.from refl in
@@ -108,18 +109,9 @@ unfolding sorted
 all-sorted P [] h = tt
 all-sorted P (v ∷ vs) h = all-put P v (sorted vs) h.0 (all-sorted P vs h.1)
 
-back_ranks : (a b c d e f : ℕ) → (nat_lt a b || ((a == b) && (nat_lt c d || ((c == d) && nat_lt e f)))) ≡ true
-    → (nat_lt b a || ((b == a) && (nat_lt d c || ((d == c) && nat_lt f e)))) ≡ false
-back_ranks a b c d e f h = grind (arith, nat_tests)
-
 -- what comes before another doesn't come behind it
 back : (w v : Visit) → comes_before w v ≡ true → comes_before v w ≡ false
 back w v h = back_ranks w.from v.from w.to v.to w.fabric v.fabric h
-
-over_ranks : (a b c d e f g h i : ℕ) → (nat_lt a b || ((a == b) && (nat_lt d e || ((d == e) && nat_lt g h)))) ≡ false
-    → (nat_lt c a || ((c == a) && (nat_lt f d || ((f == d) && nat_lt i g)))) ≡ false
-    → (nat_lt c b || ((c == b) && (nat_lt f e || ((f == e) && nat_lt i h)))) ≡ false
-over_ranks a b c d e f g h i p q = grind (arith, nat_tests)
 
 -- what doesn't come before w doesn't come before v, which w doesn't come before
 over : (w v x : Visit) → comes_before w v ≡ false → comes_before x w ≡ false → comes_before x v ≡ false

@@ -2,13 +2,13 @@
 use Rattle.std.proofs.Common.{◌≡◌, ℕ, ◌+◌, List, [], ◌∷◌, map, refl, sym, ap, ap₂, ◌∙◌}
 use Rattle.std.specs.List.{AllByRecursion}
 use Rattle.fab_io.specs.Outside.{Files}
-use Rattle.script_text.specs.declared.script.Free.{Free}
-use Rattle.script_text.specs.declared.script.Script.{Script}
-use Rattle.script_text.specs.declared.script.TenantLine.{TenantLine}
-use Rattle.report_text.specs.declared.block.Reply.{Reply}
-use Rattle.report_text.specs.declared.block.FreeLine.{FreeLine}
-use Rattle.report_text.specs.Readable.{IsReply}
-use Rattle.report_text.proofs.Replying.{replies-back}
+use Rattle.host_text.specs.declared.script.Free.{Free}
+use Rattle.host_text.specs.declared.script.Script.{Script}
+use Rattle.host_text.specs.declared.script.TenantLine.{TenantLine}
+use Rattle.host_text.specs.declared.block.Reply.{Reply}
+use Rattle.host_text.specs.declared.block.FreeLine.{FreeLine}
+use Rattle.host_text.specs.Readable.{IsReply}
+use Rattle.host_text.proofs.Replying.{replies-back}
 use Rattle.host_form.specs.Origins.{Source, Tenant}
 use Rattle.host_form.specs.Histories.{Histories}
 use Rattle.host_form.specs.Orders.{Answered, order_words, free_line}

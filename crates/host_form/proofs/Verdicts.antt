@@ -1,19 +1,19 @@
 -- A tenant has an origin or is refused.
 use Rattle.std.proofs.Common.{◌≡◌, ◌⊎◌, inl, inr, ℕ, ◌<◌, Bool, true, false, nat_lt, List, length, slice_get, Option, Some, None, Result, Ok, Err, refl, sym, subst, ap, ap₂, ◌∙◌, arith}
 use Rattle.std.proofs.lemmas.Bool.{ltb-true, ltb-false}
-use Rattle.vl_base.specs.declared.files.File.{File}
-use Rattle.vl_base.specs.declared.place.Place.{Place}
-use Rattle.vl_design.specs.Syntax.{Flat}
-use Rattle.vl_design.specs.Cost.{cost}
-use Rattle.vl_design.specs.Snapshots as run
-use Rattle.vl_design.specs.Alone.{Plan, Origin}
-use Rattle.script_text.specs.declared.script.FabricLine.{FabricLine}
-use Rattle.snap_form.specs.declared.snapshot.SnapRow.{SnapRow}
-use Rattle.snap_form.specs.declared.snapshot.Snapshot.{Snapshot}
-use Rattle.snap_form.specs.declared.snapshot.SnapError.{SnapError}
-use Rattle.snap_form.specs.declared.snapshot.SnapError.TheVariants as snap
-use Rattle.snap_form.specs.Reading.{read, at_offset, snapshot_at}
-use Rattle.ten_plan.specs.Written.{kept}
+use Rattle.host_text.specs.vl_base.specs.declared.files.File.{File}
+use Rattle.host_text.specs.vl_base.specs.declared.place.Place.{Place}
+use Rattle.host_text.specs.vl_design.specs.Syntax.{Flat}
+use Rattle.host_text.specs.vl_design.specs.Cost.{cost}
+use Rattle.host_text.specs.vl_design.specs.Snapshots as run
+use Rattle.host_text.specs.vl_design.specs.Alone.{Plan, Origin}
+use Rattle.host_text.specs.declared.script.FabricLine.{FabricLine}
+use Rattle.host_text.specs.snap_form.specs.declared.snapshot.SnapRow.{SnapRow}
+use Rattle.host_text.specs.snap_form.specs.declared.snapshot.Snapshot.{Snapshot}
+use Rattle.host_text.specs.snap_form.specs.declared.snapshot.SnapError.{SnapError}
+use Rattle.host_text.specs.snap_form.specs.declared.snapshot.SnapError.TheVariants as snap
+use Rattle.host_text.specs.snap_form.specs.Reading.{read, at_offset, snapshot_at}
+use Rattle.host_text.specs.ten_plan.specs.Written.{kept}
 use Rattle.host_form.specs.Origins.{Source, Accepted, Faulty, Tenant, fits, fits_in, has_room, plan_of, rows_of, Starts, anew, resumed, StartsNot, misspelt, late, IsOrigin, no_place, cost_kind, snapshot_kind, IsRefused, for_its_source, for_its_cost, for_its_snapshot}
 use Rattle.host_form.proofs.Once.{some_is}
 
@@ -65,7 +65,7 @@ either fabrics fabric t there = by-source fabrics fabric t there t.source refl
 
 -- ---- only one
 
-accepted_is : {d e : Flat} → Accepted d ≡ Accepted e → d ≡ e
+pub accepted_is : {d e : Flat} → Accepted d ≡ Accepted e → d ≡ e
 accepted_is h = cc
 
 ok_is : {a b : Snapshot} → ◌≡◌ {A = Result Snapshot SnapError} (Ok a) (Ok b) → a ≡ b

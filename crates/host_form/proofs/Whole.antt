@@ -1,14 +1,14 @@
 -- A script has one report, and leaves one set of files.
 use Rattle.std.proofs.Common.{◌≡◌, ℕ, suc, ◌+◌, ◌≤◌, List, [], ◌∷◌, map, Option, refl, sym, subst, subst₂, ap, ap₂, ◌∙◌, arith}
-use Rattle.vl_base.specs.declared.place.Place.{Place}
-use Rattle.vl_design.specs.declared.design.End.{End}
-use Rattle.vl_design.specs.Queue.{Queue}
-use Rattle.vl_design.specs.Snapshots.{Saved}
-use Rattle.vl_design.specs.Alone.{Origin, Boundary, FreeSave, Keeps, saved_at, first_tick}
-use Rattle.vl_design.proofs.Settling.{ends_once, boundary_once}
-use Rattle.script_text.specs.declared.script.FabricLine.{FabricLine}
-use Rattle.script_text.specs.declared.script.Script.{Script}
-use Rattle.report_text.specs.Report.{report}
+use Rattle.host_text.specs.vl_base.specs.declared.place.Place.{Place}
+use Rattle.host_text.specs.vl_design.specs.declared.design.End.{End}
+use Rattle.host_text.specs.vl_design.specs.Queue.{Queue}
+use Rattle.host_text.specs.vl_design.specs.Snapshots.{Saved}
+use Rattle.host_text.specs.vl_design.specs.Alone.{Origin, Boundary, FreeSave, Keeps, saved_at, first_tick}
+use Rattle.host_text.specs.vl_design.proofs.Settling.{ends_once, boundary_once}
+use Rattle.host_text.specs.declared.script.FabricLine.{FabricLine}
+use Rattle.host_text.specs.declared.script.Script.{Script}
+use Rattle.host_text.specs.Report.{report}
 use Rattle.fab_io.specs.Outside.{Files}
 use Rattle.host_form.specs.Origins.{Source, Tenant}
 use Rattle.host_form.specs.Histories.{Histories, Visit}
@@ -19,6 +19,7 @@ use Rattle.host_form.specs.Saves.{with_saves, IsKept, AreSaved, LeavesFiles}
 use Rattle.host_form.proofs.Once.{IsOneJudgement, some_is, all-read-once}
 use Rattle.host_form.proofs.Times.{visits-once}
 use Rattle.host_form.proofs.Verdicts.{origin-once, refusal-once, not-both}
+use Rattle.host_text.specs.vl_design.proofs.Shared.{from_first as keeps_from}
 
 end-once : {o : Origin} {stop : Option ℕ} {k j : ℕ} {r s : End} {p q : Queue} → IsEnd o stop k r p → IsEnd o stop j s q → (k ≡ j) × (r ≡ s) × (p ≡ q)
 end-once {o} {stop} {k} {j} {r} {s} {p} {q} (alone n e) (alone m f) = ends_once o k j r s p q e f
@@ -60,11 +61,6 @@ module _ (histories : Histories) (answers : List Answered) where
       ap₂ (λ z zs. z ∷ zs) (outcome-once s.fabrics n t x y a.0 b.0) (outcomes-once s (n + 1) ts xs ys a.1 b.1)
 
 -- ---- snapshots
-
--- none are kept before the first boundary
-keeps_from : {o : Origin} {free : List FreeSave} {k : ℕ} {saved : List Saved} → Keeps o free k saved → first_tick o.resume ≤ k
-keeps_from (Keeps.at_first e p) = omega (arith, e)
-keeps_from (Keeps.at_next h p) = omega (arith, keeps_from h)
 
 keeps-once : {o : Origin} {free : List FreeSave} {k : ℕ} {a b : List Saved} → Keeps o free k a → Keeps o free k b → a ≡ b
 keeps-once {o} {free} {k} (Keeps.at_first e p) (Keeps.at_first f q) = ap (λ (z : Queue). saved_at o free [] k z.state) (boundary_once p q)

@@ -2,17 +2,17 @@
 use Rattle.std.specs.Prelude.{ℕ, false, List, [], ◌∷◌, ◌++◌, Some, None, codes}
 use Rattle.fab_lock.specs.declared.entry.Kind.{Kind}
 use Rattle.fab_lock.specs.declared.entry.Kind.TheVariants.{Line, Came, Ran, Saved, Left}
-use Rattle.vl_design.specs.Alone.{Origin}
-use Rattle.vl_design.specs.Alone as alone
-use Rattle.vl_design.specs.declared.design.SigKind.TheVariants.{Var}
-use Rattle.vl_design.specs.Syntax.{Flat}
-use Rattle.vl_design.specs.Examples.{clock, row, counter, greets}
-use Rattle.ten_plan.specs.declared.plan.Due.TheVariants as due
-use Rattle.ten_plan.specs.declared.plan.Errand.{Errand}
-use Rattle.script_text.specs.declared.script.FabricLine.{FabricLine}
-use Rattle.script_text.specs.declared.script.Free.TheVariants as free
-use Rattle.script_text.specs.declared.script.TenantLine.{TenantLine}
-use Rattle.script_text.specs.declared.script.Script.{Script}
+use Rattle.host_text.specs.vl_design.specs.Alone.{Origin}
+use Rattle.host_text.specs.vl_design.specs.Alone as alone
+use Rattle.host_text.specs.vl_design.specs.declared.design.SigKind.TheVariants.{Var}
+use Rattle.host_text.specs.vl_design.specs.Syntax.{Flat}
+use Rattle.host_text.specs.vl_design.specs.Examples.{clock, row, counter, greets}
+use Rattle.host_text.specs.ten_plan.specs.declared.plan.Due.TheVariants as due
+use Rattle.host_text.specs.ten_plan.specs.declared.plan.Errand.{Errand}
+use Rattle.host_text.specs.declared.script.FabricLine.{FabricLine}
+use Rattle.host_text.specs.declared.script.Free.TheVariants as free
+use Rattle.host_text.specs.declared.script.TenantLine.{TenantLine}
+use Rattle.host_text.specs.declared.script.Script.{Script}
 use Rattle.host_form.specs.Origins.{Accepted, Tenant}
 use Rattle.host_form.specs.Histories.{Note, Histories}
 

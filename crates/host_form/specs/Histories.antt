@@ -5,7 +5,7 @@ use Rattle.fab_lock.specs.declared.entry.Entry.{Entry}
 use Rattle.fab_lock.specs.declared.entry.Kind.{Kind}
 use Rattle.fab_lock.specs.declared.entry.Kind.TheVariants as is
 use Rattle.fab_lock.specs.Histories.{high}
-use Rattle.vl_design.specs.Alone.{Origin}
+use Rattle.host_text.specs.vl_design.specs.Alone.{Origin}
 
 -- a note: its entry and, where a tenant is put in line by it, what that starts from
 pub record Note : Type 0 where

@@ -1,11 +1,11 @@
 -- Words of the laws.
 use Rattle.std.specs.Prelude.{◌≡◌, ℕ, ◌≤◌, Bool, ◌&&◌, ◌==◌, length, filter, List, [], ◌∷◌, Option, Some, ⊤}
 use Rattle.std.specs.List.{AllByRecursion}
-use Rattle.vl_design.specs.Alone.{Errand}
-use Rattle.report_text.specs.declared.block.Block.{Block}
-use Rattle.report_text.specs.declared.block.Block.TheVariants as b
-use Rattle.report_text.specs.Readable.{IsReadable, IsReply}
-use Rattle.script_text.specs.declared.script.Script.{Script}
+use Rattle.host_text.specs.vl_design.specs.Alone.{Errand}
+use Rattle.host_text.specs.declared.block.Block.{Block}
+use Rattle.host_text.specs.declared.block.Block.TheVariants as b
+use Rattle.host_text.specs.Readable.{IsReadable, IsReply}
+use Rattle.host_text.specs.declared.script.Script.{Script}
 use Rattle.host_form.specs.Origins.{Source, Tenant}
 use Rattle.host_form.specs.Orders.{Answered}
 use Rattle.host_form.specs.Runs.{Outcome}

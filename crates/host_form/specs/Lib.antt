@@ -7,3 +7,5 @@ pub mod Reports
 pub mod Saves
 pub mod Laws
 pub mod Examples
+pub use Rattle.fab_io as fab_io
+pub use Rattle.host_text as host_text

@@ -1,13 +1,13 @@
 -- Free orders and the replies to them (own).
 use Rattle.std.specs.Prelude.{ℕ, ◌&&◌, ◌==◌, if◌then◌else◌, List, [], ◌∷◌, length, filter, codes, slice_get, option_map, unwrap_or, Option, Some, None}
 use Rattle.std.specs.List.{flat_map}
-use Rattle.script_text.specs.declared.script.Free.{Free}
-use Rattle.script_text.specs.declared.script.Free.TheVariants as free
-use Rattle.script_text.specs.declared.script.Script.{Script}
-use Rattle.report_text.specs.declared.block.Reply.{Reply}
-use Rattle.report_text.specs.declared.block.Reply.TheVariants as reply_is
-use Rattle.report_text.specs.declared.block.FreeLine.{FreeLine}
-use Rattle.vl_design.specs.Alone.{FreeSave}
+use Rattle.host_text.specs.declared.script.Free.{Free}
+use Rattle.host_text.specs.declared.script.Free.TheVariants as free
+use Rattle.host_text.specs.declared.script.Script.{Script}
+use Rattle.host_text.specs.declared.block.Reply.{Reply}
+use Rattle.host_text.specs.declared.block.Reply.TheVariants as reply_is
+use Rattle.host_text.specs.declared.block.FreeLine.{FreeLine}
+use Rattle.host_text.specs.vl_design.specs.Alone.{FreeSave}
 
 -- a free order and the reply to it
 pub record Answered : Type 0 where

@@ -1,28 +1,28 @@
 -- What a tenant of a script starts from, or why it is refused (own).
 use Rattle.std.specs.Prelude.{◌≡◌, ℕ, ◌<◌, ◌≤◌, Bool, true, false, ◌&&◌, nat_le, List, [], ◌∷◌, ◌++◌, map, filter, codes, slice_get, Option, Some, None, Ok, Err, ⊤}
 use Rattle.fab_io.specs.Outside.{Files}
-use Rattle.vl_base.specs.declared.files.File.{File}
-use Rattle.vl_base.specs.declared.place.Place.{Place}
-use Rattle.vl_design.specs.Syntax.{Flat}
-use Rattle.vl_design.specs.Cost.{Cost, cost}
-use Rattle.vl_design.specs.Snapshots as run
-use Rattle.vl_design.specs.Alone as alone
-use Rattle.vl_design.specs.Alone.{Plan, Origin}
-use Rattle.script_line.specs.declared.statement.Capacity.{Capacity}
-use Rattle.script_text.specs.declared.script.FabricLine.{FabricLine}
-use Rattle.script_text.specs.declared.script.FileLine.{FileLine}
-use Rattle.ten_plan.specs.declared.plan.Due.{Due}
-use Rattle.ten_plan.specs.declared.plan.Due.TheVariants as due
-use Rattle.ten_plan.specs.declared.plan.Errand.{Errand}
-use Rattle.ten_plan.specs.Plans.{errand_of}
-use Rattle.ten_plan.specs.Written as written
-use Rattle.ten_plan.specs.Written.{kept}
-use Rattle.script_text.specs.declared.script.TenantLine.{TenantLine}
-use Rattle.report_text.specs.Report.{number}
-use Rattle.snap_form.specs.declared.snapshot.SnapRow.{SnapRow}
-use Rattle.snap_form.specs.declared.snapshot.Snapshot.{Snapshot}
-use Rattle.snap_form.specs.declared.snapshot.SnapError.TheVariants as snap
-use Rattle.snap_form.specs.Reading as snapshots
+use Rattle.host_text.specs.vl_base.specs.declared.files.File.{File}
+use Rattle.host_text.specs.vl_base.specs.declared.place.Place.{Place}
+use Rattle.host_text.specs.vl_design.specs.Syntax.{Flat}
+use Rattle.host_text.specs.vl_design.specs.Cost.{Cost, cost}
+use Rattle.host_text.specs.vl_design.specs.Snapshots as run
+use Rattle.host_text.specs.vl_design.specs.Alone as alone
+use Rattle.host_text.specs.vl_design.specs.Alone.{Plan, Origin}
+use Rattle.host_text.specs.declared.statement.Capacity.{Capacity}
+use Rattle.host_text.specs.declared.script.FabricLine.{FabricLine}
+use Rattle.host_text.specs.declared.script.FileLine.{FileLine}
+use Rattle.host_text.specs.ten_plan.specs.declared.plan.Due.{Due}
+use Rattle.host_text.specs.ten_plan.specs.declared.plan.Due.TheVariants as due
+use Rattle.host_text.specs.ten_plan.specs.declared.plan.Errand.{Errand}
+use Rattle.host_text.specs.ten_plan.specs.Plans.{errand_of}
+use Rattle.host_text.specs.ten_plan.specs.Written as written
+use Rattle.host_text.specs.ten_plan.specs.Written.{kept}
+use Rattle.host_text.specs.declared.script.TenantLine.{TenantLine}
+use Rattle.host_text.specs.Report.{number}
+use Rattle.host_text.specs.snap_form.specs.declared.snapshot.SnapRow.{SnapRow}
+use Rattle.host_text.specs.snap_form.specs.declared.snapshot.Snapshot.{Snapshot}
+use Rattle.host_text.specs.snap_form.specs.declared.snapshot.SnapError.TheVariants as snap
+use Rattle.host_text.specs.snap_form.specs.Reading as snapshots
 
 -- ---- what is read of a tenant
 

@@ -1,14 +1,14 @@
 -- What the reply to a free order may be (own).
 use Rattle.std.specs.Prelude.{◌≡◌, ℕ, ◌<◌, ◌≤◌, true, false, List, [], ◌∷◌, ◌++◌, slice_get, Option, Some, None, ⊤}
 use Rattle.std.specs.List.{AllByRecursion}
-use Rattle.vl_design.specs.declared.design.End.TheVariants.{Stopped}
-use Rattle.vl_design.specs.Cost.{cost}
-use Rattle.vl_design.specs.Alone.{first_tick}
-use Rattle.script_text.specs.declared.script.FabricLine.{FabricLine}
-use Rattle.script_text.specs.declared.script.Free.{Free}
-use Rattle.script_text.specs.declared.script.Free.TheVariants as free
-use Rattle.report_text.specs.declared.block.Reply.{Reply}
-use Rattle.report_text.specs.declared.block.Reply.TheVariants as reply_is
+use Rattle.host_text.specs.vl_design.specs.declared.design.End.TheVariants.{Stopped}
+use Rattle.host_text.specs.vl_design.specs.Cost.{cost}
+use Rattle.host_text.specs.vl_design.specs.Alone.{first_tick}
+use Rattle.host_text.specs.declared.script.FabricLine.{FabricLine}
+use Rattle.host_text.specs.declared.script.Free.{Free}
+use Rattle.host_text.specs.declared.script.Free.TheVariants as free
+use Rattle.host_text.specs.declared.block.Reply.{Reply}
+use Rattle.host_text.specs.declared.block.Reply.TheVariants as reply_is
 use Rattle.host_form.specs.Origins.{has_room}
 use Rattle.host_form.specs.Histories.{Histories, history_of, lines_at, Leaves, IsPlaced, reached}
 use Rattle.host_form.specs.Orders.{Answered, tenant_of, ticks_of}

@@ -1,15 +1,15 @@
 -- The report of a script (own).
 use Rattle.std.specs.Prelude.{◌≡◌, ℕ, ◌+◌, List, [], ◌∷◌, map, ⊤}
-use Rattle.vl_design.specs.declared.design.End.{End}
-use Rattle.vl_design.specs.declared.design.End.TheVariants as end_is
-use Rattle.script_text.specs.declared.script.TenantLine.{TenantLine}
-use Rattle.script_text.specs.declared.script.Script.{Script}
-use Rattle.report_text.specs.declared.block.Status.{Status}
-use Rattle.report_text.specs.declared.block.Status.TheVariants.{Finished, Budget, Stopped}
-use Rattle.report_text.specs.declared.block.Stay.{Stay}
-use Rattle.report_text.specs.declared.block.Block.{Block}
-use Rattle.report_text.specs.declared.block.Block.TheVariants as b
-use Rattle.report_text.specs.Report.{report}
+use Rattle.host_text.specs.vl_design.specs.declared.design.End.{End}
+use Rattle.host_text.specs.vl_design.specs.declared.design.End.TheVariants as end_is
+use Rattle.host_text.specs.declared.script.TenantLine.{TenantLine}
+use Rattle.host_text.specs.declared.script.Script.{Script}
+use Rattle.host_text.specs.declared.block.Status.{Status}
+use Rattle.host_text.specs.declared.block.Status.TheVariants.{Finished, Budget, Stopped}
+use Rattle.host_text.specs.declared.block.Stay.{Stay}
+use Rattle.host_text.specs.declared.block.Block.{Block}
+use Rattle.host_text.specs.declared.block.Block.TheVariants as b
+use Rattle.host_text.specs.Report.{report}
 use Rattle.fab_io.specs.Outside.{Files}
 use Rattle.host_form.specs.Origins.{Source, Tenant, IsRead}
 use Rattle.host_form.specs.Histories.{Histories, Visit}

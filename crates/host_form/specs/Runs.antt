@@ -1,14 +1,14 @@
 -- What comes of the tenants of a script (own).
 use Rattle.std.specs.Prelude.{◌≡◌, ◌≢◌, ◌⊎◌, ℕ, ◌<◌, ◌≤◌, Bool, ◌&&◌, ◌==◌, nat_lt, nat_le, if◌then◌else◌, List, [], ◌∷◌, ◌++◌, map, Option, Some, None}
 use Rattle.std.specs.List.{AllByRecursion, flat_map}
-use Rattle.vl_base.specs.declared.place.Place.{Place}
-use Rattle.vl_design.specs.declared.design.End.{End}
-use Rattle.vl_design.specs.declared.design.End.TheVariants.{Stopped}
-use Rattle.vl_design.specs.Cost.{cost}
-use Rattle.vl_design.specs.Queue.{Queue}
-use Rattle.vl_design.specs.Alone.{Due, Move, Errand, Origin, Boundary, Ends, reason_at, first_tick}
-use Rattle.vl_design.specs.Observed.{IsSameRun}
-use Rattle.script_text.specs.declared.script.FabricLine.{FabricLine}
+use Rattle.host_text.specs.vl_base.specs.declared.place.Place.{Place}
+use Rattle.host_text.specs.vl_design.specs.declared.design.End.{End}
+use Rattle.host_text.specs.vl_design.specs.declared.design.End.TheVariants.{Stopped}
+use Rattle.host_text.specs.vl_design.specs.Cost.{cost}
+use Rattle.host_text.specs.vl_design.specs.Queue.{Queue}
+use Rattle.host_text.specs.vl_design.specs.Alone.{Due, Move, Errand, Origin, Boundary, Ends, reason_at, first_tick}
+use Rattle.host_text.specs.vl_design.specs.Observed.{IsSameRun}
+use Rattle.host_text.specs.declared.script.FabricLine.{FabricLine}
 use Rattle.host_form.specs.Origins.{Tenant, IsOrigin, IsRefused}
 use Rattle.host_form.specs.Histories.{Histories, Visit, history_of, lines_of, lines_at, lefts_at, AreVisits}
 use Rattle.host_form.specs.Orders.{Answered, Put, stop_of, saves_of, moves_of, puts_at}

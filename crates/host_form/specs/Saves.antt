@@ -2,10 +2,10 @@
 use Rattle.std.specs.Prelude.{◌≡◌, ℕ, ◌+◌, List, [], ◌∷◌, ◌++◌, map, codes}
 use Rattle.std.specs.List.{sum_by}
 use Rattle.fab_io.specs.Outside.{Files, with_file}
-use Rattle.vl_design.specs.Snapshots.{Saved}
-use Rattle.vl_design.specs.Alone.{FreeSave, Keeps}
-use Rattle.ten_plan.specs.Written.{bytes_of}
-use Rattle.script_text.specs.declared.script.Script.{Script}
+use Rattle.host_text.specs.vl_design.specs.Snapshots.{Saved}
+use Rattle.host_text.specs.vl_design.specs.Alone.{FreeSave, Keeps}
+use Rattle.host_text.specs.ten_plan.specs.Written.{bytes_of}
+use Rattle.host_text.specs.declared.script.Script.{Script}
 use Rattle.host_form.specs.Origins.{Source, Tenant}
 use Rattle.host_form.specs.Histories.{Histories}
 use Rattle.host_form.specs.Orders.{Answered, saves_of}

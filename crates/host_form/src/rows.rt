@@ -1,9 +1,9 @@
 //! Worked rows of the definitions.
 
 ghost use Rattle.std.specs.Prelude.{◌≡◌, ℕ, List, [], ◌∷◌, Option, Some, Ok, codes};
-ghost use Rattle.vl_design.specs.Cost.{cost};
-ghost use Rattle.vl_design.specs.Examples.{counter, greets};
-ghost use Rattle.script_text.specs.Reading.{reading};
+ghost use Rattle.host_text.specs.vl_design.specs.Cost.{cost};
+ghost use Rattle.host_text.specs.vl_design.specs.Examples.{counter, greets};
+ghost use Rattle.host_text.specs.Reading.{reading};
 ghost use Rattle.fab_io.specs.Outside.{Files, with_file};
 ghost use Rattle.host_form.specs.Origins.{Source, Accepted, plan_of, IsOrigin, IsRefused, no_place};
 ghost use Rattle.host_form.specs.Reports.{IsReport};

@@ -1,14 +1,15 @@
 -- What runs begin with.
 use Rattle.std.proofs.Common.{◌≡◌, ℕ, ◌≤◌, List, [], ◌∷◌, map, Option, Some, Ok, refl, ap, subst, arith}
-use Rattle.vl_base.specs.declared.files.File.{File}
-use Rattle.vl_design.specs.Alone.{first_tick}
-use Rattle.vl_design.specs.Snapshots as run
-use Rattle.vl_design.specs.Syntax.{Flat}
-use Rattle.snap_form.specs.Reading.{read}
-use Rattle.ten_plan.specs.declared.held.Held.{Held}
-use Rattle.ten_plan.specs.Held.{snapshot_of}
-use Rattle.ten_plan.specs.Written.{kept, kept_row, row_of, written}
-use Rattle.host_form.specs.Origins.{rows_of, Starts, anew, resumed}
+use Rattle.ten_core.specs.vl_base.specs.declared.files.File.{File}
+use Rattle.ten_core.specs.vl_design.specs.Alone.{first_tick}
+use Rattle.ten_core.specs.vl_design.specs.Snapshots as run
+use Rattle.ten_core.specs.vl_design.specs.Syntax.{Flat}
+use Rattle.ten_core.specs.snap_form.specs.Reading.{read}
+use Rattle.elab_laws.specs.ten_plan.specs.declared.held.Held.{Held}
+use Rattle.elab_laws.specs.ten_plan.specs.Held.{snapshot_of}
+use Rattle.elab_laws.specs.ten_plan.specs.Written.{kept, kept_row, row_of, written}
+use Rattle.host_files.specs.host_form.specs.Origins.{rows_of, Starts, anew, resumed}
+pub use Rattle.host_files.specs.host_form.proofs.Ends.{starts_within as within-budget}
 
 kept-rows : (rows : List run.SnapRow) → map kept_row (map row_of rows) ≡ rows
 kept-rows [] = refl
@@ -22,8 +23,3 @@ pub starts : (d : Flat) (files : List File) (budget : ℕ) (bytes : List ℕ) (h
     → Starts d files budget (Some bytes) (Some (snapshot_of d.rows h))
 starts d files budget bytes h e within =
     subst (λ (s : run.Snapshot). Starts d files budget (Some bytes) (Some s)) (kept-written (snapshot_of d.rows h)) (resumed (written (snapshot_of d.rows h)) e within)
-
--- a run begins within its budget
-pub within-budget : {d : Flat} {files : List File} {budget : ℕ} {bytes : Option (List ℕ)} {start : Option run.Snapshot} → Starts d files budget bytes start → first_tick start ≤ budget
-within-budget anew = omega arith
-within-budget (resumed s e within) = within

@@ -1,20 +1,20 @@
 -- What is decided of a design, by its cost, its plan and its start.
 use Rattle.std.proofs.Common.{◌≡◌, ℕ, List, Option, Err, refl, sym, ap, ◌∙◌, subst}
-use Rattle.vl_base.specs.declared.files.File.{File}
-use Rattle.vl_cost.specs.declared.capacity.Cost.{Cost}
-use Rattle.vl_design.specs.Cost as sums
-use Rattle.vl_design.specs.Syntax.{Flat}
+use Rattle.ten_core.specs.vl_base.specs.declared.files.File.{File}
+use Rattle.ten_core.specs.vl_design.specs.declared.capacity.Cost.{Cost}
+use Rattle.ten_core.specs.vl_design.specs.Cost as sums
+use Rattle.ten_core.specs.vl_design.specs.Syntax.{Flat}
 use Rattle.vl_front.specs.declared.fault.BuildError.{BuildError}
 use Rattle.vl_front.specs.declared.fault.BuildError.TheVariants as build
 use Rattle.vl_front.specs.Sources.{IsFront}
-use Rattle.script_text.specs.declared.script.FabricLine.{FabricLine}
-use Rattle.script_text.specs.declared.script.TenantLine.{TenantLine}
-use Rattle.ten_plan.specs.declared.held.Held.{Held}
-use Rattle.ten_plan.specs.declared.plan.Plan.{Plan}
-use Rattle.ten_plan.specs.Plans as known
-use Rattle.host_form.specs.Origins.{Faulty, Tenant, plan_of, snapshot_kind, for_its_source, for_its_snapshot}
-use Rattle.host_load.specs.declared.loaded.Loaded.{Loaded}
-use Rattle.host_load.specs.Reading.{bytes_in}
+use Rattle.host_files.specs.host_text.specs.declared.script.FabricLine.{FabricLine}
+use Rattle.host_files.specs.host_text.specs.declared.script.TenantLine.{TenantLine}
+use Rattle.elab_laws.specs.ten_plan.specs.declared.held.Held.{Held}
+use Rattle.elab_laws.specs.ten_plan.specs.declared.plan.Plan.{Plan}
+use Rattle.elab_laws.specs.ten_plan.specs.Plans as known
+use Rattle.host_files.specs.host_form.specs.Origins.{Faulty, Tenant, plan_of, snapshot_kind, for_its_source, for_its_snapshot}
+use Rattle.host_files.specs.declared.loaded.Loaded.{Loaded}
+use Rattle.host_files.specs.Reading.{bytes_in}
 use Rattle.host_judge.specs.declared.judge.Decision.TheVariants as decision
 use Rattle.host_judge.specs.declared.judge.Verdict.{Verdict}
 use Rattle.host_judge.specs.declared.starting.Start.TheVariants as start

@@ -1,21 +1,19 @@
 -- What is decided of one design is decided of another of the same rows and the same cost.
 use Rattle.std.proofs.Common.{◌≡◌, ℕ, false, true, List, Option, Ok, Err, refl, sym, ap, ◌∙◌, subst}
-use Rattle.vl_base.specs.declared.files.File.{File}
-use Rattle.vl_base.specs.declared.place.Place.{Place}
-use Rattle.vl_design.specs.Alone.{Origin}
-use Rattle.vl_design.specs.Cost.{Cost, cost}
-use Rattle.vl_design.specs.Snapshots as run
-use Rattle.vl_design.specs.Syntax.{Flat, Row}
-use Rattle.script_text.specs.declared.script.FabricLine.{FabricLine}
-use Rattle.script_text.specs.declared.script.TenantLine.{TenantLine}
-use Rattle.snap_form.specs.declared.snapshot.SnapError.TheVariants as snap
-use Rattle.snap_form.specs.Reading.{read}
-use Rattle.ten_plan.specs.Written as written
-use Rattle.host_form.specs.Origins.{Accepted, fits, has_room, plan_of, Starts, anew, resumed, StartsNot, misspelt, late, IsOrigin, cost_kind, IsRefused, for_its_source, for_its_cost, for_its_snapshot}
+use Rattle.ten_core.specs.vl_base.specs.declared.files.File.{File}
+use Rattle.ten_core.specs.vl_base.specs.declared.place.Place.{Place}
+use Rattle.ten_core.specs.vl_design.specs.Alone.{Origin}
+use Rattle.ten_core.specs.vl_design.specs.Cost.{Cost, cost}
+use Rattle.ten_core.specs.vl_design.specs.Snapshots as run
+use Rattle.ten_core.specs.vl_design.specs.Syntax.{Flat, Row}
+use Rattle.host_files.specs.host_text.specs.declared.script.FabricLine.{FabricLine}
+use Rattle.host_files.specs.host_text.specs.declared.script.TenantLine.{TenantLine}
+use Rattle.ten_core.specs.snap_form.specs.declared.snapshot.SnapError.TheVariants as snap
+use Rattle.ten_core.specs.snap_form.specs.Reading.{read}
+use Rattle.elab_laws.specs.ten_plan.specs.Written as written
+use Rattle.host_files.specs.host_form.specs.Origins.{Accepted, fits, has_room, plan_of, Starts, anew, resumed, StartsNot, misspelt, late, IsOrigin, cost_kind, IsRefused, for_its_source, for_its_cost, for_its_snapshot}
 use Rattle.host_judge.specs.Deciding.{accepted}
-
-accepted-is : {d e : Flat} → Accepted d ≡ Accepted e → d ≡ e
-accepted-is h = cc
+use Rattle.host_files.specs.host_form.proofs.Verdicts.{accepted_is as accepted-is}
 
 module _ (e d : Flat) (rows : e.rows ≡ d.rows) (costs : cost e ≡ cost d) where
   moved-start : {files : List File} {budget : ℕ} {bytes : Option (List ℕ)} {start : Option run.Snapshot} → Starts e files budget bytes start → Starts d files budget bytes start

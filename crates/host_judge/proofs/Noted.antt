@@ -2,24 +2,19 @@
 use Rattle.std.proofs.Common.{◌≡◌, ℕ, zero, suc, ◌+◌, ◌<◌, List, [], ◌∷◌, ◌++◌, length, get_or, take, Option, Some, None, sym, ap, ◌∙◌, subst, subst₂, arith}
 use Rattle.std.specs.List.{AllByRecursion}
 use Rattle.std.proofs.lemmas.List.{take_more, take_all, length_push}
-use Rattle.script_text.specs.declared.script.FabricLine.{FabricLine}
-use Rattle.script_text.specs.declared.script.TenantLine.{TenantLine}
-use Rattle.script_text.specs.declared.script.Script.{Script}
-use Rattle.host_form.specs.Origins.{Tenant, IsRefused}
-use Rattle.host_load.specs.declared.loaded.Loaded.{Loaded}
+use Rattle.host_files.specs.host_text.specs.declared.script.FabricLine.{FabricLine}
+use Rattle.host_files.specs.host_text.specs.declared.script.TenantLine.{TenantLine}
+use Rattle.host_files.specs.host_text.specs.declared.script.Script.{Script}
+use Rattle.host_files.specs.host_form.specs.Origins.{Tenant, IsRefused}
+use Rattle.host_files.specs.declared.loaded.Loaded.{Loaded}
 use Rattle.host_judge.specs.declared.judge.Verdict.{Verdict}
 use Rattle.host_judge.specs.declared.judge.Verdict.TheVariants as verdict
 use Rattle.host_judge.specs.declared.verdict.Judged.{Judged}
 use Rattle.host_judge.specs.declared.verdict.Ready.{Ready}
-use Rattle.host_judge.specs.declared.verdict.Refusal.{Refusal}
+use Rattle.host_files.specs.host_form.specs.declared.refusal.Refusal.{Refusal}
 use Rattle.host_judge.specs.Judged.{IsTenantOf, AreTenants, AreJudged, IsReady}
 use Rattle.host_judge.specs.Deciding.{IsVerdict, IsNoted, AreSoFar}
-
--- what is said of each is said of the one at a place
-pub each-at : {A : Type 0} (P : A → Type 0) (xs : List A) (i : ℕ) (d : A) → i < length xs → AllByRecursion P xs → P (get_or xs i d)
-each-at P [] i d below h = absurd (omega (arith, below))
-each-at P (x ∷ xs) zero d below h = h.0
-each-at P (x ∷ xs) (suc i) d below h = each-at P xs i d (omega (arith, below)) h.1
+pub use Rattle.ten_core.specs.vl_base.proofs.Lists.{all_at as each-at}
 
 -- ---- one more
 

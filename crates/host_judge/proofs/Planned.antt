@@ -2,19 +2,20 @@
 use Rattle.std.proofs.Common.{◌≡◌, ℕ, Bool, true, false, cond, ◌&&◌, ◌||◌, ◌==◌, nat_lt, nat_le, not, List, [], ◌∷◌, map, filter, length, Option, Some, None, refl, sym, ap, ◌∙◌, subst, arith}
 use Rattle.std.specs.List.{AllByRecursion, IsDistinct, list_all}
 use Rattle.std.proofs.lemmas.Bool.{ltb-false, eq-eqb}
-use Rattle.vl_design.specs.Cost.{Cost}
-use Rattle.vl_uses.specs.Calls as uses
-use Rattle.vl_save_names.specs.Names.{IsNamedDue, is_named}
-use Rattle.script_line.specs.Words as words
-use Rattle.script_text.specs.declared.script.FabricLine.{FabricLine}
-use Rattle.script_text.specs.Scripts.{comes_before, is_save}
-use Rattle.script_text.specs.Laws.{AreOrdered, IsSpeltDue, are_doubled, is_same_due}
-use Rattle.ten_plan.specs.declared.plan.Due.{Due}
-use Rattle.ten_plan.specs.declared.plan.Due.TheVariants as due
-use Rattle.ten_plan.specs.declared.plan.Errand.{Errand}
-use Rattle.ten_plan.specs.Plans as known
-use Rattle.ten_plan.specs.Plans.{due_of, errand_of, may_precede, move_at, move_to, or_else}
-use Rattle.host_form.specs.Origins.{is_planned, has_room}
+use Rattle.ten_core.specs.vl_design.specs.Cost.{Cost}
+use Rattle.elab_laws.specs.vl_uses.specs.Calls as uses
+use Rattle.elab_laws.specs.Names.{IsNamedDue, is_named}
+use Rattle.host_files.specs.host_text.specs.Words as words
+use Rattle.host_files.specs.host_text.specs.declared.script.FabricLine.{FabricLine}
+use Rattle.host_files.specs.host_text.specs.Scripts.{comes_before, is_save}
+use Rattle.host_files.specs.host_text.specs.Laws.{AreOrdered, IsSpeltDue, are_doubled, is_same_due}
+use Rattle.elab_laws.specs.ten_plan.specs.declared.plan.Due.{Due}
+use Rattle.elab_laws.specs.ten_plan.specs.declared.plan.Due.TheVariants as due
+use Rattle.elab_laws.specs.ten_plan.specs.declared.plan.Errand.{Errand}
+use Rattle.elab_laws.specs.ten_plan.specs.Plans as known
+use Rattle.elab_laws.specs.ten_plan.specs.Plans.{due_of, errand_of, may_precede, move_at, move_to, or_else}
+use Rattle.host_files.specs.host_form.specs.Origins.{is_planned, has_room}
+use Rattle.ten_core.specs.vl_base.proofs.Booleans.{or_comm as swapped}
 
 -- ---- order
 
@@ -65,12 +66,6 @@ ordered p (e ∷ es) h k = by (p e) (ordered p es h.1 k.1)
     by false rest = rest
 
 -- ---- names
-
-swapped : (a b : Bool) → (a || b) ≡ (b || a)
-swapped true true = refl
-swapped true false = refl
-swapped false true = refl
-swapped false false = refl
 
 same-byte : (b : ℕ) → words.is_save_byte b ≡ uses.is_name_byte b
 same-byte b =

@@ -1,33 +1,33 @@
 -- A tenant whose image runs is ready.
 use Rattle.std.proofs.Common.{◌≡◌, ℕ, ◌≤◌, true, List, length, Option, Some, Ok, refl, sym, subst}
 use Rattle.std.specs.Prelude.{option_map}
-use Rattle.vl_base.specs.declared.files.File.{File}
-use Rattle.vl_base.specs.Files.{IsFileSet}
-use Rattle.vl_source.specs.declared.tree.Source.{Source}
-use Rattle.vl_design.specs.Alone as alone
-use Rattle.vl_design.specs.Alone.{first_tick}
-use Rattle.vl_design.specs.Cost.{Cost, cost}
-use Rattle.vl_design.specs.Placed as p
-use Rattle.vl_design.specs.Plainly as plain
-use Rattle.vl_design.specs.Syntax.{Flat}
-use Rattle.vl_design.specs.Trees.{flat_of}
-use Rattle.vl_flatten.specs.Meeting.{IsElaboration}
+use Rattle.ten_core.specs.vl_base.specs.declared.files.File.{File}
+use Rattle.ten_core.specs.vl_base.specs.Files.{IsFileSet}
+use Rattle.elab_laws.specs.vl_tree.specs.declared.source_tree.Source.{Source}
+use Rattle.ten_core.specs.vl_design.specs.Alone as alone
+use Rattle.ten_core.specs.vl_design.specs.Alone.{first_tick}
+use Rattle.ten_core.specs.vl_design.specs.Cost.{Cost, cost}
+use Rattle.ten_core.specs.vl_design.specs.Placed as p
+use Rattle.ten_core.specs.vl_design.specs.Plainly as plain
+use Rattle.ten_core.specs.vl_design.specs.Syntax.{Flat}
+use Rattle.ten_core.specs.vl_design.specs.Trees.{flat_of}
+use Rattle.elab_laws.specs.vl_sound.specs.Meeting.{IsElaboration}
 use Rattle.vl_front.specs.Sources.{StandsFor}
-use Rattle.vl_save_names.specs.Names.{NamesErrands, NamesSaves}
-use Rattle.script_text.specs.declared.script.FabricLine.{FabricLine}
-use Rattle.script_text.specs.declared.script.TenantLine.{TenantLine}
-use Rattle.script_text.specs.Laws.{IsTenant, IsSpeltTenant}
+use Rattle.elab_laws.specs.Names.{NamesErrands, NamesSaves}
+use Rattle.host_files.specs.host_text.specs.declared.script.FabricLine.{FabricLine}
+use Rattle.host_files.specs.host_text.specs.declared.script.TenantLine.{TenantLine}
+use Rattle.host_files.specs.host_text.specs.Laws.{IsTenant, IsSpeltTenant}
 use Rattle.ten_alone.specs.Alone.{IsRunnable}
 use Rattle.ten_build.specs.Builds.{IsImageOf}
 use Rattle.ten_core.specs.declared.image.Image.{Image}
 use Rattle.ten_core.specs.declared.origin.Origin.{Origin}
-use Rattle.ten_plan.specs.declared.held.Held.{Held}
-use Rattle.ten_plan.specs.declared.plan.Plan.{Plan}
-use Rattle.ten_plan.specs.Held.{snapshot_of}
-use Rattle.ten_plan.specs.Plans.{plan_of, move_at, IsPlan}
-use Rattle.ten_shell.specs.Shells.{CanRunOn}
-use Rattle.host_form.specs.Origins as tenants
-use Rattle.host_form.specs.Origins.{IsOrigin, has_room, is_planned}
+use Rattle.elab_laws.specs.ten_plan.specs.declared.held.Held.{Held}
+use Rattle.elab_laws.specs.ten_plan.specs.declared.plan.Plan.{Plan}
+use Rattle.elab_laws.specs.ten_plan.specs.Held.{snapshot_of}
+use Rattle.elab_laws.specs.ten_plan.specs.Plans.{plan_of, move_at, IsPlan}
+use Rattle.ten_alone.specs.ten_shell.specs.Shells.{CanRunOn}
+use Rattle.host_files.specs.host_form.specs.Origins as tenants
+use Rattle.host_files.specs.host_form.specs.Origins.{IsOrigin, has_room, is_planned}
 use Rattle.host_judge.specs.Judged.{IsReady}
 use Rattle.host_judge.specs.Deciding.{accepted, origin_by, IsDecided}
 use Rattle.host_judge.specs.declared.judge.Decision.TheVariants as decision

@@ -1,16 +1,16 @@
 -- Costs against fabrics, before images are made.
 use Rattle.std.proofs.Common.{◌≡◌, ℕ, false, true, List, slice_get, Option, Some, None, refl, sym, ap, ◌∙◌, subst}
-use Rattle.vl_cost.specs.Costs.{saturated_cost}
-use Rattle.vl_cost.specs.declared.capacity.Cost.{Cost}
-use Rattle.vl_design.specs.Cost as sums
-use Rattle.vl_design.specs.Syntax.{Flat}
-use Rattle.vl_design.specs.Trees.{flat_of}
+use Rattle.ten_core.specs.vl_design.specs.Costs.{saturated_cost}
+use Rattle.ten_core.specs.vl_design.specs.declared.capacity.Cost.{Cost}
+use Rattle.ten_core.specs.vl_design.specs.Cost as sums
+use Rattle.ten_core.specs.vl_design.specs.Syntax.{Flat}
+use Rattle.ten_core.specs.vl_design.specs.Trees.{flat_of}
 use Rattle.vl_front.specs.Sources.{StandsFor}
-use Rattle.script_text.specs.declared.script.FabricLine.{FabricLine}
-use Rattle.script_text.specs.declared.script.TenantLine.{TenantLine}
+use Rattle.host_files.specs.host_text.specs.declared.script.FabricLine.{FabricLine}
+use Rattle.host_files.specs.host_text.specs.declared.script.TenantLine.{TenantLine}
 use Rattle.ten_build.specs.Builds.{IsImageOf}
 use Rattle.ten_core.specs.declared.image.Image.{Image}
-use Rattle.host_form.specs.Origins.{fits, fits_in, has_room, cost_kind, for_its_cost}
+use Rattle.host_files.specs.host_form.specs.Origins.{fits, fits_in, has_room, cost_kind, for_its_cost}
 use Rattle.host_judge.specs.Deciding.{sums_of, elsewhere, HasRoom, IsWeighed, IsWeighedOf}
 
 module _ (fabrics : List FabricLine) (line : TenantLine) (c : Cost) (exact : (s : sums.Cost) → c ≡ saturated_cost s → sums_of c ≡ s) (fabric : FabricLine) (there : slice_get fabrics line.fabric ≡ Some fabric) where

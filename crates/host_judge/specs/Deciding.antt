@@ -1,25 +1,25 @@
 -- What comes of the tenants on the way to their verdicts (own).
 use Rattle.std.specs.Prelude.{◌≡◌, ℕ, true, List, [], ◌∷◌, ◌++◌, Option, Some, None, option_map, length, take}
-use Rattle.vl_base.specs.declared.files.File.{File}
-use Rattle.vl_cost.specs.declared.capacity.Cost.{Cost}
-use Rattle.vl_cost.specs.Costs.{saturated_cost}
-use Rattle.vl_design.specs.Alone as alone
-use Rattle.vl_design.specs.Cost as sums
-use Rattle.vl_design.specs.Cost.{cost}
-use Rattle.vl_design.specs.Syntax.{Flat}
+use Rattle.ten_core.specs.vl_base.specs.declared.files.File.{File}
+use Rattle.ten_core.specs.vl_design.specs.declared.capacity.Cost.{Cost}
+use Rattle.ten_core.specs.vl_design.specs.Costs.{saturated_cost}
+use Rattle.ten_core.specs.vl_design.specs.Alone as alone
+use Rattle.ten_core.specs.vl_design.specs.Cost as sums
+use Rattle.ten_core.specs.vl_design.specs.Cost.{cost}
+use Rattle.ten_core.specs.vl_design.specs.Syntax.{Flat}
 use Rattle.vl_front.specs.declared.fault.BuildError.{BuildError}
 use Rattle.vl_front.specs.declared.fault.BuildError.TheVariants as build
 use Rattle.vl_front.specs.Sources.{StandsFor}
-use Rattle.script_text.specs.declared.script.FabricLine.{FabricLine}
-use Rattle.script_text.specs.declared.script.TenantLine.{TenantLine}
-use Rattle.script_text.specs.declared.script.Script.{Script}
-use Rattle.ten_load.specs.Loads.{StartFits}
-use Rattle.ten_plan.specs.declared.held.Held.{Held}
-use Rattle.ten_plan.specs.declared.plan.Plan.{Plan}
-use Rattle.ten_plan.specs.Held.{snapshot_of}
-use Rattle.ten_plan.specs.Plans.{plan_of}
-use Rattle.host_form.specs.Origins.{Accepted, Tenant, IsOrigin, IsRefused, Starts, StartsNot, has_room, no_place}
-use Rattle.host_load.specs.declared.loaded.Loaded.{Loaded}
+use Rattle.host_files.specs.host_text.specs.declared.script.FabricLine.{FabricLine}
+use Rattle.host_files.specs.host_text.specs.declared.script.TenantLine.{TenantLine}
+use Rattle.host_files.specs.host_text.specs.declared.script.Script.{Script}
+use Rattle.ten_core.specs.Begins.{StartFits}
+use Rattle.elab_laws.specs.ten_plan.specs.declared.held.Held.{Held}
+use Rattle.elab_laws.specs.ten_plan.specs.declared.plan.Plan.{Plan}
+use Rattle.elab_laws.specs.ten_plan.specs.Held.{snapshot_of}
+use Rattle.elab_laws.specs.ten_plan.specs.Plans.{plan_of}
+use Rattle.host_files.specs.host_form.specs.Origins.{Accepted, Tenant, IsOrigin, IsRefused, Starts, StartsNot, has_room, no_place}
+use Rattle.host_files.specs.declared.loaded.Loaded.{Loaded}
 use Rattle.host_judge.specs.declared.judge.Decision.{Decision}
 use Rattle.host_judge.specs.declared.judge.Decision.TheVariants as decision
 use Rattle.host_judge.specs.declared.judge.Verdict.{Verdict}
@@ -28,7 +28,7 @@ use Rattle.host_judge.specs.declared.starting.Start.{Start}
 use Rattle.host_judge.specs.declared.starting.Start.TheVariants as start
 use Rattle.host_judge.specs.declared.verdict.Judged.{Judged}
 use Rattle.host_judge.specs.declared.verdict.Ready.{Ready}
-use Rattle.host_judge.specs.declared.verdict.Refusal.{Refusal}
+use Rattle.host_files.specs.host_form.specs.declared.refusal.Refusal.{Refusal}
 use Rattle.host_judge.specs.Judged.{kind_words, IsReady, AreTenants, AreJudged}
 
 -- the numbers of a cost as sums

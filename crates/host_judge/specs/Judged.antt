@@ -2,24 +2,24 @@
 use Rattle.std.specs.Prelude.{◌≡◌, ℕ, true, List, [], ◌∷◌, ◌++◌, codes, Option, Some, None, ⊤}
 use Rattle.std.specs.Fmt.{decimal}
 use Rattle.std.specs.List.{AllByRecursion}
-use Rattle.vl_design.specs.Alone as alone
-use Rattle.vl_design.specs.Cost.{cost}
+use Rattle.ten_core.specs.vl_design.specs.Alone as alone
+use Rattle.ten_core.specs.vl_design.specs.Cost.{cost}
 use Rattle.vl_front.specs.declared.fault.Kind.{Kind}
 use Rattle.vl_front.specs.declared.fault.Kind.TheVariants as k
 use Rattle.vl_front.specs.Sources.{StandsFor, IsRefusal}
-use Rattle.vl_save_names.specs.Names.{NamesErrands, NamesSaves}
-use Rattle.script_text.specs.declared.script.FabricLine.{FabricLine}
-use Rattle.script_text.specs.declared.script.TenantLine.{TenantLine}
+use Rattle.elab_laws.specs.Names.{NamesErrands, NamesSaves}
+use Rattle.host_files.specs.host_text.specs.declared.script.FabricLine.{FabricLine}
+use Rattle.host_files.specs.host_text.specs.declared.script.TenantLine.{TenantLine}
 use Rattle.ten_core.specs.Tenants.{origin_of}
-use Rattle.ten_plan.specs.Plans.{move_at, IsPlan}
-use Rattle.ten_plan.specs.Written.{HasRows}
-use Rattle.ten_shell.specs.Shells.{CanRunOn}
-use Rattle.host_form.specs.Origins.{Source, Accepted, Faulty, Tenant, has_room, IsOrigin, IsRefused}
-use Rattle.host_form.specs.Runs.{RunsAs}
-use Rattle.host_load.specs.declared.loaded.Loaded.{Loaded}
-use Rattle.host_load.specs.Reading.{bytes_in}
+use Rattle.elab_laws.specs.ten_plan.specs.Plans.{move_at, IsPlan}
+use Rattle.elab_laws.specs.ten_plan.specs.Written.{HasRows}
+use Rattle.ten_alone.specs.ten_shell.specs.Shells.{CanRunOn}
+use Rattle.host_files.specs.host_form.specs.Origins.{Source, Accepted, Faulty, Tenant, has_room, IsOrigin, IsRefused}
+use Rattle.host_files.specs.host_form.specs.Runs.{RunsAs}
+use Rattle.host_files.specs.declared.loaded.Loaded.{Loaded}
+use Rattle.host_files.specs.Reading.{bytes_in}
 use Rattle.host_judge.specs.declared.verdict.Ready.{Ready}
-use Rattle.host_judge.specs.declared.verdict.Refusal.{Refusal}
+use Rattle.host_files.specs.host_form.specs.declared.refusal.Refusal.{Refusal}
 
 -- the kind of a refusal
 abbrev pub kind_words : Kind → List ℕ

@@ -1,18 +1,18 @@
 //! Tenants judged.
 
 ghost use Rattle.std.specs.Prelude.{◌≡◌, ℕ, ◌<◌, List, [], ◌∷◌, ◌++◌, None, length, option_map, IfOk, OnOk};
-ghost use Rattle.vl_base.specs.Files.{IsFileSet};
-ghost use Rattle.vl_cost.specs.Costs.{saturated_cost};
-ghost use Rattle.vl_design.specs.Cost as sums;
-ghost use Rattle.vl_design.specs.Syntax.{Flat};
-ghost use Rattle.vl_design.specs.Trees.{flat_of};
+ghost use Rattle.ten_core.specs.vl_base.specs.Files.{IsFileSet};
+ghost use Rattle.ten_core.specs.vl_design.specs.Costs.{saturated_cost};
+ghost use Rattle.ten_core.specs.vl_design.specs.Cost as sums;
+ghost use Rattle.ten_core.specs.vl_design.specs.Syntax.{Flat};
+ghost use Rattle.ten_core.specs.vl_design.specs.Trees.{flat_of};
 ghost use Rattle.vl_front.specs.Sources.{IsAcceptedOf};
-ghost use Rattle.script_text.specs.Laws.{IsSpelt, IsSpeltTenant, IsTenant as IsTenantAt, IsWithinLimits};
+ghost use Rattle.host_files.specs.host_text.specs.Laws.{IsSpelt, IsSpeltTenant, IsTenant as IsTenantAt, IsWithinLimits};
 ghost use Rattle.ten_build.specs.Builds.{IsImageOf};
-ghost use Rattle.host_load.specs.declared.loaded.Loaded.{Loaded as Read};
-ghost use Rattle.ten_hold.specs.Holding.{CanBeHeld};
-ghost use Rattle.host_form.specs.Origins.{Tenant};
-ghost use Rattle.host_load.specs.Reading.{bytes_in};
+ghost use Rattle.host_files.specs.declared.loaded.Loaded.{Loaded as Read};
+ghost use Rattle.ten_core.specs.Holding.{CanBeHeld};
+ghost use Rattle.host_files.specs.host_form.specs.Origins.{Tenant};
+ghost use Rattle.host_files.specs.Reading.{bytes_in};
 ghost use Rattle.host_judge.specs.Judged.{IsTenantOf, AreTenants, AreJudged};
 ghost use Rattle.host_judge.specs.Deciding as d;
 
@@ -20,25 +20,24 @@ use crate::kinds::{cost_text, snapshot_text, source_text};
 use crate::planning::plan_for;
 use crate::room::{fits_in, is_exact};
 use crate::starting::{Start, start_of};
-use crate::verdict::{Judged, Ready, Refusal};
-use cell_accept::accept::Accepted;
-use host_load::loaded::Loaded;
-use script_text::script::{FabricLine, Script, TenantLine};
+use crate::verdict::{Judged, Ready};
+use elab_laws::Accepted;
+use elab_laws::held::Held;
+use elab_laws::plan::Plan;
+use elab_laws::save_names_laws::an_elaborated_design_names_its_snapshots;
+use host_files::loaded::Loaded;
+use host_files::refusal::Refusal;
+use host_files::script::{FabricLine, Script, TenantLine};
 use std::alloc::{AllocError, Global};
 use ten_alone::laws::a_tenants_image_can_be_run;
 use ten_build::build::{cost_of, make};
+use ten_core::files::FileSet;
 use ten_core::image::Image;
 use ten_core::origin::Origin;
-use ten_plan::held::Held;
-use ten_plan::plan::Plan;
-use vl_base::files::FileSet;
-use vl_base::items::Text;
-use vl_base::place::Place;
-use vl_cost::capacity::Cost;
+use ten_core::{Cost, Place, Text};
 use vl_front::fault::BuildError;
 use vl_front::front::front;
 use vl_front::laws::a_text_is_a_design_or_refused;
-use vl_save_names::laws::an_elaborated_design_names_its_snapshots;
 
 /// What comes of an image whose cost fits its fabric.
 #[derive(Drop)]

@@ -2,15 +2,14 @@
 
 ghost use Rattle.std.specs.Prelude.{◌≡◌, ◌++◌, IfOk, OnOk, codes};
 ghost use Rattle.std.specs.Fmt.{decimal};
-ghost use Rattle.report_text.specs.Report as report;
-ghost use Rattle.host_form.specs.Origins as tenants;
+ghost use Rattle.host_files.specs.host_text.specs.Report as report;
+ghost use Rattle.host_files.specs.host_form.specs.Origins as tenants;
 ghost use Rattle.host_judge.specs.Judged.{kind_words};
 ghost use Rattle.host_judge.specs.Deciding.{sums_of};
 
-use script_line::statement::Capacity;
+use host_files::statement::Capacity;
 use std::alloc::{AllocError, Global};
-use vl_base::items::{Items, Text};
-use vl_cost::capacity::Cost;
+use ten_core::{Cost, Items, Text};
 use vl_front::fault::Kind;
 
 /// Adds a word and a number in decimal behind it.

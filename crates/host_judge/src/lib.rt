@@ -1,4 +1,8 @@
 //! Which tenants of a script run, from what, and why others are refused.
+//!
+//! Proved: `judge_all` says of each tenant of a script, by what was read of it, what its run starts from, or why it is refused: its
+//! source's first fault, else its cost, else its snapshot's (`judge_all`); laws: tenants that were read are what a report reads, and those
+//! that run are some of them (`laws.rt`).
 #![tactic(auto)]
 
 pub mod judge;
@@ -8,3 +12,6 @@ mod planning;
 pub mod room;
 mod starting;
 pub mod verdict;
+
+pub use host_files::{block, refusal, script};
+pub use ten_core::origin;

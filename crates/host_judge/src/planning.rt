@@ -1,17 +1,16 @@
 //! Plans of tenants.
 
 ghost use Rattle.std.specs.Prelude.{◌≡◌, ◌++◌, [], ◌∷◌, IfOk, OnOk, if◌then◌else◌};
-ghost use Rattle.ten_plan.specs.Plans as known;
-ghost use Rattle.host_form.specs.Origins as tenants;
+ghost use Rattle.elab_laws.specs.ten_plan.specs.Plans as known;
+ghost use Rattle.host_files.specs.host_form.specs.Origins as tenants;
 ghost use Rattle.host_judge.specs.Deciding.{sums_of};
 
 use crate::room::has_room;
-use script_text::script::{FabricLine, TenantLine};
+use elab_laws::plan::{Due, Errand, Plan};
+use host_files::script::{FabricLine, TenantLine};
 use std::alloc::{AllocError, Global};
-use ten_plan::plan::{Due, Errand, Plan};
-use vl_base::items::Items;
-use vl_cost::capacity::Cost;
-use vl_files::name::copy_text;
+use ten_core::{Cost, Items};
+use ten_files::name::copy_text;
 
 /// What is to be done, but not a move to a fabric that is too small.
 fn planned(

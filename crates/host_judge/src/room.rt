@@ -1,13 +1,13 @@
 //! What fits the fabrics of a script.
 
 ghost use Rattle.std.specs.Prelude.{◌≡◌, true};
-ghost use Rattle.vl_cost.specs.Costs.{saturated_cost};
-ghost use Rattle.vl_design.specs.Cost.{Cost as Sums};
-ghost use Rattle.host_form.specs.Origins as tenants;
+ghost use Rattle.ten_core.specs.vl_design.specs.Costs.{saturated_cost};
+ghost use Rattle.ten_core.specs.vl_design.specs.Cost.{Cost as Sums};
+ghost use Rattle.host_files.specs.host_form.specs.Origins as tenants;
 ghost use Rattle.host_judge.specs.Deciding.{sums_of};
 
-use script_text::script::FabricLine;
-use vl_cost::capacity::Cost;
+use host_files::script::FabricLine;
+use ten_core::Cost;
 
 /// Whether the numbers of a cost are those of its sums: 2 ^ 64 - 1 may stand for a greater one.
 pub fn is_exact(cost: Cost) -> bool

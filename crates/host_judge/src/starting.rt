@@ -1,16 +1,16 @@
 //! What tenants begin with: nothing, or a snapshot.
 
 ghost use Rattle.std.specs.Prelude.{◌≡◌, ◌≤◌, IfOk, option_map};
-ghost use Rattle.vl_design.specs.Trees.{flat_of};
-ghost use Rattle.ten_hold.specs.Holding.{CanBeHeld};
+ghost use Rattle.ten_core.specs.vl_design.specs.Trees.{flat_of};
+ghost use Rattle.ten_core.specs.Holding.{CanBeHeld};
 ghost use Rattle.host_judge.specs.Deciding.{IsStarted};
 
-use snap_form::snapshot::SnapError;
+use elab_laws::held::Held;
 use std::alloc::{AllocError, Global};
-use ten_hold::read::read;
-use ten_plan::held::Held;
-use vl_base::files::FileSet;
-use vl_design::design::Design;
+use ten_core::design::Design;
+use ten_core::files::FileSet;
+use ten_core::read::read;
+use ten_core::snapshot::SnapError;
 
 /// What a run begins with, or the fault of its snapshot.
 #[derive(Drop)]

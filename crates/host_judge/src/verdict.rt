@@ -1,8 +1,7 @@
 //! What tenants are judged to be.
 
+use host_files::refusal::Refusal;
 use ten_core::origin::Origin;
-use vl_base::items::Text;
-use vl_base::place::Place;
 
 /// A tenant that is to run: the number of the fabric where it begins, and what it starts from.
 #[derive(Drop)]
@@ -11,15 +10,6 @@ pub struct Ready {
     pub fabric: u32,
     /// What it starts from.
     pub origin: Origin,
-}
-
-/// Why a tenant is refused.
-#[derive(Drop)]
-pub struct Refusal {
-    /// The place in its source; 0 0 where its cost or its snapshot is refused.
-    pub place: Place,
-    /// The kind, in words.
-    pub kind: Text,
 }
 
 /// What the tenants of a script are judged to be.

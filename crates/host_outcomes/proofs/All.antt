@@ -2,37 +2,37 @@
 use Rattle.std.proofs.Common.{◌≡◌, ℕ, suc, ◌+◌, ◌<◌, Bool, true, false, List, [], ◌∷◌, length, drop, filter, get_or, map, refl, sym, ap, ◌∙◌, subst, arith, Option, Some, None}
 use Rattle.std.specs.List.{sum_by}
 use Rattle.std.proofs.lemmas.Bool.{false≢true}
-use Rattle.vl_design.specs.Alone as alone
-use Rattle.vl_design.specs.Alone.{first_tick, Keeps}
-use Rattle.vl_design.specs.Observed.{observed, Observed}
-use Rattle.vl_design.specs.Queue.{Queue}
-use Rattle.ten_core.specs.declared.origin.Origin.{Origin}
-use Rattle.ten_core.specs.Tenants.{origin_of}
-use Rattle.ten_parcel.specs.Parcels.{free_of, run_of, ticks_of}
-use Rattle.script_text.specs.declared.script.Script.{Script}
-use Rattle.report_text.specs.declared.block.Block.{Block}
-use Rattle.fab_notes.specs.declared.transit.Transit.{Transit}
-use Rattle.fab_bay.specs.declared.noted.Label.{Label}
-use Rattle.fab_rounds.specs.declared.outcomes.Order.{Order}
-use Rattle.fab_rounds.specs.declared.outcomes.Outcome.{Outcome as Ended}
-use Rattle.fab_rounds.specs.declared.outcomes.Start.{Start}
-use Rattle.fab_rounds.specs.Orders as run
-use Rattle.fab_rounds.specs.Outcomes.{HasStopped, IsEnded}
-use Rattle.fab_rounds.specs.Outcomes as rounds
-use Rattle.fab_rounds.specs.Starts.{AreLabels, AreStarts}
-use Rattle.host_form.specs.Origins.{IsRefused, Tenant}
-use Rattle.host_form.specs.Histories.{history_of, is_line, lines_of, notes_of, AreVisits, Histories}
-use Rattle.host_form.specs.Orders.{saves_of, stop_of, Answered}
-use Rattle.host_form.specs.Runs.{AreLines, IsRun, Outcome, Ran, Refused, Run, RunsAs}
-use Rattle.host_form.specs.Runs as runs
-use Rattle.host_form.specs.Reports.{block_of, blocks_of, AreOutcomes}
-use Rattle.host_form.specs.Saves.{IsReordered}
+use Rattle.ten_files.specs.vl_design.specs.Alone as alone
+use Rattle.ten_files.specs.vl_design.specs.Alone.{first_tick, Keeps}
+use Rattle.ten_files.specs.vl_design.specs.Observed.{observed, Observed}
+use Rattle.ten_files.specs.vl_design.specs.Queue.{Queue}
+use Rattle.host_judge.specs.ten_core.specs.declared.origin.Origin.{Origin}
+use Rattle.host_judge.specs.ten_core.specs.Tenants.{origin_of}
+use Rattle.fab_orders.specs.ten_parcel.specs.Parcels.{free_of, run_of, ticks_of}
+use Rattle.host_judge.specs.host_text.specs.declared.script.Script.{Script}
+use Rattle.host_judge.specs.host_text.specs.declared.block.Block.{Block}
+use Rattle.host_report.specs.fab_model.specs.declared.transit.Transit.{Transit}
+use Rattle.fab_orders.specs.fab_bay.specs.declared.noted.Label.{Label}
+use Rattle.fab_orders.specs.declared.outcomes.Order.{Order}
+use Rattle.fab_orders.specs.declared.outcomes.Outcome.{Outcome as Ended}
+use Rattle.fab_orders.specs.declared.outcomes.Start.{Start}
+use Rattle.fab_orders.specs.Orders as run
+use Rattle.fab_orders.specs.Outcomes.{HasStopped, IsEnded}
+use Rattle.fab_orders.specs.Outcomes as rounds
+use Rattle.fab_orders.specs.Starts.{AreLabels, AreStarts}
+use Rattle.host_judge.specs.host_form.specs.Origins.{IsRefused, Tenant}
+use Rattle.host_judge.specs.host_form.specs.Histories.{history_of, is_line, lines_of, notes_of, AreVisits, Histories}
+use Rattle.host_judge.specs.host_form.specs.Orders.{saves_of, stop_of, Answered}
+use Rattle.host_judge.specs.host_form.specs.Runs.{AreLines, IsRun, Outcome, Ran, Refused, Run, RunsAs}
+use Rattle.host_judge.specs.host_form.specs.Runs as runs
+use Rattle.host_judge.specs.host_form.specs.Reports.{block_of, blocks_of, AreOutcomes}
+use Rattle.host_judge.specs.host_form.specs.Saves.{IsReordered}
 use Rattle.host_judge.specs.declared.verdict.Ready.{Ready}
-use Rattle.host_judge.specs.declared.verdict.Refusal.{Refusal}
+use Rattle.host_judge.specs.host_form.specs.declared.refusal.Refusal.{Refusal}
 use Rattle.host_judge.specs.Judged.{AreJudged, IsReady}
 use Rattle.host_outcomes.specs.Begun.{AreBegun, IsBegun}
 use Rattle.host_outcomes.specs.Ends.{is_refusal, AreSaid, AreTold, DidAs, EndsAs, IsSaidOf, IsTold, Tells}
-use Rattle.host_blocks.specs.Ends.{is_refused, AreEnds, EndsSo, HasRun}
+use Rattle.host_report.specs.Ends.{is_refused, AreEnds, EndsSo, HasRun}
 use Rattle.host_outcomes.specs.Reported.{histories_for, histories_of, number_in, numbers_from, renumbered}
 use Rattle.host_outcomes.proofs.Carried.{history_for, noted_carried, same_notes, visits_carried}
 use Rattle.host_outcomes.proofs.Noted.{noted_so}

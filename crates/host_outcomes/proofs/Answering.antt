@@ -6,45 +6,45 @@ use Rattle.std.proofs.lemmas.Bool.{eq-eqb}
 use Rattle.std.proofs.lemmas.List.{append_assoc, get_or-map}
 use Rattle.std.proofs.lemmas.List.Elements.{All-head, All-tail, recursion_from_All}
 use Rattle.std.proofs.lemmas.Option.{get_or_from_slice_get, slice_get_within}
-use Rattle.vl_design.specs.declared.design.End.TheVariants.{Stopped}
-use Rattle.vl_design.specs.Alone.{first_tick}
-use Rattle.vl_design.specs.Cost.{cost, Cost}
-use Rattle.script_text.specs.declared.script.FabricLine.{FabricLine}
-use Rattle.script_text.specs.declared.script.Free.{Free}
-use Rattle.script_text.specs.declared.script.Free.TheVariants as free
-use Rattle.script_text.specs.declared.script.Script.{Script}
-use Rattle.script_text.specs.Laws.{IsFree, IsWithinLimits}
-use Rattle.ten_core.specs.declared.origin.Origin as core
-use Rattle.ten_core.specs.Tenants.{origin_of}
-use Rattle.ten_parcel.specs.Parcels.{origin_in, run_of, ticks_of}
-use Rattle.fab_notes.specs.declared.transit.Transit.{Transit}
-use Rattle.fab_notes.specs.Tokens.{token_of, Token}
-use Rattle.fab_bay.specs.declared.noted.Label.{Label}
-use Rattle.fab_bay.specs.declared.noted.NotedCore.{NotedCore}
-use Rattle.fab_rounds.specs.declared.outcomes.Answer.{Answer}
-use Rattle.fab_rounds.specs.declared.outcomes.Finding.{Finding}
-use Rattle.fab_rounds.specs.declared.outcomes.Order.{Order}
-use Rattle.fab_rounds.specs.declared.outcomes.Outcome as rounds
-use Rattle.fab_rounds.specs.declared.outcomes.Reached.{Reached}
-use Rattle.fab_rounds.specs.declared.outcomes.Reached.TheVariants as reached
-use Rattle.fab_rounds.specs.declared.outcomes.Start.{Start}
-use Rattle.fab_rounds.specs.declared.outcomes.Wanted.{Wanted}
-use Rattle.fab_rounds.specs.Orders as run
-use Rattle.fab_rounds.specs.Orders.{found_by, found_for, moved_at, reached_in, ticks_told, AreAbove, IsAbove}
-use Rattle.fab_rounds.specs.Outcomes.{line_of, IsFoundAt, IsOutcome, IsTrue, IsUnended}
-use Rattle.fab_rounds.specs.Totals.{total}
-use Rattle.host_form.specs.Origins.{has_room, Tenant}
-use Rattle.host_form.specs.Histories.{history_of, lefts_at, lines_at, Histories, IsPlaced, Leaves}
-use Rattle.host_form.specs.Histories as form
-use Rattle.host_form.specs.Orders.{stop_of, tenant_of, Answered}
-use Rattle.host_form.specs.Orders as told
-use Rattle.host_form.specs.Replies.{AreAnswered, MayAnswer, MayMove, MayReply, MaySave, MayStop, MayWatch}
-use Rattle.host_form.specs.Reports.{AreOutcomes}
-use Rattle.host_form.specs.Runs.{Outcome, Ran, Run}
-use Rattle.report_text.specs.declared.block.Reply.TheVariants as reply_is
+use Rattle.ten_files.specs.vl_design.specs.declared.design.End.TheVariants.{Stopped}
+use Rattle.ten_files.specs.vl_design.specs.Alone.{first_tick}
+use Rattle.ten_files.specs.vl_design.specs.Cost.{cost, Cost}
+use Rattle.host_judge.specs.host_text.specs.declared.script.FabricLine.{FabricLine}
+use Rattle.host_judge.specs.host_text.specs.declared.script.Free.{Free}
+use Rattle.host_judge.specs.host_text.specs.declared.script.Free.TheVariants as free
+use Rattle.host_judge.specs.host_text.specs.declared.script.Script.{Script}
+use Rattle.host_judge.specs.host_text.specs.Laws.{IsFree, IsWithinLimits}
+use Rattle.host_judge.specs.ten_core.specs.declared.origin.Origin as core
+use Rattle.host_judge.specs.ten_core.specs.Tenants.{origin_of}
+use Rattle.fab_orders.specs.ten_parcel.specs.Parcels.{origin_in, run_of, ticks_of}
+use Rattle.host_report.specs.fab_model.specs.declared.transit.Transit.{Transit}
+use Rattle.host_report.specs.fab_model.specs.Tokens.{token_of, Token}
+use Rattle.fab_orders.specs.fab_bay.specs.declared.noted.Label.{Label}
+use Rattle.fab_orders.specs.fab_bay.specs.declared.noted.NotedCore.{NotedCore}
+use Rattle.fab_orders.specs.declared.outcomes.Answer.{Answer}
+use Rattle.fab_orders.specs.declared.outcomes.Finding.{Finding}
+use Rattle.fab_orders.specs.declared.outcomes.Order.{Order}
+use Rattle.fab_orders.specs.declared.outcomes.Outcome as rounds
+use Rattle.fab_orders.specs.declared.outcomes.Reached.{Reached}
+use Rattle.fab_orders.specs.declared.outcomes.Reached.TheVariants as reached
+use Rattle.fab_orders.specs.declared.outcomes.Start.{Start}
+use Rattle.fab_orders.specs.declared.outcomes.Wanted.{Wanted}
+use Rattle.fab_orders.specs.Orders as run
+use Rattle.fab_orders.specs.Orders.{found_by, found_for, moved_at, reached_in, ticks_told, AreAbove, IsAbove}
+use Rattle.fab_orders.specs.Outcomes.{line_of, IsFoundAt, IsOutcome, IsTrue, IsUnended}
+use Rattle.fab_orders.specs.Totals.{total}
+use Rattle.host_judge.specs.host_form.specs.Origins.{has_room, Tenant}
+use Rattle.host_judge.specs.host_form.specs.Histories.{history_of, lefts_at, lines_at, Histories, IsPlaced, Leaves}
+use Rattle.host_judge.specs.host_form.specs.Histories as form
+use Rattle.host_judge.specs.host_form.specs.Orders.{stop_of, tenant_of, Answered}
+use Rattle.host_judge.specs.host_form.specs.Orders as told
+use Rattle.host_judge.specs.host_form.specs.Replies.{AreAnswered, MayAnswer, MayMove, MayReply, MaySave, MayStop, MayWatch}
+use Rattle.host_judge.specs.host_form.specs.Reports.{AreOutcomes}
+use Rattle.host_judge.specs.host_form.specs.Runs.{Outcome, Ran, Run}
+use Rattle.host_judge.specs.host_text.specs.declared.block.Reply.TheVariants as reply_is
 use Rattle.host_judge.specs.declared.verdict.Ready.{Ready}
-use Rattle.host_judge.specs.declared.verdict.Refusal.{Refusal}
-use Rattle.host_blocks.specs.Ends.{is_refused}
+use Rattle.host_judge.specs.host_form.specs.declared.refusal.Refusal.{Refusal}
+use Rattle.host_report.specs.Ends.{is_refused}
 use Rattle.host_outcomes.specs.Begun.{AreBegun}
 use Rattle.host_outcomes.specs.Ends.{AreTold}
 use Rattle.host_outcomes.specs.Reported.{number_in, numbers_from}

@@ -2,25 +2,25 @@
 use Rattle.std.proofs.Common.{◌≡◌, ℕ, ◌+◌, ◌<◌, ◌≤◌, ◌⊎◌, inl, inr, eqb, Bool, true, false, List, [], ◌∷◌, length, get_or, map, cond, refl, sym, ap, ◌∙◌, subst, arith, eq-eqb}
 use Rattle.std.proofs.lemmas.Bool.{cases_lt}
 use Rattle.std.proofs.lemmas.List.{get_or-map, length-map}
-use Rattle.fab_notes.specs.declared.transit.Transit.{Transit}
-use Rattle.fab_notes.specs.Histories.{stays_of, Away, of_tenant, IsLegal}
-use Rattle.fab_notes.specs.Tokens.{outs, puts}
-use Rattle.fab_bay.specs.declared.noted.Label.{Label}
-use Rattle.fab_bay.specs.declared.noted.NotedCore.{NotedCore}
-use Rattle.fab_rounds.specs.declared.outcomes.Order.{Order}
-use Rattle.fab_rounds.specs.declared.outcomes.Outcome.{Outcome}
-use Rattle.fab_rounds.specs.declared.outcomes.Start.{Start}
-use Rattle.fab_rounds.specs.Outcomes as rounds
-use Rattle.fab_rounds.specs.Orders.{back_at, moved_at}
-use Rattle.fab_rounds.specs.Outcomes.{lefts_there, line_of, lines_there, stays_there, IsClosed, IsOutcome}
-use Rattle.fab_rounds.specs.Starts.{AreLabels}
-use Rattle.fab_rounds.specs.Totals.{total}
-use Rattle.fab_rounds.proofs.Totals.{total_at, total_each}
-use Rattle.host_form.specs.Histories.{history_of, lefts_at, lines_at, notes_of, times, visits_in, visits_on, Histories, Visit}
-use Rattle.host_form.specs.Histories as report
-use Rattle.host_notes.specs.Told.{told, visit_of}
-use Rattle.host_notes.proofs.Lines.{lines_read}
-use Rattle.host_notes.proofs.Visits.{visits_read}
+use Rattle.host_report.specs.fab_model.specs.declared.transit.Transit.{Transit}
+use Rattle.host_report.specs.fab_model.specs.Histories.{stays_of, Away, of_tenant, IsLegal}
+use Rattle.host_report.specs.fab_model.specs.Tokens.{outs, puts}
+use Rattle.fab_orders.specs.fab_bay.specs.declared.noted.Label.{Label}
+use Rattle.fab_orders.specs.fab_bay.specs.declared.noted.NotedCore.{NotedCore}
+use Rattle.fab_orders.specs.declared.outcomes.Order.{Order}
+use Rattle.fab_orders.specs.declared.outcomes.Outcome.{Outcome}
+use Rattle.fab_orders.specs.declared.outcomes.Start.{Start}
+use Rattle.fab_orders.specs.Outcomes as rounds
+use Rattle.fab_orders.specs.Orders.{back_at, moved_at}
+use Rattle.fab_orders.specs.Outcomes.{lefts_there, line_of, lines_there, stays_there, IsClosed, IsOutcome}
+use Rattle.fab_orders.specs.Starts.{AreLabels}
+use Rattle.fab_orders.specs.Totals.{total}
+use Rattle.fab_orders.proofs.Totals.{total_at, total_each}
+use Rattle.host_judge.specs.host_form.specs.Histories.{history_of, lefts_at, lines_at, notes_of, times, visits_in, visits_on, Histories, Visit}
+use Rattle.host_judge.specs.host_form.specs.Histories as report
+use Rattle.host_report.specs.Told.{told, visit_of}
+use Rattle.host_report.proofs.LinesOfNotes.{lines_read}
+use Rattle.host_report.proofs.Visits.{visits_read}
 use Rattle.host_outcomes.specs.Reported.{histories_of}
 use Rattle.host_outcomes.proofs.Lefts.{lefts_read}
 use Rattle.host_outcomes.proofs.Sums.{counts, differ, differs, lines_here, lines_other, past, same_total, times_total, total_beyond, weigh_from, weight}
@@ -28,9 +28,6 @@ use Rattle.host_outcomes.proofs.Sums.{counts, differ, differs, lines_here, lines
 pub some_bay : (bs : List NotedCore) (g : ℕ) → g < length bs → NotedCore
 some_bay [] g l = absurd (omega (arith, l))
 some_bay (b ∷ bs) g l = b
-
-notes_in : NotedCore → List report.Note
-notes_in b = told b.notes.items
 
 module _ (labels : List Label) (starts : List Start) (orders : List Order) (out : Outcome) (a : AreLabels starts labels) (h : IsOutcome labels starts orders out) where
   abbrev bays : List NotedCore

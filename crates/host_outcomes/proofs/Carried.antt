@@ -3,11 +3,11 @@ use Rattle.std.proofs.Common.{◌≡◌, ℕ, zero, suc, ◌<◌, Bool, true, fa
 use Rattle.std.specs.Prelude.{◌==◌, ◌&&◌, if◌then◌else◌}
 use Rattle.std.specs.List.{AllByRecursion}
 use Rattle.std.proofs.lemmas.List.{length-map}
-use Rattle.vl_design.specs.Alone.{Origin}
-use Rattle.fab_bay.specs.declared.noted.NotedCore.{NotedCore}
-use Rattle.host_form.specs.Histories.{history_of, is_came, is_left, is_line, lefts_at, lines_at, lines_of, next_left, notes_of, times, visit_to, visits_in, visits_on, AreVisits, Histories, Note, Visit}
-use Rattle.host_form.specs.Orders.{Put}
-use Rattle.host_form.specs.Runs.{RunsAsNoted}
+use Rattle.ten_files.specs.vl_design.specs.Alone.{Origin}
+use Rattle.fab_orders.specs.fab_bay.specs.declared.noted.NotedCore.{NotedCore}
+use Rattle.host_judge.specs.host_form.specs.Histories.{history_of, is_came, is_left, is_line, lefts_at, lines_at, lines_of, next_left, notes_of, times, visit_to, visits_in, visits_on, AreVisits, Histories, Note, Visit}
+use Rattle.host_judge.specs.host_form.specs.Orders.{Put}
+use Rattle.host_judge.specs.host_form.specs.Runs.{RunsAsNoted}
 use Rattle.host_outcomes.specs.Reported.{histories_for, histories_of, number_in, numbers_from, renumbered}
 use Rattle.host_outcomes.proofs.Numbers.{notes_renumbered}
 

@@ -2,31 +2,27 @@
 use Rattle.std.proofs.Common.{◌≡◌, ℕ, ◌+◌, Bool, true, false, cond, ◌==◌, ◌&&◌, if◌then◌else◌, List, [], ◌∷◌, ◌++◌, length, filter, map, get_or, Option, Some, None, refl, subst, ap, ◌∙◌}
 use Rattle.std.proofs.lemmas.List.{length-append}
 use Rattle.std.proofs.lemmas.List.Elements.{filter-append}
-use Rattle.vl_design.specs.Cost.{Cost}
-use Rattle.vl_design.specs.Alone.{FreeSave}
-use Rattle.script_text.specs.declared.script.FabricLine.{FabricLine}
-use Rattle.script_text.specs.declared.script.Free.{Free}
-use Rattle.script_text.specs.declared.script.Free.TheVariants as free
-use Rattle.report_text.specs.declared.block.Reply.{Reply}
-use Rattle.report_text.specs.declared.block.Reply.TheVariants as reply_is
-use Rattle.fab_rounds.specs.declared.outcomes.Answer.{Answer}
-use Rattle.fab_rounds.specs.declared.outcomes.Order.{Order}
-use Rattle.fab_rounds.specs.declared.outcomes.Reached.{Reached}
-use Rattle.fab_rounds.specs.declared.outcomes.Reached.TheVariants as reached
-use Rattle.fab_rounds.specs.Orders as run
-use Rattle.host_form.specs.Orders as form
-use Rattle.host_form.specs.Orders.{moves_in, moves_of, puts_at, saves_in, saves_of, stop_in, stop_of, tenant_of, Answered, Put}
+use Rattle.ten_files.specs.vl_design.specs.Cost.{Cost}
+use Rattle.ten_files.specs.vl_design.specs.Alone.{FreeSave}
+use Rattle.host_judge.specs.host_text.specs.declared.script.FabricLine.{FabricLine}
+use Rattle.host_judge.specs.host_text.specs.declared.script.Free.{Free}
+use Rattle.host_judge.specs.host_text.specs.declared.script.Free.TheVariants as free
+use Rattle.host_judge.specs.host_text.specs.declared.block.Reply.{Reply}
+use Rattle.host_judge.specs.host_text.specs.declared.block.Reply.TheVariants as reply_is
+use Rattle.fab_orders.specs.declared.outcomes.Answer.{Answer}
+use Rattle.fab_orders.specs.declared.outcomes.Order.{Order}
+use Rattle.fab_orders.specs.declared.outcomes.Reached.{Reached}
+use Rattle.fab_orders.specs.declared.outcomes.Reached.TheVariants as reached
+use Rattle.fab_orders.specs.Orders as run
+use Rattle.host_judge.specs.host_form.specs.Orders as form
+use Rattle.host_judge.specs.host_form.specs.Orders.{moves_in, moves_of, puts_at, saves_in, saves_of, stop_in, stop_of, tenant_of, Answered, Put}
 use Rattle.host_outcomes.specs.Ends.{DidAs, Tells}
 use Rattle.host_outcomes.specs.Given.{answered, fits, given, is_gone, order_for, rank, reply_for, wanted_by, with_reply}
 use Rattle.host_outcomes.proofs.Ranks.{rank-of-number, same-number}
 use Rattle.host_outcomes.proofs.Sorting.{answered_by, given_by}
+use Rattle.host_judge.specs.host_form.proofs.Shared.{puts_append as puts-append}
 
 -- ---- sums
-
-puts-append : (g j : ℕ) (ps qs : List Put) → puts_at g j (ps ++ qs) ≡ puts_at g j ps + puts_at g j qs
-puts-append g j ps qs =
-    ap length (filter-append (λ (p : Put). (p.fabric == g) && (p.tick == j)) ps qs)
-    ∙ length-append (filter (λ (p : Put). (p.fabric == g) && (p.tick == j)) ps) (filter (λ (p : Put). (p.fabric == g) && (p.tick == j)) qs)
 
 or-same : (x y : Option ℕ) → form.or_else x y ≡ run.or_else x y
 or-same (Some k) y = refl

@@ -3,35 +3,26 @@ use Rattle.std.proofs.Common.{◌≡◌, ℕ, suc, ◌+◌, ◌<◌, ◌≤◌, 
 use Rattle.std.specs.Prelude.{◌==◌, ◌&&◌, All}
 use Rattle.std.specs.List.{AllByRecursion}
 use Rattle.std.proofs.lemmas.Bool.{eqb-true}
-use Rattle.vl_design.specs.Alone.{FreeSave}
-use Rattle.ten_parcel.specs.Parcels.{number_of, ticks_of}
-use Rattle.fab_notes.specs.declared.transit.Transit.{Transit}
-use Rattle.fab_notes.specs.Tokens.{token_of, Token}
-use Rattle.fab_bay.specs.declared.noted.NotedCore.{NotedCore}
-use Rattle.fab_rounds.specs.declared.outcomes.Answer.{Answer}
-use Rattle.fab_rounds.specs.declared.outcomes.Finding.{Finding}
-use Rattle.fab_rounds.specs.declared.outcomes.Reached.{Reached}
-use Rattle.fab_rounds.specs.declared.outcomes.Reached.TheVariants as reached
-use Rattle.fab_rounds.specs.declared.outcomes.Start.{Start}
-use Rattle.fab_rounds.specs.declared.outcomes.Wanted.{Wanted}
-use Rattle.fab_rounds.specs.declared.outcomes.Wanted.TheVariants as wanted
-use Rattle.fab_rounds.specs.Orders.{back_at, backs_in, found_by, moved_at, moves_in, saves_in, saves_of}
-use Rattle.fab_rounds.specs.Outcomes.{lefts_there, line_of, IsTrue, IsUnended}
-use Rattle.fab_rounds.specs.Totals.{total}
-use Rattle.host_form.specs.Orders.{puts_at, Put}
+use Rattle.ten_files.specs.vl_design.specs.Alone.{FreeSave}
+use Rattle.fab_orders.specs.ten_parcel.specs.Parcels.{number_of, ticks_of}
+use Rattle.host_report.specs.fab_model.specs.declared.transit.Transit.{Transit}
+use Rattle.host_report.specs.fab_model.specs.Tokens.{token_of, Token}
+use Rattle.fab_orders.specs.fab_bay.specs.declared.noted.NotedCore.{NotedCore}
+use Rattle.fab_orders.specs.declared.outcomes.Answer.{Answer}
+use Rattle.fab_orders.specs.declared.outcomes.Finding.{Finding}
+use Rattle.fab_orders.specs.declared.outcomes.Reached.{Reached}
+use Rattle.fab_orders.specs.declared.outcomes.Reached.TheVariants as reached
+use Rattle.fab_orders.specs.declared.outcomes.Start.{Start}
+use Rattle.fab_orders.specs.declared.outcomes.Wanted.{Wanted}
+use Rattle.fab_orders.specs.declared.outcomes.Wanted.TheVariants as wanted
+use Rattle.fab_orders.specs.Orders.{back_at, backs_in, found_by, moved_at, moves_in, saves_in, saves_of}
+use Rattle.fab_orders.specs.Outcomes.{lefts_there, line_of, IsTrue, IsUnended}
+use Rattle.fab_orders.specs.Totals.{total}
+use Rattle.host_judge.specs.host_form.specs.Orders.{puts_at, Put}
 use Rattle.host_outcomes.proofs.Sums.{one}
+pub use Rattle.host_judge.specs.host_form.proofs.Shared.{puts_append}
 
 -- ---- puts
-
-pub puts_append : (g j : ℕ) (ps qs : List Put) → puts_at g j (ps ++ qs) ≡ puts_at g j ps + puts_at g j qs
-puts_append g j [] qs = omega arith
-puts_append g j (p ∷ ps) qs = by ((p.fabric == g) && (p.tick == j)) (puts_append g j ps qs)
-  where
-    by : (b : Bool) → length (filter (λ q. (q.fabric == g) && (q.tick == j)) (ps ++ qs)) ≡ puts_at g j ps + puts_at g j qs
-        → length (cond b (p ∷ filter (λ q. (q.fabric == g) && (q.tick == j)) (ps ++ qs)) (filter (λ q. (q.fabric == g) && (q.tick == j)) (ps ++ qs)))
-        ≡ length (cond b (p ∷ filter (λ q. (q.fabric == g) && (q.tick == j)) ps) (filter (λ q. (q.fabric == g) && (q.tick == j)) ps)) + puts_at g j qs
-    by true r = omega (arith, r)
-    by false r = r
 
 pub puts_first : (g j : ℕ) (p : Put) (ps : List Put) → puts_at g j (p ∷ ps) ≡ cond ((p.fabric == g) && (p.tick == j)) 1 0 + puts_at g j ps
 puts_first g j p ps = by ((p.fabric == g) && (p.tick == j))

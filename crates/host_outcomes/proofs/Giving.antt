@@ -4,42 +4,34 @@ use Rattle.std.specs.Prelude.{nat_le}
 use Rattle.std.proofs.lemmas.Bool.Decides.{nat_tests}
 use Rattle.std.proofs.lemmas.List.{get_or-map}
 use Rattle.std.proofs.lemmas.List.Elements.{All-cons, All-nil}
-use Rattle.vl_cost.specs.declared.capacity.Cost as capacity
-use Rattle.vl_cost.specs.Costs.{saturated, saturated_cost}
-use Rattle.vl_design.specs.Cost.{cost, Cost}
-use Rattle.script_line.specs.declared.statement.Capacity.{Capacity}
-use Rattle.script_text.specs.declared.script.FabricLine.{FabricLine}
-use Rattle.script_text.specs.declared.script.Free.{Free}
-use Rattle.script_text.specs.declared.script.Free.TheVariants as free
-use Rattle.ten_core.specs.declared.origin.Origin.{Origin}
-use Rattle.ten_core.specs.Tenants.{origin_of}
-use Rattle.ten_parcel.specs.Parcels.{origin_in, run_of}
-use Rattle.fab_points.specs.Fabrics.{within}
-use Rattle.fab_notes.specs.declared.transit.Transit.{Transit}
-use Rattle.fab_bay.specs.declared.noted.Label.{Label}
-use Rattle.fab_rounds.specs.declared.outcomes.Order.{Order}
-use Rattle.fab_rounds.specs.declared.outcomes.Outcome.{Outcome}
-use Rattle.fab_rounds.specs.declared.outcomes.Start.{Start}
-use Rattle.fab_rounds.specs.Orders.{AreOrders, HasPlace, IsOrder}
-use Rattle.fab_rounds.specs.Outcomes.{IsOutcome}
-use Rattle.host_form.specs.Origins as form
-use Rattle.host_form.specs.Origins.{has_room}
-use Rattle.host_form.specs.Orders.{tenant_of}
+use Rattle.ten_files.specs.vl_design.specs.declared.capacity.Cost as capacity
+use Rattle.ten_files.specs.vl_design.specs.Costs.{saturated, saturated_cost}
+use Rattle.ten_files.specs.vl_design.specs.Cost.{cost, Cost}
+use Rattle.host_judge.specs.host_text.specs.declared.statement.Capacity.{Capacity}
+use Rattle.host_judge.specs.host_text.specs.declared.script.FabricLine.{FabricLine}
+use Rattle.host_judge.specs.host_text.specs.declared.script.Free.{Free}
+use Rattle.host_judge.specs.host_text.specs.declared.script.Free.TheVariants as free
+use Rattle.host_judge.specs.ten_core.specs.declared.origin.Origin.{Origin}
+use Rattle.host_judge.specs.ten_core.specs.Tenants.{origin_of}
+use Rattle.fab_orders.specs.ten_parcel.specs.Parcels.{origin_in, run_of}
+use Rattle.host_report.specs.fab_model.specs.Fabrics.{within}
+use Rattle.host_report.specs.fab_model.specs.declared.transit.Transit.{Transit}
+use Rattle.fab_orders.specs.fab_bay.specs.declared.noted.Label.{Label}
+use Rattle.fab_orders.specs.declared.outcomes.Order.{Order}
+use Rattle.fab_orders.specs.declared.outcomes.Outcome.{Outcome}
+use Rattle.fab_orders.specs.declared.outcomes.Start.{Start}
+use Rattle.fab_orders.specs.Orders.{AreOrders, HasPlace, IsOrder}
+use Rattle.fab_orders.specs.Outcomes.{IsOutcome}
+use Rattle.host_judge.specs.host_form.specs.Origins as form
+use Rattle.host_judge.specs.host_form.specs.Origins.{has_room}
+use Rattle.host_judge.specs.host_form.specs.Orders.{tenant_of}
 use Rattle.host_outcomes.specs.Given.{costs_begun, costs_of, fits, given, is_gone, no_cost, order_for, rank, wanted_by}
 use Rattle.host_outcomes.proofs.Ranks.{rank-runs, running}
 use Rattle.host_outcomes.proofs.Sorting.{given_by}
+use Rattle.ten_files.specs.vl_design.proofs.Shared.{saturated_le}
+use Rattle.ten_files.specs.vl_base.proofs.Booleans.{and_three as three}
 
 -- ---- room
-
--- a number that is at most another is so where it is cut off
-saturated_le : (n m : ℕ) → nat_le n m ≡ true → nat_le (saturated n) m ≡ true
-saturated_le n m h = let l : n ≤ m = grind (arith, nat_tests, h) in let k : saturated n ≤ m = omega (arith, l) in grind (arith, nat_tests, k)
-
-three : (a b c x y z : Bool) → (a ≡ true → x ≡ true) → (b ≡ true → y ≡ true) → (c ≡ true → z ≡ true) → (a && b && c) ≡ true → (x && (y && z)) ≡ true
-three true true true x y z f g h e = rw (f refl) (rw (g refl) (h refl))
-three true true false x y z f g h e = cc
-three true false c x y z f g h e = cc
-three false b c x y z f g h e = cc
 
 abbrev room_of : Capacity → capacity.Cost
 room_of c = record { regs = c.registers; cells = c.cells; mem = c.memory }

@@ -2,14 +2,14 @@
 use Rattle.std.proofs.Common.{◌≡◌, ℕ, Bool, true, false, ◌==◌, if◌then◌else◌, List, [], ◌∷◌, ◌++◌, get_or, refl, sym, ap, ◌∙◌}
 use Rattle.std.proofs.lemmas.List.{append-nil, append_assoc}
 use Rattle.std.proofs.lemmas.List.Concat.{flat_map-append}
-use Rattle.script_text.specs.declared.script.Free.{Free}
-use Rattle.report_text.specs.declared.block.Reply.TheVariants as reply_is
-use Rattle.fab_rounds.specs.declared.outcomes.Answer.{Answer}
-use Rattle.fab_rounds.specs.declared.outcomes.Order.{Order}
-use Rattle.fab_rounds.specs.declared.outcomes.Reached.{Reached}
-use Rattle.fab_rounds.specs.declared.outcomes.Reached.TheVariants as reached
-use Rattle.fab_rounds.specs.Orders.{ticks_in, ticks_told}
-use Rattle.host_form.specs.Orders.{tenant_of, tick_in, ticks_of, Answered}
+use Rattle.host_judge.specs.host_text.specs.declared.script.Free.{Free}
+use Rattle.host_judge.specs.host_text.specs.declared.block.Reply.TheVariants as reply_is
+use Rattle.fab_orders.specs.declared.outcomes.Answer.{Answer}
+use Rattle.fab_orders.specs.declared.outcomes.Order.{Order}
+use Rattle.fab_orders.specs.declared.outcomes.Reached.{Reached}
+use Rattle.fab_orders.specs.declared.outcomes.Reached.TheVariants as reached
+use Rattle.fab_orders.specs.Orders.{ticks_in, ticks_told}
+use Rattle.host_judge.specs.host_form.specs.Orders.{tenant_of, tick_in, ticks_of, Answered}
 use Rattle.host_outcomes.specs.Given.{is_gone, order_for, rank, reply_for, with_reply}
 use Rattle.host_outcomes.proofs.Ranks.{same-number}
 

@@ -1,20 +1,20 @@
 -- What is known of the tenants of a report.
 use Rattle.std.proofs.Common.{◌≡◌, ◌≢◌, ℕ, zero, suc, ◌+◌, ◌<◌, true, false, List, [], ◌∷◌, length, map, get_or, slice_get, Option, Some, None, refl, subst, arith}
-use Rattle.vl_base.specs.declared.place.Place.{Place}
-use Rattle.vl_design.specs.declared.design.End.TheVariants.{Stopped}
-use Rattle.vl_design.specs.Alone.{first_tick}
-use Rattle.script_text.specs.declared.script.Script.{Script}
-use Rattle.ten_parcel.specs.Parcels.{run_of, ticks_of}
-use Rattle.fab_notes.specs.declared.transit.Transit.{Transit}
-use Rattle.fab_rounds.specs.declared.outcomes.Start.{Start}
-use Rattle.host_form.specs.Origins.{Tenant}
-use Rattle.host_form.specs.Histories.{Histories}
-use Rattle.host_form.specs.Orders.{stop_of, Answered}
-use Rattle.host_form.specs.Runs.{alone, stopped, IsEnd, IsRun, Outcome, Ran, Refused, Run}
-use Rattle.host_form.specs.Reports.{AreOutcomes}
+use Rattle.ten_files.specs.vl_base.specs.declared.place.Place.{Place}
+use Rattle.ten_files.specs.vl_design.specs.declared.design.End.TheVariants.{Stopped}
+use Rattle.ten_files.specs.vl_design.specs.Alone.{first_tick}
+use Rattle.host_judge.specs.host_text.specs.declared.script.Script.{Script}
+use Rattle.fab_orders.specs.ten_parcel.specs.Parcels.{run_of, ticks_of}
+use Rattle.host_report.specs.fab_model.specs.declared.transit.Transit.{Transit}
+use Rattle.fab_orders.specs.declared.outcomes.Start.{Start}
+use Rattle.host_judge.specs.host_form.specs.Origins.{Tenant}
+use Rattle.host_judge.specs.host_form.specs.Histories.{Histories}
+use Rattle.host_judge.specs.host_form.specs.Orders.{stop_of, Answered}
+use Rattle.host_judge.specs.host_form.specs.Runs.{alone, stopped, IsEnd, IsRun, Outcome, Ran, Refused, Run}
+use Rattle.host_judge.specs.host_form.specs.Reports.{AreOutcomes}
 use Rattle.host_judge.specs.declared.verdict.Ready.{Ready}
-use Rattle.host_judge.specs.declared.verdict.Refusal.{Refusal}
-use Rattle.host_blocks.specs.Ends.{is_refused}
+use Rattle.host_judge.specs.host_form.specs.declared.refusal.Refusal.{Refusal}
+use Rattle.host_report.specs.Ends.{is_refused}
 use Rattle.host_outcomes.specs.Begun.{AreBegun}
 use Rattle.host_outcomes.specs.Ends.{AreTold, IsTold}
 use Rattle.host_outcomes.specs.Given.{rank}

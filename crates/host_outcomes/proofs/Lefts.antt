@@ -2,19 +2,19 @@
 use Rattle.std.proofs.Common.{◌≡◌, ℕ, ◌+◌, eqb, Bool, true, false, List, [], ◌∷◌, ◌++◌, length, filter, cond, refl, sym, ap, ◌∙◌, arith, Option, Some, None}
 use Rattle.std.specs.Prelude.{◌==◌, ◌&&◌, is_some}
 use Rattle.std.proofs.lemmas.Bool.{false≢true}
-use Rattle.fab_lock.specs.declared.entry.Entry.{Entry}
-use Rattle.fab_lock.specs.declared.entry.Kind.{Kind}
-use Rattle.fab_lock.specs.declared.entry.Kind.TheVariants.{Line, Came, Ran, Saved, Left}
-use Rattle.fab_notes.specs.declared.note.Note.{Note}
-use Rattle.fab_notes.specs.Deeds.{Deed, deed_in}
-use Rattle.fab_notes.specs.Histories.{after, place_of, Away, Inside, IsLegal, IsLegalFrom, May, Place, Seat}
-use Rattle.fab_notes.specs.Tokens as tokens
-use Rattle.fab_notes.specs.Tokens.{out_at, outs, Token}
-use Rattle.fab_bay.specs.declared.noted.Label.{Label}
-use Rattle.fab_rounds.specs.Totals.{total}
-use Rattle.host_form.specs.Histories as report
-use Rattle.host_form.specs.Histories.{is_left, lefts_at, notes_of}
-use Rattle.host_notes.specs.Told.{told, told_note}
+use Rattle.fab_orders.specs.fab_lock.specs.declared.entry.Entry.{Entry}
+use Rattle.fab_orders.specs.fab_lock.specs.declared.entry.Kind.{Kind}
+use Rattle.fab_orders.specs.fab_lock.specs.declared.entry.Kind.TheVariants.{Line, Came, Ran, Saved, Left}
+use Rattle.host_report.specs.fab_model.specs.declared.note.Note.{Note}
+use Rattle.host_report.specs.fab_model.specs.Deeds.{Deed, deed_in}
+use Rattle.host_report.specs.fab_model.specs.Histories.{after, place_of, Away, Inside, IsLegal, IsLegalFrom, May, Place, Seat}
+use Rattle.host_report.specs.fab_model.specs.Tokens as tokens
+use Rattle.host_report.specs.fab_model.specs.Tokens.{out_at, outs, Token}
+use Rattle.fab_orders.specs.fab_bay.specs.declared.noted.Label.{Label}
+use Rattle.fab_orders.specs.Totals.{total}
+use Rattle.host_judge.specs.host_form.specs.Histories as report
+use Rattle.host_judge.specs.host_form.specs.Histories.{is_left, lefts_at, notes_of}
+use Rattle.host_report.specs.Told.{told, told_note}
 use Rattle.host_outcomes.proofs.Sums.{counts}
 
 has_deed : (g : ℕ) (p : Place) (n : Note) → May g Left p n → is_some (deed_in n) ≡ true

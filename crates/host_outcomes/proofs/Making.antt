@@ -2,15 +2,15 @@
 use Rattle.std.proofs.Common.{◌≡◌, ◌⊎◌, inl, inr, ℕ, zero, suc, ◌+◌, ◌<◌, ◌≤◌, Bool, true, false, List, [], ◌∷◌, ◌++◌, drop, if◌then◌else◌, filter, length, map, get_or, take, is_none, Option, Some, None, refl, sym, subst, ap, ◌∙◌, arith}
 use Rattle.std.proofs.lemmas.Bool.{cases_lt}
 use Rattle.std.proofs.lemmas.List.{append_assoc, drop_all, drop_more, get_or-map}
-use Rattle.vl_design.specs.Cost.{Cost}
-use Rattle.script_text.specs.declared.script.Free.{Free}
-use Rattle.script_text.specs.declared.script.Script.{Script}
-use Rattle.report_text.specs.declared.block.FreeLine.{FreeLine}
-use Rattle.report_text.specs.declared.block.Reply.{Reply}
-use Rattle.fab_rounds.specs.declared.outcomes.Answer.{Answer}
-use Rattle.host_form.specs.Orders.{free_line, Answered}
-use Rattle.host_judge.specs.declared.verdict.Refusal.{Refusal}
-use Rattle.host_blocks.specs.Ends.{is_refused}
+use Rattle.ten_files.specs.vl_design.specs.Cost.{Cost}
+use Rattle.host_judge.specs.host_text.specs.declared.script.Free.{Free}
+use Rattle.host_judge.specs.host_text.specs.declared.script.Script.{Script}
+use Rattle.host_judge.specs.host_text.specs.declared.block.FreeLine.{FreeLine}
+use Rattle.host_judge.specs.host_text.specs.declared.block.Reply.{Reply}
+use Rattle.fab_orders.specs.declared.outcomes.Answer.{Answer}
+use Rattle.host_judge.specs.host_form.specs.Orders.{free_line, Answered}
+use Rattle.host_judge.specs.host_form.specs.declared.refusal.Refusal.{Refusal}
+use Rattle.host_report.specs.Ends.{is_refused}
 use Rattle.host_outcomes.specs.Given.{answered, given, no_cost, order_for, rank, reply_for, with_reply}
 use Rattle.host_outcomes.specs.Steps.{cost_in, said_at_once, AreMade}
 use Rattle.host_outcomes.proofs.Knowing.{member}

@@ -3,35 +3,32 @@ use Rattle.std.proofs.Common.{◌≡◌, ℕ, zero, suc, ◌<◌, ◌≤◌, ◌
 use Rattle.std.specs.Prelude.{is_some, slice_get, unwrap_or, option_map}
 use Rattle.std.specs.List.{AllByRecursion}
 use Rattle.std.proofs.lemmas.Bool.{cases_lt, eqb-true, false≢true}
-use Rattle.vl_design.specs.Alone as alone
-use Rattle.ten_core.specs.declared.origin.Origin.{Origin}
-use Rattle.ten_core.specs.Tenants.{origin_of}
-use Rattle.ten_parcel.specs.Parcels.{origin_in, run_of}
-use Rattle.fab_lock.specs.declared.entry.Entry.{Entry}
-use Rattle.fab_lock.specs.declared.entry.Kind.{Kind}
-use Rattle.fab_lock.specs.declared.entry.Kind.TheVariants.{Line, Came, Ran, Saved, Left}
-use Rattle.fab_notes.specs.declared.note.Note.{Note}
-use Rattle.fab_notes.specs.Deeds.{deed_in, run_in, Deed}
-use Rattle.fab_notes.specs.Histories.{after, place_of, Away, Inside, IsLegalFrom, May, Place, Seat}
-use Rattle.fab_notes.specs.Origins.{AreOwn, Origins, StartsFrom}
-use Rattle.fab_notes.specs.Tokens as tokens
-use Rattle.fab_notes.specs.Tokens.{put_at, puts, Token}
-use Rattle.fab_bay.specs.declared.noted.Label.{Label}
-use Rattle.fab_rounds.specs.declared.outcomes.Order.{Order}
-use Rattle.fab_rounds.specs.declared.outcomes.Outcome.{Outcome}
-use Rattle.fab_rounds.specs.declared.outcomes.Start.{Start}
-use Rattle.fab_rounds.specs.Outcomes.{IsOutcome}
-use Rattle.fab_rounds.specs.Starts.{origins_of, AreLabels, NamesOrigins}
-use Rattle.host_form.specs.Histories as report
-use Rattle.host_form.specs.Histories.{history_of, is_line, lines_of, notes_of}
-use Rattle.host_form.specs.Runs.{RunsAs, RunsAsNoted}
-use Rattle.host_notes.specs.Told.{origin_told, told, told_note}
+use Rattle.ten_files.specs.vl_design.specs.Alone as alone
+use Rattle.host_judge.specs.ten_core.specs.declared.origin.Origin.{Origin}
+use Rattle.host_judge.specs.ten_core.specs.Tenants.{origin_of}
+use Rattle.fab_orders.specs.ten_parcel.specs.Parcels.{origin_in, run_of}
+use Rattle.fab_orders.specs.fab_lock.specs.declared.entry.Entry.{Entry}
+use Rattle.fab_orders.specs.fab_lock.specs.declared.entry.Kind.{Kind}
+use Rattle.fab_orders.specs.fab_lock.specs.declared.entry.Kind.TheVariants.{Line, Came, Ran, Saved, Left}
+use Rattle.host_report.specs.fab_model.specs.declared.note.Note.{Note}
+use Rattle.host_report.specs.fab_model.specs.Deeds.{deed_in, run_in, Deed}
+use Rattle.host_report.specs.fab_model.specs.Histories.{after, place_of, Away, Inside, IsLegalFrom, May, Place, Seat}
+use Rattle.host_report.specs.fab_model.specs.Origins.{AreOwn, Origins, StartsFrom}
+use Rattle.host_report.specs.fab_model.specs.Tokens as tokens
+use Rattle.host_report.specs.fab_model.specs.Tokens.{put_at, puts, Token}
+use Rattle.fab_orders.specs.fab_bay.specs.declared.noted.Label.{Label}
+use Rattle.fab_orders.specs.declared.outcomes.Order.{Order}
+use Rattle.fab_orders.specs.declared.outcomes.Outcome.{Outcome}
+use Rattle.fab_orders.specs.declared.outcomes.Start.{Start}
+use Rattle.fab_orders.specs.Outcomes.{IsOutcome}
+use Rattle.fab_orders.specs.Starts.{origins_of, AreLabels, NamesOrigins}
+use Rattle.host_judge.specs.host_form.specs.Histories as report
+use Rattle.host_judge.specs.host_form.specs.Histories.{history_of, is_line, lines_of, notes_of}
+use Rattle.host_judge.specs.host_form.specs.Runs.{RunsAs, RunsAsNoted}
+use Rattle.host_report.specs.Told.{origin_told, told, told_note}
 use Rattle.host_outcomes.specs.Reported.{histories_of}
 use Rattle.host_outcomes.proofs.Bays.{history_at, history_beyond, some_bay}
-
-has_deed : (g : ℕ) (p : Place) (n : Note) → May g Line p n → is_some (deed_in n) ≡ true
-has_deed g Away n m = m.0
-has_deed g (Inside a b c d) n m = absurd m
+use Rattle.host_report.specs.fab_model.proofs.Shared.{has_deed}
 
 -- ---- one history
 

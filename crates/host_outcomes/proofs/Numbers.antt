@@ -1,7 +1,7 @@
 -- Numbers of tenants in a script.
 use Rattle.std.proofs.Common.{◌≡◌, ℕ, zero, suc, ◌+◌, ◌<◌, ◌≤◌, ◌⊎◌, inl, inr, eqb, Bool, true, false, List, [], ◌∷◌, length, drop, get_or, map, cond, refl, sym, ap, ◌∙◌, arith, eq-eqb, ne_eqb}
 use Rattle.std.proofs.lemmas.Bool.{cases_lt, eqb-true, false≢true}
-use Rattle.host_form.specs.Histories.{notes_of, Note}
+use Rattle.host_judge.specs.host_form.specs.Histories.{notes_of, Note}
 use Rattle.host_outcomes.specs.Reported.{number_in, numbers_from, renumbered}
 use Rattle.host_outcomes.proofs.Sums.{past}
 

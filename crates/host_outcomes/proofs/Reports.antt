@@ -3,35 +3,35 @@ use Rattle.std.proofs.Common.{◌≡◌, ℕ, ◌+◌, ◌<◌, ◌≤◌, ◌�
 use Rattle.std.specs.Prelude.{◌==◌, ◌&&◌, ◌||◌, is_some, nat_le, nat_lt}
 use Rattle.std.specs.List.{AllByRecursion}
 use Rattle.std.proofs.lemmas.Bool.{cases_lt, eqb-true, false≢true}
-use Rattle.vl_design.specs.declared.design.End.{End}
-use Rattle.vl_design.specs.Alone as alone
-use Rattle.vl_design.specs.Alone.{first_tick, Boundary, Ends, Plan}
-use Rattle.vl_design.specs.Queue.{Queue}
-use Rattle.vl_design.proofs.Settling.{at_first, ends_once}
-use Rattle.ten_core.specs.declared.origin.Origin.{Origin}
-use Rattle.ten_core.specs.Tenants.{origin_of}
-use Rattle.ten_parcel.specs.Parcels.{is_moved, is_stopped, run_of, ticks_of}
-use Rattle.ten_plan.specs.Plans.{move_at, IsPlan}
-use Rattle.fab_notes.specs.declared.transit.Stay.{Stay}
-use Rattle.fab_notes.specs.declared.transit.Transit.{Transit}
-use Rattle.fab_notes.specs.Stays.{chains}
-use Rattle.fab_bay.specs.declared.noted.Label.{Label}
-use Rattle.fab_rounds.specs.declared.outcomes.Answer.{Answer}
-use Rattle.fab_rounds.specs.declared.outcomes.Order.{Order}
-use Rattle.fab_rounds.specs.declared.outcomes.Outcome.{Outcome}
-use Rattle.fab_rounds.specs.declared.outcomes.Start.{Start}
-use Rattle.fab_rounds.specs.Orders as done
-use Rattle.fab_rounds.specs.Outcomes as rounds
-use Rattle.fab_rounds.specs.Outcomes.{HasStopped, IsEnded, IsOutcome, IsUnended}
-use Rattle.fab_rounds.specs.Starts.{AreLabels, AreStarts}
-use Rattle.fab_rounds.specs.Totals.{total}
-use Rattle.host_form.specs.Histories.{history_of, lefts_at, lines_at, lines_of, notes_of, times, AreOrdered, AreVisits, Histories, Visit}
-use Rattle.host_form.specs.Orders.{moves_of, puts_at, stop_of, Answered, Put}
-use Rattle.host_form.specs.Runs.{at_once, later, moves_when, AreLines, ArePut}
-use Rattle.host_form.proofs.Times.{visits-by-times}
-use Rattle.host_notes.specs.Told.{goes_to, visit_of}
-use Rattle.host_notes.proofs.Lines.{none_read}
-use Rattle.host_notes.proofs.Moved.{moves_once}
+use Rattle.ten_files.specs.vl_design.specs.declared.design.End.{End}
+use Rattle.ten_files.specs.vl_design.specs.Alone as alone
+use Rattle.ten_files.specs.vl_design.specs.Alone.{first_tick, Boundary, Ends, Plan}
+use Rattle.ten_files.specs.vl_design.specs.Queue.{Queue}
+use Rattle.ten_files.specs.vl_design.proofs.Settling.{at_first, ends_once}
+use Rattle.host_judge.specs.ten_core.specs.declared.origin.Origin.{Origin}
+use Rattle.host_judge.specs.ten_core.specs.Tenants.{origin_of}
+use Rattle.fab_orders.specs.ten_parcel.specs.Parcels.{is_moved, is_stopped, run_of, ticks_of}
+use Rattle.fab_orders.specs.ten_plan.specs.Plans.{move_at, IsPlan}
+use Rattle.host_report.specs.fab_model.specs.declared.transit.Stay.{Stay}
+use Rattle.host_report.specs.fab_model.specs.declared.transit.Transit.{Transit}
+use Rattle.host_report.specs.fab_model.specs.Stays.{chains}
+use Rattle.fab_orders.specs.fab_bay.specs.declared.noted.Label.{Label}
+use Rattle.fab_orders.specs.declared.outcomes.Answer.{Answer}
+use Rattle.fab_orders.specs.declared.outcomes.Order.{Order}
+use Rattle.fab_orders.specs.declared.outcomes.Outcome.{Outcome}
+use Rattle.fab_orders.specs.declared.outcomes.Start.{Start}
+use Rattle.fab_orders.specs.Orders as done
+use Rattle.fab_orders.specs.Outcomes as rounds
+use Rattle.fab_orders.specs.Outcomes.{HasStopped, IsEnded, IsOutcome, IsUnended}
+use Rattle.fab_orders.specs.Starts.{AreLabels, AreStarts}
+use Rattle.fab_orders.specs.Totals.{total}
+use Rattle.host_judge.specs.host_form.specs.Histories.{history_of, lefts_at, lines_at, lines_of, notes_of, times, AreOrdered, AreVisits, Histories, Visit}
+use Rattle.host_judge.specs.host_form.specs.Orders.{moves_of, puts_at, stop_of, Answered, Put}
+use Rattle.host_judge.specs.host_form.specs.Runs.{at_once, later, moves_when, AreLines, ArePut}
+use Rattle.host_judge.specs.host_form.proofs.Times.{visits-by-times}
+use Rattle.host_report.specs.Told.{goes_to, visit_of}
+use Rattle.host_report.proofs.LinesOfNotes.{none_read}
+use Rattle.host_report.proofs.Moved.{moves_once}
 use Rattle.host_outcomes.specs.Ends.{Tells}
 use Rattle.host_outcomes.specs.Reported.{histories_of, renumbered}
 use Rattle.host_outcomes.proofs.Sums.{begins_first, begins_never, chain_told, moves_moved, moves_never, moves_unmoved, one}

@@ -1,24 +1,21 @@
 -- The run that was run ends as that of the tenant's design, and keeps the same snapshots.
 use Rattle.std.proofs.Common.{◌≡◌, ℕ, suc, ◌≤◌, List, [], ◌++◌, refl, sym, ap, ◌∙◌, subst, None}
 use Rattle.std.specs.Prelude.{if◌then◌else◌}
-use Rattle.vl_design.specs.declared.design.End.{End}
-use Rattle.vl_design.specs.Syntax.{Row}
-use Rattle.vl_design.specs.Queue.{Queue}
-use Rattle.vl_design.specs.Alone.{first_tick, free_names, reason_at, save_names, Boundary, Ends, FreeSave, Keeps, Origin, Plan}
-use Rattle.vl_design.specs.Observed.{observed, IsSameRun, Observed}
-use Rattle.vl_design.specs.Snapshots.{all_saved, snap_rows, Saved}
-use Rattle.vl_design.proofs.Same.{same_back, same_ends}
-use Rattle.host_form.specs.Runs.{RunsAs}
+use Rattle.ten_files.specs.vl_design.specs.declared.design.End.{End}
+use Rattle.ten_files.specs.vl_design.specs.Syntax.{Row}
+use Rattle.ten_files.specs.vl_design.specs.Queue.{Queue}
+use Rattle.ten_files.specs.vl_design.specs.Alone.{first_tick, free_names, reason_at, save_names, Boundary, Ends, FreeSave, Keeps, Origin, Plan}
+use Rattle.ten_files.specs.vl_design.specs.Observed.{observed, IsSameRun, Observed}
+use Rattle.ten_files.specs.vl_design.specs.Snapshots.{all_saved, snap_rows, Saved}
+use Rattle.ten_files.specs.vl_design.proofs.Same.{same_back, same_ends}
+use Rattle.host_judge.specs.host_form.specs.Runs.{RunsAs}
+use Rattle.ten_files.specs.vl_design.proofs.Same.{reason_same as same_reason}
 
 -- the snapshots kept, by what is observed
 abbrev seen_at : List Row → Plan → List FreeSave → List Saved → ℕ → Observed → List Saved
 seen_at rows plan free saved k x =
     all_saved saved ((if x.finished then [] else x.saves ++ save_names k plan.errands) ++ free_names k free)
     (record { tick = x.ticks; rows = snap_rows rows; words = x.words; files = x.table })
-
--- there is a reason to end as there is in another state that has finished where this one has
-same_reason : (plan : Plan) (k : ℕ) (q r : Queue) → q.state.finished ≡ r.state.finished → reason_at plan k q ≡ reason_at plan k r
-same_reason plan k q r e = rw e refl
 
 module _ (o u : Origin) (runs : RunsAs o u) (rows : u.flat.rows ≡ o.flat.rows) where
   same_run : IsSameRun u o

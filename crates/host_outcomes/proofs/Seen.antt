@@ -1,19 +1,19 @@
 -- What the histories of a report show of orders.
 use Rattle.std.proofs.Common.{◌≡◌, ℕ, ◌<◌, Bool, List, [], ◌∷◌, length, get_or, map, cond, refl, sym, ap, ◌∙◌, arith}
 use Rattle.std.specs.Prelude.{◌==◌, max}
-use Rattle.fab_lock.specs.Histories.{high}
-use Rattle.fab_notes.specs.declared.note.Note.{Note}
-use Rattle.fab_bay.specs.declared.noted.Label.{Label}
-use Rattle.fab_bay.specs.declared.noted.NotedCore.{NotedCore}
-use Rattle.fab_rounds.specs.declared.outcomes.Order.{Order}
-use Rattle.fab_rounds.specs.declared.outcomes.Outcome.{Outcome}
-use Rattle.fab_rounds.specs.declared.outcomes.Start.{Start}
-use Rattle.fab_rounds.specs.Orders.{reached_in}
-use Rattle.fab_rounds.specs.Outcomes.{line_of, IsOutcome}
-use Rattle.fab_rounds.specs.Starts.{AreLabels, AreStarts}
-use Rattle.host_form.specs.Histories as report
-use Rattle.host_form.specs.Histories.{history_of, lines_of, notes_of, reached, Histories}
-use Rattle.host_notes.specs.Told.{told}
+use Rattle.fab_orders.specs.fab_lock.specs.Histories.{high}
+use Rattle.host_report.specs.fab_model.specs.declared.note.Note.{Note}
+use Rattle.fab_orders.specs.fab_bay.specs.declared.noted.Label.{Label}
+use Rattle.fab_orders.specs.fab_bay.specs.declared.noted.NotedCore.{NotedCore}
+use Rattle.fab_orders.specs.declared.outcomes.Order.{Order}
+use Rattle.fab_orders.specs.declared.outcomes.Outcome.{Outcome}
+use Rattle.fab_orders.specs.declared.outcomes.Start.{Start}
+use Rattle.fab_orders.specs.Orders.{reached_in}
+use Rattle.fab_orders.specs.Outcomes.{line_of, IsOutcome}
+use Rattle.fab_orders.specs.Starts.{AreLabels, AreStarts}
+use Rattle.host_judge.specs.host_form.specs.Histories as report
+use Rattle.host_judge.specs.host_form.specs.Histories.{history_of, lines_of, notes_of, reached, Histories}
+use Rattle.host_report.specs.Told.{told}
 use Rattle.host_outcomes.specs.Reported.{histories_for, histories_of, number_in, numbers_from, renumbered}
 use Rattle.host_outcomes.specs.Seen.{Sees}
 use Rattle.host_outcomes.proofs.Bays.{lefts_known, lines_known}

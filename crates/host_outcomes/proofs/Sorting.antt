@@ -1,14 +1,14 @@
 -- Orders that are given, and those that aren't.
 use Rattle.std.proofs.Common.{◌≡◌, Bool, true, false, cond, ◌&&◌, if◌then◌else◌, List, [], ◌∷◌, filter, map, get_or, Option, Some, None, refl, sym, ap, ◌∙◌}
 use Rattle.std.specs.Prelude.{not}
-use Rattle.vl_design.specs.Cost.{Cost}
-use Rattle.script_text.specs.declared.script.FabricLine.{FabricLine}
-use Rattle.script_text.specs.declared.script.Free.{Free}
-use Rattle.report_text.specs.declared.block.Reply.{Reply}
-use Rattle.report_text.specs.declared.block.Reply.TheVariants as reply_is
-use Rattle.fab_rounds.specs.declared.outcomes.Answer.{Answer}
-use Rattle.fab_rounds.specs.declared.outcomes.Order.{Order}
-use Rattle.host_form.specs.Orders.{tenant_of, Answered}
+use Rattle.ten_files.specs.vl_design.specs.Cost.{Cost}
+use Rattle.host_judge.specs.host_text.specs.declared.script.FabricLine.{FabricLine}
+use Rattle.host_judge.specs.host_text.specs.declared.script.Free.{Free}
+use Rattle.host_judge.specs.host_text.specs.declared.block.Reply.{Reply}
+use Rattle.host_judge.specs.host_text.specs.declared.block.Reply.TheVariants as reply_is
+use Rattle.fab_orders.specs.declared.outcomes.Answer.{Answer}
+use Rattle.fab_orders.specs.declared.outcomes.Order.{Order}
+use Rattle.host_judge.specs.host_form.specs.Orders.{tenant_of, Answered}
 use Rattle.host_outcomes.specs.Given.{answered, fits, given, is_gone, no_cost, order_for, rank, reply_for, with_reply}
 use Rattle.host_outcomes.specs.Steps.{at_once, said_at_once}
 

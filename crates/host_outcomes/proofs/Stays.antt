@@ -1,17 +1,13 @@
 -- Where stays are told, there are some.
 use Rattle.std.proofs.Common.{◌≡◌, suc, true, List, [], ◌∷◌, length, filter, map, cond, refl, sym, ap, ◌∙◌, arith, eq-eqb}
 use Rattle.std.specs.Prelude.{◌==◌, ◌&&◌}
-use Rattle.fab_notes.specs.declared.transit.Stay.{Stay}
-use Rattle.fab_notes.specs.declared.transit.Transit.{Transit}
-use Rattle.host_form.specs.Histories.{is_same, times, Visit}
-use Rattle.host_form.specs.Runs.{Run}
-use Rattle.host_notes.specs.Told.{visit_of}
-use Rattle.host_blocks.specs.Ends.{HasRun}
-
-same_self : (v : Visit) → is_same v v ≡ true
-same_self v =
-    ap (λ x. x && (v.from == v.from) && (v.to == v.to)) (eq-eqb v.fabric v.fabric refl)
-    ∙ ap (λ x. x && (v.to == v.to)) (eq-eqb v.from v.from refl) ∙ eq-eqb v.to v.to refl
+use Rattle.host_report.specs.fab_model.specs.declared.transit.Stay.{Stay}
+use Rattle.host_report.specs.fab_model.specs.declared.transit.Transit.{Transit}
+use Rattle.host_judge.specs.host_form.specs.Histories.{is_same, times, Visit}
+use Rattle.host_judge.specs.host_form.specs.Runs.{Run}
+use Rattle.host_report.specs.Told.{visit_of}
+use Rattle.host_report.specs.Ends.{HasRun}
+use Rattle.host_judge.specs.host_form.proofs.Times.{same-self as same_self}
 
 times_first : (v : Visit) (vs : List Visit) → times v (v ∷ vs) ≡ suc (times v vs)
 times_first v vs = ap (λ b. length (cond b (v ∷ filter (is_same v) vs) (filter (is_same v) vs))) (same_self v)

@@ -4,20 +4,21 @@ use Rattle.std.specs.Prelude.{◌==◌, ◌&&◌, ◌||◌, nat_le, nat_lt}
 use Rattle.std.specs.List.{sum_by, AllByRecursion}
 use Rattle.std.proofs.lemmas.List.Sums.{sum_by-cons}
 use Rattle.std.proofs.lemmas.Bool.{cases_lt, eqb-true, false≢true, le-leb, le-ltb, leb-true, lt-leb, lt-ltb}
-use Rattle.fab_lock.specs.declared.entry.Kind.{Kind}
-use Rattle.fab_lock.specs.declared.entry.Kind.TheVariants.{Line, Came, Ran, Saved, Left}
-use Rattle.fab_notes.specs.declared.note.Note.{Note}
-use Rattle.fab_notes.specs.declared.transit.Stay.{Stay}
-use Rattle.fab_notes.specs.Deeds.{Deed}
-use Rattle.fab_notes.specs.Histories.{next, stay_at, stay_now, stays_from, Away, Inside, Place}
-use Rattle.fab_notes.specs.Moves as moves
-use Rattle.fab_notes.specs.Stays.{chains}
-use Rattle.fab_notes.specs.Tokens.{Token}
-use Rattle.fab_rounds.specs.Outcomes.{line_of}
-use Rattle.fab_rounds.specs.Totals.{total}
-use Rattle.fab_rounds.proofs.Totals.{total-append, total_each, total_none}
-use Rattle.host_form.specs.Histories.{is_same, times, Chain, Visit}
-use Rattle.host_notes.specs.Told.{visit_of}
+use Rattle.fab_orders.specs.fab_lock.specs.declared.entry.Kind.{Kind}
+use Rattle.fab_orders.specs.fab_lock.specs.declared.entry.Kind.TheVariants.{Line, Came, Ran, Saved, Left}
+use Rattle.host_report.specs.fab_model.specs.declared.note.Note.{Note}
+use Rattle.host_report.specs.fab_model.specs.declared.transit.Stay.{Stay}
+use Rattle.host_report.specs.fab_model.specs.Deeds.{Deed}
+use Rattle.host_report.specs.fab_model.specs.Histories.{next, stay_at, stay_now, stays_from, Away, Inside, Place}
+use Rattle.host_report.specs.fab_model.specs.Moves as moves
+use Rattle.host_report.specs.fab_model.specs.Stays.{chains}
+use Rattle.host_report.specs.fab_model.specs.Tokens.{Token}
+use Rattle.fab_orders.specs.Outcomes.{line_of}
+use Rattle.fab_orders.specs.Totals.{total}
+use Rattle.fab_orders.proofs.Totals.{total-append, total_each, total_none}
+use Rattle.host_judge.specs.host_form.specs.Histories.{is_same, times, Chain, Visit}
+use Rattle.host_report.specs.Told.{visit_of}
+use Rattle.ten_files.specs.vl_base.proofs.Booleans.{or_false_right as or_false, and_parts as both, or_true_right as or_true, and_false_right as and_false, and_true_right as and_true}
 
 pub differ : (a b : ℕ) → (a ≡ b → ⊥) → eqb a b ≡ false
 differ a b n = step (eqb a b) refl
@@ -113,22 +114,6 @@ and_zero : (p : Bool) → one (p && false) ≡ 0
 and_zero true = refl
 and_zero false = refl
 
-or_false : (p : Bool) → (p || false) ≡ p
-or_false true = refl
-or_false false = refl
-
-or_true : (p : Bool) → (p || true) ≡ true
-or_true true = refl
-or_true false = refl
-
-and_false : (p : Bool) → (p && false) ≡ false
-and_false true = refl
-and_false false = refl
-
-and_true : (p : Bool) → (p && true) ≡ p
-and_true true = refl
-and_true false = refl
-
 -- it has ended where it begins
 pub begins_never : (first k j : ℕ) (stopped fit : Bool) → first ≡ k → stopped ≡ false → one ((first == j) && ((nat_lt j k || stopped) && fit)) ≡ 0
 begins_never first k j stopped fit e s =
@@ -205,10 +190,6 @@ sum_total w [] = refl
 sum_total w (x ∷ xs) = sum_by-cons w x xs ∙ ap (λ (n : ℕ). w x + n) (sum_total w xs)
 
 -- ---- chains
-
-both : (a b : Bool) → (a && b) ≡ true → (a ≡ true) × (b ≡ true)
-both true b h = (refl, h)
-both false b h = absurd (false≢true h)
 
 pub chain_told : (s k : ℕ) (xs : List Stay) → chains s xs k ≡ true → Chain s (map visit_of xs) k × AllByRecursion (λ v. v.from ≤ v.to) (map visit_of xs)
 chain_told s k [] c = (eqb-true s k c, tt)

@@ -1,8 +1,8 @@
 -- Tenants at the first boundaries of their runs (own).
 use Rattle.std.specs.Prelude.{◌≡◌, List, [], ◌∷◌, ⊤}
-use Rattle.vl_design.specs.Alone.{first_tick}
-use Rattle.ten_parcel.specs.Parcels.{origin_in, run_of, ticks_of}
-use Rattle.fab_rounds.specs.declared.outcomes.Start.{Start}
+use Rattle.ten_files.specs.vl_design.specs.Alone.{first_tick}
+use Rattle.fab_orders.specs.ten_parcel.specs.Parcels.{origin_in, run_of, ticks_of}
+use Rattle.fab_orders.specs.declared.outcomes.Start.{Start}
 use Rattle.host_judge.specs.declared.verdict.Ready.{Ready}
 
 -- a tenant at the first boundary of its run, on its fabric

@@ -1,17 +1,17 @@
 -- What a report says of the tenants of a script (own).
 use Rattle.std.specs.Prelude.{◌≡◌, ℕ, ◌+◌, ◌<◌, length, Bool, true, false, List, [], ◌∷◌, Option, Some, None, ⊤}
-use Rattle.vl_design.specs.Alone.{first_tick, FreeSave, Keeps}
-use Rattle.vl_design.specs.Cost.{cost}
-use Rattle.vl_design.specs.Snapshots.{Saved}
-use Rattle.ten_parcel.specs.Parcels.{free_of, run_of, ticks_of}
-use Rattle.fab_notes.specs.declared.transit.Transit.{Transit}
-use Rattle.fab_rounds.specs.declared.outcomes.Answer.{Answer}
-use Rattle.fab_rounds.specs.Orders as run
-use Rattle.fab_rounds.specs.Orders.{moved_at}
-use Rattle.host_form.specs.Orders.{moves_of, puts_at, saves_of, stop_of, Answered}
-use Rattle.host_form.specs.Runs.{Outcome, Ran, Refused, Run}
-use Rattle.host_form.specs.Saves.{IsReordered}
-use Rattle.host_judge.specs.declared.verdict.Refusal.{Refusal}
+use Rattle.ten_files.specs.vl_design.specs.Alone.{first_tick, FreeSave, Keeps}
+use Rattle.ten_files.specs.vl_design.specs.Cost.{cost}
+use Rattle.ten_files.specs.vl_design.specs.Snapshots.{Saved}
+use Rattle.fab_orders.specs.ten_parcel.specs.Parcels.{free_of, run_of, ticks_of}
+use Rattle.host_report.specs.fab_model.specs.declared.transit.Transit.{Transit}
+use Rattle.fab_orders.specs.declared.outcomes.Answer.{Answer}
+use Rattle.fab_orders.specs.Orders as run
+use Rattle.fab_orders.specs.Orders.{moved_at}
+use Rattle.host_judge.specs.host_form.specs.Orders.{moves_of, puts_at, saves_of, stop_of, Answered}
+use Rattle.host_judge.specs.host_form.specs.Runs.{Outcome, Ran, Refused, Run}
+use Rattle.host_judge.specs.host_form.specs.Saves.{IsReordered}
+use Rattle.host_judge.specs.host_form.specs.declared.refusal.Refusal.{Refusal}
 use Rattle.host_outcomes.specs.Reported.{number_in, numbers_from}
 
 abbrev pub is_refusal : Outcome → Bool

@@ -1,9 +1,9 @@
 -- What the histories of a run tell a report (own).
 use Rattle.std.specs.Prelude.{ℕ, ◌+◌, Bool, true, false, List, [], ◌∷◌, length, map, slice_index_or}
-use Rattle.fab_bay.specs.declared.noted.NotedCore.{NotedCore}
-use Rattle.host_form.specs.Histories as report
-use Rattle.host_form.specs.Histories.{Histories}
-use Rattle.host_notes.specs.Told.{told}
+use Rattle.fab_orders.specs.fab_bay.specs.declared.noted.NotedCore.{NotedCore}
+use Rattle.host_judge.specs.host_form.specs.Histories as report
+use Rattle.host_judge.specs.host_form.specs.Histories.{Histories}
+use Rattle.host_report.specs.Told.{told}
 
 -- the history that each bay tells, in the order of the fabrics
 abbrev pub histories_of : List NotedCore → Histories

@@ -1,11 +1,11 @@
 -- What the histories of a report show of orders (own).
 use Rattle.std.specs.Prelude.{◌≡◌, ℕ, ◌<◌}
-use Rattle.fab_rounds.specs.declared.outcomes.Outcome.{Outcome}
-use Rattle.fab_rounds.specs.declared.outcomes.Start.{Start}
-use Rattle.fab_rounds.specs.Orders.{found_by, moved_at, reached_in}
-use Rattle.fab_rounds.specs.Outcomes.{line_of, IsUnended}
-use Rattle.fab_rounds.specs.Totals.{total}
-use Rattle.host_form.specs.Histories.{history_of, lefts_at, lines_at, reached, Histories, IsPlaced}
+use Rattle.fab_orders.specs.declared.outcomes.Outcome.{Outcome}
+use Rattle.fab_orders.specs.declared.outcomes.Start.{Start}
+use Rattle.fab_orders.specs.Orders.{found_by, moved_at, reached_in}
+use Rattle.fab_orders.specs.Outcomes.{line_of, IsUnended}
+use Rattle.fab_orders.specs.Totals.{total}
+use Rattle.host_judge.specs.host_form.specs.Histories.{history_of, lefts_at, lines_at, reached, Histories, IsPlaced}
 
 -- of the tenant of number n in these histories, which is tenant k of a run and begins so: where an order moved it, it is put in line; where it was found
 -- for one, it leaves; its notes go as far as in the bays; and it is put in line nowhere unless its run doesn't end where it begins

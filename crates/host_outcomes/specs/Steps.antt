@@ -1,15 +1,15 @@
 -- How the free orders of a script are gone through (own).
 use Rattle.std.specs.Prelude.{◌≡◌, ℕ, ◌≤◌, Bool, true, if◌then◌else◌, List, ◌++◌, drop, length, map, slice_index_or, Option, Some, None}
-use Rattle.vl_design.specs.Cost.{Cost}
-use Rattle.script_text.specs.declared.script.FabricLine.{FabricLine}
-use Rattle.script_text.specs.declared.script.Free.{Free}
-use Rattle.script_text.specs.declared.script.Script.{Script}
-use Rattle.script_text.specs.Laws.{IsFree}
-use Rattle.report_text.specs.declared.block.FreeLine.{FreeLine}
-use Rattle.report_text.specs.declared.block.Reply.{Reply}
-use Rattle.report_text.specs.declared.block.Reply.TheVariants as reply_is
-use Rattle.fab_rounds.specs.declared.outcomes.Answer.{Answer}
-use Rattle.host_form.specs.Orders.{free_line, tenant_of}
+use Rattle.ten_files.specs.vl_design.specs.Cost.{Cost}
+use Rattle.host_judge.specs.host_text.specs.declared.script.FabricLine.{FabricLine}
+use Rattle.host_judge.specs.host_text.specs.declared.script.Free.{Free}
+use Rattle.host_judge.specs.host_text.specs.declared.script.Script.{Script}
+use Rattle.host_judge.specs.host_text.specs.Laws.{IsFree}
+use Rattle.host_judge.specs.host_text.specs.declared.block.FreeLine.{FreeLine}
+use Rattle.host_judge.specs.host_text.specs.declared.block.Reply.{Reply}
+use Rattle.host_judge.specs.host_text.specs.declared.block.Reply.TheVariants as reply_is
+use Rattle.fab_orders.specs.declared.outcomes.Answer.{Answer}
+use Rattle.host_judge.specs.host_form.specs.Orders.{free_line, tenant_of}
 use Rattle.host_outcomes.specs.Given.{answered, given, has_place, no_cost, rank}
 
 -- a free order of some tenant, at one of so many fabrics

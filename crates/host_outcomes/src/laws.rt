@@ -1,34 +1,34 @@
 //! What a report reads of a run's outcome, and which replies it may have. Each function does nothing; its contract is the law.
 
 ghost use Rattle.std.specs.Prelude.{◌≡◌, ℕ, ◌<◌, Bool, List, map, length, slice_index_or, Option, [], filter, not};
-ghost use Rattle.fab_bay.specs.declared.noted.Label.{Label};
-ghost use Rattle.fab_rounds.specs.declared.outcomes.Order.{Order};
-ghost use Rattle.fab_rounds.specs.declared.outcomes.Outcome.{Outcome};
-ghost use Rattle.fab_rounds.specs.declared.outcomes.Start.{Start};
-ghost use Rattle.fab_rounds.specs.Outcomes.{IsOutcome};
-ghost use Rattle.fab_rounds.specs.Starts.{AreLabels, AreStarts};
-ghost use Rattle.script_text.specs.declared.script.Script.{Script};
-ghost use Rattle.host_form.specs.Origins.{Tenant};
-ghost use Rattle.host_form.specs.Orders.{Answered};
-ghost use Rattle.host_form.specs.Reports.{blocks_of, AreOutcomes};
+ghost use Rattle.fab_orders.specs.fab_bay.specs.declared.noted.Label.{Label};
+ghost use Rattle.fab_orders.specs.declared.outcomes.Order.{Order};
+ghost use Rattle.fab_orders.specs.declared.outcomes.Outcome.{Outcome};
+ghost use Rattle.fab_orders.specs.declared.outcomes.Start.{Start};
+ghost use Rattle.fab_orders.specs.Outcomes.{IsOutcome};
+ghost use Rattle.fab_orders.specs.Starts.{AreLabels, AreStarts};
+ghost use Rattle.host_judge.specs.host_text.specs.declared.script.Script.{Script};
+ghost use Rattle.host_judge.specs.host_form.specs.Origins.{Tenant};
+ghost use Rattle.host_judge.specs.host_form.specs.Orders.{Answered};
+ghost use Rattle.host_judge.specs.host_form.specs.Reports.{blocks_of, AreOutcomes};
 ghost use Rattle.host_judge.specs.declared.verdict.Ready.{Ready};
-ghost use Rattle.host_judge.specs.declared.verdict.Refusal.{Refusal};
+ghost use Rattle.host_judge.specs.host_form.specs.declared.refusal.Refusal.{Refusal};
 ghost use Rattle.host_judge.specs.Judged.{AreJudged};
-ghost use Rattle.host_blocks.specs.Ends.{is_refused, AreEnds};
+ghost use Rattle.host_report.specs.Ends.{is_refused, AreEnds};
 ghost use Rattle.host_outcomes.specs.Begun.{AreBegun};
 ghost use Rattle.host_outcomes.specs.Ends.{is_refusal, AreTold, DidAs};
 ghost use Rattle.host_outcomes.specs.Reported.{histories_for, number_in, numbers_from};
 ghost use Rattle.host_outcomes.specs.Seen.{Sees};
-ghost use Rattle.vl_design.specs.Cost.{Cost};
-ghost use Rattle.script_text.specs.declared.script.FabricLine.{FabricLine};
-ghost use Rattle.script_text.specs.declared.script.Free.{Free};
-ghost use Rattle.script_text.specs.Laws.{IsWithinLimits};
-ghost use Rattle.fab_rounds.specs.declared.outcomes.Answer.{Answer};
-ghost use Rattle.fab_rounds.specs.Orders.{AreOrders};
-ghost use Rattle.host_form.specs.Histories.{Histories};
-ghost use Rattle.host_form.specs.Replies.{AreAnswered};
+ghost use Rattle.ten_files.specs.vl_design.specs.Cost.{Cost};
+ghost use Rattle.host_judge.specs.host_text.specs.declared.script.FabricLine.{FabricLine};
+ghost use Rattle.host_judge.specs.host_text.specs.declared.script.Free.{Free};
+ghost use Rattle.host_judge.specs.host_text.specs.Laws.{IsWithinLimits};
+ghost use Rattle.fab_orders.specs.declared.outcomes.Answer.{Answer};
+ghost use Rattle.fab_orders.specs.Orders.{AreOrders};
+ghost use Rattle.host_judge.specs.host_form.specs.Histories.{Histories};
+ghost use Rattle.host_judge.specs.host_form.specs.Replies.{AreAnswered};
 ghost use Rattle.host_outcomes.specs.Given.{answered, costs_begun, costs_of, given};
-ghost use Rattle.host_form.specs.Runs as report;
+ghost use Rattle.host_judge.specs.host_form.specs.Runs as report;
 
 /// What the histories of a report show of the orders that were done while tenants ran: those by number n, which is tenant k of those that ran.
 pub fn orders_are_seen()

@@ -2,24 +2,24 @@
 
 ghost use Rattle.std.specs.Prelude.{◌≡◌, ◌≤◌, ◌<◌, ◌+◌, ℕ, ◌++◌, ◌∷◌, List, IfOk, OnOk, filter, is_none, length, map, not, slice_index_or};
 ghost use Rattle.std.specs.List.{AllByRecursion};
-ghost use Rattle.script_text.specs.declared.script.Free.{Free as AnyFree};
-ghost use Rattle.script_text.specs.Laws.{IsFree, IsSpeltFabric};
-ghost use Rattle.ten_parcel.specs.Parcels.{IsParcel};
-ghost use Rattle.fab_rounds.specs.declared.outcomes.Answer.{Answer as AnyAnswer};
-ghost use Rattle.host_form.specs.Orders.{free_line};
-ghost use Rattle.host_blocks.specs.Ends.{is_refused};
+ghost use Rattle.host_judge.specs.host_text.specs.declared.script.Free.{Free as AnyFree};
+ghost use Rattle.host_judge.specs.host_text.specs.Laws.{IsFree, IsSpeltFabric};
+ghost use Rattle.fab_orders.specs.ten_parcel.specs.Parcels.{IsParcel};
+ghost use Rattle.fab_orders.specs.declared.outcomes.Answer.{Answer as AnyAnswer};
+ghost use Rattle.host_judge.specs.host_form.specs.Orders.{free_line};
+ghost use Rattle.host_report.specs.Ends.{is_refused};
 ghost use Rattle.host_outcomes.specs.Given.{answered, costs_begun, costs_of, given, order_for, reply_for, wanted_by, with_reply};
 ghost use Rattle.host_outcomes.specs.Steps.{said_at_once, AreMade};
 
 use crate::tenants::{begun_of, ended_of, number_among, reply_at_once, tenant_in};
 use crate::words::words_of;
-use fab_notes::transit::Transit;
-use fab_rounds::outcomes::{Answer, Order, Reached, Start, Wanted};
-use host_judge::verdict::Refusal;
-use report_text::block::{FreeLine, Reply};
-use script_text::script::{Free, Script};
+use fab_orders::outcomes::{Answer, Order, Reached, Start, Wanted};
+use host_judge::block::{FreeLine, Reply};
+use host_judge::refusal::Refusal;
+use host_judge::script::{Free, Script};
+use host_report::transit::Transit;
 use std::alloc::{AllocError, Global};
-use vl_files::name::copy_text;
+use ten_files::name::copy_text;
 
 /// What an order wants of its tenant.
 fn wanted_of(alloc: Global, order: &Free) -> Result<Wanted, AllocError>

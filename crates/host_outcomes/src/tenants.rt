@@ -2,21 +2,21 @@
 
 ghost use Rattle.std.specs.Prelude.{◌≡◌, ◌≤◌, ◌<◌, IfSome, filter, is_none, length, map, not, option_copied, option_map, take};
 ghost use Rattle.std.specs.List.{AllByRecursion};
-ghost use Rattle.vl_design.specs.Cost as design;
-ghost use Rattle.script_text.specs.Laws.{IsSpeltFabric};
-ghost use Rattle.ten_parcel.specs.Parcels.{run_of, IsParcel};
-ghost use Rattle.host_form.specs.Origins as form;
-ghost use Rattle.host_form.specs.Orders.{tenant_of};
-ghost use Rattle.host_blocks.specs.Ends.{is_refused};
+ghost use Rattle.ten_files.specs.vl_design.specs.Cost as design;
+ghost use Rattle.host_judge.specs.host_text.specs.Laws.{IsSpeltFabric};
+ghost use Rattle.fab_orders.specs.ten_parcel.specs.Parcels.{run_of, IsParcel};
+ghost use Rattle.host_judge.specs.host_form.specs.Origins as form;
+ghost use Rattle.host_judge.specs.host_form.specs.Orders.{tenant_of};
+ghost use Rattle.host_report.specs.Ends.{is_refused};
 ghost use Rattle.host_outcomes.specs.Given.{costs_begun, costs_of, has_place, rank};
 ghost use Rattle.host_outcomes.specs.Steps.{at_once, cost_in, IsFreeWithin};
 
-use fab_notes::transit::Transit;
-use fab_rounds::outcomes::Start;
-use host_judge::verdict::Refusal;
-use report_text::block::Reply;
-use script_text::script::{FabricLine, Free};
-use ten_parcel::parcel::Parcel;
+use fab_orders::outcomes::Start;
+use fab_orders::parcel::Parcel;
+use host_judge::block::Reply;
+use host_judge::refusal::Refusal;
+use host_judge::script::{FabricLine, Free};
+use host_report::transit::Transit;
 
 /// How many of the first n tenants are not refused.
 fn count_before(refusals: &[Option<Refusal>], n: usize) -> usize

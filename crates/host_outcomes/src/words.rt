@@ -1,14 +1,14 @@
 //! The words of free orders.
 
 ghost use Rattle.std.specs.Prelude.{◌≡◌, ◌<◌, ◌∷◌, [], IfOk, length, option_map, slice_get, unwrap_or};
-ghost use Rattle.script_text.specs.declared.script.Free.TheVariants as free;
-ghost use Rattle.script_text.specs.Laws.{IsFree};
-ghost use Rattle.host_form.specs.Orders.{order_words, tenant_name};
+ghost use Rattle.host_judge.specs.host_text.specs.declared.script.Free.TheVariants as free;
+ghost use Rattle.host_judge.specs.host_text.specs.Laws.{IsFree};
+ghost use Rattle.host_judge.specs.host_form.specs.Orders.{order_words, tenant_name};
 
-use script_text::script::{Free, Script, TenantLine};
+use host_judge::script::{Free, Script, TenantLine};
 use std::alloc::{AllocError, Global};
-use vl_base::items::{Items, Text};
-use vl_files::name::copy_text;
+use ten_files::name::copy_text;
+use ten_files::{Items, Text};
 
 /// A text of these bytes.
 fn text_of(alloc: Global, bytes: &[u8]) -> Result<Text, AllocError>

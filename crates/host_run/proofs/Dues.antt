@@ -2,21 +2,21 @@
 use Rattle.std.proofs.Common.{◌≡◌, ◌≤◌, ℕ, Bool, true, false, List, [], length, Result, Ok, Err, refl, sym, ap, ◌∙◌, subst, inl, inr, arith}
 use Rattle.std.specs.Prelude.{◌≢◌, Option, Some, IfOk, IfSome, OnOk, Vec, if◌then◌else◌, ◌⊎◌}
 use Rattle.std.specs.List.{AllByRecursion}
-use Rattle.fab_io.specs.declared.store.ReadError.{ReadError}
-use Rattle.fab_io.specs.declared.store.ReadError.TheVariants as read
-use Rattle.fab_io.specs.Outside.{Files, HasRisen, IsAbsent, IsTold, IsTooLong}
-use Rattle.fab_bay.specs.declared.noted.NotedCore.{NotedCore}
-use Rattle.script_text.specs.declared.script.Script.{Script}
-use Rattle.script_text.specs.Laws.{IsSpelt, IsSpeltTenant}
-use Rattle.script_text.specs.Reading.{reading}
-use Rattle.host_load.specs.declared.loaded.Loaded.{Loaded}
+use Rattle.host_form.specs.fab_io.specs.declared.store.ReadError.{ReadError}
+use Rattle.host_form.specs.fab_io.specs.declared.store.ReadError.TheVariants as read
+use Rattle.host_form.specs.fab_io.specs.Outside.{Files, HasRisen, IsAbsent, IsTold, IsTooLong}
+use Rattle.fab_rounds.specs.fab_bay.specs.declared.noted.NotedCore.{NotedCore}
+use Rattle.host_text.specs.declared.script.Script.{Script}
+use Rattle.host_text.specs.Laws.{IsSpelt, IsSpeltTenant}
+use Rattle.host_text.specs.Reading.{reading}
+use Rattle.host_files.specs.declared.loaded.Loaded.{Loaded}
 use Rattle.host_form.specs.Origins.{Source, Accepted, Faulty}
-use Rattle.host_load.specs.Reading.{most_source, counts_of, AreLoaded, Counts, IsAvailable, IsCause, IsMissed}
-use Rattle.host_saves.specs.Kept.{CanBeKept}
-use Rattle.host_saves.specs.Writes.{writes_of, Write}
-use Rattle.host_script.specs.declared.reported.Reported.{Reported}
-use Rattle.host_script.specs.Reported.{AreBays, IsReported}
-use Rattle.host_script.specs.Runs.{HasRun}
+use Rattle.host_files.specs.Reading.{most_source, counts_of, AreLoaded, Counts, IsAvailable, IsCause, IsMissed}
+use Rattle.host_files.specs.Kept.{CanBeKept}
+use Rattle.host_files.specs.Writes.{writes_of, Write}
+use Rattle.host_run.specs.declared.reported.Reported.{Reported}
+use Rattle.host_run.specs.Reported.{AreBays, IsReported}
+use Rattle.host_run.specs.Runs.{HasRun}
 use Rattle.host_check.specs.Checks.{check_status, IsCheck}
 use Rattle.host_demo.specs.Sources.{files_of}
 use Rattle.host_demo.specs.Summary.{summary}

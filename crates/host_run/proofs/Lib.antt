@@ -3,3 +3,16 @@ pub mod Outcomes
 pub mod Parsing
 pub mod Serving
 pub mod Takings
+pub mod Rooms
+pub mod Placed
+pub mod Loaded
+pub mod BaysOfScript
+pub mod Beginnings
+pub mod Endings
+pub mod Keeping
+pub mod Named
+pub mod Refused
+pub mod Reports
+pub mod Saves
+pub mod Saying
+pub mod Tellable

@@ -2,27 +2,21 @@
 use Rattle.std.proofs.Common.{◌≡◌, ◌≤◌, ℕ, List, [], ◌∷◌, ◌++◌, length, take, drop, Ok, refl, sym, ap, ◌∙◌, subst, arith, inl, inr}
 use Rattle.std.specs.Prelude.{Option, Some, None, option_map, ◌⊎◌}
 use Rattle.std.proofs.lemmas.List.{take-append-drop}
-use Rattle.fab_io.specs.declared.store.ReadError.{ReadError}
-use Rattle.fab_io.specs.declared.store.ReadError.TheVariants as read
-use Rattle.fab_io.specs.Outside.{Files, HasRisen, IsAbsent, IsTold, IsTooLong}
-use Rattle.fab_bay.specs.declared.noted.NotedCore.{NotedCore}
-use Rattle.script_text.specs.declared.script.Script.{Script}
-use Rattle.script_text.specs.Reading.{reading}
-use Rattle.host_load.specs.Reading.{Counts, IsAsked, IsCause, IsMissed}
-use Rattle.host_saves.specs.Writes.{after_writes, LeavesFront, Write}
+use Rattle.host_form.specs.fab_io.specs.declared.store.ReadError.{ReadError}
+use Rattle.host_form.specs.fab_io.specs.declared.store.ReadError.TheVariants as read
+use Rattle.host_form.specs.fab_io.specs.Outside.{Files, HasRisen, IsAbsent, IsTold, IsTooLong}
+use Rattle.fab_rounds.specs.fab_bay.specs.declared.noted.NotedCore.{NotedCore}
+use Rattle.host_text.specs.declared.script.Script.{Script}
+use Rattle.host_text.specs.Reading.{reading}
+use Rattle.host_files.specs.Reading.{Counts, IsAsked, IsCause, IsMissed}
+use Rattle.host_files.specs.Writes.{after_writes, LeavesFront, Write}
 use Rattle.host_run.specs.Taking.{Takes}
 use Rattle.host_run.specs.Demos.{IsShown}
 use Rattle.host_run.specs.Words.{command_of, path_of, Command, Run, Check, Demo}
 use Rattle.host_run.specs.Due.{Outside, IsDue, ran, checked, shown, misused, misread, unread_named, unread_file, all, cut, short, unsaved, Outcome, wrote, starved, most_of}
 use Rattle.host_run.specs.Claims.{HasReported, HasJudged, HasShown, IsMisused, HasMisread, HasMissed, IsUnread, TakesFront, IsGiven, IsServed, IsFaulty, IsCheckable, IsStarved}
-
-pub written-none : (told : Option Files) → option_map (after_writes []) told ≡ told
-written-none None = refl
-written-none (Some files) = refl
-
-append-none : {A : Type 0} (xs : List A) → xs ++ [] ≡ xs
-append-none [] = refl
-append-none (x ∷ xs) = ap (λ (zs : List _). x ∷ zs) (append-none xs)
+use Rattle.host_text.specs.vl_base.proofs.Lists.{append_nil as append-none}
+pub use Rattle.host_files.proofs.Writing.{with_none as written-none}
 
 -- no cause without a count that rose, where the file is told within its limit
 no-cause : (told : Option Files) (files : Files) (old new : Counts) (path bytes : List ℕ) (most : ℕ) (why : ReadError) → told ≡ Some files → files path ≡ Some bytes → length bytes ≤ most

@@ -16,6 +16,7 @@ use Rattle.host_run.specs.declared.words.Command.TheVariants as of
 use Rattle.host_run.specs.Said.{command_in, CanBeRun}
 use Rattle.host_run.specs.Words.{among, command_by, command_of, number_of, tenants_of, Command, Run, Check, Demo}
 use Rattle.host_run.specs.Parser.{program, value_in, IsMatched}
+use Rattle.host_text.specs.vl_base.proofs.Lists.{bytes_eq_from as same}
 
 run-taken : (b : ℕ) (bs : List ℕ) → (b == 45) ≡ false → takes program (codes "run" ∷ (b ∷ bs) ∷ []) ≡ true
 unfolding clap_on_literals
@@ -51,9 +52,6 @@ demo-matched : (b : ℕ) (bs verb : List ℕ) → (b == 45) ≡ false → verb �
 demo-matched b bs verb h e = subst (λ v. IsMatched v (b ∷ bs)) (sym e) (record { taken = demo-taken b bs h; value = demo-value b bs h })
 
 -- ---- the words of a command are a verb and a word
-
-same : (xs ys : List ℕ) → bytes_eq xs ys ≡ true → xs ≡ ys
-same xs ys h = (bytes_eq-Decides xs ys).0 h
 
 by-verb : (b : ℕ) (bs verb : List ℕ) (c : Command) (y z u : Bool) → (b == 45) ≡ false → bytes_eq verb (codes "run") ≡ y → bytes_eq verb (codes "check") ≡ z → bytes_eq verb (codes "demo") ≡ u
     → (if y then Some (Run (b ∷ bs)) else if z then Some (Check (b ∷ bs)) else if u then option_map Demo (tenants_of (b ∷ bs)) else None) ≡ Some c → IsMatched verb (b ∷ bs)

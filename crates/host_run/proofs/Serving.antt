@@ -1,29 +1,26 @@
 -- What comes of writing what is due, and when it was due.
 use Rattle.std.proofs.Common.{◌≡◌, ◌≤◌, ℕ, List, [], take, Result, Ok, Err, refl, sym, ap, ◌∙◌, subst, arith, inl, inr}
 use Rattle.std.specs.Prelude.{Option, option_map, OnOk, OnErr, IsErrOf}
-use Rattle.fab_io.specs.declared.store.ReadError.{ReadError}
-use Rattle.fab_io.specs.declared.store.ReadError.TheVariants as read
-use Rattle.fab_io.specs.declared.store.WriteError.{WriteError}
-use Rattle.fab_io.specs.declared.store.WriteError.TheVariants.{Failed, Memory}
-use Rattle.fab_io.specs.Outside.{Files, HasRisen}
-use Rattle.fab_bay.specs.declared.noted.NotedCore.{NotedCore}
-use Rattle.script_text.specs.declared.script.Script.{Script}
-use Rattle.host_load.specs.Reading.{Counts, IsCause, IsMissed}
-use Rattle.host_saves.specs.Writes.{after_writes, LeavesFront, Write}
+use Rattle.host_form.specs.fab_io.specs.declared.store.ReadError.{ReadError}
+use Rattle.host_form.specs.fab_io.specs.declared.store.ReadError.TheVariants as read
+use Rattle.host_form.specs.fab_io.specs.declared.store.WriteError.{WriteError}
+use Rattle.host_form.specs.fab_io.specs.declared.store.WriteError.TheVariants.{Failed, Memory}
+use Rattle.host_form.specs.fab_io.specs.Outside.{Files, HasRisen}
+use Rattle.fab_rounds.specs.fab_bay.specs.declared.noted.NotedCore.{NotedCore}
+use Rattle.host_text.specs.declared.script.Script.{Script}
+use Rattle.host_files.specs.Reading.{Counts, IsCause, IsMissed}
+use Rattle.host_files.specs.Writes.{after_writes, LeavesFront, Write}
 use Rattle.host_run.specs.Taking.{Takes}
 use Rattle.host_run.specs.Due.{most_of, Outside, outside, IsDue, ran, checked, shown, misused, misread, unread_named, unread_file, Wrote, all, cut, short, unsaved}
 use Rattle.host_run.specs.Statuses.{status_of}
 use Rattle.host_run.proofs.Outcomes.{written-none}
+use Rattle.host_form.specs.fab_io.proofs.Shared.{risen-before}
 
 -- ---- counts
 
 risen-later : (x y z : ℕ) → y ≤ z → HasRisen x y → HasRisen x z
 risen-later x y z h (inl r) = inl (omega (arith, h, r))
 risen-later x y z h (inr r) = inr (omega (arith, h, r))
-
-risen-before : (x y z : ℕ) → x ≤ y → HasRisen y z → HasRisen x z
-risen-before x y z h (inl r) = inl (omega (arith, h, r))
-risen-before x y z h (inr r) = inr r
 
 cause-later : (told : Option Files) (old mid new : Counts) (path : List ℕ) (most : ℕ) (why : ReadError) → mid.faults ≤ new.faults → mid.absences ≤ new.absences
     → IsCause told old mid path most why → IsCause told old new path most why

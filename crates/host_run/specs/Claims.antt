@@ -1,14 +1,14 @@
 -- What the host claims, status by status.
 use Rattle.std.specs.Prelude.{◌≡◌, ◌≢◌, ℕ, ◌≤◌, List, [], ◌++◌, length, Option, Some, None, option_map, Ok, Err, ◌⊎◌}
-use Rattle.fab_io.specs.declared.store.ReadError.{ReadError}
-use Rattle.fab_io.specs.Outside.{Files, IsTold}
-use Rattle.fab_bay.specs.declared.noted.NotedCore.{NotedCore}
-use Rattle.script_text.specs.declared.script.Script.{Script}
-use Rattle.script_text.specs.Reading.{reading}
-use Rattle.host_load.specs.Reading.{most_source, IsAvailable, IsCause, IsMissed}
-use Rattle.host_saves.specs.Writes.{after_writes, LeavesFront, Write}
-use Rattle.host_script.specs.Reported.{AreBays}
-use Rattle.host_script.specs.Runs.{HasRun}
+use Rattle.host_form.specs.fab_io.specs.declared.store.ReadError.{ReadError}
+use Rattle.host_form.specs.fab_io.specs.Outside.{Files, IsTold}
+use Rattle.fab_rounds.specs.fab_bay.specs.declared.noted.NotedCore.{NotedCore}
+use Rattle.host_text.specs.declared.script.Script.{Script}
+use Rattle.host_text.specs.Reading.{reading}
+use Rattle.host_files.specs.Reading.{most_source, IsAvailable, IsCause, IsMissed}
+use Rattle.host_files.specs.Writes.{after_writes, LeavesFront, Write}
+use Rattle.host_run.specs.Reported.{AreBays}
+use Rattle.host_run.specs.Runs.{HasRun}
 use Rattle.host_run.specs.Taking.{Takes}
 use Rattle.host_check.specs.Checks.{IsCheck}
 use Rattle.host_run.specs.Demos.{IsShown}

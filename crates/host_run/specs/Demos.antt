@@ -1,12 +1,12 @@
 -- What is due for the demonstration.
 use Rattle.std.specs.Prelude.{◌≡◌, ℕ, List, Ok}
-use Rattle.fab_io.specs.Outside.{Files}
-use Rattle.fab_bay.specs.declared.noted.NotedCore.{NotedCore}
-use Rattle.report_text.specs.declared.block.Block.{Block}
-use Rattle.script_text.specs.declared.script.Script.{Script}
-use Rattle.script_text.specs.Reading.{reading}
-use Rattle.host_script.specs.Reported.{AreBays}
-use Rattle.host_script.specs.Runs.{HasBlocks}
+use Rattle.host_form.specs.fab_io.specs.Outside.{Files}
+use Rattle.fab_rounds.specs.fab_bay.specs.declared.noted.NotedCore.{NotedCore}
+use Rattle.host_text.specs.declared.block.Block.{Block}
+use Rattle.host_text.specs.declared.script.Script.{Script}
+use Rattle.host_text.specs.Reading.{reading}
+use Rattle.host_run.specs.Reported.{AreBays}
+use Rattle.host_run.specs.Runs.{HasBlocks}
 use Rattle.host_demo.specs.Sources.{files_of}
 use Rattle.host_demo.specs.Summary.{summary}
 use Rattle.host_demo.specs.Texts as demo

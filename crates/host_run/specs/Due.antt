@@ -1,19 +1,21 @@
 -- What the host is due to print, and with which status.
 use Rattle.std.specs.Prelude.{◌≡◌, ℕ, ◌≤◌, List, [], length, take, Option, Some, None, option_map, Ok, Err, ◌⊎◌}
-use Rattle.fab_io.specs.declared.store.ReadError.{ReadError}
-use Rattle.fab_io.specs.Outside.{Files, HasRisen, IsTold}
-use Rattle.fab_bay.specs.declared.noted.NotedCore.{NotedCore}
-use Rattle.script_text.specs.declared.script.Script.{Script}
-use Rattle.script_text.specs.Reading.{reading}
-use Rattle.host_load.specs.Reading.{counts_of, most_source, Counts, IsCause, IsMissed}
-use Rattle.host_saves.specs.Writes.{after_writes, LeavesFront, Write}
-use Rattle.host_script.specs.Reported.{AreBays}
-use Rattle.host_script.specs.Runs.{HasRun}
+use Rattle.host_form.specs.fab_io.specs.declared.store.ReadError.{ReadError}
+use Rattle.host_form.specs.fab_io.specs.Outside.{Files, HasRisen, IsTold}
+use Rattle.fab_rounds.specs.fab_bay.specs.declared.noted.NotedCore.{NotedCore}
+use Rattle.host_text.specs.declared.script.Script.{Script}
+use Rattle.host_text.specs.Reading.{reading}
+use Rattle.host_files.specs.Reading.{counts_of, most_source, Counts, IsCause, IsMissed}
+use Rattle.host_files.specs.Writes.{after_writes, LeavesFront, Write}
+use Rattle.host_run.specs.Reported.{AreBays}
+use Rattle.host_run.specs.Runs.{HasRun}
 use Rattle.host_run.specs.Taking.{Takes}
 use Rattle.host_check.specs.Checks.{IsCheck}
 use Rattle.host_run.specs.Demos.{IsShown}
 use Rattle.host_run.specs.Words.{command_of, path_of, Command, Run, Check, Demo}
 use Rattle.host_run.specs.Lines.{fault, unread, usage}
+use Rattle.host_form.specs.fab_io.specs.declared.store.Store.{Ghosts as StoreGhosts}
+use Rattle.host_form.specs.fab_io.specs.declared.sink.Sink.{Ghosts as SinkGhosts}
 
 -- the most bytes that are read of a script
 abbrev pub most_script : ℕ
@@ -54,6 +56,10 @@ pub record Outside : Type 0 where
 
 abbrev pub outside : Option Files → (faults absences : ℕ) → Option (List ℕ) → ℕ → Outside
 outside told faults absences taken failures = record { told = told; counts = counts_of faults absences; taken = taken; failures = failures }
+
+-- what a store and a sink tell of themselves
+abbrev pub around : {S K : Type 0} → StoreGhosts S → SinkGhosts K → S → K → Outside
+around tells takes store sink = outside (tells.told store) (tells.faults store) (tells.absences store) (takes.taken sink) (takes.faults sink)
 
 -- what came of writing a text that has this status, with files behind it: all was written; or the sink failed, or memory, after a front of
 -- the text; or the store failed, or memory, after a front of the files

@@ -1,11 +1,11 @@
 -- What is due, as the code has it (own).
 use Rattle.std.specs.Prelude.{◌≡◌, ℕ, List, [], length, Option}
 use Rattle.std.specs.List.{AllByRecursion}
-use Rattle.fab_io.specs.Outside.{Files}
-use Rattle.script_text.specs.Laws.{IsSpeltTenant}
-use Rattle.host_load.specs.Reading.{Counts}
-use Rattle.host_saves.specs.Kept.{CanBeKept}
-use Rattle.host_saves.specs.Writes.{writes_of, Write}
+use Rattle.host_form.specs.fab_io.specs.Outside.{Files}
+use Rattle.host_text.specs.Laws.{IsSpeltTenant}
+use Rattle.host_files.specs.Reading.{Counts}
+use Rattle.host_files.specs.Kept.{CanBeKept}
+use Rattle.host_files.specs.Writes.{writes_of, Write}
 use Rattle.host_run.specs.declared.due.Due.{Due}
 use Rattle.host_run.specs.Due.{IsDue}
 

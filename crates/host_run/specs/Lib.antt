@@ -8,3 +8,8 @@ pub mod Said
 pub mod Statuses
 pub mod Taking
 pub mod Words
+pub mod Rooms
+pub mod Made
+pub mod Reported
+pub mod Steps
+pub mod Runs

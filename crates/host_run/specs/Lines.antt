@@ -1,8 +1,8 @@
 -- The lines that the host prints in place of a report.
 use Rattle.std.specs.Prelude.{ℕ, List, ◌++◌, codes}
 use Rattle.std.specs.Fmt.{decimal}
-use Rattle.fab_io.specs.declared.store.ReadError.{ReadError}
-use Rattle.fab_io.specs.declared.store.ReadError.TheVariants as read
+use Rattle.host_form.specs.fab_io.specs.declared.store.ReadError.{ReadError}
+use Rattle.host_form.specs.fab_io.specs.declared.store.ReadError.TheVariants as read
 
 abbrev pub usage : List ℕ
 usage = codes "usage: fabhost run SCRIPT | check SOURCE | demo N\n"

@@ -1,7 +1,7 @@
 -- The status of a call behind a write.
 use Rattle.std.specs.Prelude.{ℕ, Result, Ok, Err}
-use Rattle.fab_io.specs.declared.store.WriteError.{WriteError}
-use Rattle.fab_io.specs.declared.store.WriteError.TheVariants as error
+use Rattle.host_form.specs.fab_io.specs.declared.store.WriteError.{WriteError}
+use Rattle.host_form.specs.fab_io.specs.declared.store.WriteError.TheVariants as error
 
 -- 6 where the sink or the store failed, 7 for want of memory
 abbrev pub status_of : {X : Type 0} → Result X WriteError → ℕ → ℕ

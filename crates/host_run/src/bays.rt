@@ -2,7 +2,7 @@
 
 ghost use Rattle.std.specs.Prelude.{◌≡◌, [], option_copied, slice_get};
 
-use fab_bay::bay::Bay;
+use fab_rounds::bay::Bay;
 use std::alloc::Global;
 use std::marker::Model;
 
@@ -15,8 +15,8 @@ pub struct Bays {
 impl Model for Bays {
     ghost use Rattle.std.specs.Prelude.{List};
     ghost use Rattle.std.specs.Coded.{coded_list};
-    ghost use Rattle.fab_bay.specs.contracts.noted.NotedCore as held;
-    ghost use Rattle.fab_bay.specs.declared.noted.NotedCore.{NotedCore};
+    ghost use Rattle.fab_rounds.specs.fab_bay.specs.contracts.noted.NotedCore as held;
+    ghost use Rattle.fab_rounds.specs.fab_bay.specs.declared.noted.NotedCore.{NotedCore};
 
     ghost Value = { List NotedCore };
 

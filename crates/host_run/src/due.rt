@@ -1,10 +1,10 @@
 //! What is due for a command.
 
 ghost use Rattle.std.specs.Prelude.{◌≡◌, ◌≢◌, ◌≤◌, ℕ, List, [], length, IfOk, OnOk, if◌then◌else◌, Ok, Some};
-ghost use Rattle.fab_io.specs.Memory as m;
-ghost use Rattle.fab_io.specs.Outside.{IsTold};
-ghost use Rattle.script_text.specs.Reading.{reading};
-ghost use Rattle.host_load.specs.Reading.{counts_of, IsAvailable};
+ghost use Rattle.host_form.specs.fab_io.specs.Memory as m;
+ghost use Rattle.host_form.specs.fab_io.specs.Outside.{IsTold};
+ghost use Rattle.host_text.specs.Reading.{reading};
+ghost use Rattle.host_files.specs.Reading.{counts_of, IsAvailable};
 ghost use Rattle.host_check.specs.Checks.{IsCheck};
 ghost use Rattle.host_demo.specs.Summary as s;
 ghost use Rattle.host_run.specs.Demos.{IsSummed, IsShown};
@@ -15,27 +15,27 @@ ghost use Rattle.host_run.specs.Due.{most_script};
 ghost use Rattle.host_run.specs.Dues.{IsDueBy, IsOnly, KeepsNothing, CanBeWritten};
 
 use crate::lines;
+use crate::reported::Reported;
+use crate::run::run_script;
 use crate::words::Command;
-use fab_bay::bay::Bay;
-use fab_io::gate::Gate;
-use fab_io::store::{ReadError, Store};
+use fab_rounds::bay::Bay;
 use host_check::check::{Checked, check};
 use host_demo::laws::the_demonstration_can_be_run;
 use host_demo::script::script_text;
 use host_demo::store::{SteadyStore, store_of};
 use host_demo::summary::summary;
-use host_load::load::load;
-use host_load::loaded::LoadError;
-use host_saves::kept::Kept;
-use host_script::reported::Reported;
-use host_script::run::run_script;
-use script_text::laws::{a_script_keeps_to_its_limits, words_of_a_script_are_spelt};
-use script_text::read::read_script;
-use script_text::script::{Script, ScriptError, TenantLine};
+use host_files::kept::Kept;
+use host_files::load::load;
+use host_files::loaded::LoadError;
+use host_form::gate::Gate;
+use host_form::store::{ReadError, Store};
+use host_text::Items;
+use host_text::read::read_script;
+use host_text::script::{Script, ScriptError, TenantLine};
+use host_text::text_laws::{a_script_keeps_to_its_limits, words_of_a_script_are_spelt};
 use std::alloc::{AllocError, Global};
 use std::sync::Wait;
 use std::thread::Threads;
-use vl_base::items::Items;
 
 /// The most bytes that are read of a script.
 const MOST_SCRIPT: u64 = 1_048_576;

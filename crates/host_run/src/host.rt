@@ -2,9 +2,9 @@
 
 ghost use Rattle.std.specs.Prelude.{◌≡◌, ◌≤◌, ◌⊎◌, ℕ, List, [], map, None, Some};
 ghost use Rattle.std.specs.String.{string_bytes};
-ghost use Rattle.fab_io.specs.Outside.{HasRisen};
+ghost use Rattle.host_form.specs.fab_io.specs.Outside.{HasRisen};
 ghost use Rattle.host_run.specs.Words.{command_of, Run, Check, Demo};
-ghost use Rattle.host_run.specs.Due.{outside, Outcome, Wrote};
+ghost use Rattle.host_run.specs.Due.{around, Outcome, Wrote};
 ghost use Rattle.host_run.specs.Dues.{writes_due, CanBeWritten};
 ghost use Rattle.host_run.specs.Statuses as w;
 ghost use Rattle.host_run.specs.Claims.{HasReported, HasJudged, HasShown, IsMisused, HasMisread, HasMissed, TakesFront, IsServed, IsFaulty, IsCheckable, IsStarved};
@@ -15,10 +15,10 @@ use crate::lines;
 use crate::matches::command;
 use crate::put::put;
 use crate::words::is_command;
-use fab_io::gate::Gate;
-use fab_io::sink::Sink;
-use fab_io::store::{Store, WriteError};
-use host_saves::write::write_all;
+use host_files::write::write_all;
+use host_form::gate::Gate;
+use host_form::sink::Sink;
+use host_form::store::{Store, WriteError};
 use std::alloc::Global;
 use std::sync::Wait;
 use std::thread::Threads;
@@ -46,8 +46,7 @@ fn write_due<S: Store, K: Sink>(
     ensures faults { S.faults store.old ≤ S.faults store.new }
     ensures absences { S.absences store.old ≤ S.absences store.new }
     ensures bays { bays.new ≡ due.bays.items }
-    ensures wrote { Wrote due.text.items due.status (writes_due due) (outside (S.told store.old) (S.faults store.old) (S.absences store.old) (K.taken sink.old) (K.faults sink.old))
-        (outside (S.told store.new) (S.faults store.new) (S.absences store.new) (K.taken sink.new) (K.faults sink.new)) result }
+    ensures wrote { Wrote due.text.items due.status (writes_due due) (around S.Store K.Sink store.old sink.old) (around S.Store K.Sink store.new sink.new) result }
 {
     let Due {
         status,
@@ -74,8 +73,7 @@ fn serve<R: Threads + Wait + Sync, S: Store, K: Sink, G: Gate + Sync>(
     bays: &mut Bays,
 ) -> u8
     requires { bays.old ≡ [] }
-    ensures { Outcome (map string_bytes words.now) (outside (S.told store.old) (S.faults store.old) (S.absences store.old) (K.taken sink.old) (K.faults sink.old))
-        (outside (S.told store.new) (S.faults store.new) (S.absences store.new) (K.taken sink.new) (K.faults sink.new)) bays.new result }
+    ensures { Outcome (map string_bytes words.now) (around S.Store K.Sink store.old sink.old) (around S.Store K.Sink store.new sink.new) bays.new result }
 {
     if !is_command(words) {
         return status_of(put(sink, lines::usage()), 2);
@@ -110,25 +108,17 @@ pub fn host<R: Threads + Wait + Sync, S: Store, K: Sink, G: Gate + Sync>(
     requires { bays.old ≡ [] }
     // What the sink has taken, which files are told, and which bays are handed out, status by status.
     ensures ran { (path : List ℕ) → command_of (map string_bytes words.now) ≡ Some (Run path) → (result ≡ 0) ⊎ (result ≡ 3) →
-        HasReported (map string_bytes words.now) (outside (S.told store.old) (S.faults store.old) (S.absences store.old) (K.taken sink.old) (K.faults sink.old))
-        (outside (S.told store.new) (S.faults store.new) (S.absences store.new) (K.taken sink.new) (K.faults sink.new)) bays.new result }
+        HasReported (map string_bytes words.now) (around S.Store K.Sink store.old sink.old) (around S.Store K.Sink store.new sink.new) bays.new result }
     ensures checked { (path : List ℕ) → command_of (map string_bytes words.now) ≡ Some (Check path) → (result ≡ 0) ⊎ (result ≡ 3) →
-        HasJudged (map string_bytes words.now) (outside (S.told store.old) (S.faults store.old) (S.absences store.old) (K.taken sink.old) (K.faults sink.old))
-        (outside (S.told store.new) (S.faults store.new) (S.absences store.new) (K.taken sink.new) (K.faults sink.new)) bays.new result }
+        HasJudged (map string_bytes words.now) (around S.Store K.Sink store.old sink.old) (around S.Store K.Sink store.new sink.new) bays.new result }
     ensures shown { (tenants : ℕ) → command_of (map string_bytes words.now) ≡ Some (Demo tenants) → result ≡ 0 →
-        HasShown tenants (outside (S.told store.old) (S.faults store.old) (S.absences store.old) (K.taken sink.old) (K.faults sink.old))
-        (outside (S.told store.new) (S.faults store.new) (S.absences store.new) (K.taken sink.new) (K.faults sink.new)) bays.new }
-    ensures misused { result ≡ 2 → IsMisused (map string_bytes words.now) (outside (S.told store.old) (S.faults store.old) (S.absences store.old) (K.taken sink.old) (K.faults sink.old))
-        (outside (S.told store.new) (S.faults store.new) (S.absences store.new) (K.taken sink.new) (K.faults sink.new)) bays.new }
-    ensures misread { result ≡ 4 → HasMisread (map string_bytes words.now) (outside (S.told store.old) (S.faults store.old) (S.absences store.old) (K.taken sink.old) (K.faults sink.old))
-        (outside (S.told store.new) (S.faults store.new) (S.absences store.new) (K.taken sink.new) (K.faults sink.new)) bays.new }
-    ensures missed { result ≡ 5 → HasMissed (map string_bytes words.now) (outside (S.told store.old) (S.faults store.old) (S.absences store.old) (K.taken sink.old) (K.faults sink.old))
-        (outside (S.told store.new) (S.faults store.new) (S.absences store.new) (K.taken sink.new) (K.faults sink.new)) bays.new }
+        HasShown tenants (around S.Store K.Sink store.old sink.old) (around S.Store K.Sink store.new sink.new) bays.new }
+    ensures misused { result ≡ 2 → IsMisused (map string_bytes words.now) (around S.Store K.Sink store.old sink.old) (around S.Store K.Sink store.new sink.new) bays.new }
+    ensures misread { result ≡ 4 → HasMisread (map string_bytes words.now) (around S.Store K.Sink store.old sink.old) (around S.Store K.Sink store.new sink.new) bays.new }
+    ensures missed { result ≡ 5 → HasMissed (map string_bytes words.now) (around S.Store K.Sink store.old sink.old) (around S.Store K.Sink store.new sink.new) bays.new }
     ensures failed { result ≡ 6 → HasRisen (K.faults sink.old) (K.faults sink.new) ⊎ HasRisen (S.faults store.old) (S.faults store.new) }
-    ensures cut { result ≡ 6 → TakesFront (map string_bytes words.now) (outside (S.told store.old) (S.faults store.old) (S.absences store.old) (K.taken sink.old) (K.faults sink.old))
-        (outside (S.told store.new) (S.faults store.new) (S.absences store.new) (K.taken sink.new) (K.faults sink.new)) bays.new }
-    ensures starved { result ≡ 7 → IsStarved (map string_bytes words.now) (outside (S.told store.old) (S.faults store.old) (S.absences store.old) (K.taken sink.old) (K.faults sink.old))
-        (outside (S.told store.new) (S.faults store.new) (S.absences store.new) (K.taken sink.new) (K.faults sink.new)) bays.new }
+    ensures cut { result ≡ 6 → TakesFront (map string_bytes words.now) (around S.Store K.Sink store.old sink.old) (around S.Store K.Sink store.new sink.new) bays.new }
+    ensures starved { result ≡ 7 → IsStarved (map string_bytes words.now) (around S.Store K.Sink store.old sink.old) (around S.Store K.Sink store.new sink.new) bays.new }
 
     // Which status it is.
     ensures statuses { (result ≡ 0) ⊎ ((result ≡ 2) ⊎ ((result ≡ 3) ⊎ ((result ≡ 4) ⊎ ((result ≡ 5) ⊎ ((result ≡ 6) ⊎ (result ≡ 7)))))) }

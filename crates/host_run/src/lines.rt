@@ -4,7 +4,7 @@ ghost use Rattle.std.specs.Prelude.{◌≡◌, ◌++◌, IfOk, OnOk};
 ghost use Rattle.std.specs.Fmt.{decimal};
 ghost use Rattle.host_run.specs.Lines as l;
 
-use fab_io::store::ReadError;
+use host_form::store::ReadError;
 use std::alloc::{AllocError, Global};
 
 /// Adds a number in decimal.

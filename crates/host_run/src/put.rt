@@ -1,11 +1,11 @@
 //! Writing a whole text.
 
 ghost use Rattle.std.specs.Prelude.{◌≡◌, ◌≤◌, ℕ, length, take, OnOk, OnErr, IsErrOf};
-ghost use Rattle.fab_io.specs.Outside.{HasRisen};
+ghost use Rattle.host_form.specs.fab_io.specs.Outside.{HasRisen};
 ghost use Rattle.host_run.specs.Taking.{Takes};
 
-use fab_io::sink::Sink;
-use fab_io::store::WriteError;
+use host_form::sink::Sink;
+use host_form::store::WriteError;
 
 /// Writes a text whole, in as many pieces as the sink takes. After an `Err` the sink has taken the
 /// front of it.

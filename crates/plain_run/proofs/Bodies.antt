@@ -1,41 +1,21 @@
 -- The processes of a design, one by one.
-use Rattle.std.proofs.Common.{◌≡◌, ℕ, ◌<◌, ◌+◌, Bool, true, false, List, [], ◌∷◌, map, length, drop, get_or, refl, sym, ap, ◌∙◌, arith, subst}
-use Rattle.std.specs.Prelude.{All, ◌||◌, slice_index_or}
+use Rattle.std.proofs.Common.{◌≡◌, ℕ, ◌<◌, ◌+◌, Bool, true, false, List, [], ◌∷◌, map, length, drop, get_or, refl, sym, ap, ◌∙◌, subst}
+use Rattle.std.specs.Prelude.{◌||◌}
 use Rattle.std.specs.List.{list_any}
-use Rattle.std.proofs.lemmas.List.{length-map, get_or-map, at_drop_more}
-use Rattle.vl_design.specs.declared.design.Design.{Design}
-use Rattle.vl_design.specs.declared.design.Process.{Process}
-use Rattle.vl_design.specs.declared.design.ProcKind.{ProcKind}
-use Rattle.vl_design.specs.Syntax.{Proc, Flat, Stm}
-use Rattle.vl_design.specs.Width.{Scope, names_of}
-use Rattle.vl_design.specs.Sound.{IsSound, IsSoundProc, IsSoundStm}
-use Rattle.vl_design.specs.Queue.{proc_at, is_fall}
-use Rattle.vl_design.specs.Alone.{blocks, falls}
-use Rattle.vl_design.specs.Trees.{stm_of, proc_of, flat_of}
-use Rattle.vl_design.proofs.Returning.{exec_ticks}
-use Rattle.vl_design.proofs.TreeLemmas.{procs-map}
-use Rattle.vl_paths.proofs.Ways.{or_false}
-use Rattle.vl_settle.proofs.Calming.{idle}
+use Rattle.std.proofs.lemmas.List.{at_drop_more}
+use Rattle.vl_eval.specs.vl_design.specs.declared.design.Process.{Process}
+use Rattle.vl_eval.specs.vl_design.specs.declared.design.ProcKind.{ProcKind}
+use Rattle.vl_eval.specs.vl_design.specs.Syntax.{Proc, Flat, Stm}
+use Rattle.vl_eval.specs.vl_design.specs.Width.{Scope}
+use Rattle.vl_eval.specs.vl_design.specs.Queue.{is_fall}
+use Rattle.vl_eval.specs.vl_design.specs.Alone.{blocks, falls}
+use Rattle.vl_eval.specs.vl_design.specs.Trees.{proc_of}
+use Rattle.vl_eval.specs.vl_design.proofs.Returning.{exec_ticks}
+use Rattle.vl_runs.specs.vl_paths.proofs.Ways.{or_false}
 use Rattle.vl_run.specs.declared.machine.Machine.{Machine}
 use Rattle.vl_run.specs.Machines.{state_of, Does}
 use Rattle.plain_run.specs.Runs.{has_fall}
-
-pub procs-are : (x : Design) (xs : List Process) → xs ≡ x.processes → (flat_of x).procs ≡ map proc_of xs
-procs-are x xs e = procs-map x.processes ∙ ap (map proc_of) (sym e)
-
-pub procs-long : (d : Flat) (xs : List Process) → d.procs ≡ map proc_of xs → length d.procs ≡ length xs
-procs-long d xs e = ap length e ∙ length-map xs proc_of
-
--- the body of a process of a sound design is sound
-pub sound-at : (d : Flat) (xs : List Process) (i : ℕ) (x : Process) → IsSound d → d.procs ≡ map proc_of xs → i < length xs → x ≡ get_or xs i x → IsSoundStm (names_of d) (stm_of x.path x.body)
-sound-at d xs i x s g h e =
-    let all : All (IsSoundProc (names_of d)) (map proc_of xs) = subst (All (IsSoundProc (names_of d))) g s.procs in
-    let there : i < length (map proc_of xs) = omega (arith, length-map xs proc_of) in
-    (subst (IsSoundProc (names_of d)) (get_or-map proc_of xs i x (proc_of x) h ∙ ap proc_of (sym e)) (all i (proc_of x) there)).body
-
--- the process of a number
-pub proc-is : (d : Flat) (xs : List Process) (i : ℕ) (x : Process) → d.procs ≡ map proc_of xs → i < length xs → x ≡ get_or xs i x → proc_at d i ≡ proc_of x
-proc-is d xs i x g h e = ap {A = List Proc} {B = Proc} (λ ps. slice_index_or ps i idle) g ∙ get_or-map proc_of xs i x idle h ∙ ap proc_of (sym e)
+pub use Rattle.vl_eval.specs.vl_design.proofs.Shared.{blocks-passed, blocks-taken}
 
 -- a statement begins no tick
 pub does-ticks : (scope : Scope) (a : Stm) (m n : Machine) → Does scope a m n → n.ticks ≡ m.ticks
@@ -49,19 +29,10 @@ does-ticks scope a m n h =
 pub blocks-more : (p : ProcKind → Bool) (xs : List Process) (i : ℕ) (x : Process) → i < length xs → x ≡ get_or xs i x → blocks p (map proc_of (drop i xs)) ≡ blocks p (map proc_of (x ∷ drop (i + 1) xs))
 blocks-more p xs i x h e = at_drop_more (λ ys. blocks p (map proc_of ys)) xs i x h ∙ ap (λ y. blocks p (map proc_of (y ∷ drop (i + 1) xs))) (sym e)
 
-pub blocks-taken : (p : ProcKind → Bool) (x : Proc) (xs : List Proc) → p x.kind ≡ true → blocks p (x ∷ xs) ≡ x ∷ blocks p xs
-blocks-taken p x xs h = rw h refl
-
-pub blocks-passed : (p : ProcKind → Bool) (x : Proc) (xs : List Proc) → p x.kind ≡ false → blocks p (x ∷ xs) ≡ blocks p xs
-blocks-passed p x xs h = rw h refl
-
 -- ---- blocks that wait for the fall
 
 abbrev pub any-fall : List Proc → Bool
 any-fall ps = list_any (λ p. is_fall p.kind) ps
-
-pub fall-more : (xs : List Process) (i : ℕ) (x : Process) → i < length xs → x ≡ get_or xs i x → any-fall (map proc_of (drop i xs)) ≡ (is_fall x.kind || any-fall (map proc_of (drop (i + 1) xs)))
-fall-more xs i x h e = at_drop_more (λ ys. any-fall (map proc_of ys)) xs i x h ∙ ap (λ y. any-fall (map proc_of (y ∷ drop (i + 1) xs))) (sym e)
 
 no-blocks : (ps : List Proc) → any-fall ps ≡ false → blocks is_fall ps ≡ []
 no-blocks [] h = refl

@@ -3,17 +3,17 @@ use Rattle.std.proofs.Common.{◌≡◌, ◌<◌, ◌≤◌, ◌+◌, ℕ, zero,
 use Rattle.std.specs.Prelude.{None, nat_lt, nat_le, if◌then◌else◌}
 use Rattle.std.proofs.lemmas.Bool.{ltb-true, ltb-false}
 use Rattle.std.proofs.lemmas.Bool.Decides.{nat_tests}
-use Rattle.vl_base.specs.declared.files.File.{File}
-use Rattle.vl_design.specs.declared.design.ProcKind.TheVariants.{Init, Rise, Fall}
-use Rattle.vl_design.specs.Syntax.{Proc, Flat}
-use Rattle.vl_design.specs.State.{State}
-use Rattle.vl_design.specs.Functions.{fresh, zeros}
-use Rattle.vl_design.specs.Queue.{Queue, Phase, Wave, next, is_rise, is_fall}
-use Rattle.vl_design.specs.Alone.{Settles, Boundary, start, risen, blocks, falls, reason_at}
-use Rattle.vl_design.proofs.Settling.{boundary_once}
+use Rattle.vl_eval.specs.vl_base.specs.declared.files.File.{File}
+use Rattle.vl_eval.specs.vl_design.specs.declared.design.ProcKind.TheVariants.{Init, Rise, Fall}
+use Rattle.vl_eval.specs.vl_design.specs.Syntax.{Proc, Flat}
+use Rattle.vl_eval.specs.vl_design.specs.State.{State}
+use Rattle.vl_eval.specs.vl_design.specs.Functions.{fresh, zeros}
+use Rattle.vl_eval.specs.vl_design.specs.Queue.{Queue, Phase, Wave, next, is_rise, is_fall}
+use Rattle.vl_eval.specs.vl_design.specs.Alone.{Settles, Boundary, start, risen, blocks, falls, reason_at}
+use Rattle.vl_eval.specs.vl_design.proofs.Settling.{boundary_once}
 use Rattle.vl_run.specs.declared.machine.Machine.{Machine}
 use Rattle.vl_run.specs.Machines.{state_of}
-use Rattle.vl_settle.specs.Runs.{Comes}
+use Rattle.vl_runs.specs.Runs.{Comes}
 use Rattle.plain_run.specs.Runs.{over, wave_of, has_fall, IsAt, IsDone, StandsBehind, SettlesAs, Completes, Rests, StandsAt, GoesOn}
 use Rattle.plain_run.proofs.Bodies.{no-falls, with-falls}
 use Rattle.plain_run.proofs.Events.{next-over, next-wave, next-none}

@@ -1,17 +1,17 @@
 -- The events of the queue, one by one.
 use Rattle.std.proofs.Common.{◌≡◌, Bool, true, false, List, [], ◌∷◌, Option, Some, None, refl, sym, ap, ◌∙◌}
 use Rattle.std.specs.Prelude.{if◌then◌else◌}
-use Rattle.vl_base.specs.declared.files.File.{File}
-use Rattle.vl_design.specs.Syntax.{Proc, Flat}
-use Rattle.vl_design.specs.State.{State}
-use Rattle.vl_design.specs.Exec.{exec}
-use Rattle.vl_design.specs.Functions.{scope_of}
-use Rattle.vl_design.specs.Queue.{Queue, Phase, Wave, Ended, Updated, next, next_event, next_pending, next_phase, first_pending, executed, wave_ended, updates_done}
-use Rattle.vl_design.specs.Alone.{Settles}
-use Rattle.vl_design.specs.Acts.{Calms}
-use Rattle.vl_design.proofs.Resting.{exec_over}
-use Rattle.vl_settle.specs.Runs.{Comes}
-use Rattle.vl_settle.proofs.Calming.{IsBehind, next_behind}
+use Rattle.vl_eval.specs.vl_base.specs.declared.files.File.{File}
+use Rattle.vl_eval.specs.vl_design.specs.Syntax.{Proc, Flat}
+use Rattle.vl_eval.specs.vl_design.specs.State.{State}
+use Rattle.vl_eval.specs.vl_design.specs.Exec.{exec}
+use Rattle.vl_eval.specs.vl_design.specs.Functions.{scope_of}
+use Rattle.vl_eval.specs.vl_design.specs.Queue.{Queue, Phase, Wave, Ended, Updated, next, next_event, next_pending, next_phase, first_pending, executed, wave_ended, updates_done}
+use Rattle.vl_eval.specs.vl_design.specs.Alone.{Settles}
+use Rattle.vl_eval.specs.vl_design.specs.Acts.{Calms}
+use Rattle.vl_eval.specs.vl_design.proofs.Resting.{exec_over}
+use Rattle.vl_runs.specs.Runs.{Comes}
+use Rattle.vl_runs.proofs.Calming.{IsBehind, next_behind}
 use Rattle.plain_run.specs.Runs.{over, Precedes, IsQuietAt}
 
 module _ (d : Flat) (files : List File) where

@@ -1,18 +1,18 @@
 -- A pass over processes leads from machine to machine.
 use Rattle.std.proofs.Common.{◌≡◌, ℕ, true, false, List, [], ◌∷◌, refl, sym, ap, ◌∙◌, subst}
 use Rattle.std.specs.Prelude.{if◌then◌else◌}
-use Rattle.vl_base.specs.declared.files.File.{File}
-use Rattle.vl_design.specs.Syntax.{Flat}
-use Rattle.vl_design.specs.State.{State}
-use Rattle.vl_design.specs.Exec.{exec}
-use Rattle.vl_design.specs.Functions.{scope_of}
-use Rattle.vl_design.specs.Queue.{proc_at}
-use Rattle.vl_paths.proofs.Untouched.{frame}
+use Rattle.vl_eval.specs.vl_base.specs.declared.files.File.{File}
+use Rattle.vl_eval.specs.vl_design.specs.Syntax.{Flat}
+use Rattle.vl_eval.specs.vl_design.specs.State.{State}
+use Rattle.vl_eval.specs.vl_design.specs.Exec.{exec}
+use Rattle.vl_eval.specs.vl_design.specs.Functions.{scope_of}
+use Rattle.vl_eval.specs.vl_design.specs.Queue.{proc_at}
+use Rattle.vl_runs.specs.vl_paths.proofs.Untouched.{frame}
 use Rattle.vl_run.specs.declared.machine.Machine.{Machine}
 use Rattle.vl_run.specs.Machines.{state_of, Does}
-use Rattle.settling.specs.Nets.{pass}
-use Rattle.vl_settle.specs.Nets.{is_memory, comb_at, run}
-use Rattle.vl_settle.specs.Checked.{IsChecked}
+use Rattle.vl_runs.specs.Nets.{pass}
+use Rattle.vl_runs.specs.NetsOfSettle.{is_memory, comb_at, run}
+use Rattle.vl_runs.specs.Checked.{IsChecked}
 use Rattle.plain_run.specs.Runs.{Passes}
 
 -- all of a machine stays the same but its values

@@ -1,25 +1,25 @@
 -- Waves, and the nets and updates behind them.
 use Rattle.std.proofs.Common.{◌≡◌, ◌<◌, ◌+◌, ℕ, Bool, true, false, List, [], ◌∷◌, map, length, drop, get_or, Some, refl, sym, ap, ◌∙◌, subst}
-use Rattle.vl_base.specs.declared.files.File.{File}
-use Rattle.vl_design.specs.declared.design.Process.{Process}
-use Rattle.vl_design.specs.declared.design.ProcKind.{ProcKind}
-use Rattle.vl_design.specs.Syntax.{Proc, Flat}
-use Rattle.vl_design.specs.State.{State, counted}
-use Rattle.vl_design.specs.Exec.{exec}
-use Rattle.vl_design.specs.Functions.{scope_of}
-use Rattle.vl_design.specs.Queue.{Queue, Phase, Wave, Ended, Updated, next, executed, wave_ended, updates_done, with_updates}
-use Rattle.vl_design.specs.Alone.{Settles, blocks}
-use Rattle.vl_design.specs.Trees.{stm_of, proc_of}
+use Rattle.vl_eval.specs.vl_base.specs.declared.files.File.{File}
+use Rattle.vl_eval.specs.vl_design.specs.declared.design.Process.{Process}
+use Rattle.vl_eval.specs.vl_design.specs.declared.design.ProcKind.{ProcKind}
+use Rattle.vl_eval.specs.vl_design.specs.Syntax.{Proc, Flat}
+use Rattle.vl_eval.specs.vl_design.specs.State.{State, counted}
+use Rattle.vl_eval.specs.vl_design.specs.Exec.{exec}
+use Rattle.vl_eval.specs.vl_design.specs.Functions.{scope_of}
+use Rattle.vl_eval.specs.vl_design.specs.Queue.{Queue, Phase, Wave, Ended, Updated, next, executed, wave_ended, updates_done, with_updates}
+use Rattle.vl_eval.specs.vl_design.specs.Alone.{Settles, blocks}
+use Rattle.vl_eval.specs.vl_design.specs.Trees.{stm_of, proc_of}
 use Rattle.vl_run.specs.declared.machine.Machine.{Machine}
 use Rattle.vl_run.specs.Machines.{state_of, Does}
-use Rattle.settling.specs.Nets.{pass}
-use Rattle.vl_settle.specs.Nets.{run}
-use Rattle.vl_settle.specs.Checked.{IsChecked, IsOrder}
-use Rattle.vl_settle.specs.Runs.{Comes, Calmed, with_values}
-use Rattle.vl_settle.proofs.Steady.{IsAccepted, IsSteady}
-use Rattle.vl_settle.proofs.Checks.{accepted}
-use Rattle.vl_settle.proofs.Calming.{IsBehind, Calming, calming}
-use Rattle.vl_settle.proofs.Reaching.{comes_steady}
+use Rattle.vl_runs.specs.Nets.{pass}
+use Rattle.vl_runs.specs.NetsOfSettle.{run}
+use Rattle.vl_runs.specs.Checked.{IsChecked, IsOrder}
+use Rattle.vl_runs.specs.Runs.{Comes, Calmed, with_values}
+use Rattle.vl_runs.proofs.Steady.{IsAccepted, IsSteady}
+use Rattle.vl_runs.proofs.Checks.{accepted}
+use Rattle.vl_runs.proofs.Calming.{IsBehind, Calming, calming}
+use Rattle.vl_runs.proofs.Reaching.{comes_steady}
 use Rattle.plain_run.specs.Runs.{over, IsAt, IsQuietAt, StandsBehind, Passes, Reaches, RunsWave, SettlesAs}
 use Rattle.plain_run.proofs.Bodies.{blocks-more, blocks-taken, blocks-passed}
 use Rattle.plain_run.proofs.Passing.{passes-finished}

@@ -1,17 +1,17 @@
 -- Machines that stand for the queues which a run comes to (IEEE 1364-2005, clause 11).
 use Rattle.std.specs.Prelude.{◌≡◌, ◌<◌, ℕ, false, Bool, List, [], None}
 use Rattle.std.specs.List.{list_any}
-use Rattle.vl_base.specs.declared.files.File.{File}
-use Rattle.vl_design.specs.declared.design.ProcKind.{ProcKind}
-use Rattle.vl_design.specs.declared.design.ProcKind.TheVariants.{Init, Rise, Fall}
-use Rattle.vl_design.specs.Syntax.{Proc, Flat}
-use Rattle.vl_design.specs.Queue.{Queue, Phase, Wave, Updated, first_pending, is_init, is_rise, is_fall}
-use Rattle.vl_design.specs.Alone.{Origin, Settles, Boundary, blocks, reason_at}
+use Rattle.vl_eval.specs.vl_base.specs.declared.files.File.{File}
+use Rattle.vl_eval.specs.vl_design.specs.declared.design.ProcKind.{ProcKind}
+use Rattle.vl_eval.specs.vl_design.specs.declared.design.ProcKind.TheVariants.{Init, Rise, Fall}
+use Rattle.vl_eval.specs.vl_design.specs.Syntax.{Proc, Flat}
+use Rattle.vl_eval.specs.vl_design.specs.Queue.{Queue, Phase, Wave, Updated, first_pending, is_init, is_rise, is_fall}
+use Rattle.vl_eval.specs.vl_design.specs.Alone.{Origin, Settles, Boundary, blocks, reason_at}
 use Rattle.vl_run.specs.declared.machine.Machine.{Machine}
 use Rattle.vl_run.specs.Machines.{state_of}
-use Rattle.settling.specs.Nets.{pass}
-use Rattle.vl_settle.specs.Nets.{run}
-use Rattle.vl_settle.specs.Runs.{Comes}
+use Rattle.vl_runs.specs.Nets.{pass}
+use Rattle.vl_runs.specs.NetsOfSettle.{run}
+use Rattle.vl_runs.specs.Runs.{Comes}
 
 -- a design alone from time zero over these files, for at most so many ticks
 abbrev pub over : Flat → List File → ℕ → Origin

@@ -1,18 +1,18 @@
 //! Combinational processes (IEEE 1364-2005, clauses 6.1 and 9.7.5).
 
 ghost use Rattle.std.specs.Prelude.{◌≡◌, ◌<◌, [], ◌∷◌, length, OnOk};
-ghost use Rattle.vl_design.specs.Queue as q;
-ghost use Rattle.vl_design.specs.Sound.{IsSound};
-ghost use Rattle.vl_design.specs.Trees.{flat_of};
-ghost use Rattle.vl_design.specs.Width as w;
+ghost use Rattle.vl_eval.specs.vl_design.specs.Queue as q;
+ghost use Rattle.vl_eval.specs.vl_design.specs.Sound.{IsSound};
+ghost use Rattle.vl_eval.specs.vl_design.specs.Trees.{flat_of};
+ghost use Rattle.vl_eval.specs.vl_design.specs.Width as w;
 ghost use Rattle.vl_run.specs.Machines.{IsMachine};
-ghost use Rattle.settling.specs.Nets.{AllBelow};
-ghost use Rattle.vl_settle.specs.Checked.{IsChecked};
+ghost use Rattle.vl_runs.specs.Nets.{AllBelow};
+ghost use Rattle.vl_runs.specs.Checked.{IsChecked};
 ghost use Rattle.plain_run.specs.Runs.{Passes};
 
 use std::alloc::{AllocError, Global};
-use vl_base::files::FileSet;
-use vl_design::design::{Design, ProcKind};
+use vl_eval::design::{Design, ProcKind};
+use vl_eval::files::FileSet;
 use vl_run::machine::Machine;
 use vl_run::process::exec_process;
 

@@ -1,22 +1,22 @@
 //! Ticks, and whole runs (IEEE 1364-2005, clause 11).
 
 ghost use Rattle.std.specs.Prelude.{◌≡◌, ◌<◌, ◌+◌, ◌^◌, suc, [], OnOk, IfOk, false, ℕ};
-ghost use Rattle.vl_design.specs.Trees.{flat_of};
-ghost use Rattle.vl_design.specs.Sound.{IsSound};
-ghost use Rattle.vl_design.specs.Queue.{Queue, is_fall};
-ghost use Rattle.vl_design.specs.Alone.{Ends, blocks, falls as waves_of};
-ghost use Rattle.vl_design.specs.Plain.{alone};
-ghost use Rattle.vl_design.specs.Width as w;
+ghost use Rattle.vl_eval.specs.vl_design.specs.Trees.{flat_of};
+ghost use Rattle.vl_eval.specs.vl_design.specs.Sound.{IsSound};
+ghost use Rattle.vl_eval.specs.vl_design.specs.Queue.{Queue, is_fall};
+ghost use Rattle.vl_eval.specs.vl_design.specs.Alone.{Ends, blocks, falls as waves_of};
+ghost use Rattle.vl_eval.specs.vl_design.specs.Plain.{alone};
+ghost use Rattle.vl_eval.specs.vl_design.specs.Width as w;
 ghost use Rattle.vl_run.specs.Machines.{state_of, IsMachine};
-ghost use Rattle.vl_settle.specs.Checked.{IsChecked, IsOrder};
+ghost use Rattle.vl_runs.specs.Checked.{IsChecked, IsOrder};
 ghost use Rattle.plain_run.specs.Runs as r;
 ghost use Rattle.plain_run.specs.Runs.{over, Completes, StandsAt};
 
 use crate::wave::settle;
 use std::alloc::{AllocError, Global};
-use vl_base::files::FileSet;
-use vl_base::items::Bytes;
-use vl_design::design::{Design, End, ProcKind};
+use vl_eval::Bytes;
+use vl_eval::design::{Design, End, ProcKind};
+use vl_eval::files::FileSet;
 use vl_run::machine::Machine;
 use vl_run::process::begin_run;
 

@@ -1,19 +1,19 @@
 //! The waves of a tick (IEEE 1364-2005, clauses 9.9 and 11).
 
 ghost use Rattle.std.specs.Prelude.{◌≡◌, ℕ, [], OnOk, false};
-ghost use Rattle.vl_design.specs.Trees.{flat_of};
-ghost use Rattle.vl_design.specs.Sound.{IsSound};
-ghost use Rattle.vl_design.specs.Queue.{with_updates};
-ghost use Rattle.vl_design.specs.Width as w;
+ghost use Rattle.vl_eval.specs.vl_design.specs.Trees.{flat_of};
+ghost use Rattle.vl_eval.specs.vl_design.specs.Sound.{IsSound};
+ghost use Rattle.vl_eval.specs.vl_design.specs.Queue.{with_updates};
+ghost use Rattle.vl_eval.specs.vl_design.specs.Width as w;
 ghost use Rattle.vl_run.specs.Machines.{state_of, IsMachine};
-ghost use Rattle.vl_settle.specs.Checked.{IsChecked, IsOrder};
+ghost use Rattle.vl_runs.specs.Checked.{IsChecked, IsOrder};
 ghost use Rattle.plain_run.specs.Runs.{is_of, wave_of, RunsWave, SettlesAs};
 
 use crate::nets::pass;
 use std::alloc::{AllocError, Global};
-use vl_assign::update::write_all;
-use vl_base::files::FileSet;
-use vl_design::design::{Design, ProcKind};
+use vl_eval::design::{Design, ProcKind};
+use vl_eval::files::FileSet;
+use vl_eval::update::write_all;
 use vl_run::machine::Machine;
 use vl_run::outer::room_of;
 use vl_run::process::exec_process;

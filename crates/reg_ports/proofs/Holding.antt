@@ -9,6 +9,7 @@ use Rattle.cell_form.specs.Data.{BankData}
 use Rattle.cell_form.specs.Sound.{SameShape}
 use Rattle.cell_form.specs.Writes.{word_of}
 use Rattle.reg_ports.specs.Ports.{word_count, word_counts, widths, held, with_held, IsThere, AreApart}
+use Rattle.cell_form.specs.vl_base.proofs.Lists.{one_word as one-word}
 
 -- words over the first ones of others
 abbrev pub over : List ℕ → List ℕ → List ℕ
@@ -109,12 +110,6 @@ there-same a b q h there =
     }
 
 -- ---- what it holds
-
-one-word : (ws : List ℕ) → length ws ≡ 1 → slice_index ws 0 ∷ [] ≡ ws
-one-word [] e = absurd (omega arith)
-one-word (w ∷ ws) e =
-    let none : length ws ≡ 0 = omega arith in
-    ap (λ (xs : List ℕ). w ∷ xs) (sym (nil_from_length ws none))
 
 pub held-same : (p : Port) (ws : List ℕ) (b : BankData) → IsThere b p → length ws ≡ word_count p → held (with_held p ws b) p ≡ ws
 held-same p ws b there long =

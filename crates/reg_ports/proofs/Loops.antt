@@ -10,9 +10,7 @@ use Rattle.cell_form.specs.Data.{BankData}
 use Rattle.reg_ports.specs.Ports.{word_count, word_counts, widths, with_held, restored, IsThere}
 use Rattle.reg_ports.specs.Refusals.{AreFit, IsFirstWide}
 use Rattle.reg_ports.proofs.Holding.{widths-length, with-shape, there-same}
-
-next : {X : Type 0} (xs : List X) (i : ℕ) (x : X) → i < length xs → x ≡ get_or xs i x → drop i xs ≡ x ∷ drop (i + 1) xs
-next xs i x lt is = drop_more xs i x lt ∙ ap (λ y. y ∷ drop (i + 1) xs) (sym is)
+use Rattle.cell_form.specs.vl_base.proofs.Lists.{drop_next as next}
 
 -- the widths of the words of a port and of those behind it
 widths-next : (ports : List Port) (i : ℕ) (p : Port) → i < length ports → p ≡ get_or ports i p → widths (drop i ports) ≡ replicate (word_count p) p.width ++ widths (drop (i + 1) ports)

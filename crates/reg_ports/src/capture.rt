@@ -4,9 +4,9 @@ ghost use Rattle.std.specs.Prelude.{◌≡◌, ◌++◌, IfOk, OnOk};
 ghost use Rattle.cell_form.specs.Views.{bank_of};
 ghost use Rattle.reg_ports.specs.Ports as s;
 
+use cell_form::Words;
 use cell_form::bank::{Bank, Port, PortMap};
 use std::alloc::{AllocError, Global};
-use vl_base::items::Words;
 
 /// Adds the words that a port holds.
 fn add_held(bank: &Bank, port: Port, words: &mut Vec<u128>) -> Result<(), AllocError>

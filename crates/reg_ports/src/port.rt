@@ -4,8 +4,8 @@ ghost use Rattle.std.specs.Prelude.{◌≡◌, ◌<◌, ◌^◌, true, false, []
 ghost use Rattle.cell_form.specs.Views.{bank_of};
 ghost use Rattle.reg_ports.specs.Ports as s;
 
+use cell_form::Bits;
 use cell_form::bank::{Bank, Port, PortMap};
-use vl_base::bits::Bits;
 
 /// How many words a port has: a variable has one.
 pub(crate) fn word_count(port: Port) -> u32

@@ -6,8 +6,8 @@ ghost use Rattle.reg_ports.specs.Ports as s;
 ghost use Rattle.reg_ports.specs.Refusals as r;
 
 use crate::port::{set_variable, word_count};
+use cell_form::Bits;
 use cell_form::bank::{Bank, Port, PortMap};
-use vl_base::bits::Bits;
 
 /// Why words were refused.
 #[derive(Clone, Copy, Debug, PartialEq, Eq)]

@@ -8,10 +8,9 @@ use crate::capture::capture;
 use crate::port::{read, write};
 use crate::restore::{PortError, restore};
 use cell_form::bank::{Bank, Port, PortMap};
+use cell_form::{Bits, Items};
 use std::alloc::{AllocError, Global};
 use std::test::Fail;
-use vl_base::bits::Bits;
-use vl_base::items::Items;
 
 /// A variable of 8 bits, whose work copy is the register 0 and whose value is the register 1.
 fn variable() -> Port

@@ -4,8 +4,8 @@ use crate::escapes::lines_of;
 use crate::parts::read_parts;
 use crate::row::Row;
 use crate::told::told;
-use report_text::report::report;
-use script_text::read::read_script;
+use host_text::read::read_script;
+use host_text::report::report;
 use std::alloc::{AllocError, Global};
 
 /// What a script is read as.

@@ -1,10 +1,9 @@
 //! What a report is made of, from lines.
 
 use crate::escapes::bytes_of;
-use report_text::block::{Block, FreeLine, RefusedLine, Reply, RunBlock, Status, Stay};
+use host_text::block::{Block, FreeLine, RefusedLine, Reply, RunBlock, Status, Stay};
+use host_text::{Items, Place, Text};
 use std::alloc::{AllocError, Global};
-use vl_base::items::{Items, Text};
-use vl_base::place::Place;
 
 /// What a report is made of.
 #[derive(Drop)]

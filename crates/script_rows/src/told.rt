@@ -1,9 +1,9 @@
 //! A script in lines.
 
-use script_text::script::{Free, Script, ScriptError, TenantLine};
+use host_text::Text;
+use host_text::plan::{Due, Errand};
+use host_text::script::{Free, Script, ScriptError, TenantLine};
 use std::alloc::{AllocError, Global};
-use ten_plan::plan::{Due, Errand};
-use vl_base::items::Text;
 
 /// A text as it is printed.
 fn shown(alloc: Global, text: &Text) -> Result<String, AllocError> {

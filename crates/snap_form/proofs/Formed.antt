@@ -18,11 +18,7 @@ use Rattle.snap_form.specs.Reading.{read, snapshot_at, at_offset}
 use Rattle.snap_form.specs.Spelling.{spelt, widths, HasWidth, IsRow, IsOpen, IsOpenIn, AreWords, IsSnapshot, IsSnapshotOf}
 use Rattle.snap_form.proofs.Numbers.{IsBytes}
 use Rattle.snap_form.proofs.Whole.{read_again, snapshot_takes}
-
--- the file that is found is this one, or one behind it
-found_by : (b : Bool) (f : File) (o : Option File) → is_some (option_map (λ g. g.bytes) (cond b (Some f) o)) ≡ true → (b ≡ true) ⊎ (is_some (option_map (λ g. g.bytes) o) ≡ true)
-found_by true f o e = inl refl
-found_by false f o e = inr e
+use Rattle.vl_base.proofs.Shared.{found_by}
 
 -- a name that a set has is one of its names
 short_name : (name : List ℕ) (set : List File) → AllByRecursion (λ f. length f.name ≤ 255) set → is_some (contents set name) ≡ true → length name ≤ 255

@@ -12,6 +12,7 @@ use Rattle.snap_form.specs.declared.fault.ReadError.TheVariants as errors
 use Rattle.snap_form.specs.declared.snapshot.SnapRow.{SnapRow}
 use Rattle.snap_form.specs.Reading.{◌>>=◌, Fails, row_at, rows_at, word_at, words_at, file_at, files_at}
 use Rattle.snap_form.specs.Spelling.{big_endian, widths, word_count, words, AreWords, HasWidth, IsRow}
+use Rattle.vl_base.proofs.Lists.{drop_next as next}
 
 -- what fails at its first step fails
 pub fails-then : {A B : Type 0} (e : ReadError) (r : Result A Fault) (f : A → Result B Fault) → Fails e r → Fails e (r >>= f)
@@ -25,9 +26,6 @@ bind-same (Err e) f g h = refl
 pub bind-assoc : {A B C : Type 0} (r : Result A Fault) (f : A → Result B Fault) (g : B → Result C Fault) → ((r >>= f) >>= g) ≡ (r >>= λ x. (f x >>= g))
 bind-assoc (Ok x) f g = refl
 bind-assoc (Err e) f g = refl
-
-next : {X : Type 0} (xs : List X) (i : ℕ) (x : X) → i < length xs → x ≡ get_or xs i x → drop i xs ≡ x ∷ drop (i + 1) xs
-next xs i x lt is = drop_more xs i x lt ∙ ap (λ y. y ∷ drop (i + 1) xs) (sym is)
 
 -- ---- rows
 

@@ -8,17 +8,12 @@ use Rattle.std.proofs.lemmas.List.{length-append, take_more}
 use Rattle.std.proofs.lemmas.Nat.{shr-shr, le-div}
 use Rattle.std.proofs.lemmas.Bool.{cases_lt, lt-ltb, le-ltb, eq-eqb, ne_eqb}
 use Rattle.vl_base.specs.Display.{places}
-
-eight_more : (i : ℕ) → 2 ^ (8 * (i + 1)) ≡ 2 ^ (8 * i) * 256
-eight_more i = let e : 8 * (i + 1) ≡ 8 * i + 8 = omega arith in ap (λ n. 2 ^ n) e ∙ pow-add 2 (8 * i) 8
+use Rattle.vl_base.proofs.Numbers.{eight_more}
+pub use Rattle.vl_base.proofs.Numbers.{byte_room}
 
 -- one more byte behind a number of so many
 pub byte_more : (v b i : ℕ) → v < 2 ^ (8 * i) → b < 256 → v * 256 + b < 2 ^ (8 * (i + 1))
 byte_more v b i h k = let e = eight_more i in omega (arith, e)
-
--- a number of at most 16 bytes has at most 128 bits
-pub byte_room : (i : ℕ) → i < 16 → 2 ^ (8 * (i + 1)) ≤ 2 ^ 128
-byte_room i h = let le : 8 * (i + 1) ≤ 128 = omega arith in pow_mono le
 
 -- the byte that is written after i of n
 pub next_place : (n i v : ℕ) → i < n → places 256 (i + 1) (v / 2 ^ (8 * (n - (i + 1)))) ≡ places 256 i (v / 2 ^ (8 * (n - i))) ++ (v / 2 ^ (8 * (n - 1 - i)) % 256) ∷ []

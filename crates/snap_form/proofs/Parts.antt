@@ -16,12 +16,8 @@ use Rattle.snap_form.specs.Reading.{◌>>=◌, fault, field, number, number_if, 
 use Rattle.snap_form.specs.Spelling.{big_endian, magic, row, words, file, heading, spelt, widths, HasWidth, AreWords, Ascend, RowHasRoom, FileHasRoom, HasRoom, IsOpenIn, IsSnapshotOf}
 use Rattle.snap_form.proofs.Numbers.{IsBytes}
 use Rattle.snap_form.proofs.FieldLaws.{bind_ok, passed, ok_is, Takes, Takes-then, Takes-as, field_takes, field_again, number_takes, number_again, number_if_takes, number_if_again, same_number_takes, same_number_again, same_bytes_takes, same_bytes_again}
-
-pub four : (a b c d e : List ℕ) → (((a ++ b) ++ c) ++ d) ++ e ≡ a ++ (b ++ (c ++ (d ++ e)))
-four a b c d e = simp append_assoc
-
-five : (a b c d e f : List ℕ) → ((((a ++ b) ++ c) ++ d) ++ e) ++ f ≡ a ++ (b ++ (c ++ (d ++ (e ++ f))))
-five a b c d e f = simp append_assoc
+pub use Rattle.vl_base.proofs.Lists.{append_assoc_four as four}
+use Rattle.vl_base.proofs.Lists.{append_assoc_five as five}
 
 -- ---- the heading
 

@@ -1,7 +1,7 @@
 -- The run of a design's table comes to each boundary of the run alone.
 use Rattle.std.proofs.Common.{◌≡◌, ℕ, true, false, List, [], ◌∷◌, Option, Some, None, refl, ◌∙◌, ap, subst}
 use Rattle.std.specs.Prelude.{slice_get, if◌then◌else◌}
-use Rattle.vl_base.specs.declared.files.File.{File}
+use Rattle.vl_design.specs.vl_base.specs.declared.files.File.{File}
 use Rattle.vl_design.specs.Syntax.{Proc, Flat}
 use Rattle.vl_design.specs.State.{State}
 use Rattle.vl_design.specs.Queue as queue

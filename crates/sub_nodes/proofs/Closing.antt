@@ -14,12 +14,10 @@ use Rattle.sub_nodes.specs.Code.{HasFrom, Next, Calls, Leads, Head, and_all, nex
 use Rattle.sub_nodes.specs.Cycles.{is_trap}
 use Rattle.sub_nodes.specs.Shape.{leads_to, IsClosed, IsApart}
 use Rattle.sub_nodes.proofs.Coded.{has_front, has_back, either_made, earlier, items_earlier, default_earlier, three, updates_many}
+use Rattle.vl_design.specs.vl_base.proofs.Booleans.{or_cases as either_true}
+use Rattle.sub_nodes.proofs.Falling.{next_some}
 
 -- ---- nodes that fit into a wave
-
-either_true : (a b : Bool) → (a || b) ≡ true → (a ≡ true) ⊎ (b ≡ true)
-either_true true b h = inl refl
-either_true false b h = inr h
 
 module _ (nodes : List Node) (u low high : ℕ) where
   -- node m is of the wave, and no trap
@@ -230,10 +228,6 @@ wave_closed nodes u xs g n high e h =
       ends = λ m to s l r f. (at m (Run s (Commit to)) l r f).ends s to refl;
       none = λ m to l r f. (at m (Apply to) l r f).none to refl;
     }
-
-next_some : (next : Next) (g : Segment) (n : ℕ) → 1 ≤ length (next_nodes next g n)
-next_some (Calls task to) g n = omega arith
-next_some (Leads on) g n = omega arith
 
 head_some : (h : Head) (g : Segment) (n : ℕ) → 1 ≤ length (head_nodes h g n)
 head_some h g n = next_some h.next (and_all g h.statements) n

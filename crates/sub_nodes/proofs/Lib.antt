@@ -12,3 +12,10 @@ pub mod Runs
 pub mod Boundaries
 pub mod Moving
 pub mod Netless
+pub mod Making
+pub mod Pairing
+pub mod Leading
+pub mod Passing
+pub mod Calling
+pub mod Falling
+pub mod Shared

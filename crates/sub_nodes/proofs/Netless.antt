@@ -2,7 +2,7 @@
 use Rattle.std.proofs.Common.{◌≡◌, ℕ, ◌+◌, Bool, true, false, List, [], ◌∷◌, Option, None, refl, sym, subst}
 use Rattle.std.specs.Prelude.{⊤, ◌||◌, ◌&&◌, All, if◌then◌else◌}
 use Rattle.std.proofs.lemmas.List.Elements.{All-head, All-tail}
-use Rattle.vl_base.specs.declared.files.File.{File}
+use Rattle.vl_design.specs.vl_base.specs.declared.files.File.{File}
 use Rattle.vl_design.specs.Syntax.{Proc, Flat}
 use Rattle.vl_design.specs.Width.{Scope}
 use Rattle.vl_design.specs.Functions.{scope_of, zeros, fresh}

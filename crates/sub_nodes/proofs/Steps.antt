@@ -15,7 +15,7 @@ use Rattle.sub_nodes.specs.Implements.{Whether, Impl, ImplItems, ImplDefault, Im
 use Rattle.sub_nodes.specs.Cycles.{ticked, ways_form, way_of, switched, execs, segment_done}
 use Rattle.sub_nodes.proofs.Holding.{holds_alike}
 
-execs_append : (scope : Scope) (xs ys : List Stm) (s : State) → execs scope (xs ++ ys) s ≡ execs scope ys (execs scope xs s)
+pub execs_append : (scope : Scope) (xs ys : List Stm) (s : State) → execs scope (xs ++ ys) s ≡ execs scope ys (execs scope xs s)
 execs_append scope [] ys s = refl
 execs_append scope (x ∷ xs) ys s = execs_append scope xs ys (exec scope x s)
 

@@ -1,6 +1,6 @@
 -- What a cycle of a table does, and a served call (own).
 use Rattle.std.specs.Prelude.{ℕ, ◌+◌, Bool, true, false, List, [], ◌∷◌, if◌then◌else◌, slice_get, Option, Some, None}
-use Rattle.vl_base.specs.declared.files.File.{File}
+use Rattle.vl_design.specs.vl_base.specs.declared.files.File.{File}
 use Rattle.vl_design.specs.declared.design.Form.{Form}
 use Rattle.vl_design.specs.Syntax.{Exp, Stm, Flat}
 use Rattle.vl_design.specs.Width.{Names, Scope, form}

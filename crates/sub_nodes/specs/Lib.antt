@@ -5,3 +5,7 @@ pub mod Cycles
 pub mod Stands
 pub mod Shape
 pub mod Samples
+pub mod Pairs
+pub mod Early
+pub mod Passing
+pub mod Size

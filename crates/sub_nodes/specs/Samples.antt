@@ -1,6 +1,6 @@
 -- Small designs as tables, worked by hand, and their runs by so many moves (own).
 use Rattle.std.specs.Prelude.{◌≡◌, ℕ, zero, suc, true, false, List, [], ◌∷◌, if◌then◌else◌, slice_set, codes}
-use Rattle.vl_base.specs.declared.bits.BinOp.TheVariants.{Add}
+use Rattle.vl_design.specs.vl_base.specs.declared.bits.BinOp.TheVariants.{Add}
 use Rattle.vl_design.specs.declared.design.SigKind.TheVariants.{Var}
 use Rattle.vl_design.specs.Syntax.{Sig, Bin, NoExps, MoreExps, Whole, Literal, Print, Task, Stm, Nop, If, Case, Later, Labelled, Default, NoItems, Flat}
 use Rattle.vl_design.specs.Value.{words_of}

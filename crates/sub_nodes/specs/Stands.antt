@@ -1,6 +1,6 @@
 -- What it means that a run of a table stands for a point of the run alone (own).
 use Rattle.std.specs.Prelude.{◌≡◌, ℕ, zero, suc, Bool, true, false, List, [], ◌∷◌, ◌++◌, if◌then◌else◌, slice_get, Option, Some, None, ◌⊎◌}
-use Rattle.vl_base.specs.declared.files.File.{File}
+use Rattle.vl_design.specs.vl_base.specs.declared.files.File.{File}
 use Rattle.vl_design.specs.Syntax.{Stm, Task, Proc, Flat}
 use Rattle.vl_design.specs.State.{State}
 use Rattle.vl_design.specs.Functions.{scope_of}

@@ -10,16 +10,7 @@ use Rattle.vl_design.specs.Syntax.{Exp, Case, Items, NoItems, Labelled, Default}
 use Rattle.vl_design.specs.Trees.{stm_of}
 use Rattle.sub_split.specs.Items.{items_of}
 use Rattle.sub_split.specs.Marks.{marks_of, item_marks, default_marks, others_act}
-
-or-assoc : (a b c : Bool) → ((a || b) || c) ≡ (a || (b || c))
-or-assoc true b c = refl
-or-assoc false b c = refl
-
-or-comm : (a b : Bool) → (a || b) ≡ (b || a)
-or-comm true true = refl
-or-comm true false = refl
-or-comm false true = refl
-or-comm false false = refl
+use Rattle.vl_design.specs.vl_base.proofs.Booleans.{or_assoc as or-assoc, or_comm as or-comm}
 
 -- ---- items
 

@@ -1,6 +1,6 @@
 -- The path of an instance matters to its calls alone.
 use Rattle.std.proofs.Common.{◌≡◌, ℕ, true, false, List, [], refl, sym, ap, ◌∙◌, true≢false, append-nil}
-use Rattle.vl_base.specs.declared.bits.UnOp.TheVariants.{LogNot}
+use Rattle.vl_design.specs.vl_base.specs.declared.bits.UnOp.TheVariants.{LogNot}
 use Rattle.vl_design.proofs.Unread.{or_false}
 use Rattle.vl_design.specs.Exec.{asks}
 use Rattle.vl_design.specs.Laws.{can_act, items_can_act}

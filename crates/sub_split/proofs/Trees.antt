@@ -12,9 +12,9 @@ use Rattle.vl_design.specs.declared.design.SysCall.{SysCall}
 use Rattle.vl_design.specs.declared.design.Target.{Target as TargetCode}
 use Rattle.vl_design.specs.declared.design.StmtNode as s
 use Rattle.vl_design.specs.declared.design.ExprNode as d
-use Rattle.vl_base.specs.declared.bits.UnOp.{UnOp}
-use Rattle.vl_base.specs.declared.place.Place.{Place}
-use Rattle.vl_base.specs.declared.bits.UnOp.TheVariants.{LogNot}
+use Rattle.vl_design.specs.vl_base.specs.declared.bits.UnOp.{UnOp}
+use Rattle.vl_design.specs.vl_base.specs.declared.place.Place.{Place}
+use Rattle.vl_design.specs.vl_base.specs.declared.bits.UnOp.TheVariants.{LogNot}
 use Rattle.vl_design.specs.Acts.{default_body}
 use Rattle.vl_design.specs.Placed as p
 use Rattle.vl_design.specs.Plainly as plain

@@ -20,14 +20,9 @@ use Rattle.sub_split.specs.declared.waves.Part.{Part}
 use Rattle.sub_split.specs.Makes.{nodes_view, made_view, Makes, Splits}
 use Rattle.sub_split.specs.Marks.{marks_of}
 use Rattle.sub_split.specs.Waves.{has_fall, is_of, statements_of, update_nodes, first_early, IsPart}
+use Rattle.vl_design.proofs.Shared.{blocks-passed as passed, blocks-taken as taken}
 
 -- ---- blocks
-
-taken : (p : ProcKind → Bool) (x : Proc) (xs : List Proc) → p x.kind ≡ true → blocks p (x ∷ xs) ≡ x ∷ blocks p xs
-taken p x xs h = rw h refl
-
-passed : (p : ProcKind → Bool) (x : Proc) (xs : List Proc) → p x.kind ≡ false → blocks p (x ∷ xs) ≡ blocks p xs
-passed p x xs h = rw h refl
 
 -- a block that belongs to the wave
 pub block-taken : (wave : ProcKind) (x : Process) (old new : Nodes) (g h : Head) (r : Bool) (marks after : List Bool) → r ≡ is_of wave x.kind → r ≡ true → marks ≡ marks_of (stm_of [] x.body) →

@@ -2,8 +2,8 @@
 
 ghost use Rattle.std.specs.Prelude.{◌≡◌, ◌||◌, ◌<◌, ℕ, List, [], length, IfSome};
 ghost use Rattle.std.specs.Option.{option_copied};
-ghost use Rattle.vl_base.specs.declared.bits.UnOp.TheVariants.{LogNot};
-ghost use Rattle.vl_base.specs.declared.place.Place.{Place};
+ghost use Rattle.vl_design.specs.vl_base.specs.declared.bits.UnOp.TheVariants.{LogNot};
+ghost use Rattle.vl_design.specs.vl_base.specs.declared.place.Place.{Place};
 ghost use Rattle.vl_design.specs.Acts.{default_body};
 ghost use Rattle.vl_design.specs.Exec as x;
 ghost use Rattle.vl_design.specs.Placed as p;
@@ -15,7 +15,7 @@ ghost use Rattle.sub_split.specs.Items.{behind_call, body_at, is_default, is_not
 ghost use Rattle.sub_split.specs.Views.{piece_view};
 
 use crate::table::Piece;
-use vl_base::bits::UnOp;
+use vl_design::UnOp;
 use vl_design::design::{CaseItem, Expr, ExprNode, Stmt, SysCall, Target};
 
 /// An operator is `!`.

@@ -1,4 +1,9 @@
-//! Blocks of a design as a table of nodes, which refer to the design's own statements.
+//! The splitter: it cuts the blocks of a design into a table of nodes, which refer to the design's own statements.
+//!
+//! Proved: `split` gives exactly the table of nodes that the definition makes of a design, and where time zero's nodes begin (`split`, by
+//! `table`, `early`).
+//!
+//! Tested: that it takes memory and time by what it makes.
 #![tactic(auto)]
 
 mod calls;

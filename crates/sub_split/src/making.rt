@@ -7,7 +7,7 @@ ghost use Rattle.sub_split.specs.Views.{node_view, piece_view, way_on_view};
 
 use crate::table::{Node, Piece, Segment, WayOn};
 use std::alloc::{AllocError, Global};
-use vl_base::items::Text;
+use vl_design::Text;
 use vl_design::design::SysCall;
 
 /// What comes behind a stretch of statements.

@@ -20,7 +20,7 @@ use crate::marks::next_mark;
 use crate::table::{Piece, Way, WayOn};
 use std::alloc::{AllocError, Global};
 use std::vec::IntoIter;
-use vl_base::items::Text;
+use vl_design::Text;
 use vl_design::design::{CaseItem, Expr, Stmt, StmtNode, SysCall};
 
 /// A system call before what begins so.

@@ -1,6 +1,6 @@
 //! Tables of nodes that refer to the statements of a design. Nodes have numbers from 0 on.
 
-use vl_base::items::Text;
+use vl_design::Text;
 use vl_design::design::{Expr, Stmt, SysCall, Target};
 
 /// A statement of a segment.

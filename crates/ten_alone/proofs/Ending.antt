@@ -2,17 +2,17 @@
 use Rattle.std.proofs.Common.{◌≡◌, ℕ, false, Some, None, sym, ap, ◌∙◌, subst}
 use Rattle.std.specs.Prelude.{if◌then◌else◌, map, nat_le, slice_get}
 use Rattle.std.specs.Arc.{arc_value}
-use Rattle.vl_design.specs.declared.design.End.{End}
-use Rattle.vl_design.specs.declared.design.End.TheVariants.{Finished, Budget, Stopped}
-use Rattle.vl_design.specs.Alone.{Boundary, Ends, reason_at, stop_at}
-use Rattle.vl_design.specs.Queue.{Queue}
-use Rattle.sub_nodes.specs.Code.{table_of}
-use Rattle.sub_nodes.specs.Cycles.{rises}
+use Rattle.ten_core.specs.vl_design.specs.declared.design.End.{End}
+use Rattle.ten_core.specs.vl_design.specs.declared.design.End.TheVariants.{Finished, Budget, Stopped}
+use Rattle.ten_core.specs.vl_design.specs.Alone.{Boundary, Ends, reason_at, stop_at}
+use Rattle.ten_core.specs.vl_design.specs.Queue.{Queue}
+use Rattle.ten_core.specs.sub_nodes.specs.Code.{table_of}
+use Rattle.ten_core.specs.sub_nodes.specs.Cycles.{rises}
 use Rattle.ten_core.specs.declared.origin.Origin.{Origin}
 use Rattle.ten_core.specs.Tenants.{origin_of}
-use Rattle.ten_plan.specs.Held.{free_of}
-use Rattle.ten_run.specs.Running.{goes_on}
-use Rattle.ten_zero.specs.Early.{state_in}
+use Rattle.ten_core.specs.ten_plan.specs.Held.{free_of}
+use Rattle.ten_core.specs.Running.{goes_on}
+use Rattle.ten_parcel.specs.ten_zero.specs.Early.{state_in}
 use Rattle.ten_shell.specs.Shells.{flat_in, run_of, IsSameTenant}
 use Rattle.ten_parcel.specs.declared.parcel.Over.{Over}
 use Rattle.ten_parcel.specs.declared.parcel.Parcel.{Parcel}

@@ -1,23 +1,23 @@
 -- What a run of a tenant's image starts from can be run.
 use Rattle.std.proofs.Common.{◌≡◌, ℕ, List, Option, Some, None, sym, subst}
 use Rattle.std.specs.Prelude.{option_map}
-use Rattle.vl_base.specs.declared.files.File.{File}
-use Rattle.vl_design.specs.Alone as alone
-use Rattle.vl_design.specs.Laws.{IsFine, StartsFine, StartsOpen}
-use Rattle.vl_design.specs.Snapshots.{kept_values}
-use Rattle.vl_design.specs.Syntax.{Flat}
-use Rattle.vl_settle.specs.Checked.{IsOrder}
-use Rattle.reg_ports.specs.Refusals.{AreFit}
-use Rattle.ten_calls.specs.Works.{HaveBytes}
+use Rattle.ten_core.specs.vl_base.specs.declared.files.File.{File}
+use Rattle.ten_core.specs.vl_design.specs.Alone as alone
+use Rattle.ten_core.specs.vl_design.specs.Laws.{IsFine, StartsFine, StartsOpen}
+use Rattle.ten_core.specs.vl_design.specs.Snapshots.{kept_values}
+use Rattle.ten_core.specs.vl_design.specs.Syntax.{Flat}
+use Rattle.ten_core.specs.vl_runs.specs.Checked.{IsOrder}
+use Rattle.ten_core.specs.reg_ports.specs.Refusals.{AreFit}
+use Rattle.ten_core.specs.ten_form.specs.Works.{HaveBytes}
 use Rattle.ten_core.specs.declared.origin.Origin.{Origin}
 use Rattle.ten_core.specs.Runs.{IsTame}
 use Rattle.ten_core.specs.Tenants.{origin_of, IsImage}
-use Rattle.ten_design.specs.Designs.{IsTenantDesign}
-use Rattle.ten_hold.specs.Holding.{CanBeHeld}
-use Rattle.ten_hold.specs.Ports.{ports_of}
-use Rattle.ten_load.specs.Loads.{flat_in, StartFits}
-use Rattle.ten_plan.specs.declared.held.Held.{Held}
-use Rattle.ten_plan.specs.Held.{snapshot_of}
+use Rattle.ten_make.specs.Designs.{IsTenantDesign}
+use Rattle.ten_core.specs.Holding.{CanBeHeld}
+use Rattle.ten_core.specs.Ports.{ports_of}
+use Rattle.ten_core.specs.Begins.{flat_in, StartFits}
+use Rattle.ten_core.specs.ten_plan.specs.declared.held.Held.{Held}
+use Rattle.ten_core.specs.ten_plan.specs.Held.{snapshot_of}
 use Rattle.ten_shell.specs.Shells.{CanRunOn}
 use Rattle.ten_alone.specs.Alone.{IsRunnable}
 

@@ -1,14 +1,14 @@
 -- Tenants at the ends of their runs alone, and images that can be run (own).
 use Rattle.std.specs.Prelude.{◌≡◌, ℕ, ◌≤◌, false, List, []}
-use Rattle.vl_base.specs.Files.{IsFileSet}
-use Rattle.vl_design.specs.declared.design.End.{End}
-use Rattle.vl_design.specs.Alone.{Ends, first_tick}
-use Rattle.vl_design.specs.Queue.{Queue}
+use Rattle.ten_core.specs.vl_base.specs.Files.{IsFileSet}
+use Rattle.ten_core.specs.vl_design.specs.declared.design.End.{End}
+use Rattle.ten_core.specs.vl_design.specs.Alone.{Ends, first_tick}
+use Rattle.ten_core.specs.vl_design.specs.Queue.{Queue}
 use Rattle.ten_core.specs.declared.origin.Origin.{Origin}
 use Rattle.ten_core.specs.Tenants.{origin_of, IsImage}
-use Rattle.ten_design.specs.Designs.{IsTenantDesign}
-use Rattle.ten_load.specs.Loads.{flat_in, StartFits}
-use Rattle.ten_plan.specs.Plans.{IsPlan}
+use Rattle.ten_make.specs.Designs.{IsTenantDesign}
+use Rattle.ten_core.specs.Begins.{flat_in, StartFits}
+use Rattle.ten_core.specs.ten_plan.specs.Plans.{IsPlan}
 use Rattle.ten_parcel.specs.declared.parcel.Parcel.{Parcel}
 use Rattle.ten_parcel.specs.Parcels.{free_of, is_stopped, number_of, origin_in, run_of, ticks_of, IsParcel}
 

@@ -1,1 +1,2 @@
 pub mod Alone
+pub use Rattle.ten_shell as ten_shell

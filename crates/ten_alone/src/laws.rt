@@ -4,8 +4,8 @@ ghost use Rattle.ten_core.specs.declared.origin.Origin.{Origin as From};
 ghost use Rattle.ten_alone.specs.Alone.{IsRunnable};
 ghost use Rattle.ten_shell.specs.Shells.{CanRunOn};
 
-use ten_design::laws::runs_of_a_tenants_design_are_tame;
-use ten_hold::laws::words_that_fit_are_fine;
+use ten_core::hold_laws::words_that_fit_are_fine;
+use ten_make::design_laws::runs_of_a_tenants_design_are_tame;
 
 /// What a run of a tenant's image starts from can be run.
 pub fn a_tenants_image_can_be_run()

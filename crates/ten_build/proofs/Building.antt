@@ -1,38 +1,38 @@
 -- The image of an accepted design of a text is one of the text.
 use Rattle.std.proofs.Common.{◌≡◌, ◌≤◌, List, ℕ, length, refl, sym, ap, ◌∙◌, subst}
 use Rattle.std.specs.Prelude.{Result, Ok, Err, IfOk, All, map}
-use Rattle.vl_source.specs.declared.tree.Source.{Source}
-use Rattle.vl_cost.specs.Costs.{saturated_cost}
-use Rattle.vl_cost.specs.declared.capacity.Cost.{Cost}
-use Rattle.vl_design.specs.Alone.{Origin}
-use Rattle.vl_design.specs.Cost.{cost}
-use Rattle.vl_design.specs.Laws.{IsUnrolled}
-use Rattle.vl_design.specs.Observed.{IsSameRun}
-use Rattle.vl_design.specs.Placed as p
-use Rattle.vl_design.specs.Plainly as plain
-use Rattle.vl_design.specs.Rows.{range_width, row_of}
-use Rattle.vl_design.specs.Sound.{IsWidth}
-use Rattle.vl_design.specs.Syntax.{Flat, Row}
-use Rattle.vl_design.specs.Trees.{flat_of}
-use Rattle.vl_own.specs.Own.{HasOwnFunctions}
-use Rattle.vl_written.specs.Written.{HasWriters}
-use Rattle.vl_turns.specs.Fits.{CanUnroll}
-use Rattle.vl_turns.specs.Unroll.{unrolled_flat}
-use Rattle.vl_turns.proofs.Placing.{flat_plain}
-use Rattle.vl_checked.specs.Fit.{IsFit}
-use Rattle.vl_flatten.specs.Meeting.{IsElaboration}
-use Rattle.cell_accept.specs.declared.accept.Accepted.{Accepted}
-use Rattle.cell_accept.specs.Accepted.{Stands}
-use Rattle.cell_accept.proofs.Fitting.{unrolls}
+use Rattle.elab_laws.specs.vl_tree.specs.declared.source_tree.Source.{Source}
+use Rattle.vl_loops.specs.vl_design.specs.Costs.{saturated_cost}
+use Rattle.vl_loops.specs.vl_design.specs.declared.capacity.Cost.{Cost}
+use Rattle.vl_loops.specs.vl_design.specs.Alone.{Origin}
+use Rattle.vl_loops.specs.vl_design.specs.Cost.{cost}
+use Rattle.vl_loops.specs.vl_design.specs.Laws.{IsUnrolled}
+use Rattle.vl_loops.specs.vl_design.specs.Observed.{IsSameRun}
+use Rattle.vl_loops.specs.vl_design.specs.Placed as p
+use Rattle.vl_loops.specs.vl_design.specs.Plainly as plain
+use Rattle.vl_loops.specs.vl_design.specs.Rows.{range_width, row_of}
+use Rattle.vl_loops.specs.vl_design.specs.Sound.{IsWidth}
+use Rattle.vl_loops.specs.vl_design.specs.Syntax.{Flat, Row}
+use Rattle.vl_loops.specs.vl_design.specs.Trees.{flat_of}
+use Rattle.sub_runs.specs.vl_sites.specs.Own.{HasOwnFunctions}
+use Rattle.elab_laws.specs.vl_check.specs.Written.{HasWriters}
+use Rattle.vl_loops.specs.Fits.{CanUnroll}
+use Rattle.vl_loops.specs.Unroll.{unrolled_flat}
+use Rattle.vl_loops.proofs.Placing.{flat_plain}
+use Rattle.elab_laws.specs.vl_accept.specs.Fit.{IsFit}
+use Rattle.elab_laws.specs.vl_sound.specs.Meeting.{IsElaboration}
+use Rattle.elab_laws.specs.vl_accept.specs.declared.accept.Accepted.{Accepted}
+use Rattle.elab_laws.specs.vl_accept.specs.Accepted.{Stands}
+use Rattle.elab_laws.specs.vl_accept.proofs.Fitting.{unrolls}
 use Rattle.vl_front.specs.Sources.{StandsFor, IsAcceptedOf}
-use Rattle.ten_core.specs.declared.image.Image.{Image}
-use Rattle.ten_core.specs.Tenants.{IsImage}
-use Rattle.ten_design.specs.Designs.{IsTenantDesign}
+use Rattle.ten_make.specs.ten_core.specs.declared.image.Image.{Image}
+use Rattle.ten_make.specs.ten_core.specs.Tenants.{IsImage}
+use Rattle.ten_make.specs.Designs.{IsTenantDesign}
 use Rattle.ten_make.specs.Within.{IsWithinCost}
-use Rattle.ten_plan.specs.Written.{HasRows}
-use Rattle.vl_limited.specs.Limited.{IsLimited}
-use Rattle.vl_answers.specs.Answers.{AsksBehindCalls}
-use Rattle.vl_again.specs.Again.{CanGoOn}
+use Rattle.elab_laws.specs.ten_plan.specs.Written.{HasRows}
+use Rattle.elab_laws.specs.Limited.{IsLimited}
+use Rattle.sub_runs.specs.vl_sites.specs.Answers.{AsksBehindCalls}
+use Rattle.sub_runs.specs.Again.{CanGoOn}
 use Rattle.ten_build.specs.Builds.{RunsAs, IsImageOf, HasCost}
 use Rattle.ten_build.proofs.Resuming.{can-go-on}
 

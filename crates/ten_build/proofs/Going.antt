@@ -1,13 +1,13 @@
 -- The run of the design that a text stands for goes on as its image's does.
 use Rattle.std.proofs.Common.{◌≡◌, ℕ, List, false, sym, ap, ◌∙◌, subst}
-use Rattle.vl_design.specs.Alone.{Origin, Boundary}
-use Rattle.vl_design.specs.Laws.{StartsFine}
-use Rattle.vl_design.specs.Observed.{IsSameRun}
-use Rattle.vl_design.specs.Queue.{Queue}
-use Rattle.vl_design.specs.Syntax.{Row, Flat}
-use Rattle.vl_design.specs.Trees.{flat_of}
-use Rattle.vl_again.specs.Again.{CanGoOn, GoesOn}
-use Rattle.ten_core.specs.declared.image.Image.{Image}
+use Rattle.vl_loops.specs.vl_design.specs.Alone.{Origin, Boundary}
+use Rattle.vl_loops.specs.vl_design.specs.Laws.{StartsFine}
+use Rattle.vl_loops.specs.vl_design.specs.Observed.{IsSameRun}
+use Rattle.vl_loops.specs.vl_design.specs.Queue.{Queue}
+use Rattle.vl_loops.specs.vl_design.specs.Syntax.{Row, Flat}
+use Rattle.vl_loops.specs.vl_design.specs.Trees.{flat_of}
+use Rattle.sub_runs.specs.Again.{CanGoOn, GoesOn}
+use Rattle.ten_make.specs.ten_core.specs.declared.image.Image.{Image}
 use Rattle.ten_build.specs.Builds.{IsImageOf}
 
 -- the laws that are called

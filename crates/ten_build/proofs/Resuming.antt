@@ -1,18 +1,18 @@
 -- Runs of a tenants' design can be resumed from their snapshots.
 use Rattle.std.proofs.Common.{◌≡◌, ℕ, true, false, List, Option, Some, None, refl, ◌∙◌}
 use Rattle.std.specs.Prelude.{slice_get}
-use Rattle.vl_design.specs.declared.design.SigKind.{SigKind}
-use Rattle.vl_design.specs.declared.design.SigKind.TheVariants.{Net, Var, Comb, Loop, Mem, Clock}
-use Rattle.vl_design.specs.Sound.{HasValue}
-use Rattle.vl_design.specs.Syntax.{Row, Flat}
-use Rattle.vl_settle.specs.Computed.{is_computed, is_computed_row}
-use Rattle.vl_settle.specs.Nets.{is_memory}
-use Rattle.vl_answers.specs.Answers.{AsksBehindCalls}
-use Rattle.vl_again.specs.Again.{CanGoOn}
-use Rattle.sub_nets.specs.Nets.{HasNarrowNets}
-use Rattle.cell_paths.specs.Envs.{HasOneWord}
-use Rattle.cell_expr.proofs.Wording.{many-words}
-use Rattle.ten_design.specs.Designs.{IsTenantDesign}
+use Rattle.vl_loops.specs.vl_design.specs.declared.design.SigKind.{SigKind}
+use Rattle.vl_loops.specs.vl_design.specs.declared.design.SigKind.TheVariants.{Net, Var, Comb, Loop, Mem, Clock}
+use Rattle.vl_loops.specs.vl_design.specs.Sound.{HasValue}
+use Rattle.vl_loops.specs.vl_design.specs.Syntax.{Row, Flat}
+use Rattle.sub_runs.specs.vl_runs.specs.Computed.{is_computed, is_computed_row}
+use Rattle.sub_runs.specs.vl_runs.specs.NetsOfSettle.{is_memory}
+use Rattle.sub_runs.specs.vl_sites.specs.Answers.{AsksBehindCalls}
+use Rattle.sub_runs.specs.Again.{CanGoOn}
+use Rattle.sub_runs.specs.Nets.{HasNarrowNets}
+use Rattle.ten_make.specs.cell_emit.specs.Envs.{HasOneWord}
+use Rattle.ten_make.specs.cell_expr.proofs.Wording.{many-words}
+use Rattle.ten_make.specs.Designs.{IsTenantDesign}
 
 -- a computed signal has a value
 has-value : (kind : SigKind) → is_computed kind ≡ true → HasValue kind

@@ -1,21 +1,21 @@
 -- What a source is built into (own).
 use Rattle.std.specs.Prelude.{◌≡◌, ℕ, List, ⊤, Result, Ok, Err}
-use Rattle.vl_cost.specs.Costs.{saturated_cost}
-use Rattle.vl_cost.specs.declared.capacity.Cost.{Cost}
-use Rattle.vl_design.specs.Alone.{Origin}
-use Rattle.vl_design.specs.Cost.{cost}
-use Rattle.vl_design.specs.Observed.{IsSameRun}
-use Rattle.vl_design.specs.Syntax.{Flat}
-use Rattle.vl_design.specs.Trees.{flat_of}
+use Rattle.vl_loops.specs.vl_design.specs.Costs.{saturated_cost}
+use Rattle.vl_loops.specs.vl_design.specs.declared.capacity.Cost.{Cost}
+use Rattle.vl_loops.specs.vl_design.specs.Alone.{Origin}
+use Rattle.vl_loops.specs.vl_design.specs.Cost.{cost}
+use Rattle.vl_loops.specs.vl_design.specs.Observed.{IsSameRun}
+use Rattle.vl_loops.specs.vl_design.specs.Syntax.{Flat}
+use Rattle.vl_loops.specs.vl_design.specs.Trees.{flat_of}
 use Rattle.vl_front.specs.declared.fault.BuildError.{BuildError}
 use Rattle.vl_front.specs.declared.fault.BuildError.TheVariants.{Refused, Memory}
 use Rattle.vl_front.specs.Sources.{StandsFor, IsRefusal}
-use Rattle.ten_core.specs.declared.image.Image.{Image}
-use Rattle.ten_core.specs.Tenants.{IsImage}
-use Rattle.ten_design.specs.Designs.{IsTenantDesign}
+use Rattle.ten_make.specs.ten_core.specs.declared.image.Image.{Image}
+use Rattle.ten_make.specs.ten_core.specs.Tenants.{IsImage}
+use Rattle.ten_make.specs.Designs.{IsTenantDesign}
 use Rattle.ten_make.specs.Within.{IsWithinCost}
-use Rattle.ten_plan.specs.Written.{HasRows}
-use Rattle.vl_again.specs.Again.{CanGoOn}
+use Rattle.elab_laws.specs.ten_plan.specs.Written.{HasRows}
+use Rattle.sub_runs.specs.Again.{CanGoOn}
 
 -- over all files, with all plans and from all starts the run alone of one design is that of another; their signals and their costs are the same
 pub record RunsAs (d e : Flat) : Type 0 where

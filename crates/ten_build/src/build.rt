@@ -4,25 +4,25 @@ ghost use Rattle.std.specs.Prelude.{ℕ, List, IfOk};
 ghost use Rattle.vl_front.specs.Sources.{IsAcceptedOf};
 ghost use Rattle.ten_build.specs.Builds.{HasCost, IsBuild, IsImageOf};
 
-use cell_accept::accept::Accepted;
-use std::alloc::{AllocError, Global};
-use ten_core::image::Image;
-use ten_fit::laws::an_accepted_design_is_a_tenants;
-use ten_make::image::image;
-use vl_asked::laws::{
+use crate::fit_laws::an_accepted_design_is_a_tenants;
+use elab_laws::Accepted;
+use elab_laws::asked_laws::{
     processes_of_an_elaborated_design_ask_behind_calls, unrolled_designs_ask_behind_calls,
 };
-use vl_cost::capacity::Cost;
-use vl_cost::cost::cost;
-use vl_fit::laws::an_elaborated_design_is_fit_to_be_judged;
-use vl_front::fault::BuildError;
-use vl_front::front::front;
-use vl_functions::laws::functions_of_an_elaborated_design_keep_to_their_own;
-use vl_limited::laws::{
+use elab_laws::fit_laws::an_elaborated_design_is_fit_to_be_judged;
+use elab_laws::functions_laws::functions_of_an_elaborated_design_keep_to_their_own;
+use elab_laws::limited_laws::{
     rows_of_a_limited_design_can_be_written, signals_of_an_elaborated_design_are_limited,
 };
-use vl_turns::laws::{costs_the_same, no_loop_is_left, runs_the_same};
-use vl_writers::laws::processes_of_an_elaborated_design_write_what_is_theirs;
+use elab_laws::writers_laws::processes_of_an_elaborated_design_write_what_is_theirs;
+use std::alloc::{AllocError, Global};
+use ten_make::Image;
+use ten_make::image::image;
+use vl_cost::cost::cost;
+use vl_front::fault::BuildError;
+use vl_front::front::front;
+use vl_loops::Cost;
+use vl_loops::laws::{costs_the_same, no_loop_is_left, runs_the_same};
 
 /// The most signals of a design, so that cells can number its values: 2 ^ 28.
 const MOST_SIGNALS: usize = 268_435_456;

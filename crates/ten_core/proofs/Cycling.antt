@@ -2,25 +2,25 @@
 use Rattle.std.proofs.Common.{◌≡◌, ℕ, suc, ◌+◌, ◌<◌, ◌≤◌, ◌^◌, Bool, true, false, List, [], length, Some, inl, inr, refl, sym, ap, ◌∙◌, subst, arith}
 use Rattle.std.specs.Prelude.{if◌then◌else◌, is_some, slice_get, slice_index}
 use Rattle.std.proofs.lemmas.Option.{slice_get_cases, slice_get_within}
-use Rattle.vl_base.specs.declared.files.File.{File}
+use Rattle.vl_design.specs.vl_base.specs.declared.files.File.{File}
 use Rattle.vl_design.specs.Alone.{Origin}
 use Rattle.vl_design.specs.Syntax.{Flat}
-use Rattle.cell_form.specs.Data.{BankData, StateData, TableData}
-use Rattle.cell_form.specs.Sound.{Shape, IsList, shape_of}
-use Rattle.cell_form.specs.States.{present, table_cycled}
-use Rattle.cell_form.specs.Views as cells
-use Rattle.sub_nodes.specs.Code.{table_of}
-use Rattle.sub_nodes.specs.Cycles.{Stage, cycled, cycle, is_trap, rises}
-use Rattle.sub_nodes.specs.Nodes.{Go, Branch, Switch, Commit, Node, Run, Trap, Apply}
-use Rattle.sub_nodes.specs.Stands.{at_trap, Comes, cycles}
-use Rattle.sub_facts.specs.Early.{early_from}
-use Rattle.sub_facts.proofs.Leading.{sizes}
+use Rattle.trap_runtime.specs.cell_form.specs.Data.{BankData, StateData, TableData}
+use Rattle.trap_runtime.specs.cell_form.specs.Sound.{Shape, IsList, shape_of}
+use Rattle.trap_runtime.specs.cell_form.specs.States.{present, table_cycled}
+use Rattle.trap_runtime.specs.cell_form.specs.Views as cells
+use Rattle.ten_form.specs.sub_nodes.specs.Code.{table_of}
+use Rattle.ten_form.specs.sub_nodes.specs.Cycles.{Stage, cycled, cycle, is_trap, rises}
+use Rattle.ten_form.specs.sub_nodes.specs.Nodes.{Go, Branch, Switch, Commit, Node, Run, Trap, Apply}
+use Rattle.ten_form.specs.sub_nodes.specs.Stands.{at_trap, Comes, cycles}
+use Rattle.ten_form.specs.sub_nodes.specs.Early.{early_from}
+use Rattle.ten_form.specs.sub_nodes.proofs.Leading.{sizes}
 use Rattle.ten_form.specs.Banks.{cell_nodes, IsFor}
 use Rattle.ten_form.specs.Nets.{nets_of, IsTidy, HoldsNoOthers}
 use Rattle.ten_form.specs.Registers.{state_register}
-use Rattle.ten_image.specs.Delays.{IsDue}
-use Rattle.ten_image.specs.Paired.{CallsStandApart}
-use Rattle.ten_image.specs.States.{slots_in, IsStateOf, AreStates, StandsAt}
+use Rattle.ten_form.specs.Delays.{IsDue}
+use Rattle.ten_form.specs.Paired.{CallsStandApart}
+use Rattle.ten_form.specs.States.{slots_in, IsStateOf, AreStates, StandsAt}
 use Rattle.ten_core.specs.Runs.{IsAt, IsTame, Runs}
 use Rattle.ten_core.specs.Tenants.{TenantData, states_of}
 use Rattle.ten_core.specs.Traps.{has_trap}

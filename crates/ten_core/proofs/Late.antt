@@ -3,7 +3,7 @@ use Rattle.std.proofs.Common.{◌≡◌, ℕ, zero, suc, ◌<◌, Bool, true, fa
 use Rattle.std.specs.Prelude.{All, if◌then◌else◌, slice_get}
 use Rattle.std.proofs.lemmas.List.Elements.{All-head, All-tail}
 use Rattle.std.proofs.lemmas.Option.{slice_get_cases}
-use Rattle.vl_base.specs.declared.files.File.{File}
+use Rattle.vl_design.specs.vl_base.specs.declared.files.File.{File}
 use Rattle.vl_design.specs.declared.design.Form.{Form}
 use Rattle.vl_design.specs.Exec.{is_true, some_match}
 use Rattle.vl_design.specs.Functions.{scope_of}
@@ -11,18 +11,13 @@ use Rattle.vl_design.specs.State.{State}
 use Rattle.vl_design.specs.Syntax.{Task, Flat}
 use Rattle.vl_design.specs.Value.{Sample}
 use Rattle.vl_design.specs.Width.{Scope}
-use Rattle.sub_nodes.specs.Code.{table_of}
-use Rattle.sub_nodes.specs.Cycles.{Stage, way_of, segment_done, cycled}
-use Rattle.sub_nodes.specs.Nodes.{Way, Go, Branch, Switch, Commit, Node, Run, Trap, Apply}
-use Rattle.sub_facts.specs.Early.{early_from}
-use Rattle.sub_facts.proofs.Leading.{sizes, late_leads}
+use Rattle.ten_form.specs.sub_nodes.specs.Code.{table_of}
+use Rattle.ten_form.specs.sub_nodes.specs.Cycles.{Stage, way_of, segment_done, cycled}
+use Rattle.ten_form.specs.sub_nodes.specs.Nodes.{Way, Go, Branch, Switch, Commit, Node, Run, Trap, Apply}
+use Rattle.ten_form.specs.sub_nodes.specs.Early.{early_from}
+use Rattle.ten_form.specs.sub_nodes.proofs.Leading.{sizes, late_leads}
 use Rattle.ten_form.specs.Banks.{cell_nodes}
-
-get-take : {X : Type 0} (n : ℕ) (xs : List X) (i : ℕ) → i < n → slice_get (take n xs) i ≡ slice_get xs i
-get-take zero xs i l = absurd (omega (arith, l))
-get-take (suc n) [] i l = refl
-get-take (suc n) (x ∷ xs) zero l = refl
-get-take (suc n) (x ∷ xs) (suc i) l = get-take n xs i (omega (arith, l))
+use Rattle.vl_design.specs.vl_base.proofs.Lists.{get_take as get-take}
 
 module _ (P : ℕ → Type 0) where
   either-in : (b : Bool) (j k : ℕ) → P j → P k → P (if b then j else k)

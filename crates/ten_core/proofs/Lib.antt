@@ -4,3 +4,14 @@ mod Places
 mod Serving
 mod Silent
 mod Tidying
+mod Stepping
+mod Resting
+mod Listing
+mod Taking
+mod Restoring
+mod Fitting
+mod Settling
+mod Adding
+mod Keeping
+mod Growing
+mod Fronts

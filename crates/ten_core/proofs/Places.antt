@@ -4,16 +4,12 @@ use Rattle.std.specs.Prelude.{◌==◌, slice_get}
 use Rattle.std.proofs.lemmas.Bool.{eqb-true, eq-eqb}
 use Rattle.vl_design.specs.Alone.{Origin}
 use Rattle.vl_design.specs.Syntax.{Flat}
-use Rattle.sub_nodes.specs.Code.{table_of}
-use Rattle.sub_nodes.specs.Cycles.{Stage, rises}
-use Rattle.sub_nodes.proofs.Rising.{rises_once, rise_rises}
+use Rattle.ten_form.specs.sub_nodes.specs.Code.{table_of}
+use Rattle.ten_form.specs.sub_nodes.specs.Cycles.{Stage, rises}
+use Rattle.ten_form.specs.sub_nodes.proofs.Rising.{rises_once, rise_rises}
 use Rattle.ten_core.specs.Runs.{IsAt}
 use Rattle.ten_core.specs.Tenants.{TenantData}
-
-both : (p q : Bool) → (p ≡ true → q ≡ true) → (q ≡ true → p ≡ true) → p ≡ q
-both true q f g = sym (f refl)
-both false true f g = g refl
-both false false f g = refl
+use Rattle.vl_design.specs.vl_base.proofs.Booleans.{same_by_both as both}
 
 -- the node that rises is the first one of a rise's wave
 rise-is : (d : Flat) (n r : ℕ) → r ≡ (table_of d).rise.first → (n == r) ≡ rises (slice_get (table_of d).nodes n)

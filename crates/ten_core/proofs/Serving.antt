@@ -12,32 +12,32 @@ use Rattle.vl_design.specs.Snapshots.{Snapshot}
 use Rattle.vl_design.specs.State.{State, sample}
 use Rattle.vl_design.specs.Syntax.{Task, Flat}
 use Rattle.vl_design.specs.Tasks.{called}
-use Rattle.cell_form.specs.Data.{BankData, StateData, TableData}
-use Rattle.cell_form.specs.Sound.{Shape, shape_of}
-use Rattle.cell_form.specs.Views as cells
-use Rattle.cell_form.specs.declared.table.Trap.{Trap as TrapData}
-use Rattle.sub_nodes.specs.Code.{table_of}
-use Rattle.sub_nodes.specs.Cycles.{Stage, served, served_by, is_trap}
-use Rattle.sub_nodes.specs.Nodes.{Node, Run, Trap, Apply}
-use Rattle.sub_nodes.specs.Stands.{at_trap, first_stage, Comes, cycles, serves}
-use Rattle.sub_facts.specs.Early.{early_from}
-use Rattle.sub_facts.proofs.Calling.{IsNoCall, no_call_next}
+use Rattle.trap_runtime.specs.cell_form.specs.Data.{BankData, StateData, TableData}
+use Rattle.trap_runtime.specs.cell_form.specs.Sound.{Shape, shape_of}
+use Rattle.trap_runtime.specs.cell_form.specs.Views as cells
+use Rattle.trap_runtime.specs.cell_form.specs.declared.table.Trap.{Trap as TrapData}
+use Rattle.ten_form.specs.sub_nodes.specs.Code.{table_of}
+use Rattle.ten_form.specs.sub_nodes.specs.Cycles.{Stage, served, served_by, is_trap}
+use Rattle.ten_form.specs.sub_nodes.specs.Nodes.{Node, Run, Trap, Apply}
+use Rattle.ten_form.specs.sub_nodes.specs.Stands.{at_trap, first_stage, Comes, cycles, serves}
+use Rattle.ten_form.specs.sub_nodes.specs.Early.{early_from}
+use Rattle.ten_form.specs.sub_nodes.proofs.Calling.{IsNoCall, no_call_next}
 use Rattle.ten_files.specs.declared.row.Row.{Row}
 use Rattle.ten_files.specs.Tables.{open_files, IsTableOf}
 use Rattle.ten_form.specs.Banks.{cell_nodes, stores_before, IsFor, HoldsState}
 use Rattle.ten_form.specs.Nets.{nets_of}
 use Rattle.ten_form.specs.Registers.{value_register, work_register, update_register, mask_register, register_count}
-use Rattle.ten_stores.specs.Holding.{IsIdle}
-use Rattle.ten_stores.specs.Stores.{words_down}
-use Rattle.ten_stores.proofs.Same.{all-from, idle-behind, stores-behind}
-use Rattle.ten_traps.specs.Asked.{asked}
-use Rattle.ten_calls.specs.Works.{saved, works_of, IsBefore, DoesCall}
-use Rattle.ten_calls.proofs.Doing.{can, does}
-use Rattle.ten_calls.proofs.Serving.{holds-altered}
+use Rattle.ten_form.specs.Holding.{IsIdle}
+use Rattle.ten_form.specs.Stores.{words_down}
+use Rattle.ten_form.proofs.Same.{all-from, idle-behind, stores-behind}
+use Rattle.ten_form.specs.Asked.{asked}
+use Rattle.ten_form.specs.Works.{saved, works_of, IsBefore, DoesCall}
+use Rattle.ten_form.proofs.Doing.{can, does}
+use Rattle.ten_form.proofs.Serving.{holds-altered}
 use Rattle.trap_runtime.specs.Served as s
 use Rattle.trap_runtime.specs.Traps.{IsTrap}
 use Rattle.trap_runtime.specs.declared.served.Served.TheVariants as way
-use Rattle.ten_image.specs.States.{idle_before, Waits, IsStateOf, StandsAt}
+use Rattle.ten_form.specs.States.{idle_before, Waits, IsStateOf, StandsAt}
 use Rattle.ten_core.specs.Runs.{IsAt, IsTame}
 use Rattle.ten_core.specs.Tenants.{TenantData, states_of}
 use Rattle.ten_core.specs.Traps.{IsAtCall}

@@ -3,7 +3,7 @@ use Rattle.std.proofs.Common.{◌≡◌, ℕ, ◌+◌, Bool, true, false, List, 
 use Rattle.std.specs.Prelude.{⊤, ◌||◌, if◌then◌else◌, All}
 use Rattle.std.proofs.lemmas.List.Elements.{All-head, All-tail}
 use Rattle.vl_design.proofs.Unread.{or_false}
-use Rattle.vl_base.specs.declared.files.File.{File}
+use Rattle.vl_design.specs.vl_base.specs.declared.files.File.{File}
 use Rattle.vl_design.specs.Syntax.{Stm, Nop, Then, If, Case, For, Repeat, Set, Later, Sys, Items, NoItems, Labelled, Default, Task, Flat}
 use Rattle.vl_design.specs.Width.{Scope}
 use Rattle.vl_design.specs.State.{State}
@@ -13,8 +13,8 @@ use Rattle.vl_design.specs.Laws.{can_act, items_can_act}
 use Rattle.vl_design.specs.Tasks.{called}
 use Rattle.vl_design.proofs.Returning.{exec_ticks}
 use Rattle.vl_design.proofs.Leading.{AllIn, AllItems, Steps, exec_leads}
-use Rattle.sub_nodes.specs.Nodes.{Segment, WayOn, Go, Branch, Switch, Commit, Node, Run, Trap, Apply}
-use Rattle.sub_nodes.specs.Cycles.{Stage, ticked, execs, segment_done, goes_on, cycled, rises}
+use Rattle.ten_form.specs.sub_nodes.specs.Nodes.{Segment, WayOn, Go, Branch, Switch, Commit, Node, Run, Trap, Apply}
+use Rattle.ten_form.specs.sub_nodes.specs.Cycles.{Stage, ticked, execs, segment_done, goes_on, cycled, rises}
 
 -- a statement that can't act has no call
 mutual

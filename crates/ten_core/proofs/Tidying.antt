@@ -7,10 +7,11 @@ use Rattle.vl_design.specs.declared.design.SigKind.TheVariants.{Net, Var, Comb, 
 use Rattle.vl_design.specs.Laws.{IsFine}
 use Rattle.vl_design.specs.Sound.{IsOf, IsMem}
 use Rattle.vl_design.specs.Syntax.{Row}
-use Rattle.vl_settle.specs.Computed.{is_computed}
-use Rattle.sub_nets.specs.Memories.{is_mem, is_mem_row}
-use Rattle.sub_nets.specs.Nets as nets
+use Rattle.ten_form.specs.vl_runs.specs.Computed.{is_computed}
+use Rattle.sub_runs.specs.Memories.{is_mem, is_mem_row}
+use Rattle.sub_runs.specs.Nets as nets
 use Rattle.ten_form.specs.Nets.{cleared}
+pub use Rattle.vl_design.proofs.Shared.{fine-many}
 
 -- both ways to clear computed signals are one, where there are as many values as signals
 pub cleared-same : (rows : List Row) (values : List (List ℕ)) → length values ≡ length rows → nets.cleared rows values ≡ cleared rows values
@@ -33,7 +34,3 @@ of-memory Clock h = absurd h
 pub memory-row : (x : Option Row) → IsOf IsMem x → is_mem_row x ≡ true
 memory-row None h = absurd h
 memory-row (Some r) h = of-memory r.kind h.0
-
--- values as a design's signals have them are as many
-pub fine-many : (rows : List Row) (values : List (List ℕ)) → IsFine rows values → length values ≡ length rows
-fine-many rows values h = h.shape.many ∙ length-map rows (λ (r : Row). replicate {A = ℕ} r.words 0)

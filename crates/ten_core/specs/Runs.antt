@@ -6,18 +6,18 @@ use Rattle.vl_design.specs.Laws.{can_act}
 use Rattle.vl_design.specs.Sound.{IsSoundTask}
 use Rattle.vl_design.specs.Syntax.{Task}
 use Rattle.vl_design.specs.Width.{names_of}
-use Rattle.cell_paths.specs.Envs.{HasOneWord}
-use Rattle.sub_nodes.specs.Code.{table_of}
-use Rattle.sub_nodes.specs.Cycles.{Stage, cycle, served}
-use Rattle.sub_nodes.specs.Nodes.{Segment, WayOn, Node, Run, Trap}
-use Rattle.sub_nodes.specs.Stands.{Comes, at_trap}
-use Rattle.sub_facts.specs.Early.{early_from}
+use Rattle.ten_form.specs.cell_emit.specs.Envs.{HasOneWord}
+use Rattle.ten_form.specs.sub_nodes.specs.Code.{table_of}
+use Rattle.ten_form.specs.sub_nodes.specs.Cycles.{Stage, cycle, served}
+use Rattle.ten_form.specs.sub_nodes.specs.Nodes.{Segment, WayOn, Node, Run, Trap}
+use Rattle.ten_form.specs.sub_nodes.specs.Stands.{Comes, at_trap}
+use Rattle.ten_form.specs.sub_nodes.specs.Early.{early_from}
 use Rattle.ten_files.specs.Tables.{open_files, IsTableOf}
 use Rattle.ten_form.specs.Banks.{cell_nodes}
 use Rattle.ten_form.specs.Nets.{nets_of, IsTidy, HoldsNoOthers}
-use Rattle.ten_calls.specs.Works.{IsVariableRead, HaveBytes}
-use Rattle.ten_image.specs.Delays.{IsDue}
-use Rattle.ten_image.specs.States.{StandsAt}
+use Rattle.ten_form.specs.Works.{IsVariableRead, HaveBytes}
+use Rattle.ten_form.specs.Delays.{IsDue}
+use Rattle.ten_form.specs.States.{StandsAt}
 use Rattle.ten_core.specs.Tenants.{TenantData, states_of, IsImage}
 
 -- the stage behind a cycle, where nets settle in this order, and the one behind a served call

@@ -1,22 +1,22 @@
 -- Engines and images as plain data, and which image stands for a design (own).
 use Rattle.std.specs.Prelude.{◌≡◌, ℕ, ◌≤◌, ◌^◌, Bool, List, length, Option, option_map}
 use Rattle.std.specs.Arc.{arc_value}
-use Rattle.vl_base.specs.declared.files.File.{File}
-use Rattle.vl_cost.specs.Costs.{saturated_cost}
+use Rattle.vl_design.specs.vl_base.specs.declared.files.File.{File}
+use Rattle.vl_design.specs.Costs.{saturated_cost}
 use Rattle.vl_design.specs.Alone as alone
 use Rattle.vl_design.specs.Cost.{cost}
 use Rattle.vl_design.specs.Syntax.{Flat}
 use Rattle.vl_design.specs.Trees.{flat_of}
-use Rattle.cell_form.specs.Data.{BankData, StateData, TableData}
-use Rattle.cell_form.specs.Views as cells
-use Rattle.sub_nodes.specs.Code.{table_of}
+use Rattle.trap_runtime.specs.cell_form.specs.Data.{BankData, StateData, TableData}
+use Rattle.trap_runtime.specs.cell_form.specs.Views as cells
+use Rattle.ten_form.specs.sub_nodes.specs.Code.{table_of}
 use Rattle.ten_files.specs.declared.row.Row.{Row}
 use Rattle.ten_form.specs.Banks.{cell_nodes, stores_in}
 use Rattle.ten_form.specs.Registers.{state_register}
-use Rattle.ten_hold.specs.Holding.{CanBeHeld}
-use Rattle.ten_hold.specs.Ports.{ports_of}
-use Rattle.ten_image.specs.Paired.{CallsStandApart}
-use Rattle.ten_image.specs.States.{AreStates}
+use Rattle.ten_core.specs.Holding.{CanBeHeld}
+use Rattle.ten_core.specs.Ports.{ports_of}
+use Rattle.ten_form.specs.Paired.{CallsStandApart}
+use Rattle.ten_form.specs.States.{AreStates}
 use Rattle.ten_plan.specs.Held.{snapshot_of}
 use Rattle.ten_plan.specs.Plans.{plan_of}
 use Rattle.ten_core.specs.declared.engine.Engine.{Engine}

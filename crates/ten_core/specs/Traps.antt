@@ -1,8 +1,8 @@
 -- Calls that states wait for (own).
 use Rattle.std.specs.Prelude.{◌≡◌, ℕ, Bool, false, is_some, [], ◌∷◌, Option, Some, None}
-use Rattle.cell_form.specs.Data.{BankData, StateData, TableData}
-use Rattle.cell_form.specs.States.{present}
-use Rattle.cell_form.specs.declared.table.Trap.{Trap}
+use Rattle.trap_runtime.specs.cell_form.specs.Data.{BankData, StateData, TableData}
+use Rattle.trap_runtime.specs.cell_form.specs.States.{present}
+use Rattle.trap_runtime.specs.cell_form.specs.declared.table.Trap.{Trap}
 
 -- the state has a call to be served
 abbrev pub has_trap : Option StateData → Bool

@@ -1,9 +1,9 @@
 //! Banks' state register.
 
 ghost use Rattle.std.specs.Prelude.{◌≡◌, ◌<◌, length, slice_set};
-ghost use Rattle.cell_form.specs.Views.{bank_of};
+ghost use Rattle.trap_runtime.specs.cell_form.specs.Views.{bank_of};
 
-use cell_form::bank::Bank;
+use trap_runtime::Bank;
 
 /// Makes a state the one that is next, by the register that names it.
 pub(crate) fn go_to(bank: &mut Bank, register: u32, state: u32)

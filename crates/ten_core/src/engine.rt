@@ -3,29 +3,29 @@
 ghost use Rattle.std.specs.Prelude.{IsTrue, ◌≡◌, ◌↔◌, ◌+◌, ◌<◌, ◌^◌, ℕ, suc, List, true, false, if◌then◌else◌, OnOk, OnErr, slice_get, slice_index, vec_len, vec_capacity, ◌++◌};
 ghost use Rattle.std.specs.Arc.{arc_value};
 ghost use Rattle.vl_design.specs.Alone.{Origin as Alone};
-ghost use Rattle.cell_form.specs.Data.{BankData};
-ghost use Rattle.cell_form.specs.Sound.{shape_of};
-ghost use Rattle.cell_form.specs.States.{table_cycled};
-ghost use Rattle.cell_form.specs.Views.{bank_of};
-ghost use Rattle.sub_nodes.specs.Code.{table_of};
-ghost use Rattle.sub_nodes.specs.Cycles.{Stage, rises};
-ghost use Rattle.sub_nodes.specs.Stands.{at_trap};
+ghost use Rattle.trap_runtime.specs.cell_form.specs.Data.{BankData};
+ghost use Rattle.trap_runtime.specs.cell_form.specs.Sound.{shape_of};
+ghost use Rattle.trap_runtime.specs.cell_form.specs.States.{table_cycled};
+ghost use Rattle.trap_runtime.specs.cell_form.specs.Views.{bank_of};
+ghost use Rattle.ten_form.specs.sub_nodes.specs.Code.{table_of};
+ghost use Rattle.ten_form.specs.sub_nodes.specs.Cycles.{Stage, rises};
+ghost use Rattle.ten_form.specs.sub_nodes.specs.Stands.{at_trap};
 ghost use Rattle.ten_form.specs.Registers.{state_register};
-ghost use Rattle.ten_calls.specs.Works.{saved};
+ghost use Rattle.ten_form.specs.Works.{saved};
 ghost use Rattle.ten_core.specs.Tenants.{table_in, tenant_of};
 ghost use Rattle.ten_core.specs.Runs.{after_cycle, after_call, IsAt, IsTame, Runs};
 
 use crate::banks::go_to;
 use crate::origin::Origin;
 use crate::states::{has_call, next_call, step};
-use cell_form::bank::Bank;
 use std::alloc::{AllocError, Global};
 use std::sync::Arc;
 use ten_files::table::Table;
-use ten_image::laws::a_cycle_of_states_is_one_of_nodes;
+use ten_form::image_laws::a_cycle_of_states_is_one_of_nodes;
+use trap_runtime::Bank;
 use trap_runtime::serve::serve;
 use trap_runtime::served::Served;
-use vl_base::items::Text;
+use vl_design::Text;
 
 /// An engine: a run of a design on the states of its image, behind time zero's wave, without the bank that it runs on.
 #[derive(Drop)]

@@ -1,8 +1,8 @@
 //! Images of designs.
 
-use cell_form::bank::PortMap;
-use cell_form::table::StateTable;
-use vl_cost::capacity::Cost;
+use trap_runtime::PortMap;
+use trap_runtime::table::StateTable;
+use vl_design::capacity::Cost;
 use vl_design::design::Design;
 
 /// A design as states of cells.

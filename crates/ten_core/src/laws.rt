@@ -3,26 +3,26 @@
 ghost use Rattle.std.specs.Prelude.{◌≡◌, ◌+◌, ◌<◌, ◌^◌, ℕ, List, false, slice_index};
 ghost use Rattle.vl_design.specs.Alone.{Origin};
 ghost use Rattle.vl_design.specs.Laws.{StartsFine};
-ghost use Rattle.vl_settle.specs.Checked.{IsChecked, IsOrder};
-ghost use Rattle.cell_form.specs.Data.{BankData};
-ghost use Rattle.cell_form.specs.States.{table_cycled};
-ghost use Rattle.sub_nodes.specs.Code.{table_of};
-ghost use Rattle.sub_nodes.specs.Cycles.{Stage};
-ghost use Rattle.sub_nodes.specs.Stands.{Comes};
-ghost use Rattle.sub_nets.specs.Memories.{SetsNoMemories};
-ghost use Rattle.sub_nets.specs.Nets.{WritesNoNets};
-ghost use Rattle.sub_facts.specs.Early.{early_from};
+ghost use Rattle.ten_form.specs.vl_runs.specs.Checked.{IsChecked, IsOrder};
+ghost use Rattle.trap_runtime.specs.cell_form.specs.Data.{BankData};
+ghost use Rattle.trap_runtime.specs.cell_form.specs.States.{table_cycled};
+ghost use Rattle.ten_form.specs.sub_nodes.specs.Code.{table_of};
+ghost use Rattle.ten_form.specs.sub_nodes.specs.Cycles.{Stage};
+ghost use Rattle.ten_form.specs.sub_nodes.specs.Stands.{Comes};
+ghost use Rattle.sub_runs.specs.Memories.{SetsNoMemories};
+ghost use Rattle.sub_runs.specs.Nets.{WritesNoNets};
+ghost use Rattle.ten_form.specs.sub_nodes.specs.Early.{early_from};
 ghost use Rattle.ten_form.specs.Nets.{nets_of, IsTidy};
 ghost use Rattle.ten_form.specs.Registers.{state_register};
 ghost use Rattle.ten_core.specs.declared.engine.Engine.{Engine as OneEngine};
 ghost use Rattle.ten_core.specs.Runs.{Runs};
 ghost use Rattle.ten_core.specs.Tenants.{table_in, tenant_of};
 
-use sub_nets::laws::{
+use sub_runs::laws::{
     memories_hold_the_committed_words, nets_hold_over_the_committed_values,
     values_and_committed_values_stay_fine,
 };
-use ten_image::laws::a_cycle_of_states_is_one_of_nodes;
+use ten_form::image_laws::a_cycle_of_states_is_one_of_nodes;
 
 /// Each stage of a run of the table of a checked design is tidy, until the run has finished: its blocks write no nets, and its
 /// clocked blocks write memories by nonblocking assignments alone.

@@ -3,7 +3,7 @@
 use crate::image::Image;
 use ten_plan::held::Held;
 use ten_plan::plan::Plan;
-use vl_base::files::FileSet;
+use vl_design::files::FileSet;
 
 /// What a tenant's run starts from. It doesn't change while the run goes on, and is shared.
 #[derive(Drop)]

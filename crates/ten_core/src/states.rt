@@ -1,16 +1,16 @@
 //! States of a table: the one that is next, its cycle, and its call.
 
 ghost use Rattle.std.specs.Prelude.{◌≡◌, ◌<◌, ℕ, Some, length, option_copied, option_map, slice_get};
-ghost use Rattle.cell_form.specs.Data.{StateData};
-ghost use Rattle.cell_form.specs.Sound.{IsList, shape_of};
-ghost use Rattle.cell_form.specs.States.{present, table_cycled};
-ghost use Rattle.cell_form.specs.Views.{bank_of, state_of, table_of};
-ghost use Rattle.cell_form.specs.declared.table.Trap.{Trap as TrapData};
+ghost use Rattle.trap_runtime.specs.cell_form.specs.Data.{StateData};
+ghost use Rattle.trap_runtime.specs.cell_form.specs.Sound.{IsList, shape_of};
+ghost use Rattle.trap_runtime.specs.cell_form.specs.States.{present, table_cycled};
+ghost use Rattle.trap_runtime.specs.cell_form.specs.Views.{bank_of, state_of, table_of};
+ghost use Rattle.trap_runtime.specs.cell_form.specs.declared.table.Trap.{Trap as TrapData};
 ghost use Rattle.ten_core.specs.Traps.{has_trap, IsAtCall};
 
 use cell_eval::cycle::cycle;
-use cell_form::bank::Bank;
-use cell_form::table::{State, StateTable, Trap};
+use trap_runtime::Bank;
+use trap_runtime::table::{State, StateTable, Trap};
 
 /// The state that is next. None where the state register names none.
 fn next_state<'a>(table: &'a StateTable, bank: &Bank) -> Option<&'a State>

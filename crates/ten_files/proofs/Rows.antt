@@ -10,15 +10,7 @@ use Rattle.vl_base.specs.declared.files.OpenFile.{OpenFile}
 use Rattle.vl_base.specs.Files.{descriptor, is_taken, open_file, with_file, with_row, closed}
 use Rattle.ten_files.specs.declared.row.Row.{Row}
 use Rattle.ten_files.specs.Tables.{open_row, open_from}
-
-not-equal : (x y : ℕ) → ¬ (x ≡ y) → (x == y) ≡ false
-not-equal x y h = grind (arith, nat_tests)
-
-not-below : (x y : ℕ) → y ≤ x → nat_lt x y ≡ false
-not-below x y h = grind (arith, nat_tests)
-
-below : (x y : ℕ) → x < y → nat_lt x y ≡ true
-below x y h = grind (arith, nat_tests)
+use Rattle.vl_base.proofs.Numbers.{unequal_false as not-equal, lt_true as below, lt_false as not-below}
 
 -- ---- a slot and higher ones
 

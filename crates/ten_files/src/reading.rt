@@ -6,9 +6,9 @@ ghost use Rattle.vl_base.specs.Files as f;
 ghost use Rattle.ten_files.specs.Tables.{bytes_at, row_after, IsRowOf};
 
 use crate::row::Row;
+use fmt_text::show_text::number;
 use vl_base::bits::{Bits, resize};
 use vl_base::files::FileSet;
-use vl_show::text::number;
 
 /// The bytes of a row's file from its place on.
 pub(crate) fn bytes_left(files: &FileSet, row: Row) -> &[u8]
@@ -49,7 +49,7 @@ pub(crate) fn after_read(row: Row, count: usize, wanted: usize) -> Row
 }
 
 /// The number of some bytes, with the lowest bytes of a value behind it: so many bytes in all, at most 16.
-#[tactic(auto, using(vl_files::proofs::Bytes::reads))]
+#[tactic(auto, using(crate::proofs::Bytes::reads))]
 fn joined(size: usize, got: &[u8], value: u128) -> u128
     requires some { 0 < length got.now }
     requires few { length got.now ≤ size }

@@ -6,15 +6,15 @@ use Rattle.vl_design.specs.Value.{value_of, words_of}
 use Rattle.vl_design.specs.State.{State, Update, all_updated}
 use Rattle.vl_design.specs.Sound.{IsSignal, IsMemory}
 use Rattle.vl_design.specs.Laws.{IsFine}
-use Rattle.cell_form.specs.Cycle.{masked}
-use Rattle.cell_form.specs.Data.{BankData}
-use Rattle.cell_form.specs.Sound.{Shape}
-use Rattle.sub_nodes.specs.Nodes.{Node}
-use Rattle.sub_nodes.specs.Code.{table_of}
-use Rattle.sub_facts.specs.Early.{early_from}
-use Rattle.ten_stores.specs.declared.store.Store.{Store}
-use Rattle.ten_stores.specs.Holding.{HoldsWords}
-use Rattle.ten_stores.specs.Stores.{stores_of, stores_above, stores_below}
+use Rattle.cell_emit.specs.cell_form.specs.Cycle.{masked}
+use Rattle.cell_emit.specs.cell_form.specs.Data.{BankData}
+use Rattle.cell_emit.specs.cell_form.specs.Sound.{Shape}
+use Rattle.sub_split.specs.sub_nodes.specs.Nodes.{Node}
+use Rattle.sub_split.specs.sub_nodes.specs.Code.{table_of}
+use Rattle.sub_split.specs.sub_nodes.specs.Early.{early_from}
+use Rattle.ten_form.specs.declared.store.Store.{Store}
+use Rattle.ten_form.specs.Holding.{HoldsWords}
+use Rattle.ten_form.specs.Stores.{stores_of, stores_above, stores_below}
 use Rattle.ten_form.specs.Registers.{answer_register, ticks_register, value_register, work_register, update_register, mask_register, register_count}
 use Rattle.ten_form.specs.Nets.{cleared}
 

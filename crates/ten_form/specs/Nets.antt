@@ -1,16 +1,16 @@
 -- What nets are over the values committed last (IEEE 1364-2005, clauses 6.1 and 9.7.5; own).
 use Rattle.std.specs.Prelude.{◌≡◌, ℕ, true, false, All, List, [], ◌∷◌, map, if◌then◌else◌}
-use Rattle.vl_base.specs.declared.files.File.{File}
+use Rattle.vl_design.specs.vl_base.specs.declared.files.File.{File}
 use Rattle.vl_design.specs.Syntax.{Row, Flat}
 use Rattle.vl_design.specs.Width.{names_of}
 use Rattle.vl_design.specs.Value.{value_of, words_of}
 use Rattle.vl_design.specs.State.{State}
 use Rattle.vl_design.specs.Sound.{IsSignal, IsMemory}
 use Rattle.vl_design.specs.Laws.{IsFine}
-use Rattle.vl_answers.specs.Others.{other_at}
-use Rattle.settling.specs.Nets.{pass}
-use Rattle.vl_settle.specs.Nets.{run}
-use Rattle.vl_settle.specs.Computed.{is_computed, computed_at}
+use Rattle.cell_emit.specs.vl_sites.specs.Others.{other_at}
+use Rattle.vl_runs.specs.Nets.{pass}
+use Rattle.vl_runs.specs.NetsOfSettle.{run}
+use Rattle.vl_runs.specs.Computed.{is_computed, computed_at}
 
 -- values with those of signals that combinational processes compute taken as 0
 abbrev pub cleared : List Row → List (List ℕ) → List (List ℕ)

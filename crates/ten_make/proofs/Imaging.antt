@@ -1,30 +1,30 @@
 -- What is made of a design is its image.
 use Rattle.std.proofs.Common.{◌≡◌, ℕ, ◌≤◌, ◌^◌, List, length, map, take, sym, ap, ◌∙◌, subst}
-use Rattle.vl_cost.specs.Costs.{saturated_cost}
-use Rattle.vl_design.specs.Cost.{cost}
+use Rattle.ten_core.specs.vl_design.specs.Costs.{saturated_cost}
+use Rattle.ten_core.specs.vl_design.specs.Cost.{cost}
 use Rattle.std.specs.Prelude.{All}
 use Rattle.std.proofs.lemmas.List.{length-map}
-use Rattle.vl_design.specs.Syntax.{Flat}
-use Rattle.vl_design.specs.Trees.{flat_of}
-use Rattle.vl_design.specs.Width.{names_of}
-use Rattle.cell_form.specs.declared.bank.PortMap.{PortMap}
-use Rattle.cell_form.specs.declared.table.StateTable.{StateTable}
-use Rattle.cell_form.specs.Views as cells
-use Rattle.cell_form.specs.Views.{state_of}
-use Rattle.sub_nodes.specs.Nodes as n
-use Rattle.sub_nodes.specs.Code.{table_of}
-use Rattle.sub_facts.specs.Early.{early_from}
+use Rattle.ten_core.specs.vl_design.specs.Syntax.{Flat}
+use Rattle.ten_core.specs.vl_design.specs.Trees.{flat_of}
+use Rattle.ten_core.specs.vl_design.specs.Width.{names_of}
+use Rattle.ten_core.specs.cell_form.specs.declared.bank.PortMap.{PortMap}
+use Rattle.ten_core.specs.cell_form.specs.declared.table.StateTable.{StateTable}
+use Rattle.ten_core.specs.cell_form.specs.Views as cells
+use Rattle.ten_core.specs.cell_form.specs.Views.{state_of}
+use Rattle.sub_split.specs.sub_nodes.specs.Nodes as n
+use Rattle.sub_split.specs.sub_nodes.specs.Code.{table_of}
+use Rattle.sub_split.specs.sub_nodes.specs.Early.{early_from}
 use Rattle.sub_split.specs.declared.table.Node.{Node}
 use Rattle.sub_split.specs.declared.table.Table.{Table}
 use Rattle.sub_split.specs.Views.{node_view, table_view}
-use Rattle.ten_form.specs.Banks.{cell_nodes, stores_in}
-use Rattle.ten_form.specs.Registers.{state_register}
+use Rattle.ten_core.specs.ten_form.specs.Banks.{cell_nodes, stores_in}
+use Rattle.ten_core.specs.ten_form.specs.Registers.{state_register}
 use Rattle.std.specs.List.{AllByRecursion}
-use Rattle.ten_design.specs.Designs.{IsTenantDesign}
-use Rattle.ten_hold.specs.Holding.{CanBeHeld, IsSized}
-use Rattle.ten_hold.specs.Ports.{ports_of}
-use Rattle.ten_image.specs.Paired.{CallsStandApart}
-use Rattle.ten_image.specs.States.{AreStates}
+use Rattle.ten_make.specs.Designs.{IsTenantDesign}
+use Rattle.ten_core.specs.Holding.{CanBeHeld, IsSized}
+use Rattle.ten_core.specs.Ports.{ports_of}
+use Rattle.ten_core.specs.ten_form.specs.Paired.{CallsStandApart}
+use Rattle.ten_core.specs.ten_form.specs.States.{AreStates}
 use Rattle.cell_states.specs.Pieces.{IsCellNode}
 use Rattle.cell_states.specs.declared.made.States.{States}
 use Rattle.ten_core.specs.declared.image.Image.{Image}
@@ -79,6 +79,3 @@ module _ (d : Flat) (order : List ℕ) where
   }
 
 -- ---- designs that can be held
-
-pub can-be-held : (d : Flat) (order : List ℕ) → IsTenantDesign d order → AllByRecursion IsSized d.rows → CanBeHeld d
-can-be-held d order is sized = record { sound = is.sound; words = is.words; few = is.few; signals = sized; alone = is.alone }

@@ -5,38 +5,38 @@ use Rattle.std.specs.List.{AllByRecursion, sum_by, count_by}
 use Rattle.std.proofs.lemmas.Bool.{eqb-true}
 use Rattle.std.proofs.lemmas.List.Sums.{sum_by-cons}
 use Rattle.std.proofs.lemmas.Option.{slice_get_cases, slice_get_within, none-some}
-use Rattle.vl_design.specs.declared.design.SigKind.{SigKind}
-use Rattle.vl_design.specs.declared.design.SigKind.TheVariants.{Net, Var, Comb, Loop, Mem, Clock}
-use Rattle.vl_design.specs.Cost.{row_mem, cost}
-use Rattle.vl_design.specs.Sound.{IsSound}
-use Rattle.vl_design.specs.Syntax.{Row, Flat}
-use Rattle.settling.specs.Nets.{AllBelow}
-use Rattle.cell_cost.specs.Slack.{cell_slack, register_slack}
-use Rattle.cell_form.specs.Data.{ListData, StateData}
-use Rattle.cell_form.specs.declared.cell.Write.{Write}
-use Rattle.cell_form.specs.declared.cell.Write.TheVariants as w
-use Rattle.cell_steps.specs.Slots.{width_at}
-use Rattle.cell_trim.specs.Widths.{IsWithin}
-use Rattle.cell_form.specs.declared.bank.Port.{Port}
-use Rattle.cell_form.specs.declared.bank.PortMap.{PortMap}
-use Rattle.cell_form.specs.declared.table.StateTable.{StateTable}
-use Rattle.cell_form.specs.Views as cells
-use Rattle.cell_form.specs.Views.{state_of}
+use Rattle.ten_core.specs.vl_design.specs.declared.design.SigKind.{SigKind}
+use Rattle.ten_core.specs.vl_design.specs.declared.design.SigKind.TheVariants.{Net, Var, Comb, Loop, Mem, Clock}
+use Rattle.ten_core.specs.vl_design.specs.Cost.{row_mem, cost}
+use Rattle.ten_core.specs.vl_design.specs.Sound.{IsSound}
+use Rattle.ten_core.specs.vl_design.specs.Syntax.{Row, Flat}
+use Rattle.sub_runs.specs.vl_runs.specs.Nets.{AllBelow}
+use Rattle.ten_make.specs.Slack.{cell_slack, register_slack}
+use Rattle.ten_core.specs.cell_form.specs.Data.{ListData, StateData}
+use Rattle.ten_core.specs.cell_form.specs.declared.cell.Write.{Write}
+use Rattle.ten_core.specs.cell_form.specs.declared.cell.Write.TheVariants as w
+use Rattle.cell_states.specs.cell_emit.specs.Slots.{width_at}
+use Rattle.cell_states.specs.cell_trim.specs.Widths.{IsWithin}
+use Rattle.ten_core.specs.cell_form.specs.declared.bank.Port.{Port}
+use Rattle.ten_core.specs.cell_form.specs.declared.bank.PortMap.{PortMap}
+use Rattle.ten_core.specs.cell_form.specs.declared.table.StateTable.{StateTable}
+use Rattle.ten_core.specs.cell_form.specs.Views as cells
+use Rattle.ten_core.specs.cell_form.specs.Views.{state_of}
 use Rattle.std.specs.Prelude.{map}
 use Rattle.cell_states.specs.Cells.{node_count, AreCounted}
 use Rattle.cell_states.specs.Widths.{register_widths, register_width, AreNarrow}
 use Rattle.cell_states.specs.declared.made.States.{States}
-use Rattle.sub_facts.specs.Pairs.{ArePaired}
-use Rattle.sub_nodes.specs.Nodes.{Node}
+use Rattle.sub_split.specs.sub_nodes.specs.Pairs.{ArePaired}
+use Rattle.sub_split.specs.sub_nodes.specs.Nodes.{Node}
 use Rattle.ten_core.specs.declared.image.Image.{Image}
 use Rattle.ten_core.specs.Tenants.{states_of}
-use Rattle.ten_design.specs.Designs.{IsTenantDesign}
-use Rattle.ten_form.specs.Banks.{cell_nodes}
-use Rattle.ten_hold.specs.Ports.{port_of, ports_from, ports_of}
-use Rattle.ten_image.specs.Delays.{DelaysVariables}
-use Rattle.ten_image.specs.States.{AreStates}
-use Rattle.vl_design.specs.Snapshots.{is_kept}
-use Rattle.ten_form.specs.Registers.{answer_register, register_count}
+use Rattle.ten_make.specs.Designs.{IsTenantDesign}
+use Rattle.ten_core.specs.ten_form.specs.Banks.{cell_nodes}
+use Rattle.ten_core.specs.Ports.{port_of, ports_from, ports_of}
+use Rattle.ten_core.specs.ten_form.specs.Delays.{DelaysVariables}
+use Rattle.ten_core.specs.ten_form.specs.States.{AreStates}
+use Rattle.ten_core.specs.vl_design.specs.Snapshots.{is_kept}
+use Rattle.ten_core.specs.ten_form.specs.Registers.{answer_register, register_count}
 use Rattle.ten_make.specs.Within.{memory_bits, widest, widest_of, bits_of, register_bits, IsWithinCost}
 
 -- ---- memory

@@ -1,16 +1,16 @@
 -- An image keeps within the cost of its design (own).
 use Rattle.std.specs.Prelude.{◌≡◌, ℕ, zero, suc, ◌+◌, ◌*◌, ◌≤◌, ◌==◌, max, List, [], ◌∷◌, length, slice_get, Some, sum_by, if◌then◌else◌}
-use Rattle.vl_design.specs.Cost.{cost}
-use Rattle.vl_design.specs.Syntax.{Flat}
-use Rattle.cell_cost.specs.Slack.{cell_slack, register_slack}
-use Rattle.cell_form.specs.Data.{ListData, StateData}
-use Rattle.cell_form.specs.declared.cell.Write.{Write}
-use Rattle.cell_form.specs.declared.cell.Write.TheVariants as w
-use Rattle.cell_form.specs.declared.bank.Port.{Port}
-use Rattle.cell_steps.specs.Slots.{width_at}
+use Rattle.ten_core.specs.vl_design.specs.Cost.{cost}
+use Rattle.ten_core.specs.vl_design.specs.Syntax.{Flat}
+use Rattle.ten_make.specs.Slack.{cell_slack, register_slack}
+use Rattle.ten_core.specs.cell_form.specs.Data.{ListData, StateData}
+use Rattle.ten_core.specs.cell_form.specs.declared.cell.Write.{Write}
+use Rattle.ten_core.specs.cell_form.specs.declared.cell.Write.TheVariants as w
+use Rattle.ten_core.specs.cell_form.specs.declared.bank.Port.{Port}
+use Rattle.cell_states.specs.cell_emit.specs.Slots.{width_at}
 use Rattle.ten_core.specs.declared.image.Image.{Image}
 use Rattle.ten_core.specs.Tenants.{states_of}
-use Rattle.ten_form.specs.Registers.{answer_register, register_count}
+use Rattle.ten_core.specs.ten_form.specs.Registers.{answer_register, register_count}
 
 -- the bits of the memories that an image has in a bank
 abbrev pub memory_bits : Image → ℕ

@@ -1,34 +1,33 @@
 //! The image of a design.
 
 ghost use Rattle.std.specs.Prelude.{◌≡◌, ◌≤◌, ◌^◌, ℕ, List, IfOk, OnOk, length, map};
-ghost use Rattle.vl_design.specs.Trees.{flat_of};
-ghost use Rattle.sub_nodes.specs.Code.{table_of};
-ghost use Rattle.sub_facts.specs.Early.{early_from};
+ghost use Rattle.ten_core.specs.vl_design.specs.Trees.{flat_of};
+ghost use Rattle.sub_split.specs.sub_nodes.specs.Code.{table_of};
+ghost use Rattle.sub_split.specs.sub_nodes.specs.Early.{early_from};
 ghost use Rattle.sub_split.specs.Views.{node_view};
 ghost use Rattle.ten_core.specs.Tenants.{IsImage};
 ghost use Rattle.ten_core.specs.declared.image.Image.{Image as ImageData};
-ghost use Rattle.ten_design.specs.Designs.{IsTenantDesign};
-ghost use Rattle.ten_hold.specs.Holding.{CanBeHeld};
-ghost use Rattle.ten_hold.specs.Ports.{ports_of};
+ghost use Rattle.ten_make.specs.Designs.{IsTenantDesign};
+ghost use Rattle.ten_core.specs.Holding.{CanBeHeld};
+ghost use Rattle.ten_core.specs.Ports.{ports_of};
 ghost use Rattle.ten_make.specs.Within.{IsWithinCost};
 
-use cell_cost::laws::{nodes_are_within_cost, registers_are_within_cost};
-use cell_form::bank::PortMap;
-use cell_form::table::StateTable;
+use crate::design_laws::{
+    a_tenants_design_delays_variables, calls_of_a_table_stand_apart,
+    nodes_of_a_tenants_design_are_compiled, tenants_designs_are_compiled,
+};
+use crate::laws::{nodes_are_within_cost, registers_are_within_cost};
 use cell_states::table::states;
 use std::alloc::{AllocError, Global};
 use sub_split::split::split;
 use sub_split::table::Table;
+use ten_core::design::Design;
 use ten_core::image::Image;
-use ten_design::laws::{
-    a_tenants_design_delays_variables, calls_of_a_table_stand_apart,
-    nodes_of_a_tenants_design_are_compiled, tenants_designs_are_compiled,
-};
-use ten_hold::ports::ports;
-use ten_hold::sizes::are_sized;
-use vl_cost::capacity::Cost;
+use ten_core::ports::ports;
+use ten_core::sizes::are_sized;
+use ten_core::table::StateTable;
+use ten_core::{Cost, PortMap};
 use vl_cost::cost::cost;
-use vl_design::design::Design;
 
 /// The most nodes of a table, so that acts can be counted: 2 ^ 31.
 const MOST_NODES: usize = 2_147_483_648;

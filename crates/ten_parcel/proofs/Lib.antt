@@ -5,3 +5,7 @@ mod Resting
 pub mod Running
 mod Same
 mod Saving
+pub mod Banking
+pub mod Opening
+pub mod Resuming
+pub mod LoadingOfLoad

@@ -2,18 +2,19 @@
 use Rattle.std.proofs.Common.{◌≡◌, ℕ, Bool, true, false, [], refl, sym, ap, ◌∙◌, subst}
 use Rattle.std.specs.Prelude.{◌&&◌, ◌||◌, not, map, slice_get}
 use Rattle.std.specs.Arc.{arc_value}
-use Rattle.vl_design.specs.Alone as alone
-use Rattle.vl_design.specs.Alone.{first_tick}
-use Rattle.cell_form.specs.declared.bank.Bank.{Bank}
-use Rattle.cell_form.specs.Views.{bank_of}
+use Rattle.vl_eval.specs.vl_design.specs.Alone as alone
+use Rattle.vl_eval.specs.vl_design.specs.Alone.{first_tick}
+use Rattle.ten_core.specs.cell_form.specs.declared.bank.Bank.{Bank}
+use Rattle.ten_core.specs.cell_form.specs.Views.{bank_of}
 use Rattle.sub_nodes.specs.Code.{table_of}
 use Rattle.sub_nodes.specs.Cycles.{Stage, rises}
 use Rattle.ten_core.specs.declared.engine.Engine.{Engine}
 use Rattle.ten_core.specs.declared.origin.Origin.{Origin}
-use Rattle.ten_load.specs.Loads.{Begins, IsBegun}
-use Rattle.ten_load.specs.declared.load.Begun.{Begun}
-use Rattle.ten_load.specs.declared.load.Begun.TheVariants as b
-use Rattle.ten_plan.specs.Held.{free_of}
+use Rattle.ten_core.specs.Begins.{Begins}
+use Rattle.ten_parcel.specs.Loads.{IsBegun}
+use Rattle.ten_parcel.specs.declared.load.Begun.{Begun}
+use Rattle.ten_parcel.specs.declared.load.Begun.TheVariants as b
+use Rattle.ten_core.specs.ten_plan.specs.Held.{free_of}
 use Rattle.ten_shell.specs.declared.shell.Shell.{Shell}
 use Rattle.ten_shell.specs.Shells.{flat_in, is_at_boundary, left_in, run_of, CanRunOn, IsBegunShell, IsSameTenant, StandsFor}
 use Rattle.ten_parcel.specs.declared.parcel.Parcel.TheVariants as parcel

@@ -2,20 +2,20 @@
 use Rattle.std.proofs.Common.{◌≡◌, ℕ, true, List, Option, refl, sym, ap, ◌∙◌, subst, arith}
 use Rattle.std.specs.Prelude.{option_map}
 use Rattle.std.specs.Arc.{arc_value}
-use Rattle.vl_design.specs.declared.design.End.TheVariants.{Finished}
-use Rattle.vl_design.specs.Alone as alone
-use Rattle.vl_design.specs.Alone.{Boundary, begun, ticked, Ends, Plan}
-use Rattle.vl_design.specs.Queue.{Queue}
-use Rattle.vl_design.specs.Syntax.{Flat}
-use Rattle.vl_design.specs.Trees.{flat_of}
-use Rattle.vl_acts.proofs.Onward.{checked_quiet}
-use Rattle.plain_run.specs.Runs.{over}
+use Rattle.vl_eval.specs.vl_design.specs.declared.design.End.TheVariants.{Finished}
+use Rattle.vl_eval.specs.vl_design.specs.Alone as alone
+use Rattle.vl_eval.specs.vl_design.specs.Alone.{Boundary, begun, ticked, Ends, Plan}
+use Rattle.vl_eval.specs.vl_design.specs.Queue.{Queue}
+use Rattle.vl_eval.specs.vl_design.specs.Syntax.{Flat}
+use Rattle.vl_eval.specs.vl_design.specs.Trees.{flat_of}
+use Rattle.ten_form.specs.vl_runs.proofs.Onward.{checked_quiet}
+use Rattle.ten_zero.specs.plain_run.specs.Runs.{over}
 use Rattle.sub_nodes.specs.Code.{table_of}
 use Rattle.sub_nodes.specs.Stands.{CanRun}
-use Rattle.sub_ends.proofs.Ending.{finished_ends}
+use Rattle.sub_runs.proofs.Ending.{finished_ends}
 use Rattle.ten_form.specs.Nets.{nets_of}
-use Rattle.ten_plan.specs.declared.held.Held.{Held}
-use Rattle.ten_plan.specs.Held.{snapshot_of}
+use Rattle.ten_core.specs.ten_plan.specs.declared.held.Held.{Held}
+use Rattle.ten_core.specs.ten_plan.specs.Held.{snapshot_of}
 use Rattle.ten_core.specs.declared.origin.Origin.{Origin}
 use Rattle.ten_core.specs.Tenants.{origin_of}
 use Rattle.ten_zero.specs.Early.{state_in, ComesBehind}

@@ -2,16 +2,16 @@
 use Rattle.std.proofs.Common.{◌≡◌, ℕ, true, false, List, [], Option, Some, None, refl, sym, ap, ◌∙◌, subst}
 use Rattle.std.specs.Prelude.{if◌then◌else◌, map, option_map, IfSome}
 use Rattle.std.specs.Arc.{arc_value}
-use Rattle.vl_design.specs.declared.design.End.{End}
-use Rattle.vl_design.specs.declared.design.End.TheVariants.{Finished, Stopped}
-use Rattle.vl_design.specs.Alone.{Boundary, Ends, Keeps, at_first, first_tick, reason_at, saved_at}
-use Rattle.vl_design.specs.Queue.{Queue}
-use Rattle.vl_design.specs.Snapshots as run
-use Rattle.vl_design.specs.Trees.{flat_of}
-use Rattle.vl_design.proofs.Settling.{boundary_once}
+use Rattle.vl_eval.specs.vl_design.specs.declared.design.End.{End}
+use Rattle.vl_eval.specs.vl_design.specs.declared.design.End.TheVariants.{Finished, Stopped}
+use Rattle.vl_eval.specs.vl_design.specs.Alone.{Boundary, Ends, Keeps, at_first, first_tick, reason_at, saved_at}
+use Rattle.vl_eval.specs.vl_design.specs.Queue.{Queue}
+use Rattle.vl_eval.specs.vl_design.specs.Snapshots as run
+use Rattle.vl_eval.specs.vl_design.specs.Trees.{flat_of}
+use Rattle.vl_eval.specs.vl_design.proofs.Settling.{boundary_once}
 use Rattle.ten_core.specs.Tenants.{origin_of}
-use Rattle.ten_plan.specs.Held.{saved_of, snapshot_of}
-use Rattle.ten_plan.specs.declared.held.Saved.{Saved}
+use Rattle.ten_core.specs.ten_plan.specs.Held.{saved_of, snapshot_of}
+use Rattle.ten_core.specs.ten_plan.specs.declared.held.Saved.{Saved}
 use Rattle.ten_zero.specs.Early.{state_in}
 use Rattle.ten_shell.specs.Shells as shell
 use Rattle.ten_shell.specs.Shells.{saved_in}

@@ -2,46 +2,33 @@
 use Rattle.std.proofs.Common.{◌≡◌, ◌<◌, ◌+◌, ◌-◌, ◌*◌, ℕ, Bool, true, false, [], Option, Some, None, refl, sym, ap, ◌∙◌, subst}
 use Rattle.std.specs.Prelude.{◌&&◌, ◌||◌, not, if◌then◌else◌, nat_le, is_none, slice_get}
 use Rattle.std.specs.Arc.{arc_value}
-use Rattle.vl_design.specs.declared.design.End.{End}
-use Rattle.vl_design.specs.declared.design.End.TheVariants.{Finished, Budget, Stopped}
-use Rattle.vl_design.specs.Alone.{Plan, reason_at, stop_at}
-use Rattle.vl_design.specs.Alone as alone
-use Rattle.vl_design.specs.Queue.{Queue}
-use Rattle.vl_design.specs.Syntax.{Flat}
-use Rattle.cell_form.specs.Views.{bank_of}
+use Rattle.vl_eval.specs.vl_design.specs.declared.design.End.{End}
+use Rattle.vl_eval.specs.vl_design.specs.declared.design.End.TheVariants.{Finished, Budget, Stopped}
+use Rattle.vl_eval.specs.vl_design.specs.Alone.{Plan, reason_at, stop_at}
+use Rattle.vl_eval.specs.vl_design.specs.Alone as alone
+use Rattle.vl_eval.specs.vl_design.specs.Queue.{Queue}
+use Rattle.vl_eval.specs.vl_design.specs.Syntax.{Flat}
+use Rattle.ten_core.specs.cell_form.specs.Views.{bank_of}
 use Rattle.sub_nodes.specs.Code.{table_of}
 use Rattle.sub_nodes.specs.Cycles.{Stage, rises}
-use Rattle.sub_ends.specs.Left.{left, most_left}
+use Rattle.sub_runs.specs.Left.{left, most_left}
 use Rattle.ten_core.specs.declared.engine.Engine.{Engine}
 use Rattle.ten_core.specs.Runs.{Runs}
 use Rattle.ten_core.specs.Tenants.{origin_of, tenant_of}
-use Rattle.ten_run.specs.Running.{ends_at, goes_on, is_at_rest, to_come}
+use Rattle.ten_core.specs.Running.{ends_at, goes_on, is_at_rest, to_come}
 use Rattle.ten_shell.specs.declared.shell.Shell.{Shell}
 use Rattle.ten_shell.specs.Shells.{flat_in, is_at_boundary, left_in, run_of, IsSameTenant, MayCycle, Rests, StandsFor}
 use Rattle.ten_parcel.specs.declared.tenant.Tenant.{Tenant}
 use Rattle.ten_parcel.specs.Parcels.{IsAtRest, IsOn}
 use Rattle.ten_parcel.specs.Ways.{IsNearer, IsReady}
 use Rattle.ten_parcel.proofs.Same.{same-run, same-trans}
+pub use Rattle.vl_eval.specs.vl_base.proofs.Booleans.{or_right_true as rising-rests, or_unless_both as over-rests, not_by_both as on-alive}
 
 -- ---- tests
-
-pub on-alive : (f r e : Bool) → (not f && (not r || not e)) ≡ true → f ≡ false
-on-alive true r e h = let z : ⊥ = cc in absurd z
-on-alive false r e h = refl
 
 pub rest-boundary : (f r : Bool) → (f || r) ≡ true → f ≡ false → (not f && r) ≡ true
 rest-boundary true r h e = let z : ⊥ = cc in absurd z
 rest-boundary false r h e = h
-
-pub rising-rests : (f r : Bool) → r ≡ true → (f || r) ≡ true
-rising-rests true r h = refl
-rising-rests false r h = h
-
--- where a run doesn't go on, it rests
-pub over-rests : (f r e : Bool) → (not f && (not r || not e)) ≡ false → (f || r) ≡ true
-over-rests true r e h = refl
-over-rests false true e h = refl
-over-rests false false e h = let z : ⊥ = cc in absurd z
 
 -- what is told of it step by step
 pub told-done : (f r e : Bool) → f ≡ true → false ≡ (not f && (not r || not e))

@@ -2,12 +2,12 @@
 use Rattle.std.proofs.Common.{◌≡◌, ℕ, true, false, [], Ok, Err, sym, ap, subst}
 use Rattle.std.specs.Prelude.{slice_get, Result, OnOk, OnErr}
 use Rattle.std.specs.Arc.{arc_value}
-use Rattle.vl_design.specs.Alone as alone
-use Rattle.cell_form.specs.Views.{bank_of}
+use Rattle.vl_eval.specs.vl_design.specs.Alone as alone
+use Rattle.ten_core.specs.cell_form.specs.Views.{bank_of}
 use Rattle.sub_nodes.specs.Code.{table_of}
 use Rattle.sub_nodes.specs.Cycles.{Stage, rises}
 use Rattle.ten_core.specs.Tenants.{origin_of}
-use Rattle.ten_run.specs.Running.{is_at_rest}
+use Rattle.ten_core.specs.Running.{is_at_rest}
 use Rattle.ten_shell.specs.declared.shell.Shell.{Shell}
 use Rattle.ten_shell.specs.Shells.{flat_in, is_at_boundary, left_in, run_of, IsUnchanged, StandsFor}
 use Rattle.ten_parcel.specs.declared.tenant.Tenant.{Tenant}

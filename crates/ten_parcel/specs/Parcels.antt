@@ -2,19 +2,19 @@
 use Rattle.std.specs.Prelude.{◌≡◌, ℕ, false, List, [], Bool, ⊤}
 use Rattle.std.specs.Arc.{arc_value}
 use Rattle.std.specs.List.{AllByRecursion}
-use Rattle.vl_cost.specs.declared.capacity.Cost.{Cost}
-use Rattle.vl_cost.specs.Costs.{saturated_cost}
-use Rattle.vl_design.specs.Alone as alone
-use Rattle.vl_design.specs.Cost.{cost}
-use Rattle.vl_design.specs.Trees.{flat_of}
-use Rattle.cell_form.specs.Views.{bank_of}
+use Rattle.vl_eval.specs.vl_design.specs.declared.capacity.Cost.{Cost}
+use Rattle.vl_eval.specs.vl_design.specs.Costs.{saturated_cost}
+use Rattle.vl_eval.specs.vl_design.specs.Alone as alone
+use Rattle.vl_eval.specs.vl_design.specs.Cost.{cost}
+use Rattle.vl_eval.specs.vl_design.specs.Trees.{flat_of}
+use Rattle.ten_core.specs.cell_form.specs.Views.{bank_of}
 use Rattle.sub_nodes.specs.Cycles.{Stage}
 use Rattle.ten_core.specs.declared.origin.Origin.{Origin}
 use Rattle.ten_core.specs.Tenants.{origin_of}
-use Rattle.ten_load.specs.Loads.{IsOverAtOnce}
-use Rattle.snap_form.specs.Spelling.{IsSnapshot}
-use Rattle.ten_plan.specs.Held.{snapshot_of}
-use Rattle.ten_plan.specs.Written.{written}
+use Rattle.ten_parcel.specs.Loads.{IsOverAtOnce}
+use Rattle.ten_core.specs.snap_form.specs.Spelling.{IsSnapshot}
+use Rattle.ten_core.specs.ten_plan.specs.Held.{snapshot_of}
+use Rattle.ten_core.specs.ten_plan.specs.Written.{written}
 use Rattle.ten_shell.specs.Shells as shell
 use Rattle.ten_shell.specs.Shells.{CanRunOn, Rests, StandsFor}
 use Rattle.ten_parcel.specs.declared.parcel.Over.{Over}

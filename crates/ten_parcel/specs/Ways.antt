@@ -1,7 +1,7 @@
 -- Tenants that run on to their ends (own).
 use Rattle.std.specs.Prelude.{◌≡◌, ℕ, ◌<◌, true, false, []}
 use Rattle.sub_nodes.specs.Cycles.{Stage}
-use Rattle.ten_run.specs.Running.{to_come}
+use Rattle.ten_core.specs.Running.{to_come}
 use Rattle.ten_shell.specs.declared.shell.Shell.{Shell}
 use Rattle.ten_shell.specs.Shells.{flat_in, is_at_boundary, left_in, run_of}
 use Rattle.ten_parcel.specs.declared.tenant.Tenant.{Tenant}

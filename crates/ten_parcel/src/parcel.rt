@@ -2,30 +2,29 @@
 
 ghost use Rattle.std.specs.Prelude.{◌≡◌, ◌++◌, ◌∷◌, [], true, false, if◌then◌else◌, IfOk, IfSome, OnOk, OnErr, IsNone, Some, map};
 ghost use Rattle.std.specs.Arc.{arc_value};
-ghost use Rattle.vl_design.specs.declared.design.End.TheVariants.{Stopped};
-ghost use Rattle.vl_design.specs.Alone.{Boundary, Ends, Keeps, reason_at};
-ghost use Rattle.vl_design.specs.Queue.{Queue};
-ghost use Rattle.ten_plan.specs.Held.{saved_of};
-ghost use Rattle.ten_plan.specs.Written.{HasRows};
+ghost use Rattle.vl_eval.specs.vl_design.specs.declared.design.End.TheVariants.{Stopped};
+ghost use Rattle.vl_eval.specs.vl_design.specs.Alone.{Boundary, Ends, Keeps, reason_at};
+ghost use Rattle.vl_eval.specs.vl_design.specs.Queue.{Queue};
+ghost use Rattle.ten_core.specs.ten_plan.specs.Held.{saved_of};
+ghost use Rattle.ten_core.specs.ten_plan.specs.Written.{HasRows};
 ghost use Rattle.ten_shell.specs.Shells.{CanRunOn};
 ghost use Rattle.ten_parcel.specs.Parcels.{cost_of, free_of, is_moved, is_stopped, number_of, origin_in, run_of, ticks_of, AreWritable, IsLoaded, IsParcel, IsTenant};
 
 use crate::laws::a_run_over_in_time_zero_has_ended;
+use crate::load::{Begun, begin};
 use crate::tenant::Tenant;
 use std::alloc::{AllocError, Global};
 use std::snapshot::Snapshot;
 use std::sync::Arc;
 use ten_core::engine::Engine;
+use ten_core::held::Saved;
+use ten_core::hold_laws::kept_snapshots_are_written;
 use ten_core::origin::Origin;
-use ten_hold::laws::kept_snapshots_are_written;
-use ten_load::load::{Begun, begin};
-use ten_plan::held::Saved;
 use ten_shell::laws::a_shell_at_rest_is_at_a_boundary;
 use ten_shell::shell::Shell;
 use ten_zero::early::Early;
-use vl_base::items::Text;
-use vl_cost::capacity::Cost;
-use vl_design::design::{Design, End};
+use vl_eval::design::{Design, End};
+use vl_eval::{Cost, Text};
 
 /// A run that has finished in time zero.
 #[derive(Drop)]

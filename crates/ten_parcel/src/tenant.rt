@@ -1,19 +1,19 @@
 //! Tenants on their way.
 
 ghost use Rattle.std.specs.Prelude.{◌≡◌, ℕ, suc, true, false, not, List, ◌∷◌, IfOk, OnOk, OnErr, if◌then◌else◌};
-ghost use Rattle.cell_form.specs.Sound.{shape_of};
-ghost use Rattle.cell_form.specs.Views.{bank_of};
+ghost use Rattle.ten_core.specs.cell_form.specs.Sound.{shape_of};
+ghost use Rattle.ten_core.specs.cell_form.specs.Views.{bank_of};
 ghost use Rattle.sub_nodes.specs.Cycles.{Stage};
 ghost use Rattle.ten_core.specs.Runs.{after_cycle, after_call};
-ghost use Rattle.ten_run.specs.Running.{goes_on};
+ghost use Rattle.ten_core.specs.Running.{goes_on};
 ghost use Rattle.ten_shell.specs.Shells.{beat_of, flat_in, is_at_boundary, left_at, left_in, run_of, waits_in, IsSameTenant, IsUnchanged, MayCycle, Rests};
 ghost use Rattle.ten_parcel.specs.Parcels.{IsAtRest, IsOn, IsParcel, IsTenant};
 ghost use Rattle.ten_parcel.specs.Ways.{IsNearer, IsReady};
 
 use crate::parcel::Parcel;
-use cell_form::bank::Bank;
 use std::alloc::{AllocError, Global};
-use ten_run::laws::{each_act_comes_nearer, ticks_and_acts_can_be_counted};
+use ten_core::Bank;
+use ten_core::run_laws::{each_act_comes_nearer, ticks_and_acts_can_be_counted};
 use ten_shell::laws::a_shell_at_rest_is_at_a_boundary;
 use ten_shell::shell::{Beat, Shell};
 

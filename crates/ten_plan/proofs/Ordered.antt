@@ -9,12 +9,12 @@ use Rattle.ten_plan.specs.declared.plan.Due as declared-due
 use Rattle.ten_plan.specs.declared.plan.Due.TheVariants as due
 use Rattle.ten_plan.specs.declared.plan.Errand as declared
 use Rattle.ten_plan.specs.Plans.{due_of, errand_of, is_save, may_precede, may_be_done, move_at, move_to, or_else, AreOrdered, AreDone, AreBefore}
+use Rattle.vl_design.specs.vl_base.proofs.Booleans.{and_false_right as never}
+use Rattle.vl_design.specs.vl_base.proofs.Numbers.{equal_true as same-tick, equal_from as tick-same}
+pub use Rattle.vl_design.specs.vl_base.proofs.Numbers.{apart_false as apart}
+pub use Rattle.vl_design.specs.vl_base.proofs.Lists.{all_weaker as weaker}
 
 -- ---- lists
-
-pub weaker : {X : Type 0} (P Q : X → Type 0) → ((x : X) → P x → Q x) → (xs : List X) → AllByRecursion P xs → AllByRecursion Q xs
-weaker P Q f [] h = tt
-weaker P Q f (x ∷ xs) h = (f x h.0, weaker P Q f xs h.1)
 
 more-by : {X : Type 0} (P : X → Type 0) (n : ℕ) (xs : List X) (x : X) (rest : List X) → drop n xs ≡ x ∷ rest → AllByRecursion P (take n xs) → P x → AllByRecursion P (take (suc n) xs)
 more-by P zero [] x rest e h p = tt
@@ -60,15 +60,6 @@ no-name k t (SaveAs name) h = absurd (true≢false h)
 no-name k t Stop h = refl
 no-name k t (Move fabric) h = refl
 
-pub apart : (t k : ℕ) → t ≢ k → (t == k) ≡ false
-apart t k h = grind (arith, nat_tests)
-
-same-tick : (t k : ℕ) → t ≡ k → (t == k) ≡ true
-same-tick t k h = grind (arith, nat_tests)
-
-tick-same : (t k : ℕ) → (t == k) ≡ true → t ≡ k
-tick-same t k h = grind (arith, nat_tests)
-
 tick-apart : (t k : ℕ) → (t == k) ≡ false → t ≢ k
 tick-apart t k h = λ e. let z : ⊥ = grind (arith, nat_tests) in z
 
@@ -94,10 +85,6 @@ no-later k t s h = grind (arith, nat_tests)
 
 earlier : (k t : ℕ) → (nat_lt t k || ((t == k) && false)) ≡ true → (t == k) ≡ false
 earlier k t h = grind (arith, nat_tests)
-
-never : (b : Bool) → (b && false) ≡ false
-never true = refl
-never false = refl
 
 no-stop : (k t : ℕ) (d : Due) → (nat_lt t k || ((t == k) && is_save d)) ≡ true → ((t == k) && stops d) ≡ false
 no-stop k t (SaveAs name) h = never (t == k)

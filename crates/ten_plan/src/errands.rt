@@ -6,7 +6,7 @@ ghost use Rattle.ten_plan.specs.Plans as s;
 ghost use Rattle.ten_plan.specs.Plans.{errand_of, move_at, plan_of, AreBefore, AreDone, AreOrdered, IsPlan};
 
 use crate::plan::{Due, Errand, Plan};
-use vl_base::items::Text;
+use vl_design::Text;
 
 /// Whether an errand may come before another: at an earlier tick, or, a save, at the same one.
 fn may_precede(first: &Errand, second: &Errand) -> bool

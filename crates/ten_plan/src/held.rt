@@ -1,7 +1,7 @@
 //! What runs have at a boundary.
 
-use vl_base::files::OpenFile;
-use vl_base::items::{Items, Text, Words};
+use vl_design::files::OpenFile;
+use vl_design::{Items, Text, Words};
 
 /// What a run has at a boundary: a snapshot, but for the names of its rows, which are the design's.
 #[derive(Drop)]

@@ -1,6 +1,6 @@
 //! Plans of tenants.
 
-use vl_base::items::{Items, Text};
+use vl_design::{Items, Text};
 
 /// What an errand is.
 #[derive(Drop)]

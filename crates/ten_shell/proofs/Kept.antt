@@ -9,28 +9,17 @@ use Rattle.vl_design.specs.Snapshots.{Saved, Snapshot, all_saved, saved_over, sn
 use Rattle.vl_design.specs.State.{State}
 use Rattle.ten_shell.specs.Keeping as keeping
 use Rattle.ten_shell.specs.Keeping.{KeptBefore, KeepsAt, KeepsOn}
+pub use Rattle.vl_design.specs.vl_base.proofs.Lists.{all_push as all-and, all_weaker as weaker}
+use Rattle.vl_design.specs.vl_base.proofs.Numbers.{equal_true as same-tick, apart_false as apart}
+use Rattle.vl_design.specs.vl_base.proofs.Lists.{append_nil as append-nil}
 
 -- ---- lists
-
-pub weaker : {X : Type 0} (P Q : X → Type 0) → ((x : X) → P x → Q x) → (xs : List X) → AllByRecursion P xs → AllByRecursion Q xs
-weaker P Q f [] h = tt
-weaker P Q f (x ∷ xs) h = (f x h.0, weaker P Q f xs h.1)
-
-pub all-and : {X : Type 0} (P : X → Type 0) (xs : List X) (x : X) → AllByRecursion P xs → P x → AllByRecursion P (xs ++ x ∷ [])
-all-and P [] x h p = (p, tt)
-all-and P (y ∷ ys) x h p = (h.0, all-and P ys x h.1 p)
 
 saved-behind : (saved : List Saved) (xs ys : List (List ℕ)) (t : Snapshot) → all_saved saved (xs ++ ys) t ≡ all_saved (all_saved saved xs t) ys t
 saved-behind saved [] ys t = refl
 saved-behind saved (x ∷ xs) ys t = saved-behind (saved_over saved (record { name = x; snapshot = t })) xs ys t
 
 -- ---- names of snapshots that are made besides
-
-apart : (t k : ℕ) → t ≢ k → (t == k) ≡ false
-apart t k h = grind (arith, nat_tests)
-
-same-tick : (t k : ℕ) → t ≡ k → (t == k) ≡ true
-same-tick t k h = grind (arith, nat_tests)
 
 abbrev names-by : Bool → FreeSave → List FreeSave → List (List ℕ)
 names-by b f fs = map (λ f. f.name) (cond b (f ∷ fs) fs)
@@ -51,10 +40,6 @@ names-and k (g ∷ free) f = by (g.tick == k) (names-and k free f)
     by : (b : Bool) → free_names k (free ++ f ∷ []) ≡ free_names k free ++ free_names k (f ∷ []) → names-by b g (at-tick k (free ++ f ∷ [])) ≡ names-by b g (at-tick k free) ++ free_names k (f ∷ [])
     by true h = ap (λ ns. g.name ∷ ns) h
     by false h = h
-
-append-nil : {X : Type 0} (xs : List X) → xs ++ [] ≡ xs
-append-nil [] = refl
-append-nil (x ∷ xs) = ap (λ ys. x ∷ ys) (append-nil xs)
 
 names-before : (k : ℕ) (free : List FreeSave) (f : FreeSave) → k < f.tick → free_names k (free ++ f ∷ []) ≡ free_names k free
 names-before k free f lt =

@@ -1,3 +1,4 @@
 mod Kept
-mod Tests
+pub mod Tests
 mod Standing
+pub mod Shared

@@ -5,7 +5,7 @@ use Rattle.std.specs.Arc.{arc_value}
 use Rattle.std.specs.List.{AllByRecursion}
 use Rattle.std.specs.declared.alloc.Global.{Global}
 use Rattle.std.specs.declared.vec.Vec.{Vec}
-use Rattle.vl_base.specs.Files.{IsFileSet}
+use Rattle.vl_design.specs.vl_base.specs.Files.{IsFileSet}
 use Rattle.vl_design.specs.declared.design.End.{End}
 use Rattle.vl_design.specs.declared.design.End.TheVariants.{Stopped}
 use Rattle.vl_design.specs.Alone.{Origin, Boundary, Errand, FreeSave, Keeps, due_at, free_names, reason_at, save_names}
@@ -13,20 +13,20 @@ use Rattle.vl_design.specs.Laws.{IsFine, StartsOpen}
 use Rattle.vl_design.specs.Queue.{Queue}
 use Rattle.vl_design.specs.Snapshots.{Saved, saved_over, snapshot_of}
 use Rattle.vl_design.proofs.Fine.{boundary_fine}
-use Rattle.cell_form.specs.Data.{BankData}
-use Rattle.sub_nodes.specs.Code.{table_of}
-use Rattle.sub_nodes.specs.Cycles.{Stage, rises}
-use Rattle.sub_nodes.specs.Stands.{at_trap}
+use Rattle.ten_core.specs.cell_form.specs.Data.{BankData}
+use Rattle.ten_core.specs.sub_nodes.specs.Code.{table_of}
+use Rattle.ten_core.specs.sub_nodes.specs.Cycles.{Stage, rises}
+use Rattle.ten_core.specs.sub_nodes.specs.Stands.{at_trap}
 use Rattle.ten_core.specs.declared.engine.Engine.{Engine}
 use Rattle.ten_core.specs.Runs.{after_cycle, after_call, IsAt, Runs}
 use Rattle.ten_core.specs.Tenants.{origin_of, tenant_of}
-use Rattle.ten_hold.specs.Holding.{CanBeHeld}
-use Rattle.ten_load.specs.Loads.{Begins}
+use Rattle.ten_core.specs.Holding.{CanBeHeld}
+use Rattle.ten_core.specs.Begins.{Begins}
 use Rattle.ten_plan.specs.declared.held.FreeSave as declared-free
 use Rattle.ten_plan.specs.declared.held.Saved as declared
 use Rattle.ten_plan.specs.Held.{free_of, saved_of}
 use Rattle.ten_plan.specs.Plans.{AreBefore, AreDone, IsPlan}
-use Rattle.ten_run.specs.Running.{is_at_rest, IsRunning}
+use Rattle.ten_core.specs.Running.{is_at_rest, IsRunning}
 use Rattle.ten_shell.specs.declared.shell.Shell.{Shell}
 use Rattle.ten_shell.specs.Keeping as keeping
 use Rattle.ten_shell.specs.Keeping.{KeepsAt, KeepsOn}

@@ -4,12 +4,16 @@ use Rattle.std.specs.Prelude.{nat_le, is_some, option_map, IfNone, IfSome, IfOk}
 use Rattle.std.proofs.lemmas.Bool.Decides.{nat_tests}
 use Rattle.vl_design.specs.declared.design.End.{End}
 use Rattle.vl_design.specs.declared.design.End.TheVariants as end
-use Rattle.sub_nodes.specs.Cycles.{is_trap, rises}
-use Rattle.sub_nodes.specs.Nodes.{Node, Run, Trap, Apply}
+use Rattle.ten_core.specs.sub_nodes.specs.Cycles.{is_trap, rises}
+use Rattle.ten_core.specs.sub_nodes.specs.Nodes.{Node, Run, Trap, Apply}
 use Rattle.ten_shell.specs.declared.shell.Beat.TheVariants as beat
 use Rattle.ten_shell.specs.declared.shell.Why.TheVariants as why
 use Rattle.ten_shell.specs.Leaving.{why_of}
 use Rattle.ten_shell.specs.Shells.{is_left}
+pub use Rattle.vl_design.specs.vl_base.proofs.Booleans.{and_left as and-left, or_right_true as or-right, never_both as clash, and_right as and-right, or_left_true as or-left, or_other_true as other, or_then as or-then, or_else as or-else}
+pub use Rattle.vl_design.specs.vl_base.proofs.Lists.{append_none_right as behind-nil, map_push as map-and}
+pub use Rattle.ten_core.specs.sub_nodes.proofs.Shared.{trap-low}
+pub use Rattle.vl_design.specs.vl_base.proofs.Numbers.{le_true as le-true}
 
 pub trap-beat : (t r : Bool) → t ≡ true → beat.Trap ≡ cond t beat.Trap (cond r beat.TickEnd beat.Ran)
 trap-beat true r e = refl
@@ -43,22 +47,6 @@ pub is-over : (f r : Bool) → f ≡ true → (not f && r) ≡ false
 is-over true r h = refl
 is-over false r h = let z : ⊥ = cc in absurd z
 
-pub rises-there : (f r : Bool) → (not f && r) ≡ true → r ≡ true
-rises-there true r e = let z : ⊥ = cc in absurd z
-rises-there false r e = e
-
-pub or-left : (f r : Bool) → f ≡ true → (f || r) ≡ true
-or-left true r e = refl
-or-left false r e = let z : ⊥ = cc in absurd z
-
-pub or-right : (f r : Bool) → r ≡ true → (f || r) ≡ true
-or-right true r e = refl
-or-right false r e = e
-
-pub other : (f r : Bool) → (f || r) ≡ true → f ≡ false → r ≡ true
-other true r e h = let z : ⊥ = cc in absurd z
-other false r e h = e
-
 pub bound-then : (f r x d : Bool) → d ≡ f → x ≡ r → d ≡ false → x ≡ (not f && r)
 bound-then true r x d e g h = let z : ⊥ = cc in absurd z
 bound-then false r x d e g h = g
@@ -66,13 +54,6 @@ bound-then false r x d e g h = g
 pub bound-else : (f r d : Bool) → d ≡ f → d ≡ true → not d ≡ (not f && r)
 bound-else true r d e h = ap not h
 bound-else false r d e h = let z : ⊥ = cc in absurd z
-
--- the clock doesn't rise where a call is next
-pub trap-low : (x : Option Node) → is_trap x ≡ true → rises x ≡ false
-trap-low None e = refl
-trap-low (Some (Run g on)) e = let z : ⊥ = cc in absurd z
-trap-low (Some (Trap task to)) e = refl
-trap-low (Some (Apply to)) e = refl
 
 -- ---- what is left
 
@@ -83,10 +64,6 @@ left-by name left (Some x) e h = sym (ap is_left h.1)
 pub none-left : (left : List (List ℕ)) → is_left left ≡ false → left ≡ []
 none-left [] e = refl
 none-left (name ∷ names) e = let z : ⊥ = cc in absurd z
-
-pub behind-nil : {X : Type 0} (xs ys : List X) → xs ++ ys ≡ [] → ys ≡ []
-behind-nil [] ys e = e
-behind-nil (x ∷ xs) ys e = let z : ⊥ = cc in absurd z
 
 -- ---- resting
 
@@ -132,38 +109,12 @@ ok-3 P Q R S f (Err e) p q u = tt
 
 -- ---- tests joined
 
-pub and-left : (x y : Bool) → (x && y) ≡ true → x ≡ true
-and-left true y e = refl
-and-left false y e = e
-
-pub and-right : (x y : Bool) → (x && y) ≡ true → y ≡ true
-and-right true y e = e
-and-right false y e = let z : ⊥ = cc in absurd z
-
 pub right-false : (x y : Bool) → (x && y) ≡ false → x ≡ true → y ≡ false
 right-false true y e h = e
 right-false false y e h = let z : ⊥ = cc in absurd z
 
-pub or-then : (x w y : Bool) → x ≡ w → x ≡ true → x ≡ (w || y)
-or-then x true y e h = h
-or-then x false y e h = let z : ⊥ = cc in absurd z
-
-pub or-else : (x w y : Bool) → w ≡ false → x ≡ y → x ≡ (w || y)
-or-else x true y e h = let z : ⊥ = cc in absurd z
-or-else x false y e h = h
-
-pub clash : (x : Bool) → x ≡ true → x ≡ false → ⊥
-clash x e h = cc
-
-pub le-true : (a b : ℕ) → a ≤ b → nat_le a b ≡ true
-le-true a b h = grind (arith, nat_tests)
-
 pub le-false : (a b : ℕ) → b < a → nat_le a b ≡ false
 le-false a b h = grind (arith, nat_tests)
-
-pub map-and : {X Y : Type 0} (f : X → Y) (xs : List X) (x : X) → map f (xs ++ x ∷ []) ≡ map f xs ++ f x ∷ []
-map-and f [] x = refl
-map-and f (y ∷ ys) x = ap (λ zs. f y ∷ zs) (map-and f ys x)
 
 -- ---- reasons
 

@@ -2,25 +2,25 @@
 use Rattle.std.specs.Prelude.{◌≡◌, ℕ, ◌≤◌, Bool, true, false, not, ◌&&◌, ◌||◌, List, [], ◌∷◌, ◌++◌, drop, length, map, if◌then◌else◌, slice_get}
 use Rattle.std.specs.Arc.{arc_value}
 use Rattle.std.specs.List.{AllByRecursion}
-use Rattle.vl_base.specs.Files.{IsFileSet}
+use Rattle.vl_design.specs.vl_base.specs.Files.{IsFileSet}
 use Rattle.vl_design.specs.Alone as alone
 use Rattle.vl_design.specs.Alone.{Plan, due_at, first_tick, save_names}
 use Rattle.vl_design.specs.Laws.{StartsFine, StartsOpen}
 use Rattle.vl_design.specs.Snapshots as run
 use Rattle.vl_design.specs.Syntax.{Flat}
-use Rattle.cell_form.specs.Data.{BankData}
-use Rattle.sub_nodes.specs.Code.{table_of}
-use Rattle.sub_nodes.specs.Cycles.{Stage, rises}
-use Rattle.sub_nodes.specs.Stands.{at_trap}
+use Rattle.ten_core.specs.cell_form.specs.Data.{BankData}
+use Rattle.ten_core.specs.sub_nodes.specs.Code.{table_of}
+use Rattle.ten_core.specs.sub_nodes.specs.Cycles.{Stage, rises}
+use Rattle.ten_core.specs.sub_nodes.specs.Stands.{at_trap}
 use Rattle.ten_core.specs.declared.engine.Engine.{Engine}
 use Rattle.ten_core.specs.declared.origin.Origin.{Origin}
 use Rattle.ten_core.specs.Runs.{IsAt, IsTame}
 use Rattle.ten_core.specs.Tenants.{origin_of, tenant_of}
-use Rattle.ten_hold.specs.Holding.{CanBeHeld}
-use Rattle.ten_load.specs.Loads.{CanBegin}
+use Rattle.ten_core.specs.Holding.{CanBeHeld}
+use Rattle.ten_core.specs.Begins.{CanBegin}
 use Rattle.ten_plan.specs.Held.{free_of, saved_of}
 use Rattle.ten_plan.specs.Plans.{AreBefore, AreDone, IsPlan}
-use Rattle.ten_run.specs.Running.{goes_on, is_at_rest, IsRunning}
+use Rattle.ten_core.specs.Running.{goes_on, is_at_rest, IsRunning}
 use Rattle.ten_shell.specs.declared.shell.Beat.{Beat}
 use Rattle.ten_shell.specs.declared.shell.Beat.TheVariants.{Ran, Trap, TickEnd}
 use Rattle.ten_shell.specs.declared.shell.Shell.{Shell}

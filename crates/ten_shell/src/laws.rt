@@ -4,16 +4,16 @@ ghost use Rattle.std.specs.Prelude.{◌≡◌, ◌<◌, ◌^◌, ℕ, Some, slic
 ghost use Rattle.vl_design.specs.declared.design.End.{End as Reason};
 ghost use Rattle.vl_design.specs.Alone.{Boundary, Ends, Keeps, reason_at};
 ghost use Rattle.vl_design.specs.Queue.{Queue};
-ghost use Rattle.cell_form.specs.Data.{BankData};
-ghost use Rattle.cell_form.specs.States.{table_cycled};
-ghost use Rattle.sub_nodes.specs.Cycles.{Stage};
-ghost use Rattle.ten_form.specs.Registers.{state_register};
+ghost use Rattle.ten_core.specs.cell_form.specs.Data.{BankData};
+ghost use Rattle.ten_core.specs.cell_form.specs.States.{table_cycled};
+ghost use Rattle.ten_core.specs.sub_nodes.specs.Cycles.{Stage};
+ghost use Rattle.ten_core.specs.ten_form.specs.Registers.{state_register};
 ghost use Rattle.ten_core.specs.Tenants.{table_in};
 ghost use Rattle.ten_shell.specs.declared.shell.Shell.{Shell as OneShell};
 ghost use Rattle.ten_shell.specs.Shells.{free_in, run_of, saved_in, MayCycle, Rests, StandsFor};
 
 use ten_core::laws::a_cycle_leads_to_a_state;
-use ten_run::laws::{a_run_at_rest_is_at_a_boundary, ticks_and_acts_can_be_counted};
+use ten_core::run_laws::{a_run_at_rest_is_at_a_boundary, ticks_and_acts_can_be_counted};
 
 /// Where a shell rests, the run alone is at the boundary of as many ticks in the same state, and has counted as many acts; the shell keeps
 /// the snapshots that are to be kept there; and where the run has a reason to end there, it ends there.

@@ -1,24 +1,24 @@
 //! The snapshots that are due at a boundary.
 
 ghost use Rattle.std.specs.Prelude.{◌≡◌, ℕ, ◌+◌, ◌<◌, ◌≤◌, ◌^◌, true, List, ◌∷◌, [], length, IfOk, OnOk, OnErr, IfNone, IfSome};
-ghost use Rattle.cell_form.specs.Data.{BankData};
-ghost use Rattle.cell_form.specs.Views.{bank_of};
-ghost use Rattle.sub_nodes.specs.Cycles.{Stage};
+ghost use Rattle.ten_core.specs.cell_form.specs.Data.{BankData};
+ghost use Rattle.ten_core.specs.cell_form.specs.Views.{bank_of};
+ghost use Rattle.ten_core.specs.sub_nodes.specs.Cycles.{Stage};
 ghost use Rattle.vl_design.specs.Snapshots.{snapshot_of};
 ghost use Rattle.ten_plan.specs.Held.{snapshot_of as snapshot_in};
 ghost use Rattle.ten_plan.specs.Plans.{AreDone};
 ghost use Rattle.ten_shell.specs.Shells.{flat_in, is_at_boundary, is_left, errands_left, left_in, run_of, IsSameTenant, IsUnchanged, StandsFor};
 
 use crate::shell::Shell;
-use cell_form::bank::Bank;
 use std::alloc::{AllocError, Global};
-use ten_hold::hold::hold;
-use ten_hold::laws::a_stage_is_captured;
+use ten_core::Bank;
+use ten_core::hold::hold;
+use ten_core::hold_laws::a_stage_is_captured;
+use ten_core::run_laws::a_run_at_rest_is_at_a_boundary;
+use ten_files::name::copy_text;
 use ten_plan::held::{Held, Saved};
 use ten_plan::saved::keep;
-use ten_run::laws::a_run_at_rest_is_at_a_boundary;
-use vl_base::items::Text;
-use vl_files::name::copy_text;
+use vl_design::Text;
 
 impl Shell {
     /// The name of the snapshot that is to be made next at this boundary. None where none is left.

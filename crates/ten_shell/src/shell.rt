@@ -5,33 +5,33 @@ ghost use Rattle.std.specs.Arc.{arc_value};
 ghost use Rattle.vl_design.specs.Alone.{Boundary, first_tick, reason_at};
 ghost use Rattle.vl_design.specs.declared.design.End.TheVariants.{Stopped};
 ghost use Rattle.vl_design.specs.Queue.{Queue};
-ghost use Rattle.cell_form.specs.Data.{BankData};
-ghost use Rattle.cell_form.specs.Sound.{shape_of};
-ghost use Rattle.cell_form.specs.States.{table_cycled};
-ghost use Rattle.cell_form.specs.Views.{bank_of};
-ghost use Rattle.sub_nodes.specs.Code.{table_of};
-ghost use Rattle.sub_nodes.specs.Cycles.{Stage, rises};
-ghost use Rattle.ten_form.specs.Registers.{state_register};
+ghost use Rattle.ten_core.specs.cell_form.specs.Data.{BankData};
+ghost use Rattle.ten_core.specs.cell_form.specs.Sound.{shape_of};
+ghost use Rattle.ten_core.specs.cell_form.specs.States.{table_cycled};
+ghost use Rattle.ten_core.specs.cell_form.specs.Views.{bank_of};
+ghost use Rattle.ten_core.specs.sub_nodes.specs.Code.{table_of};
+ghost use Rattle.ten_core.specs.sub_nodes.specs.Cycles.{Stage, rises};
+ghost use Rattle.ten_core.specs.ten_form.specs.Registers.{state_register};
 ghost use Rattle.ten_core.specs.Runs.{after_cycle, after_call};
 ghost use Rattle.ten_core.specs.Tenants.{table_in};
 ghost use Rattle.ten_plan.specs.Plans.{move_at, AreBefore};
-ghost use Rattle.ten_load.specs.Loads.{Begins};
+ghost use Rattle.ten_core.specs.Begins.{Begins};
 ghost use Rattle.ten_shell.specs.Shells.{beat_of, flat_in, free_in, is_at_boundary, is_left, left_at, left_in, rests_in, run_of, waits_in, CanRunOn, IsBegunShell, IsSameTenant, IsUnchanged, MayCycle, Rests, StandsFor};
 ghost use Rattle.ten_shell.specs.Leaving.{why_in, why_of};
 
-use cell_form::bank::Bank;
 use std::alloc::{AllocError, Global};
+use ten_core::Bank;
 use ten_core::engine::Engine;
+use ten_core::run_laws::{
+    a_run_at_rest_is_at_a_boundary, each_act_comes_nearer, ticks_and_acts_can_be_counted,
+};
+use ten_files::name::copy_text;
 use ten_plan::held::{FreeSave, Saved};
 use ten_plan::laws::errands_before_a_tick_are_done_at_it;
 use ten_plan::saved::keep;
-use ten_run::laws::{
-    a_run_at_rest_is_at_a_boundary, each_act_comes_nearer, ticks_and_acts_can_be_counted,
-};
-use vl_base::items::Text;
+use vl_design::Text;
 use vl_design::design::End;
 use vl_design::laws::has_one_state_at_a_boundary;
-use vl_files::name::copy_text;
 
 /// What a cycle came to.
 #[derive(Clone, Copy, Debug, PartialEq)]

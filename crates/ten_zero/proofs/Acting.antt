@@ -1,7 +1,7 @@
 -- Statements with their acts.
 use Rattle.std.proofs.Common.{◌≡◌, ◌+◌, ℕ, Bool, true, false, List, refl, sym, ap, ◌∙◌}
 use Rattle.std.specs.Prelude.{◌||◌, ◌&&◌, not, if◌then◌else◌}
-use Rattle.vl_base.specs.declared.bits.UnOp.TheVariants.{LogNot}
+use Rattle.vl_design.specs.vl_base.specs.declared.bits.UnOp.TheVariants.{LogNot}
 use Rattle.vl_design.specs.Acts.{branch_of}
 use Rattle.vl_design.specs.Exec.{exec, asks, is_true, holds, items_hold, counted_if}
 use Rattle.vl_design.specs.Laws.{can_act, items_can_act, AreUnrolledItems, IsUnrolledStm}
@@ -16,6 +16,8 @@ use Rattle.vl_design.proofs.Resting.{case_done, exec_rests, done_counts, none_he
 use Rattle.vl_run.specs.declared.machine.Machine.{Machine}
 use Rattle.vl_run.specs.Machines.{state_of, Does}
 use Rattle.ten_zero.specs.Calls.{calls}
+pub use Rattle.vl_design.specs.vl_base.proofs.Booleans.{or_false_right as or-none}
+use Rattle.vl_design.specs.vl_base.proofs.Booleans.{or_assoc as or-more}
 
 -- ---- acts of statements
 
@@ -28,14 +30,6 @@ pub choice-acts : (path : List ℕ) (x : p.Exp) (a b : Stm) → (asks (plain.exp
 choice-acts path (p.Sys at name given) a b = refl
 choice-acts path (p.Un at LogNot (p.Sys q name given)) a b = refl
 choice-acts path x a b = refl
-
-or-more : (a b c : Bool) → ((a || b) || c) ≡ (a || (b || c))
-or-more true b c = refl
-or-more false b c = refl
-
-pub or-none : (a : Bool) → (a || false) ≡ a
-or-none true = refl
-or-none false = refl
 
 -- one of two more, before the rest
 pub one-more : (all one next rest whole : Bool) → next ≡ (all || one) → (all || (one || rest)) ≡ whole → (next || rest) ≡ whole

@@ -1,7 +1,7 @@
 -- What time zero comes to in the run of a design's table.
 use Rattle.std.proofs.Common.{◌≡◌, ℕ, Bool, true, false, List, [], ◌∷◌, refl, sym, ap, ◌∙◌, subst}
 use Rattle.std.specs.Prelude.{if◌then◌else◌}
-use Rattle.vl_base.specs.declared.files.File.{File}
+use Rattle.vl_design.specs.vl_base.specs.declared.files.File.{File}
 use Rattle.vl_design.specs.Acts.{at_boundary, committed_at, is_last}
 use Rattle.vl_design.specs.Alone.{Origin, Plan, blocks}
 use Rattle.vl_design.specs.Functions.{fresh, zeros}
@@ -14,16 +14,16 @@ use Rattle.vl_design.proofs.Agreeing.{agrees}
 use Rattle.vl_design.proofs.Opening.{boundary_open}
 use Rattle.vl_design.proofs.Returning.{exec_ticks}
 use Rattle.vl_run.specs.Machines.{IsMachine}
-use Rattle.vl_settle.specs.Checked.{IsChecked, IsOrder}
-use Rattle.vl_acts.proofs.Onward.{checked_quiet}
+use Rattle.sub_runs.specs.vl_runs.specs.Checked.{IsChecked, IsOrder}
+use Rattle.sub_runs.specs.vl_runs.proofs.Onward.{checked_quiet}
 use Rattle.plain_run.specs.Runs.{over}
-use Rattle.sub_nodes.specs.Code.{table_of}
-use Rattle.sub_nodes.specs.Cycles.{execs}
-use Rattle.sub_nodes.specs.Implements.{bodies}
-use Rattle.sub_nodes.specs.Stands.{CanRun, Comes}
-use Rattle.sub_nodes.proofs.Beginning.{stands_rise}
-use Rattle.sub_nodes.proofs.Runs.{ComesTo, each_comes}
-use Rattle.sub_nets.specs.Nets.{nets_of}
+use Rattle.sub_runs.specs.sub_nodes.specs.Code.{table_of}
+use Rattle.sub_runs.specs.sub_nodes.specs.Cycles.{execs}
+use Rattle.sub_runs.specs.sub_nodes.specs.Implements.{bodies}
+use Rattle.sub_runs.specs.sub_nodes.specs.Stands.{CanRun, Comes}
+use Rattle.sub_runs.specs.sub_nodes.proofs.Beginning.{stands_rise}
+use Rattle.sub_runs.specs.sub_nodes.proofs.Runs.{ComesTo, each_comes}
+use Rattle.sub_runs.specs.Nets.{nets_of}
 use Rattle.ten_zero.specs.declared.early.Early.{Early}
 use Rattle.ten_zero.specs.Early.{blocks_done, from_zero, state_in, wave_done, zero_done, IsAtFirst, ComesBehind, IsBehindZero}
 use Rattle.ten_zero.proofs.Queues.{IsFirst, first}

@@ -1,7 +1,7 @@
 -- The queues that time zero comes to, event by event (IEEE 1364-2005, clause 11).
 use Rattle.std.proofs.Common.{◌≡◌, ℕ, Bool, true, false, List, [], ◌∷◌, Some, refl, sym, ap, ◌∙◌, subst}
 use Rattle.std.specs.Prelude.{if◌then◌else◌}
-use Rattle.vl_base.specs.declared.files.File.{File}
+use Rattle.vl_design.specs.vl_base.specs.declared.files.File.{File}
 use Rattle.vl_design.specs.Alone.{Plan, Settles, Boundary, start, blocks}
 use Rattle.vl_design.specs.Exec.{exec}
 use Rattle.vl_design.specs.Functions.{fresh, scope_of, zeros}
@@ -10,19 +10,19 @@ use Rattle.vl_design.specs.State.{State, counted}
 use Rattle.vl_design.specs.Syntax.{Proc, Flat}
 use Rattle.vl_design.specs.Width.{Scope}
 use Rattle.vl_design.proofs.Resting.{exec_over}
-use Rattle.settling.specs.Nets.{pass}
-use Rattle.vl_settle.specs.Nets.{run}
-use Rattle.vl_settle.specs.Checked.{IsChecked, IsOrder}
-use Rattle.vl_settle.specs.Runs.{Comes, Calmed, with_values}
-use Rattle.vl_settle.proofs.Steady.{IsAccepted, IsSteady}
-use Rattle.vl_settle.proofs.Checks.{accepted}
-use Rattle.vl_settle.proofs.Calming.{IsBehind, Calming, calming}
-use Rattle.vl_settle.proofs.Reaching.{comes_steady}
+use Rattle.sub_runs.specs.vl_runs.specs.Nets.{pass}
+use Rattle.sub_runs.specs.vl_runs.specs.NetsOfSettle.{run}
+use Rattle.sub_runs.specs.vl_runs.specs.Checked.{IsChecked, IsOrder}
+use Rattle.sub_runs.specs.vl_runs.specs.Runs.{Comes, Calmed, with_values}
+use Rattle.sub_runs.specs.vl_runs.proofs.Steady.{IsAccepted, IsSteady}
+use Rattle.sub_runs.specs.vl_runs.proofs.Checks.{accepted}
+use Rattle.sub_runs.specs.vl_runs.proofs.Calming.{IsBehind, Calming, calming}
+use Rattle.sub_runs.specs.vl_runs.proofs.Reaching.{comes_steady}
 use Rattle.plain_run.specs.Runs.{over, IsAt, IsQuietAt, Precedes}
 use Rattle.plain_run.proofs.Events.{next-over, next-block, next-end, next-update, next-none, calms-come, calms-precede}
-use Rattle.sub_nodes.specs.Cycles.{execs, settled}
-use Rattle.sub_nodes.specs.Implements.{bodies}
-use Rattle.sub_nets.specs.Nets.{nets_of}
+use Rattle.sub_runs.specs.sub_nodes.specs.Cycles.{execs, settled}
+use Rattle.sub_runs.specs.sub_nodes.specs.Implements.{bodies}
+use Rattle.sub_runs.specs.Nets.{nets_of}
 use Rattle.ten_zero.specs.Early.{blocks_done, from_zero, wave_done, zero_done}
 
 -- once a run has finished, statements change nothing

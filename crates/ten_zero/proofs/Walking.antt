@@ -5,7 +5,7 @@ use Rattle.std.proofs.lemmas.List.{length-map, get_or-map}
 use Rattle.std.specs.declared.alloc.Global.{Global}
 use Rattle.std.specs.declared.boxed.Box.{Box}
 use Rattle.std.specs.declared.vec.Vec.{Vec}
-use Rattle.vl_base.specs.declared.bits.UnOp.TheVariants.{LogNot}
+use Rattle.vl_design.specs.vl_base.specs.declared.bits.UnOp.TheVariants.{LogNot}
 use Rattle.vl_design.specs.declared.design.CaseItem.{CaseItem}
 use Rattle.vl_design.specs.declared.design.Expr.{Expr}
 use Rattle.vl_design.specs.declared.design.Process.{Process}
@@ -32,17 +32,10 @@ use Rattle.vl_run.proofs.Statements.{if-of, set-of, later-of, task-of}
 use Rattle.ten_zero.specs.Nodes.{nodes, item_nodes}
 use Rattle.ten_zero.proofs.Acting as acting
 use Rattle.ten_zero.proofs.Acting.{first-acts, first-counts, first-then, sys-counts, case-taken}
+pub use Rattle.vl_design.proofs.Shared.{first-bare as unrolled-behind}
+use Rattle.vl_design.proofs.Shared.{item-bare as item-unrolled}
 
 -- ---- statements without loops
-
-pub unrolled-behind : (path : List ℕ) (x : p.Exp) (a : Stm) → IsUnrolledStm (called_first path x a) → IsUnrolledStm a
-unrolled-behind path (p.Sys at name given) a u = u.1
-unrolled-behind path (p.Un at LogNot (p.Sys q name given)) a u = u.1
-unrolled-behind path x a u = u
-
-item-unrolled : (es : p.Exps) (a : Stm) (others : Items) → AreUnrolledItems (plain.item es a others) → IsUnrolledStm a × AreUnrolledItems others
-item-unrolled p.NoExps a others u = u
-item-unrolled (p.MoreExps e es) a others u = u
 
 body-unrolled : (path : List ℕ) (xs : List CaseItem) (i : ℕ) (x : CaseItem) → i < length xs → AreUnrolledItems (items_of path xs) → IsUnrolledStm (stm_of path (get_or xs i x).body)
 body-unrolled path [] i x l u = absurd (omega (arith, l))

@@ -1,7 +1,7 @@
 -- System calls that come before a statement (IEEE 1364-2005, clause 17).
 use Rattle.std.specs.Prelude.{Bool, true, false}
-use Rattle.vl_base.specs.declared.bits.UnOp.{UnOp}
-use Rattle.vl_base.specs.declared.bits.UnOp.TheVariants.{LogNot}
+use Rattle.vl_design.specs.vl_base.specs.declared.bits.UnOp.{UnOp}
+use Rattle.vl_design.specs.vl_base.specs.declared.bits.UnOp.TheVariants.{LogNot}
 use Rattle.vl_design.specs.Placed.{Exp, Sys, Un}
 
 -- an operator is `!`

@@ -1,6 +1,6 @@
 -- Time zero of a run (IEEE 1364-2005, clauses 9.9.1 and 11.3).
 use Rattle.std.specs.Prelude.{◌≡◌, ℕ, false, true, List, [], if◌then◌else◌, slice_get, None}
-use Rattle.vl_base.specs.declared.files.File.{File}
+use Rattle.vl_design.specs.vl_base.specs.declared.files.File.{File}
 use Rattle.vl_design.specs.Alone.{Origin, Plan, blocks}
 use Rattle.vl_design.specs.Functions.{fresh, scope_of, zeros}
 use Rattle.vl_design.specs.Laws.{IsTable}
@@ -10,11 +10,11 @@ use Rattle.vl_design.specs.Syntax.{Flat}
 use Rattle.vl_design.specs.Trees.{flat_of}
 use Rattle.vl_design.specs.Width.{Scope, names_of}
 use Rattle.vl_run.specs.Machines.{state_of, IsMachine}
-use Rattle.sub_nodes.specs.Code.{table_of}
-use Rattle.sub_nodes.specs.Cycles.{Stage, execs, rises, settled}
-use Rattle.sub_nodes.specs.Implements.{bodies}
-use Rattle.sub_nodes.specs.Stands.{Comes}
-use Rattle.sub_nets.specs.Nets.{nets_of}
+use Rattle.sub_runs.specs.sub_nodes.specs.Code.{table_of}
+use Rattle.sub_runs.specs.sub_nodes.specs.Cycles.{Stage, execs, rises, settled}
+use Rattle.sub_runs.specs.sub_nodes.specs.Implements.{bodies}
+use Rattle.sub_runs.specs.sub_nodes.specs.Stands.{Comes}
+use Rattle.sub_runs.specs.Nets.{nets_of}
 use Rattle.ten_zero.specs.declared.early.Early.{Early}
 use Rattle.ten_zero.specs.declared.setting.Setting.{Setting}
 

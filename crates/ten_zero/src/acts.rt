@@ -8,7 +8,7 @@ ghost use Rattle.vl_design.specs.Trees.{exp_of, stm_of, then_of};
 ghost use Rattle.vl_run.specs.Cases.{items_of};
 ghost use Rattle.ten_zero.specs.Calls as k;
 
-use vl_base::bits::UnOp;
+use vl_design::UnOp;
 use vl_design::design::{CaseItem, Expr, ExprNode, Stmt, StmtNode};
 
 /// An operator is `!`.

@@ -7,15 +7,15 @@ ghost use Rattle.vl_design.specs.Sound.{IsSound};
 ghost use Rattle.vl_design.specs.Trees.{flat_of};
 ghost use Rattle.vl_design.specs.Width.{names_of};
 ghost use Rattle.vl_run.specs.Machines.{state_of, IsMachine};
-ghost use Rattle.settling.specs.Nets.{AllBelow};
-ghost use Rattle.vl_settle.specs.Checked.{IsChecked};
+ghost use Rattle.sub_runs.specs.vl_runs.specs.Nets.{AllBelow};
+ghost use Rattle.sub_runs.specs.vl_runs.specs.Checked.{IsChecked};
 ghost use Rattle.plain_run.specs.Runs.{Passes};
 ghost use Rattle.ten_zero.specs.Early.{flat_in};
 
 use crate::setting::Setting;
 use std::alloc::AllocError;
-use vl_assign::update::write_all;
 use vl_design::design::{Design, ProcKind};
+use vl_eval::update::write_all;
 use vl_run::machine::Machine;
 use vl_run::outer::room_of;
 use vl_run::process::exec_process;

@@ -18,8 +18,8 @@ ghost use Rattle.ten_zero.specs.Early.{flat_in, scope_in, state_in};
 use crate::acts::{acts, calls};
 use crate::early::Early;
 use std::alloc::{AllocError, Global};
-use vl_base::files::FileSet;
 use vl_design::design::{CaseItem, Design, Expr, Stmt, StmtNode};
+use vl_design::files::FileSet;
 use vl_run::parts::{branch_in_process, call_in_process, holds_in_process};
 use vl_run::process::exec_process;
 

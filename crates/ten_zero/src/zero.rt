@@ -7,16 +7,16 @@ ghost use Rattle.vl_design.specs.Sound.{IsSound};
 ghost use Rattle.vl_design.specs.Trees.{flat_of};
 ghost use Rattle.vl_design.specs.Width.{names_of};
 ghost use Rattle.vl_run.specs.Machines.{IsMachine};
-ghost use Rattle.vl_settle.specs.Checked.{IsChecked, IsOrder};
+ghost use Rattle.sub_runs.specs.vl_runs.specs.Checked.{IsChecked, IsOrder};
 ghost use Rattle.ten_zero.specs.Early.{blocks_done, flat_in, state_in, wave_done, zero_done, IsBehindZero};
 
 use crate::early::Early;
 use crate::nets::update;
 use crate::setting::Setting;
 use std::alloc::{AllocError, Global};
-use sub_nets::laws::the_table_of_a_checked_design_can_run;
-use vl_base::files::FileSet;
+use sub_runs::laws::the_table_of_a_checked_design_can_run;
 use vl_design::design::{Design, ProcKind};
+use vl_design::files::FileSet;
 use vl_run::process::begin_run;
 
 /// Whether a block is one of time zero.

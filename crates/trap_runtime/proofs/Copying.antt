@@ -3,9 +3,10 @@ use Rattle.std.proofs.Common.{◌≡◌, ℕ, zero, suc, ◌+◌, ◌<◌, ◌�
 use Rattle.std.specs.Prelude.{Some, nat_lt, slice_index_or, if◌then◌else◌}
 use Rattle.std.proofs.lemmas.Bool.{ltb-true, ltb-false}
 use Rattle.std.proofs.lemmas.List.{length-set, get_or-set_same, get_or-set_other, ext_get_or, map-set, get_or-map}
-use Rattle.vl_design.specs.ReadHex.{Step, Loads, Goes, loaded, words_read, steps, BetweenWords}
+use Rattle.fmt_text.specs.vl_design.specs.ReadHex.{Step, Loads, Goes, loaded, words_read, steps, BetweenWords}
 use Rattle.cell_form.specs.Data.{BankData}
 use Rattle.trap_runtime.specs.Served.{memory_at, with_memory}
+use Rattle.fmt_text.specs.vl_design.proofs.Shaping.{loaded_long as length-loaded}
 
 -- lists of one length, of which the first n items are the same
 pub record Copied (from to : List ℕ) (n : ℕ) : Type 0 where
@@ -39,11 +40,6 @@ copied-all from to n long c = ext_get_or 0 to from c.size (λ i h. let size = c.
 either : (b : Bool) (n : ℕ) (x y : List ℕ) → length x ≡ n → length y ≡ n → length (if b then x else y) ≡ n
 either true n x y h k = h
 either false n x y h k = k
-
-length-loaded : (w : ℕ) (lowest : ℤ) (n i : ℕ) (ss : List Step) (words : List ℕ) → length (loaded w lowest n i ss words) ≡ length words
-length-loaded w lowest n i [] words = refl
-length-loaded w lowest n i (Loads v ∷ more) words = either _ (length words) _ _ (length-loaded w lowest n (i + 1) more _ ∙ length-set words i _) refl
-length-loaded w lowest n i (Goes a ∷ more) words = either _ (length words) _ _ (length-loaded w lowest n _ more words) refl
 
 pub length-read : (w : ℕ) (lowest : ℤ) (n : ℕ) (text words : List ℕ) → length (words_read w lowest n text words) ≡ length words
 length-read w lowest n text words = length-loaded w lowest n 0 (steps BetweenWords text) words

@@ -1,11 +1,11 @@
 -- What serving a system call does to a bank, to the table of open files and to what is printed (IEEE 1364-2005, clause 17).
 use Rattle.std.specs.Prelude.{ℕ, ◌-ℤ◌, ◌+◌, ℤ, Bool, List, [], ◌∷◌, ◌++◌, map, drop, codes, slice_index, slice_index_or, slice_set, if◌then◌else◌, Option, Some, None}
-use Rattle.vl_base.specs.declared.files.File.{File}
-use Rattle.vl_base.specs.declared.files.OpenFile.{OpenFile}
-use Rattle.vl_base.specs.Display.{letter_text}
-use Rattle.vl_base.specs.Files as file
-use Rattle.vl_design.specs.ReadHex.{words_read}
-use Rattle.vl_design.specs.Rows.{lower_of, range_width}
+use Rattle.cell_form.specs.vl_base.specs.declared.files.File.{File}
+use Rattle.cell_form.specs.vl_base.specs.declared.files.OpenFile.{OpenFile}
+use Rattle.cell_form.specs.vl_base.specs.Display.{letter_text}
+use Rattle.cell_form.specs.vl_base.specs.Files as file
+use Rattle.fmt_text.specs.vl_design.specs.ReadHex.{words_read}
+use Rattle.fmt_text.specs.vl_design.specs.Rows.{lower_of, range_width}
 use Rattle.cell_form.specs.Data.{BankData}
 use Rattle.cell_form.specs.declared.table.FormatPart.{FormatPart}
 use Rattle.cell_form.specs.declared.table.FormatPart.TheVariants as part

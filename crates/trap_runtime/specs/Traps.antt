@@ -1,7 +1,7 @@
 -- Traps that a bank can serve (own).
 use Rattle.std.specs.Prelude.{◌≡◌, ℕ, ◌<◌, ◌^◌, ℤ, List, [], ◌∷◌, length, slice_index, slice_index_or, Option, Some, None, ⊤}
-use Rattle.vl_design.specs.Rows.{range_width}
-use Rattle.vl_design.specs.Sound.{IsWidth}
+use Rattle.fmt_text.specs.vl_design.specs.Rows.{range_width}
+use Rattle.fmt_text.specs.vl_design.specs.Sound.{IsWidth}
 use Rattle.cell_form.specs.Data.{BankData}
 use Rattle.cell_form.specs.declared.table.FormatPart.{FormatPart}
 use Rattle.cell_form.specs.declared.table.FormatPart.TheVariants as part

@@ -5,9 +5,9 @@ ghost use Rattle.cell_form.specs.Views.{bank_of};
 ghost use Rattle.trap_runtime.specs.Served as s;
 ghost use Rattle.trap_runtime.specs.Traps.{HasAnswer, HasDescriptor, HasVariable};
 
+use cell_form::Bits;
 use cell_form::bank::Bank;
 use cell_form::table::Trap;
-use vl_base::bits::Bits;
 
 /// The descriptor that a call is given.
 pub(crate) fn descriptor(trap: &Trap, bank: &Bank) -> u32

@@ -5,11 +5,11 @@ ghost use Rattle.cell_form.specs.Views.{bank_of};
 ghost use Rattle.trap_runtime.specs.Served.{held, parts_text, display_text};
 ghost use Rattle.trap_runtime.specs.Traps.{HaveValues, Holds};
 
+use cell_form::Bits;
 use cell_form::bank::Bank;
 use cell_form::table::FormatPart;
+use fmt_text::item::push_item;
 use std::alloc::{AllocError, Global};
-use vl_base::bits::Bits;
-use vl_show::item::push_item;
 
 /// The value of a slot, in so many bits.
 fn value_at(bank: &Bank, slot: u32, width: u8) -> Bits

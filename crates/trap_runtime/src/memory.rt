@@ -1,17 +1,17 @@
 //! Memories read from files (IEEE 1364-2005, clause 17.2.9).
 
 ghost use Rattle.std.specs.Prelude.{◌≡◌, ◌≤◌, ◌^◌, IfOk, OnOk, OnErr, length};
-ghost use Rattle.vl_design.specs.Rows.{lower_of, range_width};
-ghost use Rattle.vl_design.specs.ReadHex.{words_read};
-ghost use Rattle.vl_design.specs.Sound.{IsWidth};
+ghost use Rattle.fmt_text.specs.vl_design.specs.Rows.{lower_of, range_width};
+ghost use Rattle.fmt_text.specs.vl_design.specs.ReadHex.{words_read};
+ghost use Rattle.fmt_text.specs.vl_design.specs.Sound.{IsWidth};
 ghost use Rattle.cell_form.specs.Views.{bank_of};
 ghost use Rattle.trap_runtime.specs.Served as s;
 ghost use Rattle.trap_runtime.specs.Traps.{HasMemory};
 
 use cell_form::bank::Bank;
 use cell_form::table::Trap;
+use fmt_text::words::Kept;
 use std::alloc::{AllocError, Global};
-use vl_eval::room::Kept;
 use vl_hex::load::{Memory, load};
 
 /// The same words, as the reader of a text takes them.

@@ -1,24 +1,24 @@
 //! One system call (IEEE 1364-2005, clause 17).
 
 ghost use Rattle.std.specs.Prelude.{◌≡◌, IfOk, OnOk, OnErr};
-ghost use Rattle.vl_base.specs.Files as file;
+ghost use Rattle.cell_form.specs.vl_base.specs.Files as file;
 ghost use Rattle.cell_form.specs.Views.{bank_of};
 ghost use Rattle.ten_files.specs.Tables.{open_files, IsTableOf};
 ghost use Rattle.trap_runtime.specs.Served as s;
 ghost use Rattle.trap_runtime.specs.Traps.{HasAnswer, HasDescriptor, HasVariable, HasMemory, IsTrap};
-ghost use Rattle.vl_design.specs.Rows.{range_width};
+ghost use Rattle.fmt_text.specs.vl_design.specs.Rows.{range_width};
 
 use crate::bank::{answer, descriptor, set_variable, variable};
 use crate::display::display;
 use crate::memory::load_memory;
 use crate::served::Served;
+use cell_form::Text;
 use cell_form::bank::Bank;
+use cell_form::files::FileSet;
 use cell_form::table::{Trap, TrapCall};
 use std::alloc::{AllocError, Global};
+use ten_files::name::copy_text;
 use ten_files::table::Table;
-use vl_base::files::FileSet;
-use vl_base::items::Text;
-use vl_files::name::copy_text;
 
 /// Serves `$fread`.
 fn read(trap: &Trap, width: u8, bank: &mut Bank, files: &FileSet, table: &mut Table)

@@ -1,6 +1,6 @@
 //! How a call was served.
 
-use vl_base::items::Text;
+use cell_form::Text;
 
 /// How a system call was served.
 #[derive(Drop)]

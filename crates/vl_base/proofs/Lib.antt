@@ -13,3 +13,8 @@ pub mod SumLaws
 pub mod Wholes
 pub mod WorkedRows
 pub mod Wrapping
+pub mod Booleans
+pub mod Numbers
+pub mod Shared
+pub mod Lists
+pub mod Options

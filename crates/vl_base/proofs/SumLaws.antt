@@ -30,7 +30,7 @@ module _ (signed : Bool) (w x y : ℕ) (small_x : x < 2 ^ w) (small_y : y < 2 ^ 
       ∙ ap (λ n. wrapped w (pos n -ℤ pos (wrapped w (reading signed w y)))) (wrapped-reading signed w x small_x)
       ∙ ap (λ n. wrapped w (pos x -ℤ pos n)) (wrapped-reading signed w y small_y))
 
-not-zero : (y : ℕ) → y ≢ 0 → (y == 0) ≡ false
+pub not-zero : (y : ℕ) → y ≢ 0 → (y == 0) ≡ false
 not-zero y h = grind arith
 
 quotient-is : (signed : Bool) (w x y : ℕ) → y ≢ 0 → quotient signed w x y ≡ wrapped w (int_div (reading signed w x) (reading signed w y))

@@ -12,7 +12,7 @@ use Rattle.vl_design.specs.declared.stop.Stop.{Stop}
 use Rattle.vl_design.specs.Placed.{Process, Design}
 use Rattle.vl_design.specs.Stops.{earliest, construct_if}
 use Rattle.vl_sites.specs.Sites.{What, Reads, Sets, Heads, Calls, Delays, Tasks, Site, sites}
-use Rattle.vl_stops.proofs.Earliest.{over, chain-three}
+use Rattle.vl_design.proofs.Earliest.{over, chain-three}
 use Rattle.vl_check.specs.declared.place.Role.{Role}
 use Rattle.vl_check.specs.declared.writers.Writers.{Writers}
 use Rattle.vl_check.specs.Bodies.{role_of, of_process, kind_is}

@@ -2,3 +2,11 @@ pub mod Joined
 pub mod Marking
 pub mod Rivals
 pub mod Following
+pub mod Counting
+pub mod Lists
+pub mod Searching
+pub mod Cycling
+pub mod Tabling
+pub mod Freeing
+pub mod Together
+pub mod Shared

@@ -12,7 +12,7 @@ use crate::place::Setting;
 use std::alloc::{AllocError, Global};
 use vl_design::design::{CaseItem, Stmt, StmtNode};
 use vl_design::stop::Stop;
-use vl_stops::stops::construct_if;
+use vl_design::stops::construct_if;
 
 /// These variables, and one more behind them.
 fn with(alloc: Global, around: &[u32], variable: u32) -> Result<Vec<u32>, AllocError>

@@ -13,8 +13,8 @@ ghost use Rattle.vl_check.specs.Seen.{setting_of};
 use crate::kinds::{is_clock, is_derived, is_loop_in};
 use crate::place::{Role, Setting};
 use vl_design::stop::Stop;
+use vl_design::stops::construct_if;
 use vl_sites::site::{Site, What};
-use vl_stops::stops::construct_if;
 
 /// It names a clock.
 fn names_clock(s: &Setting<'_>, what: What<'_>) -> bool

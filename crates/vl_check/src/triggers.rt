@@ -14,8 +14,8 @@ use crate::kinds::{has_value, is_clock};
 use crate::marks::{put_events, put_sites};
 use vl_design::design::{Event, Process, Signal};
 use vl_design::stop::Stop;
+use vl_design::stops::construct_if;
 use vl_sites::site::{Site, What};
-use vl_stops::stops::construct_if;
 
 /// One of the events is an edge.
 fn has_edge(events: &[Event]) -> bool

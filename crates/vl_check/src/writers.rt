@@ -11,8 +11,8 @@ use crate::kinds::is_store;
 use crate::marks::put_assigned;
 use vl_design::design::{ProcKind, Process, Signal};
 use vl_design::stop::Stop;
+use vl_design::stops::construct_if;
 use vl_sites::site::{Site, What};
-use vl_stops::stops::construct_if;
 
 /// Which signals some processes write: marks by their numbers.
 #[derive(Drop)]

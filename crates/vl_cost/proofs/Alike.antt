@@ -1,7 +1,7 @@
 -- Statements without loops count the same up to a cap, or one at most the other, over bodies that are so, whatever the scope, the
 -- values of signals and the instance's path are.
 use Rattle.std.proofs.Common.{◌≡◌, refl, sym, ap, ◌∙◌, ℕ, ◌+◌, min, List, [], ◌∷◌}
-use Rattle.vl_base.specs.declared.bits.UnOp.TheVariants.{LogNot}
+use Rattle.vl_design.specs.vl_base.specs.declared.bits.UnOp.TheVariants.{LogNot}
 use Rattle.vl_design.specs.Calls.{task_of}
 use Rattle.vl_design.specs.Cost.{exp_cells, exps_cells, arguments_cells, labels_cells, target_cells, targets_cells, pieces_cells, task_cells, stm_cells, items_cells, word_regs, words_regs, stm_regs, items_regs}
 use Rattle.vl_design.specs.Placed as p

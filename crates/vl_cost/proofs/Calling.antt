@@ -2,7 +2,7 @@
 use Rattle.std.proofs.Common.{◌≡◌, refl, ap, arith, ℕ, ◌+◌, Bool, true, false, List, []}
 use Rattle.std.specs.Prelude.{if◌then◌else◌, codes}
 use Rattle.std.specs.Str.{bytes_eq}
-use Rattle.vl_base.specs.declared.bits.UnOp.TheVariants.{LogNot}
+use Rattle.vl_design.specs.vl_base.specs.declared.bits.UnOp.TheVariants.{LogNot}
 use Rattle.vl_design.specs.Calls.{task_of}
 use Rattle.vl_design.specs.Cost.{task_cells, stm_cells, stm_regs}
 use Rattle.vl_design.specs.Formats.{Arg, pieces_from}

@@ -21,7 +21,7 @@ use Rattle.vl_design.specs.Width.{Scope}
 use Rattle.vl_design.proofs.TreeLemmas.{placed-Seq, stm_of-Seq}
 use Rattle.vl_limits.specs.Walks.{items_of}
 use Rattle.vl_limits.proofs.Counting.{case-of}
-use Rattle.vl_cost.specs.Costs.{saturated}
+use Rattle.vl_design.specs.Costs.{saturated}
 use Rattle.vl_cost.specs.Walks.{called_cells, cells_of, item_cells_of, regs_of, item_regs_of}
 use Rattle.vl_cost.proofs.Calling.{first-cells, first-regs}
 

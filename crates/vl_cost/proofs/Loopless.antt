@@ -3,7 +3,7 @@ use Rattle.std.proofs.Common.{ℕ, List, [], ◌∷◌, map}
 use Rattle.std.specs.Prelude.{All}
 use Rattle.std.specs.List.{AllByRecursion}
 use Rattle.std.proofs.lemmas.List.Elements.{recursion_from_All, All-from_recursion}
-use Rattle.vl_base.specs.declared.bits.UnOp.TheVariants.{LogNot}
+use Rattle.vl_design.specs.vl_base.specs.declared.bits.UnOp.TheVariants.{LogNot}
 use Rattle.vl_design.specs.declared.design.Design.{Design}
 use Rattle.vl_design.specs.declared.design.Func.{Func}
 use Rattle.vl_design.specs.declared.design.Process.{Process}
@@ -14,15 +14,7 @@ use Rattle.vl_design.specs.Seen as seen
 use Rattle.vl_design.specs.Syntax.{Stm, Items, Fun, Proc}
 use Rattle.vl_design.specs.Trees.{flat_of}
 use Rattle.vl_cost.specs.Walks.{HasNoLoop, HaveNoLoop, ItemsHaveNoLoop}
-
-first-bare : (path : List ℕ) (e : p.Exp) (a : Stm) → IsUnrolledStm (plain.called_first path e a) → IsUnrolledStm a
-first-bare path (p.Sys at name given) a h = h.1
-first-bare path (p.Un at LogNot (p.Sys q name given)) a h = h.1
-first-bare path e a h = h
-
-item-bare : (es : p.Exps) (a : Stm) (others : Items) → AreUnrolledItems (plain.item es a others) → IsUnrolledStm a × AreUnrolledItems others
-item-bare p.NoExps a others h = h
-item-bare (p.MoreExps e es) a others h = h
+use Rattle.vl_design.proofs.Shared.{first-bare, item-bare}
 
 module _ (path : List ℕ) where
   mutual

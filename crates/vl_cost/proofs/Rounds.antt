@@ -16,7 +16,7 @@ use Rattle.vl_design.specs.Trees.{flat_of}
 use Rattle.vl_design.specs.Width.{Scope}
 use Rattle.vl_limits.proofs.Alike.{Same, sames}
 use Rattle.vl_limits.proofs.Rounds.{capped}
-use Rattle.vl_cost.specs.Costs.{saturated}
+use Rattle.vl_design.specs.Costs.{saturated}
 use Rattle.vl_cost.specs.Walks.{next_cells, AreBodies, HasNoLoop}
 use Rattle.vl_cost.proofs.Alike.{stm_alike}
 use Rattle.vl_cost.proofs.Loopless.{funcs-loopless, all-funcs}

@@ -16,9 +16,7 @@ use Rattle.vl_cost.specs.Walks.{next_cells, AreBodies, HasNoLoop}
 use Rattle.vl_cost.proofs.Alike.{stm_alike}
 use Rattle.vl_cost.proofs.Loopless.{all-funcs}
 use Rattle.vl_cost.proofs.Rounds.{round-is, all-rounds}
-
-less-than : (cap x y : ℕ) → x ≤ y → Less cap x y
-less-than cap x y h = omega arith
+use Rattle.vl_limits.proofs.Settled.{less-than}
 
 cells-grow : (a b : List ℕ) → AtMost a b → (g : Func) → HasNoLoop (seen.stm_of g.body) → next_cells a g ≤ next_cells b g
 cells-grow a b l g h =

@@ -2,7 +2,8 @@
 use Rattle.std.proofs.Common.{◌≡◌, refl, ℕ, ◌*◌, List, [], ◌∷◌}
 use Rattle.vl_design.specs.Cost.{exp_cells, pieces_cells}
 use Rattle.vl_design.specs.Formats.{Arg, Str, pieces_from}
-use Rattle.vl_limits.specs.Displays.{CountsShown, items_in}
+use Rattle.vl_design.specs.Formats.{items_in}
+use Rattle.vl_limits.specs.Displays.{CountsShown}
 use Rattle.vl_limits.proofs.Showing.{text-shown, none-shown, any-path}
 use Rattle.vl_cost.specs.Displays.{shown_cells}
 

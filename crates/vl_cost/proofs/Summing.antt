@@ -20,14 +20,11 @@ use Rattle.vl_design.specs.Trees.{flat_of}
 use Rattle.vl_design.specs.Width.{Scope}
 use Rattle.vl_limits.proofs.Alike.{Same, both, sames}
 use Rattle.vl_limits.proofs.Rounds.{capped}
-use Rattle.vl_cost.specs.Costs.{saturated, statement_cells}
+use Rattle.vl_design.specs.Costs.{saturated, statement_cells}
 use Rattle.vl_cost.specs.Walks.{block_cells, process_cells, process_regs, AreBodies, HasNoLoop}
 use Rattle.vl_cost.proofs.Alike.{stm_alike, stm_same}
 use Rattle.vl_cost.proofs.Loopless.{procs-loopless, all-procs}
-
-sum-map : {A B : Type 0} (f : B → ℕ) (g : A → B) (xs : List A) → sum_by f (map g xs) ≡ sum_by (λ x. f (g x)) xs
-sum-map f g [] = refl
-sum-map f g (x ∷ xs) = sum_by-cons f (g x) (map g xs) ∙ (ap (λ n. f (g x) + n) (sum-map f g xs) ∙ sym (sum_by-cons (λ y. f (g y)) x xs))
+use Rattle.vl_design.specs.vl_base.proofs.Lists.{sum_map as sum-map}
 
 module _ (design : Design) (u : IsUnrolled (flat_of design)) where
   abbrev d : Flat
@@ -106,11 +103,6 @@ module _ (design : Design) (u : IsUnrolled (flat_of design)) where
     where
       total : (x y rows sum all r : ℕ) → rows ≡ saturated x → sum ≡ saturated (96 + rows) → all ≡ saturated y → r ≡ saturated (sum + all) → r ≡ saturated (96 + (x + y))
       total x y rows sum all r h k i o = omega arith
-
-pub mem-is : (design : Design) (signals : List Signal) (r : ℕ) → signals ≡ design.signals → r ≡ saturated (sum_by (λ x. row_mem x.kind (row_of x).words (row_of x).width) signals) → r ≡ saturated ((cost (flat_of design)).mem)
-mem-is design signals r e h =
-    h ∙ (ap (λ z. saturated (sum_by (λ (x : Signal). row_mem x.kind (row_of x).words (row_of x).width) z)) e
-    ∙ sym (ap saturated (sum-map (λ (r : Row). row_mem r.kind r.words r.width) row_of design.signals)))
 
 pub slice-loopless : (design : Design) → IsUnrolled (flat_of design) → (as' : List Process) → as' ≡ design.processes → All (λ a. HasNoLoop (seen.stm_of a.body)) as'
 slice-loopless design u as' e = subst (All (λ a. HasNoLoop (seen.stm_of a.body))) (sym e) (all-procs design u)

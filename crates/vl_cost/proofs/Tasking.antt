@@ -1,8 +1,8 @@
 -- What a system call counts, by how it takes its arguments.
 use Rattle.std.proofs.Common.{◌≡◌, refl, sym, ap, ◌∙◌, arith, ℕ, ◌+◌, ◌≤◌, true, List, [], ◌∷◌, map, length, get_or}
-use Rattle.vl_base.specs.declared.bits.UnOp.{UnOp}
-use Rattle.vl_base.specs.declared.bits.UnOp.TheVariants.{LogNot}
-use Rattle.vl_base.specs.declared.place.Place.{Place}
+use Rattle.vl_design.specs.vl_base.specs.declared.bits.UnOp.{UnOp}
+use Rattle.vl_design.specs.vl_base.specs.declared.bits.UnOp.TheVariants.{LogNot}
+use Rattle.vl_design.specs.vl_base.specs.declared.place.Place.{Place}
 use Rattle.vl_design.specs.declared.design.Expr.{Expr}
 use Rattle.vl_design.specs.declared.design.ExprNode as d
 use Rattle.vl_design.specs.declared.design.SysArg.{SysArg}
@@ -18,7 +18,7 @@ use Rattle.vl_design.specs.Trees.{arg_of}
 use Rattle.vl_limits.specs.declared.tasks.Kind.{Kind}
 use Rattle.vl_limits.specs.Tasks.{is_signal, is_value, kind_by, kind_task}
 use Rattle.vl_limits.proofs.Tasking.{sys-of, taken-is}
-use Rattle.vl_cost.specs.Costs.{saturated}
+use Rattle.vl_design.specs.Costs.{saturated}
 use Rattle.vl_cost.specs.Walks.{called_cells}
 
 module _ (body : ℕ → ℕ) where

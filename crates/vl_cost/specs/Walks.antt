@@ -1,6 +1,6 @@
 -- Statements without loops: what they count depends on no values of signals.
 use Rattle.std.specs.Prelude.{◌≡◌, ℕ, ◌+◌, ⊤, if◌then◌else◌, List, [], map, slice_index}
-use Rattle.vl_base.specs.declared.bits.UnOp.TheVariants.{LogNot}
+use Rattle.vl_design.specs.vl_base.specs.declared.bits.UnOp.TheVariants.{LogNot}
 use Rattle.vl_design.specs.declared.design.Func.{Func}
 use Rattle.vl_design.specs.declared.design.Process.{Process}
 use Rattle.vl_design.specs.declared.design.Signal.{Signal}
@@ -14,7 +14,7 @@ use Rattle.vl_design.specs.Queue.{is_init}
 use Rattle.vl_design.specs.Rows.{row_of}
 use Rattle.vl_design.specs.Syntax.{Stm, Items, Flat}
 use Rattle.vl_design.specs.Trees.{stm_of}
-use Rattle.vl_cost.specs.Costs.{saturated}
+use Rattle.vl_design.specs.Costs.{saturated}
 
 abbrev mutual
   -- no loop stands in the statement

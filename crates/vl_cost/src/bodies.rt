@@ -10,8 +10,8 @@ ghost use Rattle.vl_cost.specs.Walks.{next_cells, AreBodies, HasNoLoop};
 use crate::passes::passed;
 use crate::statements::stm_cells;
 use std::alloc::{AllocError, Global};
-use vl_call_order::order::call_order;
 use vl_design::design::{Design, Func};
+use vl_limits::order::call_order;
 
 /// What bodies count where calls nest one deeper.
 fn next_bodies(alloc: Global, funcs: &[Func], before: &[u64]) -> Result<Vec<u64>, AllocError>

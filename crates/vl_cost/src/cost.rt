@@ -6,16 +6,16 @@ ghost use Rattle.vl_design.specs.Laws.{IsUnrolled};
 ghost use Rattle.vl_design.specs.Queue.{is_init};
 ghost use Rattle.vl_design.specs.Seen as seen;
 ghost use Rattle.vl_design.specs.Trees.{flat_of};
-ghost use Rattle.vl_cost.specs.Costs.{saturated, saturated_cost, statement_cells};
+ghost use Rattle.vl_design.specs.Costs.{saturated, saturated_cost, statement_cells};
 ghost use Rattle.vl_cost.specs.Walks.{block_cells, process_cells, process_regs, AreBodies, HasNoLoop};
 
 use crate::bodies::bodies_of;
-use crate::capacity::Cost;
 use crate::registers::stm_regs;
 use crate::signals::{signal_cells, signal_mem, signal_regs};
 use crate::statements::stm_cells;
 use crate::sums::plus;
 use std::alloc::{AllocError, Global};
+use vl_design::capacity::Cost;
 use vl_design::design::{Design, ProcKind, Process, Signal};
 
 /// A process is an `initial` block.

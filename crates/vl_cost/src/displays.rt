@@ -5,13 +5,13 @@ ghost use Rattle.vl_design.specs.Cost.{exp_cells, task_cells};
 ghost use Rattle.vl_design.specs.Formats.{Arg, operand, pieces_from};
 ghost use Rattle.vl_design.specs.Syntax.{Print};
 ghost use Rattle.vl_design.specs.Trees.{arg_of};
-ghost use Rattle.vl_cost.specs.Costs.{saturated};
+ghost use Rattle.vl_design.specs.Costs.{saturated};
 ghost use Rattle.vl_cost.specs.Displays.{shown_cells};
 
 use crate::expressions::exp_cells;
 use crate::sums::{plus, times};
 use vl_design::design::SysArg;
-use vl_limits::formats::items_in;
+use vl_design::formats::items_in;
 
 /// A sum of cells, and how many of the next arguments are taken by items.
 #[derive(Clone, Copy)]

@@ -4,7 +4,7 @@ ghost use Rattle.std.specs.Prelude.{◌≡◌, slice_index};
 ghost use Rattle.vl_design.specs.Cost.{exp_cells, exps_cells, arguments_cells, labels_cells, target_cells, targets_cells};
 ghost use Rattle.vl_design.specs.Trees.{exp_of, exps_of, target_of};
 ghost use Rattle.vl_limits.specs.Tallies.{targets_of};
-ghost use Rattle.vl_cost.specs.Costs.{saturated};
+ghost use Rattle.vl_design.specs.Costs.{saturated};
 
 use crate::sums::{body_at, plus};
 use vl_design::design::{Expr, ExprNode, Target, TargetNode};

@@ -1,8 +1,10 @@
-//! The cost of a design: register bits, cells and bits of memories.
+//! What a design costs of a fabric: register bits, cells and memory bits.
+//!
+//! Proved: of a design whose loops are unrolled: its cost (register bits, cells, memory bits) exactly as defined, or 2^64 - 1 where a
+//! number is greater (`cost`), and likewise the cells of all its statements (`all_cells`).
 #![tactic(auto)]
 
 mod bodies;
-pub mod capacity;
 pub mod cost;
 mod displays;
 mod expressions;

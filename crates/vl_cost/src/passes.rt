@@ -7,8 +7,8 @@ ghost use Rattle.vl_cost.specs.Walks.{next_cells, HasNoLoop};
 
 use crate::statements::stm_cells;
 use std::alloc::{AllocError, Global};
-use vl_call_order::order::number_at;
 use vl_design::design::Func;
+use vl_limits::order::number_at;
 
 /// The cells of a function come into its place of the table.
 fn replace(funcs: &[Func], number: usize, table: &mut Vec<u64>)

@@ -9,7 +9,7 @@ ghost use Rattle.vl_design.specs.Seen as seen;
 ghost use Rattle.vl_design.specs.Trees.{stm_of, then_of, target_of};
 ghost use Rattle.vl_limits.specs.Tallies.{targets_of};
 ghost use Rattle.vl_limits.specs.Walks.{items_of};
-ghost use Rattle.vl_cost.specs.Costs.{saturated};
+ghost use Rattle.vl_design.specs.Costs.{saturated};
 ghost use Rattle.vl_cost.specs.Walks.{regs_of, item_regs_of, HasNoLoop, HaveNoLoop, ItemsHaveNoLoop};
 
 use crate::signals::width_at;

@@ -4,7 +4,7 @@ ghost use Rattle.std.specs.Prelude.{◌≡◌, ◌+◌, ◌*◌, map, sum_by};
 ghost use Rattle.vl_design.specs.Cost.{row_cells, row_mem, row_regs};
 ghost use Rattle.vl_design.specs.Rows.{row_of};
 ghost use Rattle.vl_design.specs.Width.{signal_form};
-ghost use Rattle.vl_cost.specs.Costs.{saturated};
+ghost use Rattle.vl_design.specs.Costs.{saturated};
 
 use crate::sums::{plus, times};
 use vl_design::design::{SigKind, Signal};

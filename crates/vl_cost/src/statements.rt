@@ -6,7 +6,7 @@ ghost use Rattle.vl_design.specs.Plainly.{items};
 ghost use Rattle.vl_design.specs.Seen as seen;
 ghost use Rattle.vl_design.specs.Trees.{exp_of, stm_of, then_of, target_of};
 ghost use Rattle.vl_limits.specs.Walks.{items_of};
-ghost use Rattle.vl_cost.specs.Costs.{saturated};
+ghost use Rattle.vl_design.specs.Costs.{saturated};
 ghost use Rattle.vl_cost.specs.Walks.{called_cells, cells_of, item_cells_of, HasNoLoop, HaveNoLoop, ItemsHaveNoLoop};
 
 use crate::expressions::{exp_cells, labels_cells, target_cells};

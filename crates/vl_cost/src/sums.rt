@@ -1,7 +1,7 @@
 //! Sums and products that stop at the greatest number of 64 bits.
 
 ghost use Rattle.std.specs.Prelude.{◌≡◌, ◌+◌, ◌*◌, slice_index};
-ghost use Rattle.vl_cost.specs.Costs.{saturated};
+ghost use Rattle.vl_design.specs.Costs.{saturated};
 
 /// A sum.
 pub(crate) fn plus(a: u64, b: u64) -> u64

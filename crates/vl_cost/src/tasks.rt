@@ -10,13 +10,13 @@ ghost use Rattle.vl_design.specs.Seen as seen;
 ghost use Rattle.vl_design.specs.Syntax.{Fgetc, Finish};
 ghost use Rattle.vl_design.specs.Trees.{arg_of, exp_of};
 ghost use Rattle.vl_limits.specs.Tasks.{kind_task};
-ghost use Rattle.vl_cost.specs.Costs.{saturated};
+ghost use Rattle.vl_design.specs.Costs.{saturated};
 ghost use Rattle.vl_cost.specs.Walks.{called_cells};
 
 use crate::displays::display_cells;
 use crate::expressions::exp_cells;
 use crate::sums::plus;
-use vl_base::bits::UnOp;
+use vl_design::UnOp;
 use vl_design::design::{Expr, ExprNode, SysArg, SysCall};
 use vl_limits::tasks::{Kind, is_signal, is_text, is_value, kind_of};
 

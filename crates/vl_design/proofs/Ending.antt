@@ -7,6 +7,7 @@ use Rattle.vl_design.specs.Queue.{Queue}
 use Rattle.vl_design.specs.Alone.{Origin, Boundary, begun, first_queue, first_tick, settled, then_by, later_by, run_by, Ends, reason_at}
 use Rattle.vl_design.proofs.Running.{settles_by, runs_by}
 use Rattle.vl_design.proofs.Settling.{boundary_once}
+use Rattle.vl_base.proofs.Booleans.{and_parts as and_true}
 
 boundary_at : (o : Origin) (n k : ℕ) (q : Queue) → first_tick o.resume ≡ 0 → (s : Option Queue) → settled o.flat o.files n (first_queue o o.resume) ≡ s → then_by (later_by o.flat o.files n k) s ≡ Some q → Boundary o k q
 boundary_at o n k q f None e h = let z : ⊥ = cc in absurd z
@@ -26,10 +27,6 @@ has_no_reason o k (Some q) = is_none (reason_at o.plan k q)
 abbrev pub none_before : Origin → ℕ → ℕ → Bool
 none_before o n zero = true
 none_before o n (suc k) = none_before o n k && has_no_reason o k (run_by o n k)
-
-and_true : (a b : Bool) → (a && b) ≡ true → (a ≡ true) × (b ≡ true)
-and_true true b h = (refl, h)
-and_true false b h = let z : ⊥ = cc in absurd z
 
 is_none-None : (o : Option End) → is_none o ≡ true → o ≡ None
 is_none-None None e = refl

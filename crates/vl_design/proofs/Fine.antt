@@ -60,7 +60,7 @@ held_values [] values = []
 held_values (r ∷ rs) [] = []
 held_values (r ∷ rs) (ws ∷ wss) = (if is_kept r.kind then ws else replicate r.words 0) ∷ held_values rs wss
 
-less_fine : (r : Row) (rs : List Row) (ws : List ℕ) (wss : List (List ℕ)) → IsFine (r ∷ rs) (ws ∷ wss) → IsFine rs wss
+pub less_fine : (r : Row) (rs : List Row) (ws : List ℕ) (wss : List (List ℕ)) → IsFine (r ∷ rs) (ws ∷ wss) → IsFine rs wss
 less_fine r rs ws wss f =
     let m = f.shape.many in
     record { range = λ k. f.range (suc k); shape = record { many = omega arith; words = λ k. f.shape.words (suc k) } }

@@ -5,6 +5,7 @@ use Rattle.std.proofs.lemmas.Bool.{leb-true, leb-false, le-leb, lt-leb}
 use Rattle.std.proofs.Math.Pow.{pow_mono}
 use Rattle.std.proofs.Math.Nat.{mod-eq_of_lt}
 use Rattle.vl_base.specs.Value.{wrapped, reading, resized, is_negative}
+use Rattle.vl_base.proofs.Booleans.{and_parts as and_true}
 
 -- a negative number whose double has a place in w bits
 negative_kept : (w m : ℕ) → 0 < m → 2 * m ≤ 2 ^ w → reading true w (wrapped w (neg_ℤ (pos m))) ≡ neg_ℤ (pos m)
@@ -31,10 +32,6 @@ longer_not_negative w to v h e =
     let more : 2 ^ w ≤ 2 ^ to = pow_mono h in
     let g : 2 * v < 2 ^ w = leb-false _ _ e in
     lt-leb _ _ (omega arith)
-
-and_true : (b c : Bool) → (b && c) ≡ true → (b ≡ true) × (c ≡ true)
-and_true true c h = (refl, h)
-and_true false c h = let z : ⊥ = cc in absurd z
 
 longer_negative : (w to v : ℕ) → w ≤ to → v < 2 ^ w → is_negative w v ≡ true → reading true to (wrapped to (neg_ℤ (pos (2 ^ w - v)))) ≡ neg_ℤ (pos (2 ^ w - v))
 longer_negative w to v h small e =

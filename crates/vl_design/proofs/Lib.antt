@@ -23,3 +23,10 @@ pub mod Fine
 pub mod Lasting
 pub mod Opening
 pub mod Same
+pub mod FirstsOfStops
+pub mod Earliest
+pub mod Both
+pub mod Places
+pub mod Widths
+pub mod Pieces
+pub mod Shared

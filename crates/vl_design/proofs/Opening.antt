@@ -24,10 +24,7 @@ use Rattle.vl_design.proofs.Unread.{or_false}
 use Rattle.vl_design.proofs.Leading.{Steps, exec_leads, all_in}
 use Rattle.vl_design.proofs.Acting.{EventSteps, any_parts}
 use Rattle.vl_design.proofs.Lasting.{boundary_lasts, after_lasts, before_lasts}
-
-not_true : (b : Bool) → not b ≡ true → b ≡ false
-not_true false h = refl
-not_true true h = let z : ⊥ = cc in absurd z
+use Rattle.vl_base.proofs.Booleans.{not_true_false as not_true}
 
 -- ---- the lowest free slot
 

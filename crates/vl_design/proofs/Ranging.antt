@@ -24,13 +24,10 @@ use Rattle.vl_design.specs.Laws.{InRange}
 use Rattle.vl_design.specs.Functions.{zeros}
 use Rattle.vl_design.proofs.Kept.{words_set, words_past, words_other}
 use Rattle.vl_design.proofs.Leading.{Steps, exec_leads, all_in}
+use Rattle.vl_base.proofs.Bounds.{placed-below as placed_below}
 
 pub below : (n w : ℕ) → n % 2 ^ w < 2 ^ w
 below n w = mod-lt n (pow_pos w)
-
-placed_below : (w v : ℕ) (low : ℤ) (width part : ℕ) → placed w v low width part < 2 ^ w
-placed_below w v (pos low) width part = below _ w
-placed_below w v (negsuc n) width part = below _ w
 
 -- the words of a signal that were written, where there is such a signal
 words_same : (P : ℕ → Type 0) (values : List (List ℕ)) (j : ℕ) (ws : List ℕ) → All P ws → All P (words_of (slice_set values j ws) j)

@@ -11,10 +11,7 @@ use Rattle.vl_design.specs.Nesting.{stm_calls, AreRanked}
 use Rattle.vl_design.specs.Laws.{StatesDifferIn}
 use Rattle.vl_design.proofs.Nothing.{stm_reads_none}
 use Rattle.vl_design.proofs.Alike.{exec_alike}
-
-not_false : (b : Bool) → not b ≡ false → b ≡ true
-not_false true h = refl
-not_false false h = let z : ⊥ = cc in absurd z
+use Rattle.vl_base.proofs.Booleans.{not_false}
 
 module _ (d : Flat) (files : List File) where
   -- a body gives the same where the functions that it calls give the same

@@ -14,13 +14,15 @@ use Rattle.vl_design.specs.Exec.{exec, exec_items, exec_default, turns, some_tur
 use Rattle.vl_design.specs.Acts.{default_body, chosen_body, branch_of}
 use Rattle.vl_design.specs.Laws.{IsUnrolledStm, AreUnrolledItems, can_act, items_can_act}
 use Rattle.vl_design.proofs.Unread.{or_false}
+pub use Rattle.vl_base.proofs.Booleans.{or_both_false as or_none}
+use Rattle.vl_base.proofs.Booleans.{and_of_false as none_and}
 
 -- ---- once finished, nothing changes
 
-words_kept : (values : List (List ℕ)) (k : ℕ) → slice_set values k (words_of values k) ≡ values
+pub words_kept : (values : List (List ℕ)) (k : ℕ) → slice_set values k (words_of values k) ≡ values
 words_kept values k = ap (slice_set values k) (unwrap_or-slice_get values k []) ∙ set-get_or values k []
 
-uncounted : (b : Bool) (s : State) → s.finished ≡ true → counted_if b s ≡ s
+pub uncounted : (b : Bool) (s : State) → s.finished ≡ true → counted_if b s ≡ s
 uncounted true s h = rw h refl
 uncounted false s h = refl
 
@@ -81,14 +83,6 @@ some_turn_none (suc n) test turn p f s = at (test s) (f s) (some_turn_none n tes
     at : (b : Bool) → p s ≡ false → some_turn n test turn p (turn s) ≡ false → (elim b [ true ↦ p s || some_turn n test turn p (turn s) | false ↦ false ]) ≡ false
     at true e g = rw e g
     at false e g = refl
-
-none_and : (a b : Bool) → b ≡ false → (a && b) ≡ false
-none_and true b h = h
-none_and false b h = refl
-
-pub or_none : (a b : Bool) → a ≡ false → b ≡ false → (a || b) ≡ false
-or_none true b h k = h
-or_none false b h k = k
 
 module _ (scope : Scope) where
   mutual

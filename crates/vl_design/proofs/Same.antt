@@ -24,7 +24,7 @@ pub same_on : (o u v : Origin) → IsSameRun o u → IsSameRun u v → IsSameRun
 same_on o u v s t = record { there = follows_on o u v s.there t.there; back = follows_on v u o t.back s.back }
 
 -- whether there is a reason to end depends only on what is observed
-reason_same : (plan : Plan) (k : ℕ) (q r : Queue) → q.state.finished ≡ r.state.finished → reason_at plan k q ≡ reason_at plan k r
+pub reason_same : (plan : Plan) (k : ℕ) (q r : Queue) → q.state.finished ≡ r.state.finished → reason_at plan k q ≡ reason_at plan k r
 reason_same plan k q r e = rw e refl
 
 pub same_ends : (o u : Origin) → IsSameRun o u → o.plan ≡ u.plan → (k : ℕ) (reason : End) (q : Queue) → Ends o k reason q

@@ -44,7 +44,7 @@ pub all_shape : (rows : List Row) (us : List Update) (v : List (List ℕ)) → S
 all_shape rows [] v = shape_same v
 all_shape rows (u ∷ us) v = shape_on (all_shape rows us (with_update rows v u)) (set_shape v u.signal _ (length-set (words_of v u.signal) u.word _))
 
-loaded_long : (w : ℕ) (lowest : ℤ) (n i : ℕ) (xs : List Step) (words : List ℕ) → length (loaded w lowest n i xs words) ≡ length words
+pub loaded_long : (w : ℕ) (lowest : ℤ) (n i : ℕ) (xs : List Step) (words : List ℕ) → length (loaded w lowest n i xs words) ≡ length words
 loaded_long w lowest n i [] words = refl
 loaded_long w lowest n i (Loads v ∷ xs) words = at (nat_lt i n) (loaded_long w lowest n (i + 1) xs (slice_set words i (v % 2 ^ w)))
   where

@@ -7,10 +7,7 @@ use Rattle.vl_design.specs.Width.{Scope, form}
 use Rattle.vl_design.specs.Value.{Sample, value, side_by_side, arguments}
 use Rattle.vl_design.specs.Reads.{reads, some_reads}
 use Rattle.vl_design.specs.Laws.{DifferIn}
-
-pub or_false : (a b : Bool) → (a || b) ≡ false → (a ≡ false) × (b ≡ false)
-or_false true b h = let z : ⊥ = cc in absurd z
-or_false false b h = (refl, h)
+pub use Rattle.vl_base.proofs.Booleans.{or_parts_false as or_false}
 
 module _ (scope : Scope) (p : ℕ → Bool) (s t : Sample) (d : DifferIn p s t) where
   mutual

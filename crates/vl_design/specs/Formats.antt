@@ -83,3 +83,7 @@ pieces_from path zero (Null ∷ args) = Literal (codes " ") ∷ pieces_from path
 pieces_from path zero (Str text ∷ args) =
     let ps = format_pieces path InText text args in ps ++ pieces_from path (taken ps) args
 pieces_from path zero (Value e ∷ args) = Shown Decimal e ∷ pieces_from path zero args
+
+-- how many arguments the items of a format take
+abbrev pub items_in : List ℕ → ℕ
+items_in text = taken (format_pieces [] InText text [])

@@ -30,3 +30,8 @@ pub mod Sound
 pub mod Examples
 pub mod Laws
 pub mod Plain
+pub mod First
+pub mod Firsts
+pub mod Costs
+pub mod FormatReading
+pub use Rattle.vl_base as vl_base

@@ -6,3 +6,5 @@ pub mod Rows
 pub mod Uncalled
 pub mod Wholes
 pub mod Widths
+pub mod Listing
+pub mod Placing

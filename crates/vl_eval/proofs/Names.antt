@@ -6,6 +6,7 @@ use Rattle.vl_design.specs.declared.design.SigKind.{SigKind}
 use Rattle.vl_design.specs.Syntax.{Row}
 use Rattle.vl_design.specs.Width.{Names, signal_form, row_form}
 use Rattle.vl_design.specs.Sound.{IsSignal, IsNamed, IsMemory, IsOf, HasValue, IsMem, IsWidth}
+use Rattle.vl_design.proofs.Shared.{of-there, of-named}
 
 of-width : (P : SigKind → Type 0) (rows : List Row) (k : ℕ) → IsOf P (slice_get rows k) → IsWidth (signal_form rows k).width
 of-width P rows k h = go (slice_get rows k) h
@@ -14,22 +15,11 @@ of-width P rows k h = go (slice_get rows k) h
     go None i = absurd i
     go (Some r) i = i.1
 
-of-there : (P : SigKind → Type 0) (rows : List Row) (k : ℕ) → IsOf P (slice_get rows k) → k < length rows
-of-there P rows k h = go (slice_get rows k) refl h
-  where
-    go : (r : Option Row) → slice_get rows k ≡ r → IsOf P r → k < length rows
-    go None e i = absurd i
-    go (Some r) e i = slice_get_within rows k r e
-
 pub named-width : (names : Names) (k : ℕ) → IsNamed names k → IsWidth (signal_form names.rows k).width
 named-width names k h = of-width (λ kind. ⊤) names.rows k h
 
 pub named-there : (names : Names) (k : ℕ) → IsNamed names k → k < length names.rows
 named-there names k h = of-there (λ kind. ⊤) names.rows k h
-
-of-named : (P : SigKind → Type 0) (r : Option Row) → IsOf P r → IsOf (λ kind. ⊤) r
-of-named P None h = absurd h
-of-named P (Some r) h = (tt, h.1)
 
 pub signal-named : (names : Names) (k : ℕ) → IsSignal names k → IsNamed names k
 signal-named names k h = of-named HasValue (slice_get names.rows k) h

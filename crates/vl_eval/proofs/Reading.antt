@@ -19,6 +19,7 @@ use Rattle.std.proofs.Math.Nat.{mod-lt}
 use Rattle.std.proofs.lemmas.Nat.{pow_pos}
 use Rattle.vl_design.specs.Width.{Scope}
 use Rattle.vl_eval.specs.Rooms.{scope_at, Fit}
+pub use Rattle.vl_base.proofs.Shared.{appended-more}
 
 module _ (names : Names) (s : Sample) (c : Form) (before : List ℕ) where
   pub reads-num : (v w : ℕ) (signed : Bool) → Reads names s (Num v w signed) c before (resized c.signed w c.width v) before
@@ -130,9 +131,6 @@ reads-more names s e es before mid after x v h k = record {
       let q = k.leads files call rest fits p.1 in
       (rw (p.0, q.0) refl, q.1);
 }
-
-pub appended-more : (a w x t v : ℕ) → appended (appended a w x) t v ≡ appended a (w + t) (appended x t v)
-appended-more a w x t v = let p : 2 ^ (w + t) ≡ 2 ^ w * 2 ^ t = pow-add 2 w t in rw p (grind arith)
 
 -- what is read of the rest is read of the whole
 pub reads-on : (names : Names) (s : Sample) (whole : Exps) (before here mid : List ℕ) (e : Exp) (es rest : Exps) (a w x b : ℕ) → rest ≡ MoreExps e es → w ≡ (form names e).width → b ≡ appended a w x → Reads names s e (form names e) here x mid

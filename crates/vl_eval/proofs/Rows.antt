@@ -18,6 +18,7 @@ use Rattle.vl_design.specs.Width.{Names, total_width}
 use Rattle.vl_design.specs.Sound.{IsSoundExp, AreSound}
 use Rattle.vl_eval.proofs.Names.{named-width, signal-named, memory-named, named-there}
 use Rattle.vl_eval.proofs.Widths.{form-width, repeated-narrow, called-there}
+pub use Rattle.vl_design.proofs.Shared.{exps-more}
 
 row-items : {m : _} (k : d.Row_of-Expr m) → seen.row_exps k ≡ seen.exps_of (d.items-the_row-Expr m k)
 row-items d.end_of-Expr = refl
@@ -35,10 +36,6 @@ rep-of x n v h = ap (λ k. plain.exp (seen.node_exp x.place k)) h ∙ ap (λ es.
 
 pub call-of : (x : Expr) (f : ℕ) (v : Vec Expr Global) → x.node ≡ d.Call f v → exp_of x ≡ Call f (exps_of v.items)
 call-of x f v h = ap (λ k. plain.exp (seen.node_exp x.place k)) h ∙ ap (λ es. Call f (plain.exps es)) (row-hidden v)
-
--- the rest of a list begins with the next one
-pub exps-more : (xs : List Expr) (i : ℕ) (x : Expr) → i < length xs → x ≡ get_or xs i x → exps_of (drop i xs) ≡ MoreExps (exp_of x) (exps_of (drop (i + 1) xs))
-exps-more xs i x h e = at_drop_more exps_of xs i x h ∙ ap (λ y. MoreExps (exp_of y) (exps_of (drop (i + 1) xs))) (sym e)
 
 -- ---- the parts of a sound concatenation
 

@@ -6,14 +6,7 @@ use Rattle.vl_design.specs.Width.{Scope}
 use Rattle.vl_design.specs.Value.{Sample}
 use Rattle.vl_design.specs.Nesting.{calls, some_calls}
 use Rattle.vl_eval.specs.Answers.{answers_of, all_answers}
-
-or-first : (a b : Bool) → (a || b) ≡ false → a ≡ false
-or-first true b h = h
-or-first false b h = refl
-
-or-second : (a b : Bool) → (a || b) ≡ false → b ≡ false
-or-second true b h = cc
-or-second false b h = h
+use Rattle.vl_base.proofs.Booleans.{or_left_false as or-first, or_right_false as or-second}
 
 mutual
   pub no-answers : (scope : Scope) (s : Sample) (e : Exp) → calls (λ f. true) e ≡ false → answers_of scope s e ≡ []

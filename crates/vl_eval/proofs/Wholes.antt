@@ -4,15 +4,9 @@ use Rattle.std.specs.Prelude.{pos, neg_ℤ}
 use Rattle.std.proofs.lemmas.Grind.{common_steps}
 use Rattle.std.proofs.Math.Pow.{pow-add}
 use Rattle.vl_base.specs.Value.{reading, is_negative}
-
-pub half_twice : (w : ℕ) → 1 ≤ w → 2 ^ w ≡ 2 * 2 ^ (w - 1)
-half_twice w h =
-    let e : w ≡ 1 + (w - 1) = omega arith in
-    ap (λ n. 2 ^ n) e ∙ pow-add 2 1 (w - 1)
-
-reading-low : (s : Bool) (w v : ℕ) → is_negative w v ≡ false → reading s w v ≡ pos v
-reading-low true w v low = rw low refl
-reading-low false w v low = refl
+use Rattle.vl_base.proofs.Shared.{reading-low}
+pub use Rattle.vl_base.proofs.Shared.{unsigned-reading}
+pub use Rattle.vl_base.proofs.Numbers.{half_twice}
 
 pub below-half : (s : Bool) (w v : ℕ) → 1 ≤ w → v < 2 ^ (w - 1) → reading s w v ≡ pos v
 below-half s w v h k =
@@ -26,8 +20,5 @@ above-half s w v t h b k =
     let top : is_negative w v ≡ true = grind (arith, e) in
     let d : 2 ^ w - v ≡ 2 ^ (w - 1) - (v - 2 ^ (w - 1)) = omega (arith, e) in
     rw (t, top, d) refl
-
-pub unsigned-reading : (s : Bool) (w v : ℕ) → s ≡ false → reading s w v ≡ pos v
-unsigned-reading s w v t = rw t refl
 
 pub ruleset halves = (common_steps, half_twice, below-half, above-half, unsigned-reading)

@@ -11,6 +11,7 @@ use Rattle.vl_design.specs.Syntax.{Exp, Num, Label, Sig, Word, Pick, Slice, Un, 
 use Rattle.vl_design.specs.Width.{Names, form, unary_form, binary_form, joined}
 use Rattle.vl_design.specs.Sound.{IsSoundExp, IsWidth, Takes}
 use Rattle.vl_eval.proofs.Names.{named-width, signal-named, memory-named, named-there}
+pub use Rattle.vl_design.proofs.Shared.{repeated-narrow}
 
 joined-width : (a b : Form) → IsWidth a.width → IsWidth b.width → IsWidth (joined a b).width
 joined-width a b p q = record { wide = omega arith; narrow = omega arith }
@@ -51,11 +52,6 @@ form-width names (Cast s a) h = form-width names a h
 form-width names (Call f es) h = h.1
 form-width names Time h = record { wide = omega arith; narrow = omega arith }
 form-width names LastAnswer h = record { wide = omega arith; narrow = omega arith }
-
--- the parts of a repetition have no more bits than it has
-pub repeated-narrow : (n w : ℕ) → IsWidth (n * w) → w ≤ 128
-repeated-narrow zero w h = absurd (let l = h.wide in omega arith)
-repeated-narrow (suc n) w h = let l = h.narrow in omega arith
 
 taken-there : (funs : List Fun) (f n : ℕ) → Takes (slice_get funs f) n → f < length funs
 taken-there funs f n h = go (slice_get funs f) refl h

@@ -15,13 +15,13 @@ ghost use Rattle.vl_eval.specs.Shapes.{shape};
 ghost use Rattle.vl_eval.specs.Wholes.{near, whole_of};
 
 use crate::form::{Shape, form_of, result_form, shape_of, signal_form};
+use crate::form_form::joined;
 use crate::room::{Room, Sample};
 use crate::selects::{Whole, held, lowest_bit, whole_number, word_number};
 use vl_base::bits::{BinOp, Bits, UnOp, binary, resize, unary};
 use vl_base::number::Number;
 use vl_base::select::pick;
 use vl_design::design::{Expr, ExprNode, Form, LowestBit, Signal};
-use vl_form::form::joined;
 
 /// A value wider, by zeros.
 fn widened(bits: Bits, width: u32) -> Bits

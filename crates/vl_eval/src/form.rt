@@ -8,10 +8,10 @@ ghost use Rattle.vl_eval.specs.Rooms.{names_of};
 ghost use Rattle.vl_eval.specs.Shapes.{shape};
 ghost use Rattle.vl_eval.specs.Answers.{parts_of};
 
+use crate::form_form::{joined, unary_form, unsigned};
 use crate::room::Room;
 use vl_base::bits::{BinOp, UnOp};
 use vl_design::design::{Expr, ExprNode, Form, Signal};
-use vl_form::form::{joined, unary_form, unsigned};
 
 /// The width and the sign of a signal's words.
 fn form_of_signal(signal: &Signal) -> Form

@@ -9,10 +9,11 @@ ghost use Rattle.vl_design.specs.Sound.{IsWidth};
 ghost use Rattle.vl_eval.specs.Rooms.{sample_of};
 ghost use Rattle.vl_eval.specs.Wholes.{whole_of, near};
 
-use crate::room::{Kept, Sample};
+use crate::room::Sample;
 use vl_base::bits::{Bits, resize};
 use vl_base::select::{pick, place_in};
 use vl_design::design::{LowestBit, SigKind, Signal};
+use vl_design::words::Kept;
 
 /// A whole number by its size and its sign.
 #[derive(Clone, Copy)]

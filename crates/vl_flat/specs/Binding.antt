@@ -1,25 +1,25 @@
 -- The plain data of each of the grammar's trees, with operators bound (IEEE 1364-2005, clause 5.1.2).
 use Rattle.std.specs.Prelude.{◌^◌, nat_le, nat_lt, Bool, true, false, ◌&&◌, List, [], ◌∷◌, if◌then◌else◌}
-use Rattle.vl_base.specs.declared.number.Number.{Number}
-use Rattle.vl_base.specs.declared.place.Place.{Place}
-use Rattle.vl_grammar.specs.declared.tree.Expression as e
-use Rattle.vl_grammar.specs.declared.tree.Binary as b
-use Rattle.vl_grammar.specs.declared.tree.Link as k
-use Rattle.vl_grammar.specs.declared.tree.Choice as c
-use Rattle.vl_grammar.specs.declared.tree.Primary as p
-use Rattle.vl_grammar.specs.declared.tree.Name as n
-use Rattle.vl_grammar.specs.declared.tree.Select as s
-use Rattle.vl_grammar.specs.declared.tree.Bound as d
-use Rattle.vl_grammar.specs.declared.tree.SystemCall as y
-use Rattle.vl_grammar.specs.declared.tree.SystemArgument as a
-use Rattle.vl_grammar.specs.declared.tree.UnaryMark.{UnaryMark}
-use Rattle.vl_source.specs.declared.tree.Lvalue as l
-use Rattle.vl_source.specs.declared.tree.Statement as t
-use Rattle.vl_source.specs.declared.tree.CaseItem as i
-use Rattle.vl_source.specs.declared.tree.CaseKeyword.{CaseKeyword}
-use Rattle.vl_source.specs.declared.tree.CaseKeyword.TheVariants.{Case, Casez}
-use Rattle.vl_source.specs.declared.tree.AssignMark.{AssignMark}
-use Rattle.vl_source.specs.declared.tree.AssignMark.TheVariants.{Blocking, Nonblocking}
+use Rattle.vl_design.specs.vl_base.specs.declared.number.Number.{Number}
+use Rattle.vl_design.specs.vl_base.specs.declared.place.Place.{Place}
+use Rattle.vl_tree.specs.declared.tree.Expression as e
+use Rattle.vl_tree.specs.declared.tree.Binary as b
+use Rattle.vl_tree.specs.declared.tree.Link as k
+use Rattle.vl_tree.specs.declared.tree.Choice as c
+use Rattle.vl_tree.specs.declared.tree.Primary as p
+use Rattle.vl_tree.specs.declared.tree.Name as n
+use Rattle.vl_tree.specs.declared.tree.Select as s
+use Rattle.vl_tree.specs.declared.tree.Bound as d
+use Rattle.vl_tree.specs.declared.tree.SystemCall as y
+use Rattle.vl_tree.specs.declared.tree.SystemArgument as a
+use Rattle.vl_tree.specs.declared.tree.UnaryMark.{UnaryMark}
+use Rattle.vl_tree.specs.declared.source_tree.Lvalue as l
+use Rattle.vl_tree.specs.declared.source_tree.Statement as t
+use Rattle.vl_tree.specs.declared.source_tree.CaseItem as i
+use Rattle.vl_tree.specs.declared.source_tree.CaseKeyword.{CaseKeyword}
+use Rattle.vl_tree.specs.declared.source_tree.CaseKeyword.TheVariants.{Case, Casez}
+use Rattle.vl_tree.specs.declared.source_tree.AssignMark.{AssignMark}
+use Rattle.vl_tree.specs.declared.source_tree.AssignMark.TheVariants.{Blocking, Nonblocking}
 use Rattle.vl_flat.specs.Surface as x
 
 -- marks before an operand, the innermost last

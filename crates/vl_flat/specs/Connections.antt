@@ -2,8 +2,8 @@
 use Rattle.std.specs.Prelude.{ℕ, Bool, true, false, not, ◌&&◌, List, [], ◌∷◌, map, position, find, slice_get, flat_map, Option, Some, is_some, option_map, if◌then◌else◌}
 use Rattle.std.specs.Option.{option_map_or, option_and_then}
 use Rattle.std.specs.Str.{bytes_eq}
-use Rattle.vl_base.specs.declared.place.Place.{Place}
-use Rattle.vl_grammar.specs.declared.tree.Identifier.{Identifier}
+use Rattle.vl_design.specs.vl_base.specs.declared.place.Place.{Place}
+use Rattle.vl_tree.specs.declared.tree.Identifier.{Identifier}
 use Rattle.vl_design.specs.declared.design.ProcKind.TheVariants.{Assign}
 use Rattle.vl_design.specs.declared.design.SigKind.{SigKind}
 use Rattle.vl_design.specs.declared.design.SigKind.TheVariants.{Net}

@@ -1,35 +1,35 @@
 -- The plain data of modules (IEEE 1364-2005, clauses 4, 10.4 and 12).
 use Rattle.std.specs.Prelude.{Bool, true, false, List, [], ◌∷◌, ◌++◌, map, flat_map, Option, Some, None, option_map}
 use Rattle.std.specs.Option.{option_map_or}
-use Rattle.vl_grammar.specs.declared.tree.Identifier.{Identifier}
-use Rattle.vl_source.specs.declared.tree.Source.{Source}
-use Rattle.vl_source.specs.declared.tree.Module.{Module as ModuleTree}
-use Rattle.vl_source.specs.declared.tree.ParameterGroup.{ParameterGroup}
-use Rattle.vl_source.specs.declared.tree.ParameterType.{ParameterType}
-use Rattle.vl_source.specs.declared.tree.ParameterType.TheVariants as t
-use Rattle.vl_source.specs.declared.tree.ParameterAssignment.{ParameterAssignment}
-use Rattle.vl_source.specs.Hierarchy as h
-use Rattle.vl_source.specs.declared.tree.Ports.{Ports}
-use Rattle.vl_source.specs.declared.tree.Ports.TheVariants as ps
-use Rattle.vl_source.specs.declared.tree.PortDeclaration.{PortDeclaration}
-use Rattle.vl_source.specs.declared.tree.PortDeclaration.TheVariants as p
-use Rattle.vl_source.specs.declared.tree.DeclarationAssignment.{DeclarationAssignment}
-use Rattle.vl_source.specs.declared.tree.Direction.{Direction}
-use Rattle.vl_source.specs.declared.tree.Direction.TheVariants.{Output}
-use Rattle.vl_source.specs.declared.tree.Range.{Range}
-use Rattle.vl_source.specs.declared.tree.Item.{Item as ItemTree}
-use Rattle.vl_source.specs.declared.tree.Item.TheVariants as i
-use Rattle.vl_source.specs.declared.tree.VariableType.{VariableType}
-use Rattle.vl_source.specs.declared.tree.VariableMore.{VariableMore}
-use Rattle.vl_source.specs.declared.tree.VariableMore.TheVariants as v
-use Rattle.vl_source.specs.declared.tree.Function.{Function as FunctionTree}
-use Rattle.vl_source.specs.declared.tree.FunctionPort.{FunctionPort}
-use Rattle.vl_source.specs.declared.tree.FunctionDeclaration.{FunctionDeclaration}
-use Rattle.vl_source.specs.declared.tree.FunctionDeclaration.TheVariants as f
-use Rattle.vl_source.specs.declared.tree.Instance.{Instance}
-use Rattle.vl_source.specs.declared.tree.NamedInstance.{NamedInstance}
-use Rattle.vl_source.specs.declared.tree.Connection.{Connection as ConnectionTree}
-use Rattle.vl_source.specs.declared.tree.Connection.TheVariants as c
+use Rattle.vl_tree.specs.declared.tree.Identifier.{Identifier}
+use Rattle.vl_tree.specs.declared.source_tree.Source.{Source}
+use Rattle.vl_tree.specs.declared.source_tree.Module.{Module as ModuleTree}
+use Rattle.vl_tree.specs.declared.source_tree.ParameterGroup.{ParameterGroup}
+use Rattle.vl_tree.specs.declared.source_tree.ParameterType.{ParameterType}
+use Rattle.vl_tree.specs.declared.source_tree.ParameterType.TheVariants as t
+use Rattle.vl_tree.specs.declared.source_tree.ParameterAssignment.{ParameterAssignment}
+use Rattle.vl_tree.specs.Hierarchy as h
+use Rattle.vl_tree.specs.declared.source_tree.Ports.{Ports}
+use Rattle.vl_tree.specs.declared.source_tree.Ports.TheVariants as ps
+use Rattle.vl_tree.specs.declared.source_tree.PortDeclaration.{PortDeclaration}
+use Rattle.vl_tree.specs.declared.source_tree.PortDeclaration.TheVariants as p
+use Rattle.vl_tree.specs.declared.source_tree.DeclarationAssignment.{DeclarationAssignment}
+use Rattle.vl_tree.specs.declared.source_tree.Direction.{Direction}
+use Rattle.vl_tree.specs.declared.source_tree.Direction.TheVariants.{Output}
+use Rattle.vl_tree.specs.declared.source_tree.Range.{Range}
+use Rattle.vl_tree.specs.declared.source_tree.Item.{Item as ItemTree}
+use Rattle.vl_tree.specs.declared.source_tree.Item.TheVariants as i
+use Rattle.vl_tree.specs.declared.source_tree.VariableType.{VariableType}
+use Rattle.vl_tree.specs.declared.source_tree.VariableMore.{VariableMore}
+use Rattle.vl_tree.specs.declared.source_tree.VariableMore.TheVariants as v
+use Rattle.vl_tree.specs.declared.source_tree.Function.{Function as FunctionTree}
+use Rattle.vl_tree.specs.declared.source_tree.FunctionPort.{FunctionPort}
+use Rattle.vl_tree.specs.declared.source_tree.FunctionDeclaration.{FunctionDeclaration}
+use Rattle.vl_tree.specs.declared.source_tree.FunctionDeclaration.TheVariants as f
+use Rattle.vl_tree.specs.declared.source_tree.Instance.{Instance}
+use Rattle.vl_tree.specs.declared.source_tree.NamedInstance.{NamedInstance}
+use Rattle.vl_tree.specs.declared.source_tree.Connection.{Connection as ConnectionTree}
+use Rattle.vl_tree.specs.declared.source_tree.Connection.TheVariants as c
 use Rattle.vl_flat.specs.Surface.{Ex}
 use Rattle.vl_flat.specs.Binding.{ex, left, statement}
 use Rattle.vl_flat.specs.Items.{Bounds, DataType, Integer, Vector, Declared, Parameter, Local, Function, Connection, NamedUnit, Instances, Item, Parameters, Signals, Assigns, Initial, Always, Functions, Instantiates, Module}

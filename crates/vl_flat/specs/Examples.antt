@@ -1,34 +1,34 @@
 -- Small sources, and their flat designs, for worked rows.
 use Rattle.std.specs.Prelude.{ℕ, ◌-◌, ◌^◌, pos, true, false, List, [], ◌∷◌, Some, None, codes}
-use Rattle.vl_base.specs.declared.bits.BinOp.TheVariants as op
-use Rattle.vl_base.specs.declared.number.Number.{Number}
-use Rattle.vl_base.specs.declared.place.Place.{Place}
-use Rattle.vl_grammar.specs.declared.tree.Expression.{Expression}
-use Rattle.vl_grammar.specs.declared.tree.Identifier.{Identifier}
-use Rattle.vl_grammar.specs.declared.tree.Expression as e
-use Rattle.vl_grammar.specs.declared.tree.Binary as b
-use Rattle.vl_grammar.specs.declared.tree.Link as k
-use Rattle.vl_grammar.specs.declared.tree.Name as n
-use Rattle.vl_grammar.specs.declared.tree.Primary as x
-use Rattle.vl_grammar.specs.declared.tree.SystemCall as y
-use Rattle.vl_grammar.specs.declared.tree.SystemArgument as a
-use Rattle.vl_grammar.specs.declared.tree.BinaryOperator.{BinaryOperator}
-use Rattle.vl_grammar.specs.declared.tree.BinaryOperator.TheVariants as o
-use Rattle.vl_source.specs.declared.tree.Source.{Source}
-use Rattle.vl_source.specs.declared.tree.Module.{Module}
-use Rattle.vl_source.specs.declared.tree.Item.{Item}
-use Rattle.vl_source.specs.declared.tree.Item.TheVariants as i
-use Rattle.vl_source.specs.declared.tree.ParameterType.TheVariants as t
-use Rattle.vl_source.specs.declared.tree.Ports.TheVariants as p
-use Rattle.vl_source.specs.declared.tree.PortDeclaration.TheVariants as d
-use Rattle.vl_source.specs.declared.tree.Direction.TheVariants.{Input}
-use Rattle.vl_source.specs.declared.tree.Range.{Range}
-use Rattle.vl_source.specs.declared.tree.Trigger.TheVariants as g
-use Rattle.vl_source.specs.declared.tree.Edge.TheVariants.{Rising}
-use Rattle.vl_source.specs.declared.tree.Connection.TheVariants as c
-use Rattle.vl_source.specs.declared.tree.Statement as s
-use Rattle.vl_source.specs.declared.tree.Lvalue as l
-use Rattle.vl_source.specs.declared.tree.AssignMark.TheVariants.{Blocking, Nonblocking}
+use Rattle.vl_design.specs.vl_base.specs.declared.bits.BinOp.TheVariants as op
+use Rattle.vl_design.specs.vl_base.specs.declared.number.Number.{Number}
+use Rattle.vl_design.specs.vl_base.specs.declared.place.Place.{Place}
+use Rattle.vl_tree.specs.declared.tree.Expression.{Expression}
+use Rattle.vl_tree.specs.declared.tree.Identifier.{Identifier}
+use Rattle.vl_tree.specs.declared.tree.Expression as e
+use Rattle.vl_tree.specs.declared.tree.Binary as b
+use Rattle.vl_tree.specs.declared.tree.Link as k
+use Rattle.vl_tree.specs.declared.tree.Name as n
+use Rattle.vl_tree.specs.declared.tree.Primary as x
+use Rattle.vl_tree.specs.declared.tree.SystemCall as y
+use Rattle.vl_tree.specs.declared.tree.SystemArgument as a
+use Rattle.vl_tree.specs.declared.tree.BinaryOperator.{BinaryOperator}
+use Rattle.vl_tree.specs.declared.tree.BinaryOperator.TheVariants as o
+use Rattle.vl_tree.specs.declared.source_tree.Source.{Source}
+use Rattle.vl_tree.specs.declared.source_tree.Module.{Module}
+use Rattle.vl_tree.specs.declared.source_tree.Item.{Item}
+use Rattle.vl_tree.specs.declared.source_tree.Item.TheVariants as i
+use Rattle.vl_tree.specs.declared.source_tree.ParameterType.TheVariants as t
+use Rattle.vl_tree.specs.declared.source_tree.Ports.TheVariants as p
+use Rattle.vl_tree.specs.declared.source_tree.PortDeclaration.TheVariants as d
+use Rattle.vl_tree.specs.declared.source_tree.Direction.TheVariants.{Input}
+use Rattle.vl_tree.specs.declared.source_tree.Range.{Range}
+use Rattle.vl_tree.specs.declared.source_tree.Trigger.TheVariants as g
+use Rattle.vl_tree.specs.declared.source_tree.Edge.TheVariants.{Rising}
+use Rattle.vl_tree.specs.declared.source_tree.Connection.TheVariants as c
+use Rattle.vl_tree.specs.declared.source_tree.Statement as s
+use Rattle.vl_tree.specs.declared.source_tree.Lvalue as l
+use Rattle.vl_tree.specs.declared.source_tree.AssignMark.TheVariants.{Blocking, Nonblocking}
 use Rattle.vl_design.specs.declared.design.SigKind.{SigKind}
 use Rattle.vl_design.specs.declared.design.SigKind.TheVariants.{Var, Clock}
 use Rattle.vl_design.specs.declared.design.ProcKind.TheVariants.{Init, Rise}

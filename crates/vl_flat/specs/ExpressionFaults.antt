@@ -1,11 +1,10 @@
 -- The faults of expressions: refused constructs 10, 11 and 24 (own; what they bound is of IEEE 1364-2005, clauses 4.2, 5.2 and 5.4).
 use Rattle.std.specs.Prelude.{ℕ, zero, suc, ℤ, int_lt, Bool, true, false, not, ◌&&◌, ◌||◌, List, [], ◌++◌, flat_map, Option, if◌then◌else◌, codes}
 use Rattle.std.specs.Str.{bytes_eq}
-use Rattle.vl_base.specs.declared.place.Place.{Place}
-use Rattle.vl_grammar.specs.declared.tree.SelectMark.{SelectMark}
-use Rattle.vl_grammar.specs.declared.tree.SelectMark.TheVariants as m
-use Rattle.vl_design.specs.Formats.{InText, format_pieces}
-use Rattle.vl_design.specs.Formats as formats
+use Rattle.vl_design.specs.vl_base.specs.declared.place.Place.{Place}
+use Rattle.vl_tree.specs.declared.tree.SelectMark.{SelectMark}
+use Rattle.vl_tree.specs.declared.tree.SelectMark.TheVariants as m
+pub use Rattle.vl_design.specs.Formats.{items_in}
 use Rattle.vl_flat.specs.declared.binding.Binding.{Binding}
 use Rattle.vl_design.specs.declared.stop.Stop.{Stop}
 use Rattle.vl_flat.specs.Surface.{Ex, Exs, Selects, Args, Number, Text, Named, Paren, Unary, Binary, Choice, Joined, Repeated, Called, System, NoExs, MoreExs, NoSelects, Index, Range, NoArgs, NullArg, MoreArgs, node_place}
@@ -52,10 +51,6 @@ abbrev mutual
 -- two bounds stand in another order than those of the declaration; where both are one, in none
 abbrev pub turns_round : ℤ × ℤ → ℤ → ℤ → Bool
 turns_round range l r = if falls range then int_lt l r else int_lt r l
-
--- how many arguments the items of a format take
-abbrev pub items_in : List ℕ → ℕ
-items_in text = formats.taken (format_pieces [] InText text [])
 
 module _ (scope : Scope) where
   -- the expression isn't from 1 to 128 bits wide, and holds no string that is too long; no text has one of no bits

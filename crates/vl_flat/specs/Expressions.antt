@@ -1,17 +1,17 @@
 -- The expressions of an instance in its design, and their forms (IEEE 1364-2005, clauses 3.6, 5 and 12).
 use Rattle.std.specs.Prelude.{ℕ, ◌+◌, ◌*◌, min, nat_lt, ℤ, pos, neg_ℤ, ◌+ℤ◌, ◌-ℤ◌, int_le, Bool, true, false, not, ◌&&◌, List, [], ◌∷◌, fold, length, Option, Some, None, if◌then◌else◌, codes}
 use Rattle.std.specs.Str.{bytes_eq}
-use Rattle.vl_base.specs.declared.place.Place.{Place}
-use Rattle.vl_base.specs.declared.bits.UnOp.{UnOp}
-use Rattle.vl_base.specs.declared.bits.UnOp.TheVariants as u
-use Rattle.vl_base.specs.declared.bits.BinOp.{BinOp}
-use Rattle.vl_base.specs.declared.bits.BinOp.TheVariants as b
-use Rattle.vl_grammar.specs.declared.tree.UnaryOperator.{UnaryOperator}
-use Rattle.vl_grammar.specs.declared.tree.UnaryOperator.TheVariants as uo
-use Rattle.vl_grammar.specs.declared.tree.BinaryOperator.{BinaryOperator}
-use Rattle.vl_grammar.specs.declared.tree.BinaryOperator.TheVariants as bo
-use Rattle.vl_grammar.specs.declared.tree.SelectMark.{SelectMark}
-use Rattle.vl_grammar.specs.declared.tree.SelectMark.TheVariants as m
+use Rattle.vl_design.specs.vl_base.specs.declared.place.Place.{Place}
+use Rattle.vl_design.specs.vl_base.specs.declared.bits.UnOp.{UnOp}
+use Rattle.vl_design.specs.vl_base.specs.declared.bits.UnOp.TheVariants as u
+use Rattle.vl_design.specs.vl_base.specs.declared.bits.BinOp.{BinOp}
+use Rattle.vl_design.specs.vl_base.specs.declared.bits.BinOp.TheVariants as b
+use Rattle.vl_tree.specs.declared.tree.UnaryOperator.{UnaryOperator}
+use Rattle.vl_tree.specs.declared.tree.UnaryOperator.TheVariants as uo
+use Rattle.vl_tree.specs.declared.tree.BinaryOperator.{BinaryOperator}
+use Rattle.vl_tree.specs.declared.tree.BinaryOperator.TheVariants as bo
+use Rattle.vl_tree.specs.declared.tree.SelectMark.{SelectMark}
+use Rattle.vl_tree.specs.declared.tree.SelectMark.TheVariants as m
 use Rattle.vl_design.specs.declared.design.Form.{Form}
 use Rattle.vl_design.specs.declared.design.LowestBit.{LowestBit}
 use Rattle.vl_design.specs.declared.design.SigKind.{SigKind}

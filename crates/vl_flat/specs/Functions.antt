@@ -1,6 +1,6 @@
 -- Functions in the design (IEEE 1364-2005, clause 10.4): their locals are numbered behind the design's signals.
 use Rattle.std.specs.Prelude.{ℕ, ◌+◌, pos, not, ◌&&◌, List, [], ◌∷◌, ◌++◌, map, flat_map, if◌then◌else◌}
-use Rattle.vl_grammar.specs.declared.tree.Identifier.{Identifier}
+use Rattle.vl_tree.specs.declared.tree.Identifier.{Identifier}
 use Rattle.vl_design.specs.declared.design.Signal.{Signal}
 use Rattle.vl_design.specs.declared.design.SigKind.{SigKind}
 use Rattle.vl_design.specs.declared.design.SigKind.TheVariants.{Var, Loop}

@@ -1,9 +1,9 @@
 -- Modules as plain data, their expressions bound: items in text order, those of the header first (IEEE 1364-2005, clause 12).
 use Rattle.std.specs.Prelude.{ℕ, Bool, List, Option}
-use Rattle.vl_base.specs.declared.place.Place.{Place}
-use Rattle.vl_grammar.specs.declared.tree.Identifier.{Identifier}
-use Rattle.vl_source.specs.declared.tree.Direction.{Direction}
-use Rattle.vl_source.specs.declared.tree.Trigger.{Trigger}
+use Rattle.vl_design.specs.vl_base.specs.declared.place.Place.{Place}
+use Rattle.vl_tree.specs.declared.tree.Identifier.{Identifier}
+use Rattle.vl_tree.specs.declared.source_tree.Direction.{Direction}
+use Rattle.vl_tree.specs.declared.source_tree.Trigger.{Trigger}
 use Rattle.vl_flat.specs.Surface.{Ex, Left, Statement}
 
 -- [left:right]

@@ -3,10 +3,10 @@ use Rattle.std.specs.Prelude.{ℕ, Bool, true, false, not, ◌&&◌, ◌||◌, L
 use Rattle.std.specs.List.{list_any}
 use Rattle.std.specs.Option.{option_map_or}
 use Rattle.std.specs.Str.{bytes_eq}
-use Rattle.vl_source.specs.declared.tree.Direction.{Direction}
-use Rattle.vl_source.specs.declared.tree.Direction.TheVariants.{Input}
-use Rattle.vl_source.specs.declared.tree.Trigger.{Trigger}
-use Rattle.vl_source.specs.declared.tree.Trigger.TheVariants.{Events}
+use Rattle.vl_tree.specs.declared.source_tree.Direction.{Direction}
+use Rattle.vl_tree.specs.declared.source_tree.Direction.TheVariants.{Input}
+use Rattle.vl_tree.specs.declared.source_tree.Trigger.{Trigger}
+use Rattle.vl_tree.specs.declared.source_tree.Trigger.TheVariants.{Events}
 use Rattle.vl_design.specs.declared.design.SigKind.{SigKind}
 use Rattle.vl_design.specs.declared.design.SigKind.TheVariants.{Net, Var, Comb, Loop, Mem, Clock}
 use Rattle.vl_flat.specs.Surface.{Ex}

@@ -19,3 +19,6 @@ pub mod Connections
 pub mod Flat
 pub mod Outcome
 pub mod Examples
+pub use Rattle.vl_design.specs.vl_base as vl_base
+pub use Rattle.vl_design as vl_design
+pub use Rattle.vl_tree as vl_tree

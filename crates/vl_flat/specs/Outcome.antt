@@ -1,8 +1,8 @@
 -- The flat design of a source, or the first fault in its order: refused constructs 10 to 13 and 24, and limits 5, 6, 7, 11
 -- (IEEE 1364-2005, clause 12; the limits and the order of faults are own).
 use Rattle.std.specs.Prelude.{ℕ, ◌+◌, nat_lt, Bool, true, false, ◌&&◌, ◌||◌, List, [], ◌∷◌, ◌++◌, fold, Option, Some, None, Result, Ok, Err, if◌then◌else◌}
-use Rattle.vl_base.specs.declared.place.Place.{Place}
-use Rattle.vl_source.specs.declared.tree.Source.{Source}
+use Rattle.vl_design.specs.vl_base.specs.declared.place.Place.{Place}
+use Rattle.vl_tree.specs.declared.source_tree.Source.{Source}
 use Rattle.vl_design.specs.declared.design.Signal.{Signal}
 use Rattle.vl_design.specs.declared.design.SigKind.{SigKind}
 use Rattle.vl_design.specs.declared.design.SigKind.TheVariants.{Loop, Clock}

@@ -3,13 +3,13 @@ use Rattle.std.specs.Prelude.{ℕ, ◌+◌, nat_lt, ℤ, Bool, true, false, not,
 use Rattle.std.specs.Option.{option_map_or}
 use Rattle.std.specs.Ordering.{int_eq}
 use mathlib.Core.Bool.{beq}
-use Rattle.vl_base.specs.declared.place.Place.{Place}
-use Rattle.vl_grammar.specs.declared.tree.Identifier.{Identifier}
-use Rattle.vl_source.specs.declared.tree.Edge.{Edge}
-use Rattle.vl_source.specs.declared.tree.Edge.TheVariants.{Rising, Falling}
-use Rattle.vl_source.specs.declared.tree.Event.{Event as EventTree}
-use Rattle.vl_source.specs.declared.tree.Trigger.{Trigger}
-use Rattle.vl_source.specs.declared.tree.Trigger.TheVariants as g
+use Rattle.vl_design.specs.vl_base.specs.declared.place.Place.{Place}
+use Rattle.vl_tree.specs.declared.tree.Identifier.{Identifier}
+use Rattle.vl_tree.specs.declared.source_tree.Edge.{Edge}
+use Rattle.vl_tree.specs.declared.source_tree.Edge.TheVariants.{Rising, Falling}
+use Rattle.vl_tree.specs.declared.source_tree.Event.{Event as EventTree}
+use Rattle.vl_tree.specs.declared.source_tree.Trigger.{Trigger}
+use Rattle.vl_tree.specs.declared.source_tree.Trigger.TheVariants as g
 use Rattle.vl_design.specs.declared.design.Event.{Event}
 use Rattle.vl_design.specs.declared.design.ProcKind.{ProcKind}
 use Rattle.vl_design.specs.declared.design.ProcKind.TheVariants.{Init, Rise, Fall, Comb, Assign}

@@ -1,7 +1,7 @@
 -- The types of declarations: their sign and the numbers of their bits (IEEE 1364-2005, clauses 4.3, 4.8 and 4.9), and their
 -- faults. A range of more than 128 bits is one, and counts as one of 129.
 use Rattle.std.specs.Prelude.{ℕ, nat_lt, ℤ, pos, ◌+ℤ◌, ◌-ℤ◌, Bool, true, List, [], ◌++◌, Option, Some, None, is_some, if◌then◌else◌}
-use Rattle.vl_base.specs.declared.place.Place.{Place}
+use Rattle.vl_design.specs.vl_base.specs.declared.place.Place.{Place}
 use Rattle.vl_design.specs.declared.design.Form.{Form}
 use Rattle.vl_design.specs.Rows.{range_width}
 use Rattle.vl_design.specs.declared.stop.Stop.{Stop}

@@ -1,12 +1,12 @@
 -- Expressions, left sides and statements as plain data, their operators bound (IEEE 1364-2005, clauses 5 and 9). Each
 -- node has the place of its first token; parentheses and unary `+` are nodes.
 use Rattle.std.specs.Prelude.{ℕ, Bool, nat_lt, List, if◌then◌else◌}
-use Rattle.vl_base.specs.declared.number.Number.{Number as Numeral}
-use Rattle.vl_base.specs.declared.place.Place.{Place}
-use Rattle.vl_grammar.specs.declared.tree.BinaryOperator.{BinaryOperator}
-use Rattle.vl_grammar.specs.declared.tree.UnaryOperator.{UnaryOperator}
-use Rattle.vl_grammar.specs.declared.tree.SelectMark.{SelectMark}
-use Rattle.vl_grammar.specs.Binding.{row_of}
+use Rattle.vl_design.specs.vl_base.specs.declared.number.Number.{Number as Numeral}
+use Rattle.vl_design.specs.vl_base.specs.declared.place.Place.{Place}
+use Rattle.vl_tree.specs.declared.tree.BinaryOperator.{BinaryOperator}
+use Rattle.vl_tree.specs.declared.tree.UnaryOperator.{UnaryOperator}
+use Rattle.vl_tree.specs.declared.tree.SelectMark.{SelectMark}
+use Rattle.vl_tree.specs.Binding.{row_of}
 
 -- ---- expressions
 

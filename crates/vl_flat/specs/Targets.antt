@@ -1,6 +1,6 @@
 -- The left sides of an instance in its design, and their faults (IEEE 1364-2005, clauses 6.1 and 9.2).
 use Rattle.std.specs.Prelude.{ℕ, ◌+◌, not, List, [], ◌++◌, fold, Option}
-use Rattle.vl_base.specs.declared.place.Place.{Place}
+use Rattle.vl_design.specs.vl_base.specs.declared.place.Place.{Place}
 use Rattle.vl_flat.specs.declared.binding.Binding.{Binding}
 use Rattle.vl_design.specs.declared.stop.Stop.{Stop}
 use Rattle.vl_flat.specs.Surface.{Selects, Left, Lefts, LeftName, LeftList, NoLefts, MoreLefts, left_place}

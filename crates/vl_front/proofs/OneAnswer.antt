@@ -1,29 +1,29 @@
 -- A text stands for one design at most, or is refused at one place for one reason.
 use Rattle.std.proofs.Common.{◌≡◌, ℕ, ◌+◌, inl, inr, List, [], length, Result, Ok, Err, refl, sym, ap, ◌∙◌, subst, arith}
-use Rattle.vl_base.specs.declared.place.Place.{Place}
-use Rattle.vl_tree.specs.declared.token.Token.{Token}
-use Rattle.vl_tree.specs.Faults.{IsRead, IsFirstFault, IsFirstLimit}
+use Rattle.vl_elab.specs.vl_base.specs.declared.place.Place.{Place}
+use Rattle.vl_lex.specs.vl_tree.specs.declared.token.Token.{Token}
+use Rattle.vl_lex.specs.vl_tree.specs.Faults.{IsRead, IsFirstFault, IsFirstLimit}
 use Rattle.vl_lex.specs.declared.lex.LexFault.TheVariants.{At, Limit}
 use Rattle.vl_lex.proofs.PassLaws.{tokens_once}
 use Rattle.vl_lex.proofs.LexLaws.{only_tokens, only_fault, only_limit}
-use Rattle.vl_source.specs.declared.tree.Source.{Source}
-use Rattle.vl_source.specs.Grammar.{ReadsSource}
-use Rattle.vl_source.specs.Faults.{limits, statement_limit, expression_limit, PassesLimit}
-use Rattle.vl_source.specs.Faults.{IsFirstFault as IsSyntaxFault}
-use Rattle.vl_source.proofs.Follows.{ok_parts}
-use Rattle.vl_source.proofs.Outcomes.{accepts}
-use Rattle.vl_source.proofs.OneOutcome as one
-use Rattle.vl_grammar.specs.Begins.{place_at}
-use Rattle.vl_design.specs.Syntax.{Flat}
-use Rattle.vl_design.specs.declared.stop.Stop.TheVariants as stop
-use Rattle.vl_design.specs.Placed as p
-use Rattle.vl_design.specs.Plainly as plain
-use Rattle.vl_flatten.specs.Meeting.{IsElaboration}
-use Rattle.vl_flatten.proofs.Once.{elaborated_once}
-use Rattle.cell_accept.specs.declared.fault.Fault.{Fault}
-use Rattle.cell_accept.specs.declared.fault.Fault.TheVariants as accept
-use Rattle.cell_accept.specs.Accepted.{IsAccepted, IsRefused}
-use Rattle.cell_accept.proofs.Once.{accepted-or-refused, refused-once}
+use Rattle.vl_lex.specs.vl_tree.specs.declared.source_tree.Source.{Source}
+use Rattle.vl_lex.specs.vl_tree.specs.GrammarOfSource.{ReadsSource}
+use Rattle.vl_lex.specs.vl_tree.specs.FaultsOfSource.{limits, statement_limit, expression_limit, PassesLimit}
+use Rattle.vl_lex.specs.vl_tree.specs.FaultsOfSource.{IsFirstFault as IsSyntaxFault}
+use Rattle.vl_lex.specs.vl_tree.proofs.FollowsOfSource.{ok_parts}
+use Rattle.vl_lex.specs.vl_tree.proofs.Outcomes.{accepts}
+use Rattle.vl_lex.specs.vl_tree.proofs.OneOutcome as one
+use Rattle.vl_lex.specs.vl_tree.specs.Begins.{place_at}
+use Rattle.vl_elab.specs.vl_design.specs.Syntax.{Flat}
+use Rattle.vl_elab.specs.vl_design.specs.declared.stop.Stop.TheVariants as stop
+use Rattle.vl_elab.specs.vl_design.specs.Placed as p
+use Rattle.vl_elab.specs.vl_design.specs.Plainly as plain
+use Rattle.vl_elab.specs.vl_sound.specs.Meeting.{IsElaboration}
+use Rattle.vl_elab.proofs.Once.{elaborated_once}
+use Rattle.vl_accept.specs.declared.fault.Fault.{Fault}
+use Rattle.vl_accept.specs.declared.fault.Fault.TheVariants as accept
+use Rattle.vl_accept.specs.Accepted.{IsAccepted, IsRefused}
+use Rattle.vl_accept.proofs.Once.{accepted-or-refused, refused-once}
 use Rattle.vl_front.specs.declared.fault.Kind.{Kind}
 use Rattle.vl_front.specs.declared.fault.Kind.TheVariants as w
 use Rattle.vl_front.specs.Sources.{end_of, IsTreeOf, IsDesignOf, StandsFor, IsRefusal, fault, passed, unparsed, too_deep, too_long, misbuilt, outgrown, unfit, too_large, looped}

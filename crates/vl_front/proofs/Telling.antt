@@ -1,7 +1,7 @@
 -- What is told of a refusal.
 use Rattle.std.proofs.Common.{◌≡◌, ℕ, List, Result, Err, refl, sym, ◌∙◌, subst}
-use Rattle.vl_base.specs.declared.place.Place.{Place}
-use Rattle.cell_accept.specs.declared.accept.Accepted.{Accepted}
+use Rattle.vl_elab.specs.vl_base.specs.declared.place.Place.{Place}
+use Rattle.vl_accept.specs.declared.accept.Accepted.{Accepted}
 use Rattle.vl_front.specs.declared.fault.BuildError.{BuildError}
 use Rattle.vl_front.specs.declared.fault.BuildError.TheVariants.{Refused}
 use Rattle.vl_front.specs.declared.fault.Kind.{Kind}

@@ -1,22 +1,22 @@
 -- What a source text stands for, and why one is refused (IEEE 1364-2005, clauses 3 to 12 and annex A; the limits, and the order of
 -- faults, are own).
 use Rattle.std.specs.Prelude.{◌≡◌, ℕ, List, [], Ok, Err, Result, ⊤}
-use Rattle.vl_base.specs.declared.place.Place.{Place}
-use Rattle.vl_tree.specs.declared.token.Token.{Token}
-use Rattle.vl_tree.specs.Faults.{IsRead, IsFirstFault, IsFirstLimit}
-use Rattle.vl_tree.specs.Tokens.{start, place_after}
-use Rattle.vl_source.specs.declared.tree.Source.{Source}
-use Rattle.vl_source.specs.Grammar.{ReadsSource}
-use Rattle.vl_source.specs.Faults.{PassesLimit, limits, statement_limit, expression_limit}
-use Rattle.vl_source.specs.Faults.{IsFirstFault as IsSyntaxFault}
-use Rattle.vl_design.specs.Syntax.{Flat}
-use Rattle.vl_design.specs.declared.stop.Stop.TheVariants.{Construct, Limit}
-use Rattle.vl_design.specs.Placed as p
-use Rattle.vl_design.specs.Plainly as plain
-use Rattle.vl_flatten.specs.Meeting.{IsElaboration}
-use Rattle.cell_accept.specs.declared.accept.Accepted.{Accepted}
-use Rattle.cell_accept.specs.declared.fault.Fault.TheVariants as accept
-use Rattle.cell_accept.specs.Accepted.{IsAccepted, IsRefused, Stands}
+use Rattle.vl_elab.specs.vl_base.specs.declared.place.Place.{Place}
+use Rattle.vl_lex.specs.vl_tree.specs.declared.token.Token.{Token}
+use Rattle.vl_lex.specs.vl_tree.specs.Faults.{IsRead, IsFirstFault, IsFirstLimit}
+use Rattle.vl_lex.specs.vl_tree.specs.Tokens.{start, place_after}
+use Rattle.vl_lex.specs.vl_tree.specs.declared.source_tree.Source.{Source}
+use Rattle.vl_lex.specs.vl_tree.specs.GrammarOfSource.{ReadsSource}
+use Rattle.vl_lex.specs.vl_tree.specs.FaultsOfSource.{PassesLimit, limits, statement_limit, expression_limit}
+use Rattle.vl_lex.specs.vl_tree.specs.FaultsOfSource.{IsFirstFault as IsSyntaxFault}
+use Rattle.vl_elab.specs.vl_design.specs.Syntax.{Flat}
+use Rattle.vl_elab.specs.vl_design.specs.declared.stop.Stop.TheVariants.{Construct, Limit}
+use Rattle.vl_elab.specs.vl_design.specs.Placed as p
+use Rattle.vl_elab.specs.vl_design.specs.Plainly as plain
+use Rattle.vl_elab.specs.vl_sound.specs.Meeting.{IsElaboration}
+use Rattle.vl_accept.specs.declared.accept.Accepted.{Accepted}
+use Rattle.vl_accept.specs.declared.fault.Fault.TheVariants as accept
+use Rattle.vl_accept.specs.Accepted.{IsAccepted, IsRefused, Stands}
 use Rattle.vl_front.specs.declared.fault.BuildError.{BuildError}
 use Rattle.vl_front.specs.declared.fault.BuildError.TheVariants.{Refused, Memory}
 use Rattle.vl_front.specs.declared.fault.Kind.{Kind}

@@ -1,11 +1,11 @@
 //! Where a text ends.
 
 ghost use Rattle.std.specs.Prelude.{◌≡◌, ◌+◌, ◌<◌, ◌≤◌, ◌^◌, length};
-ghost use Rattle.vl_tree.specs.Faults.{most_bytes};
-ghost use Rattle.vl_tree.specs.Tokens.{next_place as next_place_lem};
+ghost use Rattle.vl_lex.specs.vl_tree.specs.Faults.{most_bytes};
+ghost use Rattle.vl_lex.specs.vl_tree.specs.Tokens.{next_place as next_place_lem};
 ghost use Rattle.vl_front.specs.Sources.{end_of as end_of_lem};
 
-use vl_base::place::Place;
+use vl_elab::Place;
 
 /// The place after one more byte; a newline ends a line.
 fn next_place(place: Place, byte: u8) -> Place

@@ -1,6 +1,6 @@
 //! Why a source is refused.
 
-use vl_base::place::Place;
+use vl_elab::Place;
 
 /// The kind of a refusal.
 #[derive(Clone, Copy, Debug, PartialEq, Eq)]

@@ -1,28 +1,28 @@
 //! What comes of a source.
 
 ghost use Rattle.std.specs.Prelude.{◌≡◌, ℕ, List, Ok, Err};
-ghost use Rattle.vl_tree.specs.Faults.{IsRead};
-ghost use Rattle.vl_source.specs.declared.tree.Source.{Source as Tree};
-ghost use Rattle.vl_design.specs.Seen.{placed};
-ghost use Rattle.vl_flatten.specs.Meeting.{IsElaboration};
-ghost use Rattle.vl_checked.specs.Fit.{IsFit};
+ghost use Rattle.vl_lex.specs.vl_tree.specs.Faults.{IsRead};
+ghost use Rattle.vl_lex.specs.vl_tree.specs.declared.source_tree.Source.{Source as Tree};
+ghost use Rattle.vl_elab.specs.vl_design.specs.Seen.{placed};
+ghost use Rattle.vl_elab.specs.vl_sound.specs.Meeting.{IsElaboration};
+ghost use Rattle.vl_accept.specs.Fit.{IsFit};
 ghost use Rattle.vl_front.specs.declared.fault.BuildError.TheVariants.{Refused};
 ghost use Rattle.vl_front.specs.Sources.{end_of as end_of_lem, IsTreeOf, IsDesignOf, IsFront};
 
 use crate::end::end_of;
 use crate::fault::{BuildError, Kind};
-use cell_accept::accept::{Accepted, accept};
-use cell_accept::fault::Fault;
+use elab_laws::fit_laws::an_elaborated_design_is_fit_to_be_judged;
 use std::alloc::Global;
-use vl_base::place::Place;
-use vl_design::design::Design;
-use vl_design::stop::Stop;
-use vl_fit::laws::an_elaborated_design_is_fit_to_be_judged;
-use vl_flatten::elaborate::elaborate;
+use vl_accept::accept::{Accepted, accept};
+use vl_accept::fault::Fault;
+use vl_elab::Place;
+use vl_elab::design::Design;
+use vl_elab::elaborate::elaborate;
+use vl_elab::stop::Stop;
 use vl_lex::lex::{LexFault, lex};
+use vl_lex::source_tree::Source;
+use vl_lex::token::Token;
 use vl_parse::{ParseFault, parse};
-use vl_source::tree::Source;
-use vl_tree::token::Token;
 
 /// A source is refused at a place, for a reason of a kind.
 fn refused(place: Place, kind: Kind) -> Result<Accepted, BuildError>

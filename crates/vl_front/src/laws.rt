@@ -1,8 +1,8 @@
 //! What follows from the definitions alone: what comes of a source text is one thing.
 
 ghost use Rattle.std.specs.Prelude.{◌≡◌, ℕ, List};
-ghost use Rattle.vl_base.specs.declared.place.Place.{Place};
-ghost use Rattle.vl_design.specs.Syntax.{Flat};
+ghost use Rattle.vl_elab.specs.vl_base.specs.declared.place.Place.{Place};
+ghost use Rattle.vl_elab.specs.vl_design.specs.Syntax.{Flat};
 ghost use Rattle.vl_front.specs.declared.fault.Kind.{Kind};
 ghost use Rattle.vl_front.specs.Sources.{StandsFor, IsRefusal};
 

@@ -9,12 +9,7 @@ use Rattle.vl_design.specs.ReadHex as h
 use Rattle.vl_hex.specs.Alike.{steps_of, IsNear, Same, Far, AreAlike, IsNextAlike, IsAlike, position_of}
 use Rattle.vl_hex.specs.Loading.{place_at, loaded_from}
 use Rattle.vl_hex.specs.declared.position.Next.{Next}
-
-below : (x y : ℕ) → x < y → nat_lt x y ≡ true
-below x y h = grind (arith, nat_tests)
-
-not-below : (x y : ℕ) → y ≤ x → nat_lt x y ≡ false
-not-below x y h = grind (arith, nat_tests)
+use Rattle.vl_base.proofs.Numbers.{lt_true as below, lt_false as not-below}
 
 module _ (w : ℕ) (lowest : ℤ) (n : ℕ) where
   -- ---- a word

@@ -7,9 +7,7 @@ use Rattle.vl_hex.specs.declared.position.Position.TheVariants as p
 use Rattle.vl_hex.specs.declared.position.Step.TheVariants as s
 use Rattle.vl_hex.specs.declared.position.Next.{Next}
 use Rattle.vl_hex.specs.Alike.{steps_of, position_of, IsNear, Same, Far, AreAlike, IsAlike, IsNextAlike, EndsAlike}
-
-pub not-equal : (x y : ℕ) → ¬ (x ≡ y) → (x == y) ≡ false
-not-equal x y h = grind (arith, nat_tests)
+pub use Rattle.vl_base.proofs.Numbers.{unequal_false as not-equal}
 
 -- ---- behind what may end a step
 
@@ -65,46 +63,6 @@ module _ (w c : ℕ) (x : Option Next) where
   by-slash (h.InWord v) ys e k = absurd e
 
 -- ---- other positions are themselves
-
-pub is-between : (w : ℕ) (r : h.HexPosition) → IsAlike w r h.BetweenWords → r ≡ h.BetweenWords
-is-between w h.BetweenWords e = refl
-is-between w (h.Slash xs) e = absurd e
-is-between w h.Line e = absurd e
-is-between w h.Block e = absurd e
-is-between w h.Star e = absurd e
-is-between w (h.InWord v) e = absurd e
-is-between w h.At e = absurd e
-is-between w (h.InAddress a) e = absurd e
-
-pub is-line : (w : ℕ) (r : h.HexPosition) → IsAlike w r h.Line → r ≡ h.Line
-is-line w h.Line e = refl
-is-line w h.BetweenWords e = absurd e
-is-line w (h.Slash xs) e = absurd e
-is-line w h.Block e = absurd e
-is-line w h.Star e = absurd e
-is-line w (h.InWord v) e = absurd e
-is-line w h.At e = absurd e
-is-line w (h.InAddress a) e = absurd e
-
-pub is-block : (w : ℕ) (r : h.HexPosition) → IsAlike w r h.Block → r ≡ h.Block
-is-block w h.Block e = refl
-is-block w h.BetweenWords e = absurd e
-is-block w (h.Slash xs) e = absurd e
-is-block w h.Line e = absurd e
-is-block w h.Star e = absurd e
-is-block w (h.InWord v) e = absurd e
-is-block w h.At e = absurd e
-is-block w (h.InAddress a) e = absurd e
-
-pub is-star : (w : ℕ) (r : h.HexPosition) → IsAlike w r h.Star → r ≡ h.Star
-is-star w h.Star e = refl
-is-star w h.BetweenWords e = absurd e
-is-star w (h.Slash xs) e = absurd e
-is-star w h.Line e = absurd e
-is-star w h.Block e = absurd e
-is-star w (h.InWord v) e = absurd e
-is-star w h.At e = absurd e
-is-star w (h.InAddress a) e = absurd e
 
 pub is-at : (w : ℕ) (r : h.HexPosition) → IsAlike w r h.At → r ≡ h.At
 is-at w h.At e = refl

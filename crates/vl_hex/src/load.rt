@@ -8,7 +8,7 @@ ghost use Rattle.vl_hex.specs.Loading.{place_at, loaded_from};
 
 use crate::position::{Position, Step, last, read_byte};
 use vl_base::bits::{Bits, resize};
-use vl_eval::room::Kept;
+use vl_design::words::Kept;
 
 /// A memory.
 #[derive(Clone, Copy)]

@@ -4,7 +4,7 @@ use Rattle.std.specs.Prelude.{slice_get}
 use Rattle.std.proofs.lemmas.Bool.{eqb-true, cases_Bool, true≢false}
 use Rattle.std.proofs.lemmas.List.{append_assoc, append_cancel_left, append_cancel_right, length-append, take-append-drop, take_more, drop_more}
 use Rattle.std.proofs.lemmas.Option.{slice_get_within, get_or_from_slice_get}
-use Rattle.vl_base.specs.declared.place.Place.{Place}
+use Rattle.vl_tree.specs.vl_base.specs.declared.place.Place.{Place}
 use Rattle.vl_tree.specs.declared.token.Token.{Token}
 use Rattle.vl_tree.specs.declared.token.TokenKind.{TokenKind}
 use Rattle.vl_tree.specs.declared.token.TokenKind.TheVariants as t
@@ -20,6 +20,7 @@ use Rattle.vl_lex.proofs.Stands.{token_read}
 use Rattle.vl_lex.proofs.PassLaws.{passes_then, found_rest, same_passed, past_token, next_nil}
 use Rattle.vl_lex.proofs.TokenLaws.{place_rises, place_after-append, tokens_slices}
 use Rattle.vl_lex.proofs.CutRuns.{white_run, paren_next, star_next, found_stands, cut_run, few_earlier, stops_fault}
+use Rattle.vl_tree.proofs.Shared.{begins_then}
 
 -- ---- parts of a run
 
@@ -133,10 +134,6 @@ mark_there {text} {rest} (mark {mark = n} k o) m e = let same : n ≡ m = cc in 
 shut_by : (rest : List ℕ) → opens (40 ∷ 42 ∷ rest) ≡ false → begins 41 (past is_white rest) ≡ true
 unfolding opens opens_line opens_block opens_attribute
 shut_by rest h = elim (cases_Bool (begins 41 (past is_white rest))) [ inl b ↦ b | inr b ↦ absurd (true≢false (sym (ap not b) ∙ h)) ]
-
-begins_then : (b : ℕ) (s : List ℕ) → begins b s ≡ true → s ≡ b ∷ drop 1 s
-begins_then b [] h = absurd cc
-begins_then b (c ∷ s) h = ap (λ x. x ∷ s) (eqb-true c b h)
 
 close_next : (rest : List ℕ) → next (41 ∷ rest) ≡ found (t.Mark (41 ∷ [])) rest
 unfolding next other_at mark_at first_of sign_of is_white is_letter is_figure opens_line opens_block opens_attribute

@@ -15,6 +15,7 @@ use Rattle.vl_tree.specs.Tokens.{mark}
 use Rattle.vl_lex.specs.Reading.{run, first_of, sign_of, next, over, found, stuck, over_or, past_pair, mark_at, other_at, directive_at}
 use Rattle.vl_lex.proofs.RunLaws.{run_and_past, run_passes, past_ends, past_is, chosen, some_is, none_is_not}
 use Rattle.vl_lex.proofs.NextLaws.{Passed, passed_by, Says, first_white, first_grave, IsOf, nothing_96}
+use Rattle.vl_tree.proofs.Shared.{begins_then}
 
 -- ---- white space and directives
 
@@ -47,10 +48,6 @@ directive_read text name rest e d l = ap next e ∙ rw (first_grave, d, line_is 
 begins_before : (b a : ℕ) (s rest : List ℕ) → begins b (s ++ (a ∷ [])) ≡ begins b (s ++ (a ∷ rest))
 begins_before b a [] rest = refl
 begins_before b a (c ∷ s) rest = refl
-
-begins_then : (b : ℕ) (s : List ℕ) → begins b s ≡ true → s ≡ b ∷ drop 1 s
-begins_then b [] h = absurd cc
-begins_then b (c ∷ s) h = ap (λ x. x ∷ s) (eqb-true c b h)
 
 pub pair_is : (a b : ℕ) (body rest : List ℕ) → has_pair a b (body ++ (a ∷ [])) ≡ false → past_pair a b (body ++ (a ∷ b ∷ rest)) ≡ Some rest
 unfolding past_pair has_pair

@@ -4,7 +4,7 @@ use Rattle.std.specs.Prelude.{IfOk, IfErr}
 use Rattle.std.specs.Global.{Vec}
 use Rattle.std.proofs.lemmas.List.{append-nil, length-append, length-take, take_at}
 use Rattle.std.proofs.lemmas.Bool.{true≢false}
-use Rattle.vl_base.specs.declared.place.Place.{Place}
+use Rattle.vl_tree.specs.vl_base.specs.declared.place.Place.{Place}
 use Rattle.vl_tree.specs.declared.token.Token.{Token}
 use Rattle.vl_tree.specs.declared.token.TokenKind.{TokenKind}
 use Rattle.vl_tree.specs.Tokens.{start, place_after, Passes, here, gap, token}

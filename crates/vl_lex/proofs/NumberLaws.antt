@@ -3,7 +3,7 @@ use Rattle.std.proofs.Common.{◌≡◌, ℕ, ◌^◌, ◌<◌, Bool, true, fals
 use Rattle.std.proofs.lemmas.Bool.{or_cases, or_left, and_parts, and_from, eq-eqb, eqb-true, cond_both, cond-true, cond-false, cases_Bool, both_ways, leb-true, leb-false, lt-leb, le-leb}
 use Rattle.std.proofs.lemmas.Bool.Decides.{nat_tests}
 use Rattle.std.proofs.lemmas.List.{append_assoc, length-append}
-use Rattle.vl_base.specs.declared.number.Number.{Number}
+use Rattle.vl_tree.specs.vl_base.specs.declared.number.Number.{Number}
 use Rattle.vl_tree.specs.declared.token.TokenKind.TheVariants as t
 use Rattle.vl_tree.specs.Bytes.{is_white, is_figure, is_decimal, past, Are, Ends}
 use Rattle.vl_tree.specs.Numbers.{is_hex, is_x, is_z, is_digit, is_first_digit, is_further_digit, value_of, number_of, plain_number, radix_of, is_sign, IsSign, unmarked, marked, IsPlain, Digits, Based, Plain}

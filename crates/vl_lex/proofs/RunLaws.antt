@@ -7,6 +7,8 @@ use Rattle.std.proofs.lemmas.List.{at_drop_more, at_drop_all, get_or_default}
 use Rattle.vl_tree.specs.Bytes.{past, begins, Are, Ends}
 use Rattle.vl_lex.specs.Reading.{run, past_pair, digits_from}
 use Rattle.vl_tree.specs.Numbers.{is_first_digit, is_further_digit}
+pub use Rattle.vl_tree.specs.vl_base.proofs.Options.{some_parts as some_is}
+pub use Rattle.vl_tree.specs.vl_base.proofs.Lists.{get_or_itself as read}
 
 pub run_goes : (p : ℕ → Bool) (t : List ℕ) (i b : ℕ) → i < length t → b ≡ get_or t i b → p b ≡ true → length (run p (drop i t)) ≡ length (run p (drop (i + 1) t)) + 1
 unfolding run
@@ -124,14 +126,8 @@ pub chosen : {X : Type 0} (b : Bool) (x y z : X) → cond b x y ≡ z → ((b �
 chosen true x y z h = inl (refl, h)
 chosen false x y z h = inr (refl, h)
 
-pub some_is : {X : Type 0} (x y : X) → Some x ≡ Some y → x ≡ y
-some_is x y e = cc
-
 pub none_is_not : {X : Type 0} {Y : Type 0} (x : X) → None ≡ Some x → Y
 none_is_not x e = absurd cc
-
-pub read : {X : Type 0} (t : List X) (i : ℕ) (d : X) → i < length t → get_or t i d ≡ get_or t i (get_or t i d)
-read t i d h = get_or_default t i d (get_or t i d) h
 
 -- ---- digits behind a first one
 

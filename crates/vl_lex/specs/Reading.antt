@@ -1,7 +1,7 @@
 -- What stands at the front of a text, read from left to right. (The lexer's own terms: its public contract cites none
 -- of them.)
 use Rattle.std.specs.Prelude.{ℕ, zero, suc, ◌+◌, ◌-◌, ◌*◌, ◌%◌, ◌^◌, ◌==◌, nat_le, Bool, true, false, ◌&&◌, cond, if◌then◌else◌, List, [], ◌∷◌, length, take, drop, Option, Some, None, Result, Ok, Err}
-use Rattle.vl_base.specs.declared.number.Number.{Number}
+use Rattle.vl_tree.specs.vl_base.specs.declared.number.Number.{Number}
 use Rattle.vl_tree.specs.declared.token.TokenKind.{TokenKind}
 use Rattle.vl_tree.specs.declared.token.TokenKind.TheVariants as t
 use Rattle.vl_lex.specs.declared.bytes.First.{First}

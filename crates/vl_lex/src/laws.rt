@@ -1,7 +1,7 @@
 //! Laws of tokens: what follows from their definition alone.
 
 ghost use Rattle.std.specs.Prelude.{◌≡◌, ◌++◌, List, codes, ℕ};
-ghost use Rattle.vl_base.specs.declared.place.Place.{Place};
+ghost use Rattle.vl_tree.specs.vl_base.specs.declared.place.Place.{Place};
 ghost use Rattle.vl_tree.specs.declared.token.Token.{Token};
 ghost use Rattle.vl_tree.specs.Tokens.{Tokens, Passes, start};
 ghost use Rattle.vl_tree.specs.Faults.{IsRead, IsFirstFault};

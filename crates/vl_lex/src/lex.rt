@@ -1,7 +1,7 @@
 //! The lexer.
 
 ghost use Rattle.std.specs.Prelude.{◌≡◌, ℕ, ◌+◌, ◌-◌, ◌<◌, ◌≤◌, ◌^◌, List, length, take, IfOk, IfErr};
-ghost use Rattle.vl_base.specs.declared.place.Place.{Place};
+ghost use Rattle.vl_tree.specs.vl_base.specs.declared.place.Place.{Place};
 ghost use Rattle.vl_tree.specs.declared.token.Token.{Token};
 ghost use Rattle.vl_tree.specs.Faults.{IsRead, IsFirstFault, IsFirstLimit};
 ghost use Rattle.vl_lex.specs.declared.lex.LexFault.TheVariants.{At, Limit};
@@ -10,7 +10,7 @@ ghost use Rattle.vl_tree.specs.Tokens.{place_after as place_after_lem};
 
 use crate::step::{Step, step_of};
 use std::alloc::{AllocError, AllocFailed, Global};
-use vl_base::place::Place;
+use vl_tree::Place;
 use vl_tree::token::Token;
 
 /// Why a text has no tokens.

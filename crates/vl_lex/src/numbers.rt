@@ -10,7 +10,7 @@ use crate::digits::{
 };
 use crate::runs::{Run, past_run, run_length, split_run};
 use crate::step::Step;
-use vl_base::number::Number;
+use vl_tree::number::Number;
 use vl_tree::token::TokenKind;
 
 /// What stands behind an apostrophe.

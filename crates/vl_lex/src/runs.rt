@@ -8,7 +8,7 @@ ghost use Rattle.vl_lex.specs.Reading.{test_of, run, past_pair as past_pair_lem}
 use crate::bytes::{is_figure, is_letter, is_white};
 use crate::digits::is_further_digit;
 use std::alloc::{AllocError, Global};
-use vl_base::items::{Items, Text};
+use vl_tree::{Items, Text};
 
 /// A kind of byte, of which a run is taken.
 #[derive(Clone, Copy)]

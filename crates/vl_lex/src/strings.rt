@@ -8,7 +8,7 @@ ghost use Rattle.vl_lex.specs.View.{seen};
 use crate::bytes::is_octal;
 use crate::step::Step;
 use std::alloc::{AllocError, Global};
-use vl_base::items::Items;
+use vl_tree::Items;
 use vl_tree::token::TokenKind;
 
 #[tactic(auto, unfolding(vl_tree::specs::Strings::is_plain))]

@@ -15,10 +15,10 @@ use Rattle.vl_design.specs.Plainly as plain
 use Rattle.vl_design.specs.State.{State}
 use Rattle.vl_design.specs.Syntax.{Exp, Num, Label, Sig, Word, Pick, Slice, Un, Bin, Cond, Cat, Rep, Cast, Call, Time, LastAnswer, Exps, NoExps, MoreExps, Target, Whole, WordAt, PickAt, SliceAt, Several, Targets, NoTargets, MoreTargets, Piece, Literal, Shown, Task, Print, Finish, Save, Fopen, Fread, Fgetc, Feof, Fclose, ReadHex, Row, Fun}
 use Rattle.vl_design.specs.Width.{Scope}
-use Rattle.vl_turns.specs.Limits.{Counted, exp_count, exps_count, target_count, targets_count, pieces_count, task_count, call_count, whole_count, else_count, stm_count, stms_count, items_count}
-use Rattle.vl_turns.proofs.Closing.{next}
-use Rattle.vl_header.specs.Loops.{HasHeads, HaveHeads, ItemsHaveHeads}
-use Rattle.vl_header.proofs.Loops.{Meets, goes_same_bare, step_meets_bare, head_assigns}
+use Rattle.vl_loops.specs.Limits.{Counted, exp_count, exps_count, target_count, targets_count, pieces_count, task_count, call_count, whole_count, else_count, stm_count, stms_count, items_count}
+use Rattle.vl_loops.proofs.Closing.{next}
+use Rattle.vl_loops.specs.Loops.{HasHeads, HaveHeads, ItemsHaveHeads}
+use Rattle.vl_loops.proofs.Loops.{Meets, goes_same_bare, step_meets_bare, head_assigns}
 use Rattle.vl_limits.proofs.Counting.{product-capped}
 
 -- the same up to a cap

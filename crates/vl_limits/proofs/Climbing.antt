@@ -8,15 +8,6 @@ use Rattle.vl_limits.specs.Bodies.{rounds, AtMost}
 none : (f : ℕ) → slice_index [] f ≡ 0
 none f = refl
 
--- the first table
-zeros-none : (n f : ℕ) → slice_index (replicate n 0) f ≡ 0
-zeros-none zero f = refl
-zeros-none (suc n) zero = refl
-zeros-none (suc n) (suc f) = zeros-none n f
-
-pub zeros-most : (n : ℕ) (t : List ℕ) (next : List ℕ → Func → ℕ) (funcs : List Func) → t ≡ replicate n 0 → AtMost t (rounds next funcs 0)
-zeros-most n t next funcs e f = let z : slice_index t f ≡ 0 = ap (λ x. slice_index x f) e ∙ zeros-none n f in omega (arith, z)
-
 -- a table behind one round more
 pub one-more : (next : List ℕ → Func → ℕ) (funcs : List Func) (n m : ℕ) (t : List ℕ) → m ≡ suc n → AtMost t (rounds next funcs (suc n)) → AtMost t (rounds next funcs m)
 one-more next funcs n m t e h = rw e h

@@ -21,11 +21,12 @@ use Rattle.vl_design.specs.State.{State}
 use Rattle.vl_design.specs.Exec.{exec, goes_on, turns, most_turns}
 use Rattle.vl_design.specs.Cost.{over_turns}
 use Rattle.vl_design.proofs.TreeLemmas.{placed-Seq}
-use Rattle.vl_turns.specs.Limits.{Counted, else_count, stm_count}
-use Rattle.vl_header.specs.Heads.{turn_states, AreTurns}
-use Rattle.vl_header.specs.Rooms.{state_of}
-use Rattle.vl_header.proofs.Stepping.{loop-there, others-set}
+use Rattle.vl_loops.specs.Limits.{Counted, else_count, stm_count}
+use Rattle.vl_loops.specs.Heads.{turn_states, AreTurns}
+use Rattle.vl_loops.specs.Rooms.{state_of}
+use Rattle.vl_loops.proofs.SteppingOfHeader.{loop-there, others-set}
 use Rattle.vl_limits.specs.Walks.{is_missing, items_of}
+use Rattle.vl_base.proofs.Lists.{sum_map as sum-map}
 
 -- ---- products
 
@@ -89,10 +90,6 @@ turns-sum {S} (suc n) test step f x = at (test x) (turns-sum n test step f (step
         (elim b [ true ↦ f x + over_turns n test step f (step x) | false ↦ 0 ]) ≡ sum_by f (elim b [ true ↦ x ∷ turn_states n test step (step x) | false ↦ [] ])
     at true h = ap (λ m. f x + m) h ∙ sym (sum_by-cons f x (turn_states n test step (step x)))
     at false h = refl
-
-sum-map : {A B : Type 0} (f : B → ℕ) (g : A → B) (xs : List A) → sum_by f (map g xs) ≡ sum_by (λ x. f (g x)) xs
-sum-map f g [] = refl
-sum-map f g (x ∷ xs) = sum_by-cons f (g x) (map g xs) ∙ (ap (λ n. f (g x) + n) (sum-map f g xs) ∙ sym (sum_by-cons (λ y. f (g y)) x xs))
 
 -- what the turns of a loop count, from the numbers of its variable in them
 pub loop-count : (c : Counted) (scope : Scope) (test : Exp) (step : Stm) (f : State → ℕ) (x : State) (g : ℕ → State) (numbers : List ℕ) (endless : Bool) → AreTurns scope test step most_turns x (map g numbers) endless →

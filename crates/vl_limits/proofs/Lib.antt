@@ -1,6 +1,5 @@
 pub mod Rows
 pub mod Adding
-pub mod Pieces
 pub mod Showing
 pub mod Tasking
 pub mod Counting

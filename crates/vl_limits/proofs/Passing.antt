@@ -18,13 +18,13 @@ use Rattle.vl_design.specs.Sound.{IsSoundProc}
 use Rattle.vl_design.specs.Syntax.{Row}
 use Rattle.vl_design.specs.Trees.{flat_of}
 use Rattle.vl_design.specs.Width.{Scope, names_of}
-use Rattle.vl_turns.specs.Fits.{CanUnroll, HasLoops}
-use Rattle.vl_turns.specs.Limits.{Counted, statements, nodes, most_statements, most_nodes, stm_count, body_count, process_count, processes_limit}
-use Rattle.vl_turns.proofs.Closing.{next}
-use Rattle.vl_header.specs.Loops.{HasHeads}
-use Rattle.vl_header.specs.Rooms.{state_of}
-use Rattle.vl_header.proofs.Loops.{heads_of}
-use Rattle.vl_header.proofs.Zeros.{none-meets}
+use Rattle.vl_loops.specs.Fits.{CanUnroll, HasLoops}
+use Rattle.vl_loops.specs.Limits.{Counted, statements, nodes, most_statements, most_nodes, stm_count, body_count, process_count, processes_limit}
+use Rattle.vl_loops.proofs.Closing.{next}
+use Rattle.vl_loops.specs.Loops.{HasHeads}
+use Rattle.vl_loops.specs.Rooms.{state_of}
+use Rattle.vl_loops.proofs.Loops.{heads_of}
+use Rattle.vl_loops.proofs.Zeros.{none-meets}
 use Rattle.vl_limits.specs.Bodies.{zeros_in, AreBodies, AreAdded}
 use Rattle.vl_limits.proofs.Alike.{Same, both, sames, stm_alike}
 use Rattle.vl_limits.proofs.Rounds.{capped, below, above, next-is}

@@ -4,8 +4,8 @@ use Rattle.std.specs.Prelude.{if◌then◌else◌, nat_lt, slice_index, slice_se
 use Rattle.vl_design.specs.declared.design.Func.{Func}
 use Rattle.vl_design.specs.declared.design.Signal.{Signal}
 use Rattle.vl_design.specs.Seen.{stm_of}
-use Rattle.vl_turns.specs.Limits.{Counted, statements, nodes}
-use Rattle.vl_header.specs.Loops.{HasHeads}
+use Rattle.vl_loops.specs.Limits.{Counted, statements, nodes}
+use Rattle.vl_loops.specs.Loops.{HasHeads}
 use Rattle.vl_limits.specs.Bodies.{func_rows, alone_count, next_statements, next_nodes, rounds, AtMost}
 use Rattle.vl_limits.proofs.Climbing.{mapped, kept, replaced}
 use Rattle.vl_limits.proofs.Rounds.{statements-are, nodes-are}

@@ -16,14 +16,15 @@ use Rattle.vl_design.specs.Seen.{placed, stm_of, func_of}
 use Rattle.vl_design.specs.Sound.{IsSoundFun}
 use Rattle.vl_design.specs.Trees.{flat_of}
 use Rattle.vl_design.specs.Width.{Scope, names_in, names_of}
-use Rattle.vl_turns.specs.Fits.{CanUnroll, HasFunLoops}
-use Rattle.vl_turns.specs.Limits.{Counted, statements, nodes, most_statements, most_nodes, stm_count, func_count, body_within}
-use Rattle.vl_turns.specs.Unroll.{still}
-use Rattle.vl_header.specs.Loops.{HasHeads}
-use Rattle.vl_header.proofs.Loops.{heads_of}
-use Rattle.vl_header.proofs.Zeros.{none-meets}
+use Rattle.vl_loops.specs.Fits.{CanUnroll, HasFunLoops}
+use Rattle.vl_loops.specs.Limits.{Counted, statements, nodes, most_statements, most_nodes, stm_count, func_count, body_within}
+use Rattle.vl_loops.specs.Unroll.{still}
+use Rattle.vl_loops.specs.Loops.{HasHeads}
+use Rattle.vl_loops.proofs.Loops.{heads_of}
+use Rattle.vl_loops.proofs.Zeros.{none-meets}
 use Rattle.vl_limits.specs.Bodies.{func_rows, alone_count, next_statements, next_nodes, AreBodies}
 use Rattle.vl_limits.proofs.Alike.{Same, sames, stm_alike}
+use Rattle.vl_base.proofs.Numbers.{lt_false as not-more}
 
 -- ---- the headers of functions
 
@@ -41,9 +42,6 @@ funcs_heads design u =
     go (g ∷ gs) l h = (func_head design g l.0 h.0, go gs l.1 h.1)
 
 -- ---- one round
-
-not-more : (a x : ℕ) → x ≤ a → nat_lt a x ≡ false
-not-more a x h = grind (arith, nat_tests)
 
 pub few-if : (a x y : ℕ) → x ≤ a → (if nat_lt a x then 0 else y) ≡ y
 few-if a x y h = ap (λ b. if b then 0 else y) (not-more a x h)

@@ -16,11 +16,11 @@ use Rattle.vl_design.specs.Seen.{placed, stm_of, func_of}
 use Rattle.vl_design.specs.Syntax.{Fun}
 use Rattle.vl_design.specs.Trees.{flat_of}
 use Rattle.vl_design.specs.Width.{Scope}
-use Rattle.vl_turns.specs.Fits.{CanUnroll}
-use Rattle.vl_turns.specs.Limits.{Counted, statements, nodes, most_statements, most_nodes, stm_count, func_count, body_within}
-use Rattle.vl_turns.proofs.Closing.{next}
-use Rattle.vl_header.specs.Loops.{HasHeads}
-use Rattle.vl_header.proofs.Zeros.{none-meets}
+use Rattle.vl_loops.specs.Fits.{CanUnroll}
+use Rattle.vl_loops.specs.Limits.{Counted, statements, nodes, most_statements, most_nodes, stm_count, func_count, body_within}
+use Rattle.vl_loops.proofs.Closing.{next}
+use Rattle.vl_loops.specs.Loops.{HasHeads}
+use Rattle.vl_loops.proofs.Zeros.{none-meets}
 use Rattle.vl_limits.specs.Bodies.{func_rows, alone_count, next_statements, next_nodes, rounds, AtMost, AreBodies}
 use Rattle.vl_limits.proofs.Alike.{Same, sames, Less, lesses, counted, stm_alike}
 use Rattle.vl_limits.proofs.Climbing.{grows-all, settled}
@@ -30,7 +30,7 @@ if-less : (b : Bool) (x y : ℕ) → x ≤ y → (if b then 0 else x) ≤ (if b 
 if-less true x y h = omega arith
 if-less false x y h = h
 
-less-than : (cap x y : ℕ) → x ≤ y → Less cap x y
+pub less-than : (cap x y : ℕ) → x ≤ y → Less cap x y
 less-than cap x y h = omega arith
 
 by-both : (cap x y z : ℕ) → Same cap x y → Less cap x z → Less cap y z

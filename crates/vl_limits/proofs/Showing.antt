@@ -4,9 +4,10 @@ use Rattle.std.specs.Prelude.{Option, Some, None, if◌then◌else◌, ◌==◌}
 use Rattle.vl_base.specs.Display.{Format, format_of, lower_case}
 use Rattle.vl_design.specs.Syntax.{Exp, Piece, Literal, Shown}
 use Rattle.vl_design.specs.Formats.{Arg, Null, Str, Value, FormatPosition, InText, Percent, PercentZero, operand, with_text, behind_item, with_item, format_pieces, taken, pieces_from}
-use Rattle.vl_turns.specs.Limits.{Counted, exp_count, pieces_count}
-use Rattle.vl_limits.specs.Displays.{CountsShown, items_in, operands_by, shown_by, shown_count}
-use Rattle.vl_limits.proofs.Pieces.{taken-text, behind-none}
+use Rattle.vl_loops.specs.Limits.{Counted, exp_count, pieces_count}
+use Rattle.vl_design.specs.Formats.{items_in}
+use Rattle.vl_limits.specs.Displays.{CountsShown, operands_by, shown_by, shown_count}
+use Rattle.vl_design.proofs.Pieces.{taken-text, behind-none}
 
 -- how many pieces take depends neither on what there is to take nor on the path, and they count what those arguments count
 pub record Shows (each : Exp → ℕ) (all : List Piece → ℕ) (ps qs : List Piece) (args : List Arg) : Type 0 where

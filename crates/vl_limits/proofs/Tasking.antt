@@ -18,7 +18,7 @@ use Rattle.vl_design.specs.Trees.{arg_of}
 use Rattle.vl_design.proofs.TreeLemmas.{args-map}
 use Rattle.vl_design.specs.Seen as seen
 use Rattle.vl_design.specs.Syntax.{Exp, Sig, Task, Print, Finish, Fgetc, Feof, Fclose}
-use Rattle.vl_turns.specs.Limits.{Counted, task_count, call_count}
+use Rattle.vl_loops.specs.Limits.{Counted, task_count, call_count}
 use Rattle.vl_limits.specs.declared.tasks.Kind.{Kind}
 use Rattle.vl_limits.specs.declared.tasks.Kind.TheVariants as k
 use Rattle.vl_limits.specs.Tasks.{is_signal, is_value, kind_by, kind_task, CountsTaken}

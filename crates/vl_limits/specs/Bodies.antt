@@ -9,8 +9,8 @@ use Rattle.vl_design.specs.Plainly as plain
 use Rattle.vl_design.specs.Rows.{row_of}
 use Rattle.vl_design.specs.Seen.{stm_of}
 use Rattle.vl_design.specs.Syntax.{Row}
-use Rattle.vl_turns.specs.Limits.{Counted, statements, nodes, most_statements, most_nodes, stm_count, body_within, process_count}
-use Rattle.vl_header.specs.Rooms.{state_of}
+use Rattle.vl_loops.specs.Limits.{Counted, statements, nodes, most_statements, most_nodes, stm_count, body_within, process_count}
+use Rattle.vl_loops.specs.Rooms.{state_of}
 
 -- a 0 for each signal and each local
 abbrev pub zeros_in : List Signal → List Signal → List ℕ

@@ -3,7 +3,7 @@ use Rattle.std.specs.Prelude.{List, [], ◌∷◌, slice_index}
 use Rattle.vl_design.specs.declared.design.Target.{Target}
 use Rattle.vl_design.specs.Syntax.{Targets, NoTargets, MoreTargets}
 use Rattle.vl_design.specs.Trees.{target_of}
-use Rattle.vl_turns.specs.Limits.{Counted}
+use Rattle.vl_loops.specs.Limits.{Counted}
 use Rattle.vl_limits.specs.declared.sums.Tally.{Tally}
 
 abbrev pub counted_of : Tally → Counted

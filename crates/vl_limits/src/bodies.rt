@@ -4,20 +4,20 @@
 ghost use Rattle.std.specs.Prelude.{◌≡◌, ◌+◌, ◌≤◌, ℕ, min, if◌then◌else◌, nat_lt, length, map, slice_index, All, IfOk, true};
 ghost use Rattle.vl_design.specs.Seen.{placed, stm_of};
 ghost use Rattle.vl_design.specs.Trees.{flat_of};
-ghost use Rattle.vl_turns.specs.Fits.{CanUnroll};
-ghost use Rattle.vl_turns.specs.Limits.{stm_count, statements, nodes};
-ghost use Rattle.vl_header.specs.Loops.{HasHeads};
-ghost use Rattle.vl_header.specs.Rooms.{rows_of, scope_of, state_of, zeros_of};
+ghost use Rattle.vl_loops.specs.Fits.{CanUnroll};
+ghost use Rattle.vl_loops.specs.Limits.{stm_count, statements, nodes};
+ghost use Rattle.vl_loops.specs.Loops.{HasHeads};
+ghost use Rattle.vl_loops.specs.Rooms.{rows_of, scope_of, state_of, zeros_of};
 ghost use Rattle.vl_limits.specs.Bodies.{func_rows, alone_count, next_statements, next_nodes, AreBodies};
 ghost use Rattle.vl_limits.specs.Tallies.{counted_of};
 
+use crate::order::call_order;
 use crate::passes::passed;
 use crate::statements::stm_sum;
 use crate::sums::Tally;
 use std::alloc::{AllocError, Global};
-use vl_call_order::order::call_order;
 use vl_design::design::{Design, Func, Signal, Stmt};
-use vl_header::room::{Room, zeros};
+use vl_loops::room::{Room, zeros};
 
 /// What counts for limit 8.
 pub(crate) fn statements_tally<'a>(bodies: &'a [u32]) -> Tally<'a>

@@ -4,14 +4,14 @@
 ghost use Rattle.std.specs.Prelude.{◌≡◌, ◌+◌, ◌∷◌, [], ◌*◌, min, map, List};
 ghost use Rattle.vl_design.specs.Formats.{Arg, operand, pieces_from};
 ghost use Rattle.vl_design.specs.Trees.{arg_of};
-ghost use Rattle.vl_turns.specs.Limits.{exp_count, pieces_count};
+ghost use Rattle.vl_loops.specs.Limits.{exp_count, pieces_count};
 ghost use Rattle.vl_limits.specs.Displays.{shown_count};
 ghost use Rattle.vl_limits.specs.Tallies.{counted_of};
 
 use crate::expressions::exp_sum;
-use crate::formats::items_in;
 use crate::sums::{Tally, plus};
 use vl_design::design::SysArg;
+use vl_design::formats::items_in;
 
 /// A sum, and how many of the next arguments are taken by items.
 #[derive(Clone, Copy)]

@@ -2,7 +2,7 @@
 
 ghost use Rattle.std.specs.Prelude.{◌≡◌, ◌+◌, min};
 ghost use Rattle.vl_design.specs.Trees.{exp_of, exps_of, target_of};
-ghost use Rattle.vl_turns.specs.Limits.{exp_count, exps_count, target_count, targets_count};
+ghost use Rattle.vl_loops.specs.Limits.{exp_count, exps_count, target_count, targets_count};
 ghost use Rattle.vl_limits.specs.Tallies.{counted_of, targets_of};
 
 use crate::sums::{Tally, body_at, plus};

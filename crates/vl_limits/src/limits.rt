@@ -4,9 +4,9 @@ ghost use Rattle.std.specs.Prelude.{◌≡◌, ◌++◌, [], length, map, IfOk};
 ghost use Rattle.vl_design.specs.Rows.{row_of};
 ghost use Rattle.vl_design.specs.Seen.{placed, process_of, stm_of};
 ghost use Rattle.vl_design.specs.Trees.{flat_of};
-ghost use Rattle.vl_turns.specs.Fits.{CanUnroll};
-ghost use Rattle.vl_turns.specs.Limits as spec;
-ghost use Rattle.vl_header.specs.Loops.{HasHeads};
+ghost use Rattle.vl_loops.specs.Fits.{CanUnroll};
+ghost use Rattle.vl_loops.specs.Limits as spec;
+ghost use Rattle.vl_loops.specs.Loops.{HasHeads};
 ghost use Rattle.vl_limits.specs.Bodies.{AreBodies, AreAdded};
 
 use crate::bodies::{Bodies, bodies_of, body_sum, nodes_tally, statements_tally};
@@ -15,7 +15,7 @@ use std::alloc::{AllocError, Global};
 use vl_base::place::Place;
 use vl_design::design::{Design, Process};
 use vl_design::stop::Stop;
-use vl_header::room::Room;
+use vl_loops::room::Room;
 
 /// Sums of statements and of nodes.
 #[derive(Clone, Copy)]

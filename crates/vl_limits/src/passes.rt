@@ -2,13 +2,13 @@
 
 ghost use Rattle.std.specs.Prelude.{◌≡◌, ◌≤◌, ℕ, suc, length, map, slice_index, All, IfOk, OnOk};
 ghost use Rattle.vl_design.specs.Seen.{stm_of};
-ghost use Rattle.vl_header.specs.Loops.{HasHeads};
+ghost use Rattle.vl_loops.specs.Loops.{HasHeads};
 ghost use Rattle.vl_limits.specs.Bodies.{func_rows, next_statements, next_nodes, rounds, AtMost};
 
 use crate::bodies::{Bodies, func_sum, guarded_sum, nodes_tally, statements_tally};
+use crate::order::number_at;
 use crate::sums::entry;
 use std::alloc::{AllocError, Global};
-use vl_call_order::order::number_at;
 use vl_design::design::{Func, Signal};
 
 /// The statements of a function come into its place of the table.

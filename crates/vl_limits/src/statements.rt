@@ -3,9 +3,9 @@
 ghost use Rattle.std.specs.Prelude.{◌≡◌, ◌<◌, ◌+◌, ◌*◌, min, if◌then◌else◌, nat_lt, length, slice_set, sum_by, All, IfOk, OnOk};
 ghost use Rattle.vl_design.specs.Exec.{most_turns};
 ghost use Rattle.vl_design.specs.Seen.{stm_of, stms_of};
-ghost use Rattle.vl_turns.specs.Limits.{else_count, items_count, stm_count, stms_count};
-ghost use Rattle.vl_header.specs.Loops.{HasHeads, HaveHeads, ItemsHaveHeads};
-ghost use Rattle.vl_header.specs.Rooms.{rows_of, scope_of, state_of, AreNumbers};
+ghost use Rattle.vl_loops.specs.Limits.{else_count, items_count, stm_count, stms_count};
+ghost use Rattle.vl_loops.specs.Loops.{HasHeads, HaveHeads, ItemsHaveHeads};
+ghost use Rattle.vl_loops.specs.Rooms.{rows_of, scope_of, state_of, AreNumbers};
 ghost use Rattle.vl_limits.specs.Tallies.{counted_of};
 ghost use Rattle.vl_limits.specs.Walks.{is_missing, item, items_of};
 
@@ -15,8 +15,8 @@ use crate::tasks::{task_sum, whole_sum};
 use std::alloc::{AllocError, Global};
 use vl_base::place::Place;
 use vl_design::design::{CaseItem, Stmt, StmtNode};
-use vl_header::header::turns_of;
-use vl_header::room::Room;
+use vl_loops::header::turns_of;
+use vl_loops::room::Room;
 
 /// A null statement at the place of its `if` stands for an `else` that isn't there.
 fn is_missing(at: Place, a: &Stmt) -> bool

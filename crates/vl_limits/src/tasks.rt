@@ -1,7 +1,6 @@
 //! What system calls count: their arguments (IEEE 1364-2005, clause 17).
 
 ghost use Rattle.std.specs.Prelude.{◌≡◌, ◌+◌, ◌≤◌, ◌∷◌, [], min, map, List};
-ghost use Rattle.std.specs.Str.{bytes_eq};
 ghost use Rattle.vl_design.specs.Calls.{finish_of, save_of, fread_of, read_hex_of, file_of, task_of};
 ghost use Rattle.vl_design.specs.Formats.{Arg};
 ghost use Rattle.vl_design.specs.Placed.{Un};
@@ -9,7 +8,7 @@ ghost use Rattle.vl_design.specs.Plainly.{args};
 ghost use Rattle.vl_design.specs.Seen as seen;
 ghost use Rattle.vl_design.specs.Syntax.{Fgetc};
 ghost use Rattle.vl_design.specs.Trees.{arg_of, exp_of};
-ghost use Rattle.vl_turns.specs.Limits.{exps_count, task_count, call_count, whole_count};
+ghost use Rattle.vl_loops.specs.Limits.{exps_count, task_count, call_count, whole_count};
 ghost use Rattle.vl_limits.specs.Tallies.{counted_of};
 ghost use Rattle.vl_limits.specs.Tasks.{is_signal, is_text, is_value, kind_by, kind_task, other_kind};
 
@@ -17,6 +16,7 @@ use crate::displays::display_sum;
 use crate::expressions::exp_sum;
 use crate::sums::{Tally, plus};
 use vl_base::bits::UnOp;
+use vl_base::text::is_word;
 use vl_design::design::{Expr, ExprNode, SysArg, SysCall};
 
 /// How a system call takes its arguments.
@@ -36,13 +36,6 @@ pub enum Kind {
     Loads,
     /// It takes none.
     Unknown,
-}
-
-/// The name is this one.
-fn is_word(name: &[u8], word: &[u8]) -> bool
-    ensures { result ≡ bytes_eq name.now word.now }
-{
-    name == word
 }
 
 /// How a system call of this name takes its arguments, where it shows none.

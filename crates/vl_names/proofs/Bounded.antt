@@ -7,24 +7,8 @@ use Rattle.vl_scope.specs.Faults.{In}
 use Rattle.vl_scope.proofs.Members.{list_any-In, list_any-In_cases, list_any-none}
 use Rattle.vl_names.specs.Modules.{Leads, along, on}
 use Rattle.vl_names.specs.Walks.{IsStep, leads_within, is_cyclic}
-
-or-right : (a b : Bool) → b ≡ true → (a || b) ≡ true
-or-right true b h = refl
-or-right false b h = h
-
-or-left : (a b : Bool) → a ≡ true → (a || b) ≡ true
-or-left true b h = refl
-or-left false b h = absurd cc
-
-or_cases : (a b : Bool) → (a || b) ≡ true → (a ≡ true) ⊎ (b ≡ true)
-or_cases true b e = inl refl
-or_cases false b e = inr e
-
-equal : (a b : ℕ) → nat_eq a b ≡ true → a ≡ b
-equal a b h = grind (arith, nat_tests)
-
-equal-self : (a : ℕ) → nat_eq a a ≡ true
-equal-self a = grind (arith, nat_tests)
+use Rattle.vl_scope.specs.vl_base.proofs.Booleans.{or_right_true as or-right, or_left_true as or-left, or_cases, same_by_both as same_bool}
+use Rattle.vl_scope.specs.vl_base.proofs.Numbers.{equal-too as equal, nat_eq_self as equal-self}
 
 -- the numbers below n
 abbrev nodes : ℕ → List ℕ
@@ -174,11 +158,6 @@ cyclic-not graph k h = by (is_cyclic graph k) (λ e. h ((cyclic-law graph k).0 e
     by : (t : Bool) → (t ≡ true → ⊥) → false ≡ t
     by true f = absurd (f refl)
     by false f = refl
-
-same_bool : (a b : Bool) → (a ≡ true → b ≡ true) → (b ≡ true → a ≡ true) → a ≡ b
-same_bool true b f g = sym (f refl)
-same_bool false true f g = g refl
-same_bool false false f g = refl
 
 -- what says whether a path leads back
 pub cyclic-is : (graph : List (List ℕ)) (k : ℕ) (t : Bool) → (t ≡ true) ↔ Leads (IsStep graph) k k → t ≡ is_cyclic graph k

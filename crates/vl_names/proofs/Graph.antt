@@ -5,18 +5,18 @@ use Rattle.std.specs.List.{position}
 use Rattle.std.proofs.lemmas.List.{length-map}
 use Rattle.std.specs.Option.{option_to_list, option_map_or}
 use Rattle.std.proofs.lemmas.List.Quantifiers.{position-Some}
-use Rattle.vl_source.specs.declared.tree.Source.{Source}
-use Rattle.vl_source.specs.declared.tree.Module.{Module}
-use Rattle.vl_source.specs.declared.tree.Instance.{Instance}
-use Rattle.vl_source.specs.declared.tree.Connection.{Connection}
-use Rattle.vl_grammar.specs.declared.tree.Identifier.{Identifier}
+use Rattle.vl_scope.specs.vl_tree.specs.declared.source_tree.Source.{Source}
+use Rattle.vl_scope.specs.vl_tree.specs.declared.source_tree.Module.{Module}
+use Rattle.vl_scope.specs.vl_tree.specs.declared.source_tree.Instance.{Instance}
+use Rattle.vl_scope.specs.vl_tree.specs.declared.source_tree.Connection.{Connection}
+use Rattle.vl_scope.specs.vl_tree.specs.declared.tree.Identifier.{Identifier}
 use Rattle.vl_scope.specs.declared.fault.Fault.{Fault}
 use Rattle.vl_scope.specs.DeclarationFaults.{names_have}
 use Rattle.vl_scope.specs.Faults.{In}
 use Rattle.vl_scope.proofs.Members.{In-flat_map, In-flat_map_cases}
 use Rattle.vl_names.specs.declared.interface.Listed.{Listed}
 use Rattle.vl_names.specs.declared.interface.Interface.{Interface}
-use Rattle.vl_source.specs.Hierarchy.{ports, overridable, instances, module_number, steps_of, graph_of}
+use Rattle.vl_scope.specs.vl_tree.specs.Hierarchy.{ports, overridable, instances, module_number, steps_of, graph_of}
 use Rattle.vl_names.specs.Modules.{Instantiates, Leads, along, on}
 use Rattle.vl_names.specs.Connections.{connection_faults}
 use Rattle.vl_names.specs.HierarchyFaults.{faults_of, faults_by, instance_faults}

@@ -4,20 +4,20 @@ use Rattle.std.specs.List.{list_any, list_all}
 use Rattle.std.specs.Option.{option_map_or}
 use Rattle.std.specs.Str.{bytes_eq}
 use Rattle.std.proofs.lemmas.Bool.Decides.{nat_tests}
-use Rattle.vl_base.specs.declared.place.Place.{Place}
-use Rattle.vl_grammar.specs.declared.tree.Identifier.{Identifier}
-use Rattle.vl_grammar.specs.declared.tree.Expression.{Expression}
-use Rattle.vl_source.specs.declared.tree.Source.{Source}
-use Rattle.vl_source.specs.declared.tree.Module.{Module}
-use Rattle.vl_source.specs.declared.tree.Instance.{Instance}
-use Rattle.vl_source.specs.declared.tree.NamedInstance.{NamedInstance}
-use Rattle.vl_source.specs.declared.tree.Connection.{Connection}
-use Rattle.vl_source.specs.declared.tree.Connection.TheVariants.{Ordered, Named}
+use Rattle.vl_scope.specs.vl_base.specs.declared.place.Place.{Place}
+use Rattle.vl_scope.specs.vl_tree.specs.declared.tree.Identifier.{Identifier}
+use Rattle.vl_scope.specs.vl_tree.specs.declared.tree.Expression.{Expression}
+use Rattle.vl_scope.specs.vl_tree.specs.declared.source_tree.Source.{Source}
+use Rattle.vl_scope.specs.vl_tree.specs.declared.source_tree.Module.{Module}
+use Rattle.vl_scope.specs.vl_tree.specs.declared.source_tree.Instance.{Instance}
+use Rattle.vl_scope.specs.vl_tree.specs.declared.source_tree.NamedInstance.{NamedInstance}
+use Rattle.vl_scope.specs.vl_tree.specs.declared.source_tree.Connection.{Connection}
+use Rattle.vl_scope.specs.vl_tree.specs.declared.source_tree.Connection.TheVariants.{Ordered, Named}
 use Rattle.vl_scope.specs.declared.fault.Fault.{Fault}
 use Rattle.vl_scope.specs.DeclarationFaults.{names_have}
 use Rattle.vl_scope.specs.Faults.{at, In, each_after}
 use Rattle.vl_scope.proofs.Members.{In-append_left, In-append_right, In-append_cases, In-split, In-middle, In-flat_map, In-flat_map_cases, In-fault_if, In-fault_if_cases, In-each_after, In-each_after_cases}
-use Rattle.vl_source.specs.Hierarchy.{ports, overridable, instances, module_number, graph_of, is_top, first_top}
+use Rattle.vl_scope.specs.vl_tree.specs.Hierarchy.{ports, overridable, instances, module_number, graph_of, is_top, first_top}
 use Rattle.vl_names.specs.Modules.{all_instances, has_one_input}
 use Rattle.vl_names.specs.Walks.{is_cyclic}
 use Rattle.vl_names.proofs.Graph.{itself-law}
@@ -25,20 +25,10 @@ use Rattle.vl_names.specs.Connections as c
 use Rattle.vl_names.specs.Connections.{IsConnectionFault, unknown, given_twice, past, mixed}
 use Rattle.vl_names.specs.HierarchyFaults as h
 use Rattle.vl_names.specs.HierarchyFaults.{IsHierarchyFault, absent, defined_twice, contains_itself, no_top, second_top, top_ports, override, connection, IsOf, hierarchy_faults}
+use Rattle.vl_scope.specs.vl_base.proofs.Booleans.{and_parts, or_true_right as or-true, or_cases}
+use Rattle.vl_scope.specs.vl_base.proofs.Numbers.{equal-too as equal, nat_eq_self as equal-self}
 
 -- ---- tests
-
-or-true : (b : Bool) → (b || true) ≡ true
-or-true true = refl
-or-true false = refl
-
-or_cases : (a b : Bool) → (a || b) ≡ true → (a ≡ true) ⊎ (b ≡ true)
-or_cases true b e = inl refl
-or_cases false b e = inr e
-
-and_parts : (a b : Bool) → (a && b) ≡ true → (a ≡ true) × (b ≡ true)
-and_parts true b e = (refl, e)
-and_parts false b e = absurd cc
 
 not-true : (b : Bool) → not b ≡ true → b ≡ false
 not-true true e = absurd cc
@@ -177,12 +167,6 @@ top_at s i m here top wrong =
     (In-each_after fault (at m.name.place 6) [] r.0 m r.1
     (In-fault_if (is_top (graph_of s) (length r.0) && (not (h.is_number (first_top (graph_of s)) (length r.0)) || not (has_one_input m))) m.name.place 6
     (ap (λ k. is_top (graph_of s) k && (not (h.is_number (first_top (graph_of s)) k) || not (has_one_input m))) r.3 ∙ rw (top, wrong) refl)))))
-
-equal : (a b : ℕ) → nat_eq a b ≡ true → a ≡ b
-equal a b e = grind (arith, nat_tests)
-
-equal-self : (a : ℕ) → nat_eq a a ≡ true
-equal-self a = grind (arith, nat_tests)
 
 other_number : (o : Option ℕ) (i : ℕ) → (o ≡ Some i → ⊥) → h.is_number o i ≡ false
 other_number None i other = refl

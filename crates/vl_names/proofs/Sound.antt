@@ -1,12 +1,12 @@
 -- What a source without faults has.
 use Rattle.std.proofs.Common.{◌≡◌, ℕ, Option, Some, None, get_or, refl}
 use Rattle.std.proofs.lemmas.Option.{slice_get-get_or}
-use Rattle.vl_source.specs.declared.tree.Source.{Source}
-use Rattle.vl_source.specs.declared.tree.Module.{Module}
-use Rattle.vl_source.specs.declared.tree.Instance.{Instance}
+use Rattle.vl_scope.specs.vl_tree.specs.declared.source_tree.Source.{Source}
+use Rattle.vl_scope.specs.vl_tree.specs.declared.source_tree.Module.{Module}
+use Rattle.vl_scope.specs.vl_tree.specs.declared.source_tree.Instance.{Instance}
 use Rattle.vl_scope.specs.declared.fault.Fault.{Fault}
 use Rattle.vl_scope.specs.Faults.{at, In}
-use Rattle.vl_source.specs.Hierarchy.{instances, module_number}
+use Rattle.vl_scope.specs.vl_tree.specs.Hierarchy.{instances, module_number}
 use Rattle.vl_names.specs.Modules.{Instantiates, Leads, along, on}
 use Rattle.vl_names.specs.HierarchyFaults.{IsOf, absent, contains_itself}
 use Rattle.vl_names.specs.NameFaults.{IsNameFault, of_modules}

@@ -12,9 +12,9 @@ use Rattle.std.proofs.lemmas.Grind.{common_steps}
 use Rattle.indexmap.specs.IndexMap.{IndexMap, UpdatesBy}
 use Rattle.std.proofs.Common.{arith}
 use Rattle.std.specs.Map.{lookup}
-use Rattle.vl_grammar.specs.declared.tree.Identifier.{Identifier}
-use Rattle.vl_source.specs.declared.tree.Instance.{Instance}
-use Rattle.vl_source.specs.declared.tree.Module.{Module}
+use Rattle.vl_scope.specs.vl_tree.specs.declared.tree.Identifier.{Identifier}
+use Rattle.vl_scope.specs.vl_tree.specs.declared.source_tree.Instance.{Instance}
+use Rattle.vl_scope.specs.vl_tree.specs.declared.source_tree.Module.{Module}
 use Rattle.vl_scope.specs.DeclarationFaults.{names_have}
 use Rattle.vl_names.specs.declared.interface.Interface.{Interface}
 use Rattle.vl_scope.proofs.Members.{each_after-push}
@@ -24,6 +24,8 @@ use Rattle.vl_scope.specs.Faults.{earliest, fault_if, each_after}
 use Rattle.vl_scope.proofs.Orders.{earliest-append}
 use Rattle.vl_names.specs.HierarchyFaults.{repeated_fault}
 use Rattle.vl_names.specs.Seen.{has, look, with_name, none, number_in, with_number, faults_in, faults_at, faults_by_number, Describes, DescribeAll}
+pub use Rattle.vl_scope.specs.vl_base.proofs.Booleans.{or_false_right as or-false}
+use Rattle.vl_scope.specs.vl_base.proofs.Booleans.{or_assoc_back as or-assoc}
 
 either : {A : Type 0} (b : Bool) (w : A) (o : Option A) → is_some (cond b (Some w) o) ≡ (is_some o || b)
 either true w None = refl
@@ -40,14 +42,6 @@ has-insert m n bs w u = λ i t. (ap is_some (hash_map_updates_str bs m n (Some w
 pub has-empty : {X S : Type 0} (m : IndexMap (Bor (List ℕ)) X S) → m.entries ≡ [] → has m ≡ none
 unfolding has look
 has-empty m e = λ i t. ap (λ es. is_some (lookup (λ k. bytes_eq t k.now) es)) e i
-
-pub or-false : (b : Bool) → (b || false) ≡ b
-or-false true = refl
-or-false false = refl
-
-or-assoc : (a b c : Bool) → (a || (b || c)) ≡ ((a || b) || c)
-or-assoc true b c = refl
-or-assoc false b c = refl
 
 pub list_any-append : {X : Type 0} (p : X → Bool) (xs ys : List X) → list_any p (xs ++ ys) ≡ (list_any p xs || list_any p ys)
 list_any-append p [] ys = refl
@@ -148,10 +142,6 @@ numbered-turn faults ms i m first old new h e g before =
     ∙ ap (λ o. earliest o (here (take i ms) m)) before
     ∙ sym (earliest-append first (each_after here [] (take i ms)) (here (take i ms) m))
     ∙ ap (earliest first) (sym (each_after-push here [] (take i ms) m) ∙ ap (each_after here []) (sym (next_of ms i m h e)))
-
--- one more element of which a test is made
-pub any-turn : {X : Type 0} (p : X → Bool) (xs : List X) (i : ℕ) (x : X) → i < length xs → x ≡ get_or xs i x → list_any p (take (i + 1) xs) ≡ (list_any p (take i xs) || p x)
-any-turn p xs i x h e = ap (list_any p) (next_of xs i x h e) ∙ list_any-append p (take i xs) (x ∷ []) ∙ ap (λ b. list_any p (take i xs) || b) (or-false (p x))
 
 -- ---- what instances may be given
 

@@ -4,13 +4,11 @@ use Rattle.std.specs.List.{list_any}
 use Rattle.std.proofs.lemmas.Bool.{cases_lt}
 use Rattle.std.proofs.lemmas.Bool.Decides.{nat_tests}
 use Rattle.std.proofs.lemmas.Grind.{common_steps}
-use Rattle.vl_source.specs.Hierarchy.{first_from, is_top}
+use Rattle.vl_scope.specs.vl_tree.specs.Hierarchy.{first_from, is_top}
 use Rattle.vl_scope.specs.Faults.{In}
 use Rattle.vl_scope.proofs.Members.{list_any-In_cases}
 use Rattle.vl_names.specs.Walks.{IsStep, IsWithin, is_unmarked}
-
-equal : (a b : ℕ) → nat_eq a b ≡ true → a ≡ b
-equal a b h = grind (arith, nat_tests)
+use Rattle.vl_scope.specs.vl_base.proofs.Numbers.{equal-too as equal}
 
 -- a list in a graph stands at a number
 stands_at : (graph : List (List ℕ)) (steps : List ℕ) → In steps graph → (a : ℕ) × (get_or graph a [] ≡ steps)

@@ -1,6 +1,6 @@
 -- The first fault of the names.
 use Rattle.std.proofs.Common.{◌≡◌, ◌⊎◌, inl, inr, ⊎_elim, Option, None, Result, Ok, Err, IfOk}
-use Rattle.vl_source.specs.declared.tree.Source.{Source}
+use Rattle.vl_scope.specs.vl_tree.specs.declared.source_tree.Source.{Source}
 use Rattle.vl_scope.specs.declared.fault.Fault.{Fault}
 use Rattle.vl_scope.specs.Faults.{earliest, IsFirst}
 use Rattle.vl_scope.specs.DeclarationFaults.{IsDeclarationFault, declaration_faults}

@@ -2,11 +2,11 @@
 -- 12.2.2, 12.3.5 and 12.3.6).
 use Rattle.std.specs.Prelude.{◌≡◌, ℕ, ◌≤◌, Bool, true, false, not, ◌||◌, nat_le, if◌then◌else◌, List, [], ◌∷◌, ◌++◌, length, flat_map, Option, None}
 use Rattle.std.specs.List.{list_all}
-use Rattle.vl_base.specs.declared.place.Place.{Place}
-use Rattle.vl_grammar.specs.declared.tree.Identifier.{Identifier}
-use Rattle.vl_grammar.specs.declared.tree.Expression.{Expression}
-use Rattle.vl_source.specs.declared.tree.Connection.{Connection}
-use Rattle.vl_source.specs.declared.tree.Connection.TheVariants.{Ordered, Named}
+use Rattle.vl_scope.specs.vl_base.specs.declared.place.Place.{Place}
+use Rattle.vl_scope.specs.vl_tree.specs.declared.tree.Identifier.{Identifier}
+use Rattle.vl_scope.specs.vl_tree.specs.declared.tree.Expression.{Expression}
+use Rattle.vl_scope.specs.vl_tree.specs.declared.source_tree.Connection.{Connection}
+use Rattle.vl_scope.specs.vl_tree.specs.declared.source_tree.Connection.TheVariants.{Ordered, Named}
 use Rattle.vl_scope.specs.declared.fault.Fault.{Fault}
 use Rattle.vl_scope.specs.DeclarationFaults.{names_have}
 use Rattle.vl_scope.specs.Faults.{at, In, fault_if, each_after}

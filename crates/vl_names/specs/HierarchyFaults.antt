@@ -3,15 +3,15 @@ use Rattle.std.specs.Prelude.{◌≡◌, ℕ, Bool, true, false, not, ◌&&◌, 
 use Rattle.std.specs.List.{list_any}
 use Rattle.std.specs.Option.{option_map_or}
 use Rattle.std.specs.Str.{bytes_eq}
-use Rattle.vl_source.specs.declared.tree.Source.{Source}
-use Rattle.vl_source.specs.declared.tree.Module.{Module}
-use Rattle.vl_source.specs.declared.tree.Instance.{Instance}
-use Rattle.vl_source.specs.declared.tree.NamedInstance.{NamedInstance}
-use Rattle.vl_source.specs.declared.tree.Connection.{Connection}
+use Rattle.vl_scope.specs.vl_tree.specs.declared.source_tree.Source.{Source}
+use Rattle.vl_scope.specs.vl_tree.specs.declared.source_tree.Module.{Module}
+use Rattle.vl_scope.specs.vl_tree.specs.declared.source_tree.Instance.{Instance}
+use Rattle.vl_scope.specs.vl_tree.specs.declared.source_tree.NamedInstance.{NamedInstance}
+use Rattle.vl_scope.specs.vl_tree.specs.declared.source_tree.Connection.{Connection}
 use Rattle.vl_scope.specs.declared.fault.Fault.{Fault}
 use Rattle.vl_scope.specs.DeclarationFaults.{names_have}
 use Rattle.vl_scope.specs.Faults.{at, In, fault_if, each_after}
-use Rattle.vl_source.specs.Hierarchy.{instances, module_number, graph_of, is_top, first_top, ports, overridable}
+use Rattle.vl_scope.specs.vl_tree.specs.Hierarchy.{instances, module_number, graph_of, is_top, first_top, ports, overridable}
 use Rattle.vl_names.specs.Modules.{all_instances, Instantiates, Leads, has_one_input}
 use Rattle.vl_names.specs.Walks.{is_cyclic}
 use Rattle.vl_names.specs.Connections.{IsConnectionFault, connection_faults}

@@ -4,3 +4,5 @@ pub mod HierarchyFaults
 pub mod NameFaults
 pub mod Seen
 pub mod Walks
+pub use Rattle.vl_scope as vl_scope
+pub use Rattle.vl_uses as vl_uses

@@ -1,18 +1,18 @@
 -- The modules of a source: which instantiate which, and what the ports of a top are (IEEE 1364-2005, clause 12).
 use Rattle.std.specs.Prelude.{◌≡◌, ℕ, Bool, false, if◌then◌else◌, List, [], ◌∷◌, ◌++◌, flat_map, slice_get, Option, Some, None}
-use Rattle.vl_grammar.specs.declared.tree.Identifier.{Identifier}
-use Rattle.vl_source.specs.declared.tree.Source.{Source}
-use Rattle.vl_source.specs.declared.tree.Module.{Module}
-use Rattle.vl_source.specs.declared.tree.Ports.{Ports}
-use Rattle.vl_source.specs.declared.tree.Ports.TheVariants as p
-use Rattle.vl_source.specs.declared.tree.PortDeclaration.{PortDeclaration}
-use Rattle.vl_source.specs.declared.tree.PortDeclaration.TheVariants as d
-use Rattle.vl_source.specs.declared.tree.Direction.{Direction}
-use Rattle.vl_source.specs.declared.tree.Direction.TheVariants.{Output}
-use Rattle.vl_source.specs.declared.tree.Item.{Item}
-use Rattle.vl_source.specs.declared.tree.Item.TheVariants as i
-use Rattle.vl_source.specs.declared.tree.Instance.{Instance}
-use Rattle.vl_source.specs.Hierarchy.{instances, module_number, declared_names, ports}
+use Rattle.vl_scope.specs.vl_tree.specs.declared.tree.Identifier.{Identifier}
+use Rattle.vl_scope.specs.vl_tree.specs.declared.source_tree.Source.{Source}
+use Rattle.vl_scope.specs.vl_tree.specs.declared.source_tree.Module.{Module}
+use Rattle.vl_scope.specs.vl_tree.specs.declared.source_tree.Ports.{Ports}
+use Rattle.vl_scope.specs.vl_tree.specs.declared.source_tree.Ports.TheVariants as p
+use Rattle.vl_scope.specs.vl_tree.specs.declared.source_tree.PortDeclaration.{PortDeclaration}
+use Rattle.vl_scope.specs.vl_tree.specs.declared.source_tree.PortDeclaration.TheVariants as d
+use Rattle.vl_scope.specs.vl_tree.specs.declared.source_tree.Direction.{Direction}
+use Rattle.vl_scope.specs.vl_tree.specs.declared.source_tree.Direction.TheVariants.{Output}
+use Rattle.vl_scope.specs.vl_tree.specs.declared.source_tree.Item.{Item}
+use Rattle.vl_scope.specs.vl_tree.specs.declared.source_tree.Item.TheVariants as i
+use Rattle.vl_scope.specs.vl_tree.specs.declared.source_tree.Instance.{Instance}
+use Rattle.vl_scope.specs.vl_tree.specs.Hierarchy.{instances, module_number, declared_names, ports}
 use Rattle.vl_scope.specs.DeclarationFaults.{is_input, names_have}
 use Rattle.vl_scope.specs.Faults.{In}
 

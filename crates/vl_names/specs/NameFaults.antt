@@ -1,5 +1,5 @@
 -- The faults of the names of a source: refused constructs 1 to 9.
-use Rattle.vl_source.specs.declared.tree.Source.{Source}
+use Rattle.vl_scope.specs.vl_tree.specs.declared.source_tree.Source.{Source}
 use Rattle.vl_scope.specs.declared.fault.Fault.{Fault}
 use Rattle.vl_scope.specs.DeclarationFaults.{IsDeclarationFault}
 use Rattle.vl_uses.specs.UseFaults.{IsUseFault}

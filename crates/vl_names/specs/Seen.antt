@@ -5,16 +5,16 @@ use Rattle.std.specs.Option.{option_or, option_map_or}
 use Rattle.std.specs.Borrow.{Bor}
 use Rattle.std.specs.Str.{bytes_eq}
 use Rattle.indexmap.specs.IndexMap.{IndexMap, get_by}
-use Rattle.vl_grammar.specs.declared.tree.Identifier.{Identifier}
-use Rattle.vl_source.specs.declared.tree.Module.{Module}
-use Rattle.vl_source.specs.declared.tree.Instance.{Instance}
-use Rattle.vl_source.specs.declared.tree.Connection.{Connection}
+use Rattle.vl_scope.specs.vl_tree.specs.declared.tree.Identifier.{Identifier}
+use Rattle.vl_scope.specs.vl_tree.specs.declared.source_tree.Module.{Module}
+use Rattle.vl_scope.specs.vl_tree.specs.declared.source_tree.Instance.{Instance}
+use Rattle.vl_scope.specs.vl_tree.specs.declared.source_tree.Connection.{Connection}
 use Rattle.vl_scope.specs.declared.fault.Fault.{Fault}
 use Rattle.vl_scope.specs.DeclarationFaults.{names_have}
 use Rattle.vl_scope.specs.Faults.{at}
 use Rattle.vl_names.specs.declared.interface.Listed.{Listed}
 use Rattle.vl_names.specs.declared.interface.Interface.{Interface}
-use Rattle.vl_source.specs.Hierarchy.{ports, overridable}
+use Rattle.vl_scope.specs.vl_tree.specs.Hierarchy.{ports, overridable}
 use Rattle.vl_names.specs.Connections.{connection_faults}
 
 -- what references point to

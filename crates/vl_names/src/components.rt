@@ -5,7 +5,7 @@
 //! that, so nothing that is proved rests on how the numbers are found.
 
 use std::alloc::{AllocError, Global};
-use vl_base::items::Items;
+use vl_scope::Items;
 
 /// The state of the search.
 #[derive(Drop)]

@@ -8,10 +8,10 @@ ghost use Rattle.vl_names.specs.Seen as seen;
 use crate::interface::{Known, Listed, add};
 use indexmap::IndexMap;
 use std::alloc::{AllocError, Global};
-use vl_base::place::Place;
-use vl_grammar::tree::Identifier;
+use vl_scope::Place;
 use vl_scope::fault::{Fault, earlier};
-use vl_source::tree::Connection;
+use vl_scope::source_tree::Connection;
+use vl_scope::tree::Identifier;
 
 /// Notes construct 7 at a place.
 fn note(place: Place, best: Option<Fault>) -> Option<Fault>

@@ -5,7 +5,7 @@ ghost use Rattle.vl_scope.specs.Faults.{In};
 ghost use Rattle.vl_names.specs.Walks as spec;
 
 use std::alloc::{AllocError, Global};
-use vl_base::items::Items;
+use vl_scope::Items;
 
 /// Marks a node and puts it on the pile, unless it is marked.
 fn visit(node: usize, marks: &mut Vec<bool>, pile: &mut Vec<usize>) -> Result<(), AllocError>

@@ -1,7 +1,7 @@
 //! The faults of the modules of a source.
 
 ghost use Rattle.std.specs.Prelude.{◌≡◌, ◌<◌, length, IfOk, IfSome};
-ghost use Rattle.vl_source.specs.Hierarchy.{graph_of, module_number, first_top};
+ghost use Rattle.vl_scope.specs.vl_tree.specs.Hierarchy.{graph_of, module_number, first_top};
 ghost use Rattle.vl_scope.specs.Faults.{earliest};
 ghost use Rattle.vl_names.specs.HierarchyFaults as spec;
 ghost use Rattle.vl_names.specs.Seen as seen;
@@ -13,9 +13,9 @@ use crate::itself::note_cyclic;
 use crate::numbers::{Numbers, graph, numbers_of};
 use crate::tops::{first_of_tops, note_all_tops};
 use std::alloc::{AllocError, Global};
-use vl_base::items::Items;
+use vl_scope::Items;
 use vl_scope::fault::Fault;
-use vl_source::tree::{Module, Source};
+use vl_scope::source_tree::{Module, Source};
 
 /// Notes the faults of instances.
 fn note_given(

@@ -3,7 +3,7 @@
 ghost use Rattle.std.specs.Prelude.{◌≡◌, ◌++◌, ◌∷◌, [], flat_map, IfOk, OnOk};
 ghost use Rattle.std.specs.Option.{option_map_or};
 ghost use Rattle.vl_scope.specs.Faults.{at, earliest};
-ghost use Rattle.vl_source.specs.Hierarchy.{instances};
+ghost use Rattle.vl_scope.specs.vl_tree.specs.Hierarchy.{instances};
 ghost use Rattle.vl_names.specs.Modules.{all_instances};
 ghost use Rattle.vl_names.specs.Seen as seen;
 
@@ -11,10 +11,10 @@ use crate::connections::note_connections;
 use crate::interface::{Interface, Listed};
 use crate::numbers::Numbers;
 use std::alloc::{AllocError, Global};
-use vl_base::place::Place;
-use vl_grammar::parts::Parts;
+use vl_scope::Place;
 use vl_scope::fault::{Fault, earlier};
-use vl_source::tree::{Connection, Instance, Item, Module, NamedInstance, Source};
+use vl_scope::parts::Parts;
+use vl_scope::source_tree::{Connection, Instance, Item, Module, NamedInstance, Source};
 
 /// Adds the instances in a module.
 pub fn add_instances<'a>(all: &mut Vec<&'a Instance>, tree: &'a Module) -> Result<(), AllocError>

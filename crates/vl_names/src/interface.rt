@@ -3,17 +3,17 @@
 ghost use Rattle.std.specs.Prelude.{◌≡◌, ◌++◌, flat_map, map, IfOk, OnOk, length};
 ghost use Rattle.std.specs.Option.{option_map_or};
 ghost use Rattle.vl_scope.specs.DeclarationFaults.{names_have};
-ghost use Rattle.vl_source.specs.Hierarchy as spec;
+ghost use Rattle.vl_scope.specs.vl_tree.specs.Hierarchy as spec;
 ghost use Rattle.vl_names.specs.Seen as seen;
 
 use indexmap::IndexMap;
 use std::alloc::{AllocError, Global};
-use vl_grammar::parts::Parts;
-use vl_grammar::tree::Identifier;
-use vl_source::tree::{
+use vl_scope::parts::Parts;
+use vl_scope::source_tree::{
     DeclarationAssignment, Item, Module, ParameterAssignment, ParameterGroup, ParameterKeyword,
     PortDeclaration, Ports, Source,
 };
+use vl_scope::tree::Identifier;
 
 /// Names, by their spelling.
 pub type Known<'a> = IndexMap<&'a [u8], usize>;

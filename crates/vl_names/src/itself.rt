@@ -8,9 +8,9 @@ ghost use Rattle.vl_names.specs.Walks as spec;
 use crate::components::components;
 use crate::cycle::leads_back;
 use std::alloc::{AllocError, Global};
-use vl_base::items::Items;
+use vl_scope::Items;
 use vl_scope::fault::{Fault, earlier};
-use vl_source::tree::Module;
+use vl_scope::source_tree::Module;
 
 /// The number that a node has, or 0.
 fn rank(ranks: &[usize], node: usize) -> usize

@@ -1,10 +1,10 @@
 //! Laws of the definitions: what their readers may count on. Each function does nothing; its contract is the law.
 
 ghost use Rattle.std.specs.Prelude.{◌≡◌, ◌↔◌, ℕ, Option};
-ghost use Rattle.vl_source.specs.declared.tree.Instance.{Instance};
-ghost use Rattle.vl_source.specs.declared.tree.Module.{Module};
-ghost use Rattle.vl_source.specs.declared.tree.Source.{Source};
-ghost use Rattle.vl_source.specs.Hierarchy.{instances};
+ghost use Rattle.vl_scope.specs.vl_tree.specs.declared.source_tree.Instance.{Instance};
+ghost use Rattle.vl_scope.specs.vl_tree.specs.declared.source_tree.Module.{Module};
+ghost use Rattle.vl_scope.specs.vl_tree.specs.declared.source_tree.Source.{Source};
+ghost use Rattle.vl_scope.specs.vl_tree.specs.Hierarchy.{instances};
 ghost use Rattle.vl_names.specs.Modules.{Instantiates, Leads};
 ghost use Rattle.vl_scope.specs.declared.fault.Fault.{Fault};
 ghost use Rattle.vl_scope.specs.Faults.{In, IsFirst};

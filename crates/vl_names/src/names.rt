@@ -1,7 +1,7 @@
 //! The names of a source: whether one of the constructs 1 to 9 is refused.
 
 ghost use Rattle.std.specs.Prelude.{◌≡◌, ◌⊎◌, ℕ, Some, IfOk, OnOk};
-ghost use Rattle.vl_base.specs.declared.place.Place.{Place as Where};
+ghost use Rattle.vl_scope.specs.vl_base.specs.declared.place.Place.{Place as Where};
 ghost use Rattle.vl_scope.specs.declared.fault.Fault.{Fault as AFault};
 ghost use Rattle.vl_scope.specs.Faults.{IsFirst, at};
 ghost use Rattle.vl_names.specs.NameFaults.{IsNameFault};
@@ -9,10 +9,10 @@ ghost use Rattle.vl_names.specs.declared.names.NamesFault.TheVariants as fault;
 
 use crate::hierarchy::first_hierarchy_fault;
 use std::alloc::{AllocError, Global};
-use vl_base::place::Place;
+use vl_scope::Place;
 use vl_scope::fault::Fault;
 use vl_scope::faults::first_declaration_fault;
-use vl_source::tree::Source;
+use vl_scope::source_tree::Source;
 use vl_uses::faults::first_use_fault;
 
 /// Why the names of a source don't pass.

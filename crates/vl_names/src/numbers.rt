@@ -4,15 +4,15 @@ ghost use Rattle.std.specs.Prelude.{◌≡◌, ◌++◌, [], is_some, map, flat_
 ghost use Rattle.std.specs.Option.{option_to_list};
 ghost use Rattle.vl_scope.specs.Faults.{earliest, fault_if, each_after};
 ghost use Rattle.vl_names.specs.HierarchyFaults.{repeated_fault};
-ghost use Rattle.vl_source.specs.Hierarchy as spec;
+ghost use Rattle.vl_scope.specs.vl_tree.specs.Hierarchy as spec;
 ghost use Rattle.vl_names.specs.Seen as seen;
 
 use crate::instances::add_instances;
 use indexmap::IndexMap;
 use std::alloc::{AllocError, Global};
-use vl_base::items::Items;
+use vl_scope::Items;
 use vl_scope::fault::{Fault, earlier};
-use vl_source::tree::{Instance, Module, Source};
+use vl_scope::source_tree::{Instance, Module, Source};
 
 /// The number of the first module of each name.
 pub type Numbers<'a> = IndexMap<&'a [u8], usize>;

@@ -2,8 +2,8 @@
 
 ghost use Rattle.std.specs.Prelude.{◌≡◌, ◌<◌, ◌++◌, ℕ, nat_eq, [], ◌||◌, ◌&&◌, not, false, length, slice_index_or, IfOk, IfSome, OnOk};
 ghost use Rattle.std.specs.List.{list_any};
-ghost use Rattle.vl_source.specs.Hierarchy.{first_from, first_top};
-ghost use Rattle.vl_source.specs.Hierarchy.{is_top as is_top_lem};
+ghost use Rattle.vl_scope.specs.vl_tree.specs.Hierarchy.{first_from, first_top};
+ghost use Rattle.vl_scope.specs.vl_tree.specs.Hierarchy.{is_top as is_top_lem};
 ghost use Rattle.vl_scope.specs.DeclarationFaults.{is_input};
 ghost use Rattle.vl_scope.specs.Faults.{earliest, fault_if, each_after};
 ghost use Rattle.vl_names.specs.HierarchyFaults as faults;
@@ -13,10 +13,10 @@ ghost use Rattle.vl_names.specs.Walks as walk;
 
 use crate::interface::{declares, ports};
 use std::alloc::{AllocError, Global};
-use vl_base::items::Items;
-use vl_grammar::tree::Identifier;
+use vl_scope::Items;
 use vl_scope::fault::{Fault, earlier};
-use vl_source::tree::{Direction, Item, Module, PortDeclaration, Ports};
+use vl_scope::source_tree::{Direction, Item, Module, PortDeclaration, Ports};
+use vl_scope::tree::Identifier;
 
 /// Adds port declarations.
 fn add_declarations<'a>(

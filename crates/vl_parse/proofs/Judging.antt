@@ -1,20 +1,20 @@
 -- What is read of a source, said of its tokens.
 use Rattle.std.proofs.Common.{◌≡◌, ℕ, zero, suc, ◌+◌, ◌-◌, ◌<◌, ◌⊎◌, inl, inr, length, List, [], ◌∷◌, drop, Result, Ok, Err, refl, sym, ap, arith, ◌∙◌}
 use Rattle.std.specs.Result.{IfOk}
-use Rattle.vl_base.specs.declared.place.Place.{Place}
+use Rattle.vl_tree.specs.vl_base.specs.declared.place.Place.{Place}
 use Rattle.vl_tree.specs.declared.token.Token.{Token}
-use Rattle.vl_grammar.specs.Begins.{place_at}
-use Rattle.vl_pexpr.specs.declared.parse.ParseFault.{ParseFault}
-use Rattle.vl_pexpr.specs.declared.parse.ParseFault.TheVariants as f
-use Rattle.vl_source.specs.declared.tree.Source.{Source}
-use Rattle.vl_source.specs.declared.fault.Cause.{Cause}
-use Rattle.vl_source.specs.declared.fault.Cause.TheVariants as c
-use Rattle.vl_source.specs.Grammar.{ReadsSource}
-use Rattle.vl_source.specs.Faults.{IsSource, IsFirstFault, PassesLimit, limits, statement_limit, expression_limit}
-use Rattle.vl_source.specs.Parsing.{source}
+use Rattle.vl_tree.specs.Begins.{place_at}
+use Rattle.vl_pstmt.specs.vl_pexpr.specs.declared.parse.ParseFault.{ParseFault}
+use Rattle.vl_pstmt.specs.vl_pexpr.specs.declared.parse.ParseFault.TheVariants as f
+use Rattle.vl_tree.specs.declared.source_tree.Source.{Source}
+use Rattle.vl_tree.specs.declared.source_fault.Cause.{Cause}
+use Rattle.vl_tree.specs.declared.source_fault.Cause.TheVariants as c
+use Rattle.vl_tree.specs.GrammarOfSource.{ReadsSource}
+use Rattle.vl_tree.specs.FaultsOfSource.{IsSource, IsFirstFault, PassesLimit, limits, statement_limit, expression_limit}
+use Rattle.vl_tree.specs.Parsing.{source}
 use Rattle.vl_parse.specs.Parts.{fault_of}
-use Rattle.vl_source.proofs.SourceLaws.{FaultAt, stuck}
-use Rattle.vl_source.proofs.Outcomes.{read_within, read_source, read_only, accepts, refuses, passes_statements, passes_tokens}
+use Rattle.vl_tree.proofs.SourceLaws.{FaultAt, stuck}
+use Rattle.vl_tree.proofs.Outcomes.{read_within, read_source, read_only, accepts, refuses, passes_statements, passes_tokens}
 
 -- ---- places
 

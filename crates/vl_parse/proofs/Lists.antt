@@ -2,13 +2,15 @@
 use Rattle.std.specs.Prelude.{IfOk, IfSome, MatchOption}
 use Rattle.std.specs.Borrow.{Bor}
 use Rattle.std.proofs.Common.{◌≡◌, ℕ, zero, suc, ◌<◌, ◌≤◌, length, List, [], ◌∷◌, ◌++◌, Result, Ok, Err, Option, Some, None, Bool, true, false, cond, ◌||◌, codes, refl, sym, ap, arith, ◌∙◌}
-use Rattle.vl_base.specs.declared.place.Place.{Place}
+use Rattle.vl_tree.specs.vl_base.specs.declared.place.Place.{Place}
 use Rattle.vl_tree.specs.declared.token.Token.{Token}
-use Rattle.vl_grammar.specs.Reading.{next_by, is_next, mark}
-use Rattle.vl_source.specs.declared.fault.Fault.{Fault}
-use Rattle.vl_source.specs.declared.fault.Fault.TheVariants as fault
-use Rattle.vl_source.specs.Parsers.{Outcome, Parser, and_then, ◌>>=◌, pure, with_front, next_or, if_ahead, optional, list, groups, Fails}
+use Rattle.vl_tree.specs.Reading.{next_by, is_next, mark}
+use Rattle.vl_tree.specs.declared.source_fault.Fault.{Fault}
+use Rattle.vl_tree.specs.declared.source_fault.Fault.TheVariants as fault
+use Rattle.vl_tree.specs.Parsers.{Outcome, Parser, and_then, ◌>>=◌, pure, with_front, next_or, if_ahead, optional, list, groups, Fails}
 use Rattle.vl_pstmt.proofs.Passing.{fails_on, with_front_more, GoesOn, many_turn, many_end, many_fails}
+use Rattle.vl_tree.specs.vl_base.proofs.Options.{some_parts}
+pub use Rattle.vl_tree.proofs.Shared.{with_front_none as groups_open}
 
 -- a list goes on behind its first item
 pub list_opens : {A : Type 0} (p : Parser A) (n : ℕ) (ts us : List Token) (a : A) → p ts ≡ Ok (a, us) → length us < n → GoesOn (mark (codes ",")) (λ _. p) (a ∷ []) us (list p n ts)
@@ -25,11 +27,6 @@ list_fails p n ts e h = fails_on e _ _ h
 -- what groups are from here on, with these in front and this one unfinished, is the whole
 abbrev pub GroupsGoOn : {G : Type 0} → (Token → Bool) → Parser G → (G → Parser G) → List G → G → List Token → Outcome (List G) → Type 0
 GroupsGoOn opens head grow front last ts whole = (k : ℕ) × (length ts < k) × (with_front front (groups opens head grow k last ts) ≡ whole)
-
--- the groups begin with one that is unfinished
-pub groups_open : {G : Type 0} (o : Outcome (List G)) → with_front [] o ≡ o
-groups_open (Ok x) = refl
-groups_open (Err r) = refl
 
 module _ {G : Type 0} (opens : Token → Bool) (head : Parser G) (grow : G → Parser G) (front : List G) (last : G) (ts : List Token) (whole : Outcome (List G)) where
   -- another group opens
@@ -72,9 +69,6 @@ module _ {G : Type 0} (opens : Token → Bool) (head : Parser G) (grow : G → P
 
 ok_parts : {A E : Type 0} (x y : A) → let l : Result A E = Ok x in l ≡ Ok y → x ≡ y
 ok_parts x y h = cc
-
-some_parts : {A : Type 0} (x y : A) → Some x ≡ Some y → x ≡ y
-some_parts x y h = cc
 
 -- what is read beside something is read
 beside_ok : {A B : Type 0} (o : Outcome A) (k b : B) (a : A) (vs : List Token) → and_then {B = B × A} o (λ x. pure (k, x)) ≡ Ok ((b, a), vs) → (o ≡ Ok (a, vs)) × (k ≡ b)

@@ -1,12 +1,12 @@
 -- The names of a port, step by step.
 use Rattle.std.proofs.Common.{◌≡◌, ℕ, zero, suc, ◌<◌, length, List, Ok, Some, None, codes, sym, arith}
-use Rattle.vl_base.specs.declared.place.Place.{Place}
+use Rattle.vl_tree.specs.vl_base.specs.declared.place.Place.{Place}
 use Rattle.vl_tree.specs.declared.token.Token.{Token}
-use Rattle.vl_grammar.specs.Reading.{next_by, mark}
-use Rattle.vl_source.specs.declared.fault.Fault.{Fault}
-use Rattle.vl_source.specs.declared.tree.PortDeclaration.{PortDeclaration}
-use Rattle.vl_source.specs.Parsers.{Outcome, Fails}
-use Rattle.vl_source.specs.Parsing.{whole, target, port_names, port_grow}
+use Rattle.vl_tree.specs.Reading.{next_by, mark}
+use Rattle.vl_tree.specs.declared.source_fault.Fault.{Fault}
+use Rattle.vl_tree.specs.declared.source_tree.PortDeclaration.{PortDeclaration}
+use Rattle.vl_tree.specs.Parsers.{Outcome, Fails}
+use Rattle.vl_tree.specs.Parsing.{whole, target, port_names, port_grow}
 use Rattle.vl_pstmt.proofs.Passing.{fails_on}
 
 module _ (n : ℕ) (port : PortDeclaration) (ts : List Token) (all : Outcome PortDeclaration) where

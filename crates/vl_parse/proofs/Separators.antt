@@ -1,12 +1,12 @@
 -- The separators of events.
 use Rattle.std.proofs.Common.{◌≡◌, ℕ, List, [], ◌∷◌, ◌++◌, Option, Some, None, codes, refl, length, ◌<◌, Ok}
-use Rattle.vl_base.specs.declared.place.Place.{Place}
+use Rattle.vl_tree.specs.vl_base.specs.declared.place.Place.{Place}
 use Rattle.vl_tree.specs.declared.token.Token.{Token}
-use Rattle.vl_grammar.specs.Reading.{next_by, behind, mark, keyword}
-use Rattle.vl_source.specs.declared.fault.Fault.{Fault}
-use Rattle.vl_source.specs.declared.tree.Event.{Event}
-use Rattle.vl_source.specs.Parsers.{and_then, pure, Fails}
-use Rattle.vl_source.specs.Parsing.{whole, target, between_events, either_place, event, events}
+use Rattle.vl_tree.specs.Reading.{next_by, behind, mark, keyword}
+use Rattle.vl_tree.specs.declared.source_fault.Fault.{Fault}
+use Rattle.vl_tree.specs.declared.source_tree.Event.{Event}
+use Rattle.vl_tree.specs.Parsers.{and_then, pure, Fails}
+use Rattle.vl_tree.specs.Parsing.{whole, target, between_events, either_place, event, events}
 use Rattle.vl_pstmt.proofs.Passing.{fails_on, GoesOn}
 use Rattle.vl_parse.proofs.Lists.{added_ok}
 

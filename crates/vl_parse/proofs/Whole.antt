@@ -5,12 +5,12 @@ use Rattle.std.proofs.lemmas.Bool.{eqb-true}
 use Rattle.std.specs.Result.{IsErrAnd, MatchResult}
 use Rattle.std.proofs.lemmas.Result.{err_from_is_err_and}
 use Rattle.vl_tree.specs.declared.token.Token.{Token}
-use Rattle.vl_source.specs.declared.tree.Source.{Source}
-use Rattle.vl_source.specs.declared.fault.Cause.TheVariants.{Syntax}
-use Rattle.vl_source.specs.declared.fault.Fault.{Fault}
-use Rattle.vl_source.specs.declared.fault.Fault.TheVariants as fault
-use Rattle.vl_source.specs.Parsers.{Outcome, Fails}
-use Rattle.vl_source.specs.Parsing.{all_of}
+use Rattle.vl_tree.specs.declared.source_tree.Source.{Source}
+use Rattle.vl_tree.specs.declared.source_fault.Cause.TheVariants.{Syntax}
+use Rattle.vl_tree.specs.declared.source_fault.Fault.{Fault}
+use Rattle.vl_tree.specs.declared.source_fault.Fault.TheVariants as fault
+use Rattle.vl_tree.specs.Parsers.{Outcome, Fails}
+use Rattle.vl_tree.specs.Parsing.{all_of}
 
 all_fails : (e : Fault) (o : Outcome Source) → Fails e o → Fails e (all_of o)
 all_fails (fault.At cause us) o h = rw h refl

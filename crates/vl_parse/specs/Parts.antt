@@ -1,20 +1,20 @@
 -- Parts of productions.
 use Rattle.std.specs.Prelude.{ℕ, List, Option, Some, None, Ok, codes}
-use Rattle.vl_base.specs.declared.place.Place.{Place}
-use Rattle.vl_grammar.specs.declared.tree.Expression.{Expression}
-use Rattle.vl_grammar.specs.Reading.{behind, mark}
-use Rattle.vl_pexpr.specs.declared.parse.ParseFault.{ParseFault}
-use Rattle.vl_pexpr.specs.declared.parse.ParseFault.TheVariants as f
-use Rattle.vl_source.specs.declared.fault.Cause.{Cause}
-use Rattle.vl_source.specs.declared.fault.Cause.TheVariants as c
-use Rattle.vl_source.specs.declared.tree.FunctionPort.{FunctionPort}
-use Rattle.vl_source.specs.declared.tree.Connection.{Connection}
+use Rattle.vl_tree.specs.vl_base.specs.declared.place.Place.{Place}
+use Rattle.vl_tree.specs.declared.tree.Expression.{Expression}
+use Rattle.vl_tree.specs.Reading.{behind, mark}
+use Rattle.vl_pstmt.specs.vl_pexpr.specs.declared.parse.ParseFault.{ParseFault}
+use Rattle.vl_pstmt.specs.vl_pexpr.specs.declared.parse.ParseFault.TheVariants as f
+use Rattle.vl_tree.specs.declared.source_fault.Cause.{Cause}
+use Rattle.vl_tree.specs.declared.source_fault.Cause.TheVariants as c
+use Rattle.vl_tree.specs.declared.source_tree.FunctionPort.{FunctionPort}
+use Rattle.vl_tree.specs.declared.source_tree.Connection.{Connection}
 use Rattle.vl_tree.specs.declared.token.Token.{Token}
-use Rattle.vl_source.specs.declared.tree.Item.{Item}
-use Rattle.vl_source.specs.declared.tree.Edge.{Edge}
-use Rattle.vl_source.specs.declared.tree.Event.{Event}
-use Rattle.vl_source.specs.Parsers.{Outcome, Parser, and_then, next_or, ◌>>=◌, pure, must, if_ahead, is_mark, identifier, optional}
-use Rattle.vl_source.specs.Parsing.{whole, target, function_ports, connections}
+use Rattle.vl_tree.specs.declared.source_tree.Item.{Item}
+use Rattle.vl_tree.specs.declared.source_tree.Edge.{Edge}
+use Rattle.vl_tree.specs.declared.source_tree.Event.{Event}
+use Rattle.vl_tree.specs.Parsers.{Outcome, Parser, and_then, next_or, ◌>>=◌, pure, must, if_ahead, is_mark, identifier, optional}
+use Rattle.vl_tree.specs.Parsing.{whole, target, function_ports, connections}
 
 -- [ "(" fport { "," fport } ")" ]
 abbrev pub optional_function_ports : ℕ → Parser (Option (List FunctionPort))

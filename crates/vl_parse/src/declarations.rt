@@ -1,25 +1,25 @@
 //! Declarations (IEEE 1364-2005, clauses 4 and 6 and annex A.2).
 
 ghost use Rattle.std.specs.Prelude.{◌+◌, ◌<◌, ◌≤◌, [], ◌∷◌, ◌++◌, codes, length, IfOk};
-ghost use Rattle.vl_source.specs.Parsers.{Gives, and_then, pure, if_ahead, list, groups, is_word};
-ghost use Rattle.vl_source.specs.Parsing as spec;
+ghost use Rattle.vl_tree.specs.Parsers.{Gives, and_then, pure, if_ahead, list, groups, is_word};
+ghost use Rattle.vl_tree.specs.Parsing as spec;
 
 use crate::steps::{before_mark, begins_with_keyword, beside, closed, found, pushed};
-use vl_base::place::Place;
-use vl_grammar::parts::Parts;
-use vl_grammar::steps::after_mark;
-use vl_grammar::tree::Expression;
 use vl_pstmt::reader::Reader;
 use vl_pstmt::steps::{after_keyword, past_keyword};
-use vl_source::fault::Fault;
-use vl_source::tree::{
+use vl_tree::Place;
+use vl_tree::parts::Parts;
+use vl_tree::source_fault::Fault;
+use vl_tree::source_tree::{
     DeclarationAssignment, ParameterAssignment, ParameterGroup, ParameterType, Range, VariableMore,
     VariableType,
 };
+use vl_tree::steps::after_mark;
 use vl_tree::token::Token;
+use vl_tree::tree::Expression;
 
 /// `[ range ]`
-#[tactic(auto, using(vl_pstmt::proofs::Passing::hands_on), unfolding(vl_source::specs::Parsing::optional_range))]
+#[tactic(auto, using(vl_pstmt::proofs::Passing::hands_on), unfolding(vl_tree::specs::Parsing::optional_range))]
 pub fn optional_range<'a>(
     reader: Reader,
     tokens: &'a [Token],
@@ -35,7 +35,7 @@ pub fn optional_range<'a>(
 }
 
 /// `range = "[" expr ":" expr "]"`, from behind the `[`
-#[tactic(auto, using(vl_pstmt::proofs::Passing::hands_on), unfolding(vl_source::specs::Parsing::range))]
+#[tactic(auto, using(vl_pstmt::proofs::Passing::hands_on), unfolding(vl_tree::specs::Parsing::range))]
 fn range<'a>(
     reader: Reader,
     place: Place,
@@ -52,7 +52,7 @@ fn range<'a>(
 }
 
 /// `ptype = "integer" | [ "signed" ] [ range ]`
-#[tactic(auto, using(vl_pstmt::proofs::Passing::hands_on), unfolding(vl_source::specs::Parsing::parameter_type))]
+#[tactic(auto, using(vl_pstmt::proofs::Passing::hands_on), unfolding(vl_tree::specs::Parsing::parameter_type))]
 pub fn parameter_type<'a>(
     reader: Reader,
     tokens: &'a [Token],
@@ -70,7 +70,7 @@ pub fn parameter_type<'a>(
 }
 
 /// `pset = id "=" expr`
-#[tactic(auto, using(vl_pstmt::proofs::Passing::hands_on), unfolding(vl_source::specs::Parsing::parameter_assignment))]
+#[tactic(auto, using(vl_pstmt::proofs::Passing::hands_on), unfolding(vl_tree::specs::Parsing::parameter_assignment))]
 fn parameter_assignment<'a>(
     reader: Reader,
     tokens: &'a [Token],
@@ -114,7 +114,7 @@ pub fn parameter_assignments<'a>(
 }
 
 /// A group's word, its type and its first member
-#[tactic(auto, using(vl_pstmt::proofs::Passing::hands_on), unfolding(vl_source::specs::Parsing::group_head))]
+#[tactic(auto, using(vl_pstmt::proofs::Passing::hands_on), unfolding(vl_tree::specs::Parsing::group_head))]
 fn group_head<'a>(
     reader: Reader,
     tokens: &'a [Token],
@@ -138,7 +138,7 @@ fn group_head<'a>(
 }
 
 /// A further member of a group
-#[tactic(auto, using(vl_pstmt::proofs::Passing::hands_on), unfolding(vl_source::specs::Parsing::group_grow))]
+#[tactic(auto, using(vl_pstmt::proofs::Passing::hands_on), unfolding(vl_tree::specs::Parsing::group_grow))]
 fn group_grow<'a>(
     reader: Reader,
     group: ParameterGroup,
@@ -206,7 +206,7 @@ fn more_groups<'a>(
 }
 
 /// `pgroup { "," pgroup }`
-#[tactic(auto, using(vl_pstmt::proofs::Passing::hands_on), unfolding(vl_source::specs::Parsing::parameter_groups))]
+#[tactic(auto, using(vl_pstmt::proofs::Passing::hands_on), unfolding(vl_tree::specs::Parsing::parameter_groups))]
 pub fn parameter_groups<'a>(
     reader: Reader,
     tokens: &'a [Token],
@@ -220,7 +220,7 @@ pub fn parameter_groups<'a>(
 }
 
 /// `[ "=" expr ]`
-#[tactic(auto, using(vl_pstmt::proofs::Passing::hands_on), unfolding(vl_source::specs::Parsing::value))]
+#[tactic(auto, using(vl_pstmt::proofs::Passing::hands_on), unfolding(vl_tree::specs::Parsing::value))]
 fn value<'a>(
     reader: Reader,
     tokens: &'a [Token],
@@ -236,7 +236,7 @@ fn value<'a>(
 }
 
 /// `aset = id [ "=" expr ]`
-#[tactic(auto, using(vl_pstmt::proofs::Passing::hands_on), unfolding(vl_source::specs::Parsing::declaration_assignment))]
+#[tactic(auto, using(vl_pstmt::proofs::Passing::hands_on), unfolding(vl_tree::specs::Parsing::declaration_assignment))]
 pub fn declaration_assignment<'a>(
     reader: Reader,
     tokens: &'a [Token],
@@ -279,7 +279,7 @@ pub fn declaration_assignments<'a>(
 }
 
 /// `[ range | "=" expr ]`
-#[tactic(auto, using(vl_pstmt::proofs::Passing::hands_on), unfolding(vl_source::specs::Parsing::variable_more))]
+#[tactic(auto, using(vl_pstmt::proofs::Passing::hands_on), unfolding(vl_tree::specs::Parsing::variable_more))]
 fn variable_more<'a>(
     reader: Reader,
     tokens: &'a [Token],
@@ -300,7 +300,7 @@ fn variable_more<'a>(
 }
 
 /// `vset = id [ range | "=" expr ]`
-#[tactic(auto, using(vl_pstmt::proofs::Passing::hands_on), unfolding(vl_source::specs::Parsing::variable_type))]
+#[tactic(auto, using(vl_pstmt::proofs::Passing::hands_on), unfolding(vl_tree::specs::Parsing::variable_type))]
 fn variable_type<'a>(
     reader: Reader,
     tokens: &'a [Token],

@@ -1,25 +1,25 @@
 //! Functions (IEEE 1364-2005, clause 10.4).
 
 ghost use Rattle.std.specs.Prelude.{◌+◌, ◌<◌, ◌≤◌, [], ◌∷◌, ◌++◌, codes, length, IfOk, IfSome};
-ghost use Rattle.vl_source.specs.Parsers.{Gives, and_then, pure, if_ahead, groups, is_word, many, optional};
-ghost use Rattle.vl_source.specs.Parsing as spec;
+ghost use Rattle.vl_tree.specs.Parsers.{Gives, and_then, pure, if_ahead, groups, is_word, many, optional};
+ghost use Rattle.vl_tree.specs.Parsing as spec;
 ghost use Rattle.vl_parse.specs.Parts.{optional_function_ports};
 
 use crate::declarations::{optional_range, parameter_type};
 use crate::steps::{
     before_keyword, before_mark, begins_with_keyword, beside, closed, found, pushed,
 };
-use vl_base::place::Place;
-use vl_grammar::parts::{Boxed, Parts};
-use vl_grammar::steps::after_mark;
 use vl_pstmt::reader::Reader;
 use vl_pstmt::steps::past_keyword;
-use vl_source::fault::Fault;
-use vl_source::tree::{Function, FunctionDeclaration, FunctionPort};
+use vl_tree::Place;
+use vl_tree::parts::{Boxed, Parts};
+use vl_tree::source_fault::Fault;
+use vl_tree::source_tree::{Function, FunctionDeclaration, FunctionPort};
+use vl_tree::steps::after_mark;
 use vl_tree::token::{Token, TokenKind};
 
 /// `fport` up to its first name
-#[tactic(auto, using(vl_pstmt::proofs::Passing::hands_on), unfolding(vl_source::specs::Parsing::function_port_head))]
+#[tactic(auto, using(vl_pstmt::proofs::Passing::hands_on), unfolding(vl_tree::specs::Parsing::function_port_head))]
 fn port_head<'a>(
     reader: Reader,
     tokens: &'a [Token],
@@ -36,7 +36,7 @@ fn port_head<'a>(
 }
 
 /// The port with a further name
-#[tactic(auto, using(vl_pstmt::proofs::Passing::hands_on), unfolding(vl_source::specs::Parsing::function_port_grow))]
+#[tactic(auto, using(vl_pstmt::proofs::Passing::hands_on), unfolding(vl_tree::specs::Parsing::function_port_grow))]
 fn port_grow<'a>(
     reader: Reader,
     port: FunctionPort,
@@ -93,7 +93,7 @@ fn more_ports<'a>(
 }
 
 /// `fport { "," fport }`
-#[tactic(auto, using(vl_pstmt::proofs::Passing::hands_on), unfolding(vl_source::specs::Parsing::function_ports))]
+#[tactic(auto, using(vl_pstmt::proofs::Passing::hands_on), unfolding(vl_tree::specs::Parsing::function_ports))]
 fn ports<'a>(
     reader: Reader,
     tokens: &'a [Token],
@@ -107,7 +107,7 @@ fn ports<'a>(
 }
 
 /// `fport ";"`, from behind its word
-#[tactic(auto, using(vl_pstmt::proofs::Passing::hands_on), unfolding(vl_source::specs::Parsing::input_declaration))]
+#[tactic(auto, using(vl_pstmt::proofs::Passing::hands_on), unfolding(vl_tree::specs::Parsing::input_declaration))]
 fn input_declaration<'a>(
     reader: Reader,
     place: Place,
@@ -124,7 +124,7 @@ fn input_declaration<'a>(
 }
 
 /// `"reg" [ "signed" ] [ range ] id { "," id } ";"`, from behind its word
-#[tactic(auto, using(vl_pstmt::proofs::Passing::hands_on), unfolding(vl_source::specs::Parsing::reg_declaration))]
+#[tactic(auto, using(vl_pstmt::proofs::Passing::hands_on), unfolding(vl_tree::specs::Parsing::reg_declaration))]
 fn reg_declaration<'a>(
     reader: Reader,
     place: Place,
@@ -142,7 +142,7 @@ fn reg_declaration<'a>(
 }
 
 /// `"integer" id { "," id } ";"`, from behind its word
-#[tactic(auto, using(vl_pstmt::proofs::Passing::hands_on), unfolding(vl_source::specs::Parsing::integer_declaration))]
+#[tactic(auto, using(vl_pstmt::proofs::Passing::hands_on), unfolding(vl_tree::specs::Parsing::integer_declaration))]
 fn integer_declaration<'a>(
     reader: Reader,
     place: Place,
@@ -157,7 +157,7 @@ fn integer_declaration<'a>(
 }
 
 /// `[ fdecl ]`
-#[tactic(auto, using(vl_pstmt::proofs::Passing::hands_on), unfolding(vl_source::specs::Parsing::declaration_by, vl_grammar::specs::Reading::next_by))]
+#[tactic(auto, using(vl_pstmt::proofs::Passing::hands_on), unfolding(vl_tree::specs::Parsing::declaration_by, vl_tree::specs::Reading::next_by))]
 fn optional_declaration<'a>(
     reader: Reader,
     tokens: &'a [Token],
@@ -224,7 +224,7 @@ fn optional_ports<'a>(
 }
 
 /// `( "(" fport { "," fport } ")" ";" | ";" )`
-#[tactic(auto, using(vl_pstmt::proofs::Passing::hands_on), unfolding(vl_source::specs::Parsing::function_header))]
+#[tactic(auto, using(vl_pstmt::proofs::Passing::hands_on), unfolding(vl_tree::specs::Parsing::function_header))]
 fn header<'a>(
     reader: Reader,
     tokens: &'a [Token],
@@ -238,7 +238,7 @@ fn header<'a>(
 }
 
 /// `function`, from behind its word
-#[tactic(auto, using(vl_pstmt::proofs::Passing::hands_on), unfolding(vl_source::specs::Parsing::function))]
+#[tactic(auto, using(vl_pstmt::proofs::Passing::hands_on), unfolding(vl_tree::specs::Parsing::function))]
 pub fn function<'a>(
     reader: Reader,
     place: Place,

@@ -1,19 +1,19 @@
 //! Instances (IEEE 1364-2005, clauses 12.1.2, 12.2 and 12.3 and annex A.4.1).
 
 ghost use Rattle.std.specs.Prelude.{◌+◌, ◌<◌, ◌≤◌, length, IfOk};
-ghost use Rattle.vl_source.specs.Parsers.{Gives, list, parenthesized};
-ghost use Rattle.vl_source.specs.Parsing as spec;
+ghost use Rattle.vl_tree.specs.Parsers.{Gives, list, parenthesized};
+ghost use Rattle.vl_tree.specs.Parsing as spec;
 ghost use Rattle.vl_parse.specs.Parts.{optional_value, overrides as overrides_lem};
 
 use crate::steps::{before_mark, begins_with_mark, found, pushed};
-use vl_base::place::Place;
-use vl_grammar::parts::Parts;
-use vl_grammar::steps::{after_mark, ends_argument, first_place};
-use vl_grammar::tree::{Expression, Identifier};
 use vl_pstmt::reader::Reader;
-use vl_source::fault::Fault;
-use vl_source::tree::{Connection, Instance, NamedInstance};
+use vl_tree::Place;
+use vl_tree::parts::Parts;
+use vl_tree::source_fault::Fault;
+use vl_tree::source_tree::{Connection, Instance, NamedInstance};
+use vl_tree::steps::{after_mark, ends_argument, first_place};
 use vl_tree::token::Token;
+use vl_tree::tree::{Expression, Identifier};
 
 /// `[ expr ]` before a `)`
 #[tactic(auto, using(vl_pstmt::proofs::Passing::hands_on))]
@@ -47,7 +47,7 @@ fn parenthesized_value<'a>(
 }
 
 /// `"." id "(" [ expr ] ")"`, from behind the `.`
-#[tactic(auto, using(vl_pstmt::proofs::Passing::hands_on), unfolding(vl_source::specs::Parsing::named_connection))]
+#[tactic(auto, using(vl_pstmt::proofs::Passing::hands_on), unfolding(vl_tree::specs::Parsing::named_connection))]
 fn named_connection<'a>(
     reader: Reader,
     place: Place,
@@ -63,7 +63,7 @@ fn named_connection<'a>(
 }
 
 /// `conn`, with the place of an empty one
-#[tactic(auto, using(vl_pstmt::proofs::Passing::hands_on), unfolding(vl_source::specs::Parsing::connection))]
+#[tactic(auto, using(vl_pstmt::proofs::Passing::hands_on), unfolding(vl_tree::specs::Parsing::connection))]
 fn connection<'a>(
     reader: Reader,
     empty: Place,
@@ -106,7 +106,7 @@ fn connection_list<'a>(
 }
 
 /// `"(" conn { "," conn } ")"`
-#[tactic(auto, using(vl_pstmt::proofs::Passing::hands_on), unfolding(vl_source::specs::Parsing::connections))]
+#[tactic(auto, using(vl_pstmt::proofs::Passing::hands_on), unfolding(vl_tree::specs::Parsing::connections))]
 fn connections<'a>(
     reader: Reader,
     empty: Place,
@@ -139,7 +139,7 @@ fn overrides<'a>(
 }
 
 /// `inst = id "(" conns ")"`
-#[tactic(auto, using(vl_pstmt::proofs::Passing::hands_on), unfolding(vl_source::specs::Parsing::named_instance))]
+#[tactic(auto, using(vl_pstmt::proofs::Passing::hands_on), unfolding(vl_tree::specs::Parsing::named_instance))]
 fn named_instance<'a>(
     reader: Reader,
     tokens: &'a [Token],
@@ -183,7 +183,7 @@ fn named_instances<'a>(
 }
 
 /// `instance`, from behind the name of the module
-#[tactic(auto, using(vl_pstmt::proofs::Passing::hands_on), unfolding(vl_source::specs::Parsing::instance))]
+#[tactic(auto, using(vl_pstmt::proofs::Passing::hands_on), unfolding(vl_tree::specs::Parsing::instance))]
 pub fn instance<'a>(
     reader: Reader,
     definition: Identifier,

@@ -1,9 +1,9 @@
 //! Items of a module (IEEE 1364-2005, annex A.1.4).
 
 ghost use Rattle.std.specs.Prelude.{◌+◌, ◌<◌, ◌≤◌, length, IfOk, IfSome, MatchOption};
-ghost use Rattle.vl_source.specs.declared.tree.Direction.TheVariants as direction;
-ghost use Rattle.vl_source.specs.Parsers.{Gives, list, many, optional};
-ghost use Rattle.vl_source.specs.Parsing as spec;
+ghost use Rattle.vl_tree.specs.declared.source_tree.Direction.TheVariants as direction;
+ghost use Rattle.vl_tree.specs.Parsers.{Gives, list, many, optional};
+ghost use Rattle.vl_tree.specs.Parsing as spec;
 ghost use Rattle.vl_parse.specs.Parts.{item_if};
 
 use crate::declarations::{
@@ -14,19 +14,18 @@ use crate::instances::instance;
 use crate::ports::{net_head, output_head, port_names};
 use crate::steps::{before_mark, found, pushed};
 use crate::triggers::trigger;
-use vl_base::items::Text;
-use vl_base::place::Place;
-use vl_grammar::parts::Parts;
-use vl_grammar::steps::{after_mark, copy_of};
-use vl_grammar::tree::Identifier;
 use vl_pstmt::reader::Reader;
 use vl_pstmt::steps::past_keyword;
-use vl_source::fault::Fault;
-use vl_source::tree::{Assignment, Direction, Item, ParameterKeyword};
+use vl_tree::parts::Parts;
+use vl_tree::source_fault::Fault;
+use vl_tree::source_tree::{Assignment, Direction, Item, ParameterKeyword};
+use vl_tree::steps::{after_mark, copy_of};
 use vl_tree::token::{Token, TokenKind};
+use vl_tree::tree::Identifier;
+use vl_tree::{Place, Text};
 
 /// An input, from behind `input`
-#[tactic(auto, using(vl_pstmt::proofs::Passing::hands_on), unfolding(vl_source::specs::Parsing::port_item))]
+#[tactic(auto, using(vl_pstmt::proofs::Passing::hands_on), unfolding(vl_tree::specs::Parsing::port_item))]
 fn input_item<'a>(
     reader: Reader,
     place: Place,
@@ -42,7 +41,7 @@ fn input_item<'a>(
 }
 
 /// An output, from behind `output`
-#[tactic(auto, using(vl_pstmt::proofs::Passing::hands_on), unfolding(vl_source::specs::Parsing::port_item))]
+#[tactic(auto, using(vl_pstmt::proofs::Passing::hands_on), unfolding(vl_tree::specs::Parsing::port_item))]
 fn output_item<'a>(
     reader: Reader,
     place: Place,
@@ -58,7 +57,7 @@ fn output_item<'a>(
 }
 
 /// `ptype pset { "," pset } ";"`
-#[tactic(auto, using(vl_pstmt::proofs::Passing::hands_on), unfolding(vl_source::specs::Parsing::parameter_item))]
+#[tactic(auto, using(vl_pstmt::proofs::Passing::hands_on), unfolding(vl_tree::specs::Parsing::parameter_item))]
 fn parameter_item<'a>(
     reader: Reader,
     keyword: ParameterKeyword,
@@ -79,7 +78,7 @@ fn parameter_item<'a>(
 }
 
 /// `[ "signed" ] [ range ] aset { "," aset } ";"`
-#[tactic(auto, using(vl_pstmt::proofs::Passing::hands_on), unfolding(vl_source::specs::Parsing::wire_item))]
+#[tactic(auto, using(vl_pstmt::proofs::Passing::hands_on), unfolding(vl_tree::specs::Parsing::wire_item))]
 fn wire_item<'a>(
     reader: Reader,
     place: Place,
@@ -96,7 +95,7 @@ fn wire_item<'a>(
 }
 
 /// `[ "signed" ] [ range ] vset { "," vset } ";"`
-#[tactic(auto, using(vl_pstmt::proofs::Passing::hands_on), unfolding(vl_source::specs::Parsing::reg_item))]
+#[tactic(auto, using(vl_pstmt::proofs::Passing::hands_on), unfolding(vl_tree::specs::Parsing::reg_item))]
 fn reg_item<'a>(
     reader: Reader,
     place: Place,
@@ -113,7 +112,7 @@ fn reg_item<'a>(
 }
 
 /// `vset { "," vset } ";"`
-#[tactic(auto, using(vl_pstmt::proofs::Passing::hands_on), unfolding(vl_source::specs::Parsing::integer_item))]
+#[tactic(auto, using(vl_pstmt::proofs::Passing::hands_on), unfolding(vl_tree::specs::Parsing::integer_item))]
 fn integer_item<'a>(
     reader: Reader,
     place: Place,
@@ -146,7 +145,7 @@ fn assignments<'a>(
 }
 
 /// `lset { "," lset } ";"`
-#[tactic(auto, using(vl_pstmt::proofs::Passing::hands_on), unfolding(vl_source::specs::Parsing::assign_item))]
+#[tactic(auto, using(vl_pstmt::proofs::Passing::hands_on), unfolding(vl_tree::specs::Parsing::assign_item))]
 fn assign_item<'a>(
     reader: Reader,
     place: Place,
@@ -161,7 +160,7 @@ fn assign_item<'a>(
 }
 
 /// `stmt`, as a process that runs once
-#[tactic(auto, using(vl_pstmt::proofs::Passing::hands_on), unfolding(vl_source::specs::Parsing::initial_item))]
+#[tactic(auto, using(vl_pstmt::proofs::Passing::hands_on), unfolding(vl_tree::specs::Parsing::initial_item))]
 fn initial_item<'a>(
     reader: Reader,
     place: Place,
@@ -176,7 +175,7 @@ fn initial_item<'a>(
 }
 
 /// `"@" trigger stmt`
-#[tactic(auto, using(vl_pstmt::proofs::Passing::hands_on), unfolding(vl_source::specs::Parsing::always_item))]
+#[tactic(auto, using(vl_pstmt::proofs::Passing::hands_on), unfolding(vl_tree::specs::Parsing::always_item))]
 fn always_item<'a>(
     reader: Reader,
     place: Place,
@@ -193,7 +192,7 @@ fn always_item<'a>(
 }
 
 /// A function, from behind its word
-#[tactic(auto, using(vl_pstmt::proofs::Passing::hands_on), unfolding(vl_source::specs::Parsing::function_item))]
+#[tactic(auto, using(vl_pstmt::proofs::Passing::hands_on), unfolding(vl_tree::specs::Parsing::function_item))]
 fn function_item<'a>(
     reader: Reader,
     place: Place,
@@ -208,7 +207,7 @@ fn function_item<'a>(
 }
 
 /// Instances, from behind the name of the module
-#[tactic(auto, using(vl_pstmt::proofs::Passing::hands_on), unfolding(vl_source::specs::Parsing::instance_item))]
+#[tactic(auto, using(vl_pstmt::proofs::Passing::hands_on), unfolding(vl_tree::specs::Parsing::instance_item))]
 fn instance_item<'a>(
     reader: Reader,
     place: Place,
@@ -270,7 +269,7 @@ fn item_by_keyword<'a>(
 }
 
 /// `[ item ]`
-#[tactic(auto, using(vl_pstmt::proofs::Passing::hands_on, crate::proofs::Lists::kept, crate::proofs::Lists::another), unfolding(vl_source::specs::Parsing::item_by, vl_grammar::specs::Reading::next_by))]
+#[tactic(auto, using(vl_pstmt::proofs::Passing::hands_on, crate::proofs::Lists::kept, crate::proofs::Lists::another), unfolding(vl_tree::specs::Parsing::item_by, vl_tree::specs::Reading::next_by))]
 fn optional_item<'a>(
     reader: Reader,
     tokens: &'a [Token],

@@ -1,22 +1,22 @@
 //! Modules and sources (IEEE 1364-2005, clause 12.1 and annex A.1.2).
 
 ghost use Rattle.std.specs.Prelude.{◌≡◌, ◌+◌, ◌<◌, ◌≤◌, codes, [], ◌∷◌, length, MatchResult, Ok, IfOk};
-ghost use Rattle.vl_grammar.specs.Reading.{keyword};
-ghost use Rattle.vl_source.specs.Parsers.{Gives, Fails, with_front, many, parenthesized};
-ghost use Rattle.vl_source.specs.Parsing as spec;
+ghost use Rattle.vl_tree.specs.Reading.{keyword};
+ghost use Rattle.vl_tree.specs.Parsers.{Gives, Fails, with_front, many, parenthesized};
+ghost use Rattle.vl_tree.specs.Parsing as spec;
 
 use crate::declarations::parameter_groups;
 use crate::items::items;
 use crate::ports::module_ports;
 use crate::steps::{before_keyword, before_mark, found};
 use std::alloc::Global;
-use vl_base::place::Place;
-use vl_grammar::parts::Parts;
-use vl_grammar::steps::after_mark;
 use vl_pstmt::reader::Reader;
 use vl_pstmt::steps::after_keyword;
-use vl_source::fault::{Cause, Fault};
-use vl_source::tree::{Module, ParameterGroup, Ports, Source};
+use vl_tree::Place;
+use vl_tree::parts::Parts;
+use vl_tree::source_fault::{Cause, Fault};
+use vl_tree::source_tree::{Module, ParameterGroup, Ports, Source};
+use vl_tree::steps::after_mark;
 use vl_tree::token::Token;
 
 /// `"(" pgroup { "," pgroup } ")"`
@@ -35,7 +35,7 @@ fn parenthesized_groups<'a>(
 }
 
 /// `[ "#" "(" pgroup { "," pgroup } ")" ]`
-#[tactic(auto, using(vl_pstmt::proofs::Passing::hands_on), unfolding(vl_source::specs::Parsing::parameters))]
+#[tactic(auto, using(vl_pstmt::proofs::Passing::hands_on), unfolding(vl_tree::specs::Parsing::parameters))]
 fn parameters<'a>(
     reader: Reader,
     tokens: &'a [Token],
@@ -51,7 +51,7 @@ fn parameters<'a>(
 }
 
 /// `[ "(" [ plist | alist ] ")" ]`
-#[tactic(auto, using(vl_pstmt::proofs::Passing::hands_on), unfolding(vl_source::specs::Parsing::optional_ports))]
+#[tactic(auto, using(vl_pstmt::proofs::Passing::hands_on), unfolding(vl_tree::specs::Parsing::optional_ports))]
 fn optional_ports<'a>(
     reader: Reader,
     tokens: &'a [Token],
@@ -68,7 +68,7 @@ fn optional_ports<'a>(
 }
 
 /// `module`, from behind its word
-#[tactic(auto, using(vl_pstmt::proofs::Passing::hands_on), unfolding(vl_source::specs::Parsing::definition))]
+#[tactic(auto, using(vl_pstmt::proofs::Passing::hands_on), unfolding(vl_tree::specs::Parsing::definition))]
 fn definition<'a>(
     reader: Reader,
     place: Place,
@@ -115,7 +115,7 @@ fn more_modules<'a>(
 }
 
 /// `module { module }`, as long as one comes
-#[tactic(auto, using(vl_pstmt::proofs::Passing::hands_on), unfolding(vl_source::specs::Parsing::modules))]
+#[tactic(auto, using(vl_pstmt::proofs::Passing::hands_on), unfolding(vl_tree::specs::Parsing::modules))]
 fn modules<'a>(reader: Reader, tokens: &'a [Token]) -> Result<(Source, &'a [Token]), Fault<'a>>
     requires { length tokens.now + 1 < reader.depth }
     ensures reads { let n = reader.depth in Gives result (spec.modules (spec.whole n) (spec.target n) n (spec.outer n) tokens.now) }

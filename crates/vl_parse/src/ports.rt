@@ -1,23 +1,23 @@
 //! Ports (IEEE 1364-2005, clause 12.3).
 
 ghost use Rattle.std.specs.Prelude.{◌≡◌, ℕ, ◌+◌, ◌<◌, ◌≤◌, [], ◌∷◌, ◌++◌, length, IfOk};
-ghost use Rattle.vl_grammar.specs.Reading.{is_next};
-ghost use Rattle.vl_source.specs.Parsers.{Gives, and_then, pure, if_ahead, groups};
-ghost use Rattle.vl_source.specs.Parsing as spec;
+ghost use Rattle.vl_tree.specs.Reading.{is_next};
+ghost use Rattle.vl_tree.specs.Parsers.{Gives, and_then, pure, if_ahead, groups};
+ghost use Rattle.vl_tree.specs.Parsing as spec;
 
 use crate::declarations::{declaration_assignment, optional_range};
 use crate::steps::{alone, begins_with_keyword, begins_with_mark, beside, closed, pushed};
-use vl_base::place::Place;
-use vl_grammar::parts::Parts;
-use vl_grammar::steps::after_mark;
 use vl_pstmt::reader::Reader;
 use vl_pstmt::steps::{after_keyword, past_keyword};
-use vl_source::fault::Fault;
-use vl_source::tree::{Direction, PortDeclaration, Ports};
+use vl_tree::Place;
+use vl_tree::parts::Parts;
+use vl_tree::source_fault::Fault;
+use vl_tree::source_tree::{Direction, PortDeclaration, Ports};
+use vl_tree::steps::after_mark;
 use vl_tree::token::Token;
 
 /// A port that is a net, with its first name, from behind its direction
-#[tactic(auto, using(vl_pstmt::proofs::Passing::hands_on), unfolding(vl_source::specs::Parsing::net_head))]
+#[tactic(auto, using(vl_pstmt::proofs::Passing::hands_on), unfolding(vl_tree::specs::Parsing::net_head))]
 pub fn net_head<'a>(
     reader: Reader,
     place: Place,
@@ -40,7 +40,7 @@ pub fn net_head<'a>(
 }
 
 /// A port that is a `reg`, with its first name, from behind that word
-#[tactic(auto, using(vl_pstmt::proofs::Passing::hands_on), unfolding(vl_source::specs::Parsing::reg_head))]
+#[tactic(auto, using(vl_pstmt::proofs::Passing::hands_on), unfolding(vl_tree::specs::Parsing::reg_head))]
 fn reg_head<'a>(
     reader: Reader,
     place: Place,
@@ -64,7 +64,7 @@ fn reg_head<'a>(
 }
 
 /// A port that is an `integer`, with its first name, from behind that word
-#[tactic(auto, using(vl_pstmt::proofs::Passing::hands_on), unfolding(vl_source::specs::Parsing::integer_head))]
+#[tactic(auto, using(vl_pstmt::proofs::Passing::hands_on), unfolding(vl_tree::specs::Parsing::integer_head))]
 fn integer_head<'a>(
     reader: Reader,
     place: Place,
@@ -80,7 +80,7 @@ fn integer_head<'a>(
 }
 
 /// An output with its first name, from behind `output`
-#[tactic(auto, using(vl_pstmt::proofs::Passing::hands_on), unfolding(vl_source::specs::Parsing::output_head))]
+#[tactic(auto, using(vl_pstmt::proofs::Passing::hands_on), unfolding(vl_tree::specs::Parsing::output_head))]
 pub fn output_head<'a>(
     reader: Reader,
     place: Place,
@@ -100,7 +100,7 @@ pub fn output_head<'a>(
 }
 
 /// `aport` up to its first name
-#[tactic(auto, using(vl_pstmt::proofs::Passing::hands_on), unfolding(vl_source::specs::Parsing::port_head))]
+#[tactic(auto, using(vl_pstmt::proofs::Passing::hands_on), unfolding(vl_tree::specs::Parsing::port_head))]
 fn port_head<'a>(
     reader: Reader,
     tokens: &'a [Token],
@@ -117,7 +117,7 @@ fn port_head<'a>(
 }
 
 /// The port with a further name
-#[tactic(auto, using(vl_pstmt::proofs::Passing::hands_on), unfolding(vl_source::specs::Parsing::port_grow))]
+#[tactic(auto, using(vl_pstmt::proofs::Passing::hands_on), unfolding(vl_tree::specs::Parsing::port_grow))]
 fn port_grow<'a>(
     reader: Reader,
     port: PortDeclaration,
@@ -218,7 +218,7 @@ fn more_ports<'a>(
 }
 
 /// `aport { "," aport }`
-#[tactic(auto, using(vl_pstmt::proofs::Passing::hands_on), unfolding(vl_source::specs::Parsing::ports))]
+#[tactic(auto, using(vl_pstmt::proofs::Passing::hands_on), unfolding(vl_tree::specs::Parsing::ports))]
 fn declared_ports<'a>(
     reader: Reader,
     tokens: &'a [Token],
@@ -232,7 +232,7 @@ fn declared_ports<'a>(
 }
 
 /// `[ plist | alist ]` before a `)`
-#[tactic(auto, using(vl_pstmt::proofs::Passing::hands_on), unfolding(vl_source::specs::Parsing::module_ports))]
+#[tactic(auto, using(vl_pstmt::proofs::Passing::hands_on), unfolding(vl_tree::specs::Parsing::module_ports))]
 pub fn module_ports<'a>(
     reader: Reader,
     tokens: &'a [Token],

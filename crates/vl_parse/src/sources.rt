@@ -1,19 +1,19 @@
 //! The source that a list of tokens is.
 
 ghost use Rattle.std.specs.Prelude.{◌≡◌, ℕ, ◌⊎◌, [], IfOk};
-ghost use Rattle.vl_source.specs.declared.tree.Source.{Source as SourceLem};
-ghost use Rattle.vl_source.specs.Grammar.{ReadsSource};
-ghost use Rattle.vl_source.specs.Faults.{IsSource, IsFirstFault, PassesLimit, limits as limits_lem, statement_limit, expression_limit};
-ghost use Rattle.vl_grammar.specs.Begins.{place_at};
-ghost use Rattle.vl_pexpr.specs.declared.parse.ParseFault.TheVariants as fault;
+ghost use Rattle.vl_tree.specs.declared.source_tree.Source.{Source as SourceLem};
+ghost use Rattle.vl_tree.specs.GrammarOfSource.{ReadsSource};
+ghost use Rattle.vl_tree.specs.FaultsOfSource.{IsSource, IsFirstFault, PassesLimit, limits as limits_lem, statement_limit, expression_limit};
+ghost use Rattle.vl_tree.specs.Begins.{place_at};
+ghost use Rattle.vl_pstmt.specs.vl_pexpr.specs.declared.parse.ParseFault.TheVariants as fault;
 ghost use Rattle.vl_parse.specs.Parts.{fault_of as fault_of_lem};
 
 use crate::modules::source_at;
 use std::alloc::Global;
-use vl_base::place::Place;
-use vl_pexpr::ParseFault;
-use vl_source::fault::{Cause, Fault};
-use vl_source::tree::Source;
+use vl_pstmt::ParseFault;
+use vl_tree::Place;
+use vl_tree::source_fault::{Cause, Fault};
+use vl_tree::source_tree::Source;
 use vl_tree::token::Token;
 
 /// The tree of the source that all the tokens are. The place of the end is `end`.

@@ -2,19 +2,19 @@
 
 ghost use Rattle.std.specs.Prelude.{◌≡◌, ◌<◌, ◌≤◌, [], ◌∷◌, ◌++◌, List, length, Some, IfOk, MatchOption};
 ghost use Rattle.vl_tree.specs.declared.token.Token.{Token as TokenLem};
-ghost use Rattle.vl_grammar.specs.Reading as plain;
-ghost use Rattle.vl_grammar.specs.Reading.{is_next};
-ghost use Rattle.vl_source.specs.Parsers.{Gives, Outcome, and_then, must, pure, is_word, is_mark};
+ghost use Rattle.vl_tree.specs.Reading as plain;
+ghost use Rattle.vl_tree.specs.Reading.{is_next};
+ghost use Rattle.vl_tree.specs.Parsers.{Gives, Outcome, and_then, must, pure, is_word, is_mark};
 
 use std::alloc::{AllocError, Global};
-use vl_grammar::parts::Parts;
-use vl_grammar::steps::after_mark;
 use vl_pstmt::steps::after_keyword;
-use vl_source::fault::{Cause, Fault};
+use vl_tree::parts::Parts;
+use vl_tree::source_fault::{Cause, Fault};
+use vl_tree::steps::after_mark;
 use vl_tree::token::Token;
 
 /// Whether this mark comes first.
-#[tactic(auto, unfolding(vl_grammar::specs::Reading::next_by))]
+#[tactic(auto, unfolding(vl_tree::specs::Reading::next_by))]
 pub fn begins_with_mark(tokens: &[Token], mark: &[u8]) -> bool
     ensures { result ≡ is_next (is_mark mark.now) tokens.now }
 {
@@ -22,7 +22,7 @@ pub fn begins_with_mark(tokens: &[Token], mark: &[u8]) -> bool
 }
 
 /// Whether this reserved word comes first.
-#[tactic(auto, unfolding(vl_grammar::specs::Reading::next_by))]
+#[tactic(auto, unfolding(vl_tree::specs::Reading::next_by))]
 pub fn begins_with_keyword(tokens: &[Token], word: &[u8]) -> bool
     ensures { result ≡ is_next (is_word word.now) tokens.now }
 {

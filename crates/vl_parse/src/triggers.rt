@@ -1,23 +1,23 @@
 //! What starts a process (IEEE 1364-2005, clause 9.7 and annex A.6.5).
 
 ghost use Rattle.std.specs.Prelude.{◌≡◌, ℕ, ◌+◌, ◌<◌, ◌≤◌, length, option_map, IfOk, IfSome};
-ghost use Rattle.vl_grammar.specs.Reading.{next_by};
-ghost use Rattle.vl_source.specs.Parsers.{Gives};
-ghost use Rattle.vl_source.specs.Parsing as spec;
+ghost use Rattle.vl_tree.specs.Reading.{next_by};
+ghost use Rattle.vl_tree.specs.Parsers.{Gives};
+ghost use Rattle.vl_tree.specs.Parsing as spec;
 ghost use Rattle.vl_parse.specs.Parts.{edge_event as edge_event_lem};
 
 use crate::steps::{before_mark, pushed};
-use vl_base::place::Place;
-use vl_grammar::parts::Parts;
-use vl_grammar::steps::after_mark;
 use vl_pstmt::reader::Reader;
 use vl_pstmt::steps::after_keyword;
-use vl_source::fault::Fault;
-use vl_source::tree::{Edge, Event, Trigger};
+use vl_tree::Place;
+use vl_tree::parts::Parts;
+use vl_tree::source_fault::Fault;
+use vl_tree::source_tree::{Edge, Event, Trigger};
+use vl_tree::steps::after_mark;
 use vl_tree::token::Token;
 
 /// `trigger`
-#[tactic(auto, using(vl_pstmt::proofs::Passing::hands_on), unfolding(vl_source::specs::Parsing::trigger))]
+#[tactic(auto, using(vl_pstmt::proofs::Passing::hands_on), unfolding(vl_tree::specs::Parsing::trigger))]
 pub fn trigger<'a>(reader: Reader, tokens: &'a [Token]) -> Result<(Trigger, &'a [Token]), Fault<'a>>
     requires { length tokens.now + 1 < reader.depth }
     ensures reads { let n = reader.depth in Gives result (spec.trigger (spec.whole n) (spec.target n) n tokens.now) }
@@ -32,7 +32,7 @@ pub fn trigger<'a>(reader: Reader, tokens: &'a [Token]) -> Result<(Trigger, &'a 
 }
 
 /// What stands in a trigger's parentheses
-#[tactic(auto, using(vl_pstmt::proofs::Passing::hands_on), unfolding(vl_source::specs::Parsing::inner_trigger))]
+#[tactic(auto, using(vl_pstmt::proofs::Passing::hands_on), unfolding(vl_tree::specs::Parsing::inner_trigger))]
 fn inner_trigger<'a>(
     reader: Reader,
     tokens: &'a [Token],
@@ -49,7 +49,7 @@ fn inner_trigger<'a>(
 }
 
 /// `event = [ "posedge" | "negedge" ] id`
-#[tactic(auto, using(vl_pstmt::proofs::Passing::hands_on), unfolding(vl_source::specs::Parsing::event))]
+#[tactic(auto, using(vl_pstmt::proofs::Passing::hands_on), unfolding(vl_tree::specs::Parsing::event))]
 fn event<'a>(reader: Reader, tokens: &'a [Token]) -> Result<(Event, &'a [Token]), Fault<'a>>
     requires { length tokens.now + 1 < reader.depth }
     ensures reads { let n = reader.depth in Gives result (spec.event (spec.whole n) (spec.target n) n tokens.now) }

@@ -9,14 +9,14 @@ use Rattle.std.proofs.lemmas.Bool.{cases_lt}
 use Rattle.std.proofs.lemmas.List.{get_or_past}
 use Rattle.std.proofs.lemmas.Nat.Bits.{same_from_bits_below, bit_at_above}
 use mathlib.Core.Logic.{inl, inr}
-use Rattle.vl_base.specs.Value.{reading, resized}
-use Rattle.vl_base.specs.Selects.{bit_of, picked}
-use Rattle.vl_base.proofs.BitLaws.{picked-bit}
-use Rattle.vl_base.proofs.Readings.{wrapped-reading}
+use Rattle.vl_design.specs.vl_base.specs.Value.{reading, resized}
+use Rattle.vl_design.specs.vl_base.specs.Selects.{bit_of, picked}
+use Rattle.vl_design.specs.vl_base.proofs.BitLaws.{picked-bit}
+use Rattle.vl_design.specs.vl_base.proofs.Readings.{wrapped-reading}
 use Rattle.vl_design.specs.declared.design.Form.{Form}
 use Rattle.vl_design.specs.declared.design.LowestBit.{LowestBit}
 use Rattle.vl_design.specs.Syntax.{Exp, Num, Label, Sig, Word, Pick, Slice, Un, Bin, Cond, Cat, Rep, Cast, Call, Time, LastAnswer, Exps, NoExps, MoreExps, Row}
-use Rattle.vl_base.specs.declared.files.File.{File}
+use Rattle.vl_design.specs.vl_base.specs.declared.files.File.{File}
 use Rattle.vl_design.specs.Nodes.{has, some_have}
 use Rattle.vl_design.specs.Width.{Names, Scope, form, signal_form}
 use Rattle.vl_design.specs.Value.{Sample, value, side_by_side, arguments, words_of, value_of, lowest_bit, own_reading}
@@ -24,6 +24,8 @@ use Rattle.vl_design.specs.Laws.{InRange}
 use Rattle.vl_paths.specs.Bits.{Bit, is_among, is_of, varies, is_constant, closed, nothing, known_low, select_reads, bit_read, some_bit_read}
 use Rattle.vl_paths.specs.Alike.{SameAt}
 use Rattle.vl_paths.proofs.Ways.{or_false, or_true, or_left, or_right, and_true, both_true, either}
+use Rattle.vl_design.specs.vl_base.proofs.Booleans.{not_true_false as is_constant_not}
+use Rattle.vl_design.specs.vl_base.proofs.Shared.{picked-below as picked_below}
 
 pub among_is : (b : Bit) (k : ℕ) (low : ℤ) (w : ℕ) → b.signal ≡ k → low ≤ℤ pos b.place → pos b.place <ℤ (low +ℤ pos w) → is_among b k low w ≡ true
 among_is b k low w e g h = grind (arith, ints)
@@ -68,10 +70,6 @@ module _ (names : Names) (files others : List File) (call called : ℕ → List 
     constant_side NoExps h = refl
     constant_side (MoreExps e es) h = let g = or_false (has varies e) (some_have varies es) h in rw (constant_value e g.0 (form names e), constant_side es g.1) refl
 
-is_constant_not : (x : Bool) → not x ≡ true → x ≡ false
-is_constant_not true h = let z : ⊥ = cc in absurd z
-is_constant_not false h = refl
-
 -- where an index is constant, its place is known
 pub known_is : (scope : Scope) (s : Sample) (from : LowestBit) (i : Exp) → (known_low scope.names from i ≡ Some (lowest_bit from (own_reading scope s i))) ⊎ (known_low scope.names from i ≡ None)
 known_is scope s from i = go (either (is_constant i))
@@ -81,10 +79,6 @@ known_is scope s from i = go (either (is_constant i))
         ∙ ap (λ v. Some (lowest_bit from (reading (form scope.names i).signed (form scope.names i).width v)))
         (constant_value scope.names [] scope.files (λ f given. 0) scope.call nothing s i (is_constant_not (has varies i) e) (form scope.names i)))
     go (inr e) = inr (ap (λ x. if x then Some (lowest_bit from (own_reading (closed scope.names) nothing i)) else None) e)
-
-picked_below : (w v : ℕ) (low : ℤ) (width : ℕ) → picked w v low width < 2 ^ width
-picked_below w v (pos low) width = mod-lt _ (pow_pos width)
-picked_below w v (negsuc n) width = mod-lt _ (pow_pos width)
 
 module _ (scope : Scope) (p : Bit → Bool) (s t : Sample) (d : SameAt scope.names.rows p s.values t.values) (time : s.time ≡ t.time) (answer : s.answer ≡ t.answer) where
   Covers : (Bit → Bool) → Type 0

@@ -6,8 +6,8 @@ use Rattle.std.proofs.lemmas.Bool.{cases_lt}
 use Rattle.std.proofs.lemmas.List.{get_or_past, get_or-set_same, length-set}
 use Rattle.std.proofs.lemmas.Nat.Bits.{bit_at_above}
 use mathlib.Core.Logic.{inl, inr}
-use Rattle.vl_base.specs.Selects.{bit_of, placed}
-use Rattle.vl_base.proofs.BitLaws.{placed-below-it, placed-above-it}
+use Rattle.vl_design.specs.vl_base.specs.Selects.{bit_of, placed}
+use Rattle.vl_design.specs.vl_base.proofs.BitLaws.{placed-below-it, placed-above-it}
 use Rattle.vl_design.specs.declared.design.Form.{Form}
 use Rattle.vl_design.specs.declared.design.LowestBit.{LowestBit}
 use Rattle.vl_design.specs.Syntax.{Exp, Target, Whole, WordAt, PickAt, SliceAt, Several, Targets, NoTargets, MoreTargets, Stm, Nop, Then, If, Case, For, Repeat, Set, Later, Sys, Items, NoItems, Labelled, Default, Row}
@@ -26,14 +26,11 @@ use Rattle.vl_paths.proofs.Ways.{or_false, either}
 use Rattle.vl_paths.proofs.Reading.{known_is, word_below, among_is}
 use Rattle.vl_paths.proofs.Writing.{covers, IsOfSignal, covered, AreOfSignals, place_cases, equal, words_there, words_past, words_elsewhere, words_none, placed_below}
 use Rattle.vl_paths.proofs.Doing.{has, has_covered, has_joined, or_none, updates_of, are_spots}
+use Rattle.vl_design.specs.vl_base.proofs.Booleans.{or_both_false as or_both}
 
 and_first : (x y : Bool) → x ≡ false → (x && y) ≡ false
 and_first true y h = let z : ⊥ = cc in absurd z
 and_first false y h = refl
-
-or_both : (x y : Bool) → x ≡ false → y ≡ false → (x || y) ≡ false
-or_both true y g h = let z : ⊥ = cc in absurd z
-or_both false y g h = h
 
 covers_not : (x y : Bool) → (x && y) ≡ false → x ≡ true → y ≡ true → ⊥
 covers_not true true h f g = cc

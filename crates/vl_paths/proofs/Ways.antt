@@ -6,56 +6,18 @@ use Rattle.vl_design.specs.Syntax.{Exp, Exps, NoExps, MoreExps, Target, Stm, Nop
 use Rattle.vl_design.specs.Width.{Names}
 use Rattle.vl_paths.specs.Bits.{Bit, bit_read, index_reads, bit_set}
 use Rattle.vl_paths.specs.Paths.{Step, Looks, Tries, Sets, IsPath, IsWay, assigned_on, read_first_on, IsAssigned, IsReadFirst, always, always_in, early, early_in, label_reads}
-
-pub or_false : (a b : Bool) → (a || b) ≡ false → (a ≡ false) × (b ≡ false)
-or_false true b h = let z : ⊥ = cc in absurd z
-or_false false b h = (refl, h)
-
-pub or_true : (a b : Bool) → (a || b) ≡ true → (a ≡ true) ⊎ (b ≡ true)
-or_true true b h = inl refl
-or_true false b h = inr h
-
-pub or_right : (a b : Bool) → b ≡ true → (a || b) ≡ true
-or_right true b h = refl
-or_right false b h = h
-
-pub or_left : (a b : Bool) → a ≡ true → (a || b) ≡ true
-or_left true b h = refl
-or_left false b h = let z : ⊥ = cc in absurd z
-
-pub and_true : (a b : Bool) → (a && b) ≡ true → (a ≡ true) × (b ≡ true)
-and_true true b h = (refl, h)
-and_true false b h = let z : ⊥ = cc in absurd z
+pub use Rattle.vl_design.specs.vl_base.proofs.Booleans.{and_parts as and_true, or_right_true as or_right, or_left_true as or_left, and_both as both_true, or_assoc, or_cases as or_true, or_parts_false as or_false, true_or_false as either}
+use Rattle.vl_design.specs.vl_base.proofs.Booleans.{not_true_false as not_true, and_of_false as and_right}
 
 pub and_false : (a b : Bool) → (a && b) ≡ false → (a ≡ false) ⊎ (b ≡ false)
 and_false true b h = inr h
 and_false false b h = inl refl
-
-pub both_true : (a b : Bool) → a ≡ true → b ≡ true → (a && b) ≡ true
-both_true true b g h = h
-both_true false b g h = let z : ⊥ = cc in absurd z
-
-pub either : (a : Bool) → (a ≡ true) ⊎ (a ≡ false)
-either true = inl refl
-either false = inr refl
-
-pub or_assoc : (a b c : Bool) → ((a || b) || c) ≡ (a || (b || c))
-or_assoc true b c = refl
-or_assoc false b c = refl
 
 -- x read, or else y where x isn't set, over a joined path
 fold_read : (x s a r y : Bool) → (x || (not s && (r || (not a && y)))) ≡ ((x || (not s && r)) || (not (s || a) && y))
 fold_read true s a r y = refl
 fold_read false true a r y = refl
 fold_read false false a r y = refl
-
-not_true : (a : Bool) → not a ≡ true → a ≡ false
-not_true true h = let z : ⊥ = cc in absurd z
-not_true false h = refl
-
-and_right : (a b : Bool) → b ≡ false → (a && b) ≡ false
-and_right true b h = h
-and_right false b h = refl
 
 not_early : (a y : Bool) → a ≡ false → (not a && y) ≡ false → y ≡ false
 not_early true y g h = let z : ⊥ = cc in absurd z

@@ -9,8 +9,8 @@ use Rattle.std.proofs.lemmas.List.{get_or_past, get_or-set_same, get_or-set_othe
 use Rattle.std.proofs.lemmas.Option.{unwrap_or-slice_get}
 use Rattle.std.proofs.lemmas.Nat.Bits.{bit_at_above}
 use mathlib.Core.Logic.{inl, inr}
-use Rattle.vl_base.specs.Selects.{bit_of, placed}
-use Rattle.vl_base.proofs.BitLaws.{placed-below-it, placed-inside-it, placed-above-it}
+use Rattle.vl_design.specs.vl_base.specs.Selects.{bit_of, placed}
+use Rattle.vl_design.specs.vl_base.proofs.BitLaws.{placed-below-it, placed-inside-it, placed-above-it}
 use Rattle.vl_design.specs.Syntax.{Row}
 use Rattle.vl_design.specs.Width.{signal_form}
 use Rattle.vl_design.specs.Value.{words_of}
@@ -22,6 +22,9 @@ use Rattle.vl_paths.specs.Alike.{SameAt}
 use Rattle.vl_paths.specs.Nets.{Paired}
 use Rattle.vl_paths.proofs.Ways.{or_true, or_left, or_right, and_true, either, or_assoc}
 use Rattle.vl_paths.proofs.Reading.{word_below}
+pub use Rattle.vl_design.specs.vl_base.proofs.Bounds.{placed-below as placed_below}
+pub use Rattle.vl_design.specs.vl_base.proofs.Numbers.{equal_or_not as equal}
+pub use Rattle.vl_design.proofs.Kept.{words_set as words_there, words_past as words_none, words_other as words_elsewhere}
 
 -- the update writes the bit
 abbrev pub covers : List Row → Update → Bit → Bool
@@ -40,24 +43,8 @@ among_high b k low w h = grind (arith, ints)
 pub place_cases : (i : ℕ) (low : ℤ) (w : ℕ) → (pos i <ℤ low) ⊎ ((low ≤ℤ pos i) × (pos i <ℤ (low +ℤ pos w))) ⊎ ((low +ℤ pos w) ≤ℤ pos i)
 place_cases i low w = grind (arith, ints)
 
-pub equal : (x y : ℕ) → (x ≡ y) ⊎ (x ≢ y)
-equal x y = grind arith
-
-pub words_there : (v : List (List ℕ)) (j : ℕ) (ws : List ℕ) → j < length v → words_of (slice_set v j ws) j ≡ ws
-words_there v j ws l = unwrap_or-slice_get (slice_set v j ws) j [] ∙ get_or-set_same v j ws [] l
-
 pub words_past : (v : List (List ℕ)) (j : ℕ) (ws : List ℕ) → length v ≤ j → words_of (slice_set v j ws) j ≡ []
 words_past v j ws l = unwrap_or-slice_get (slice_set v j ws) j [] ∙ get_or_past (slice_set v j ws) j [] (omega (arith, length-set v j ws))
-
-pub words_elsewhere : (v : List (List ℕ)) (j k : ℕ) (ws : List ℕ) → k ≢ j → words_of (slice_set v j ws) k ≡ words_of v k
-words_elsewhere v j k ws d = unwrap_or-slice_get (slice_set v j ws) k [] ∙ get_or-set_other v j k ws [] d ∙ sym (unwrap_or-slice_get v k [])
-
-pub words_none : (v : List (List ℕ)) (j : ℕ) → length v ≤ j → words_of v j ≡ []
-words_none v j l = unwrap_or-slice_get v j [] ∙ get_or_past v j [] l
-
-pub placed_below : (w v : ℕ) (low : ℤ) (width part : ℕ) → placed w v low width part < 2 ^ w
-placed_below w v (pos low) width part = mod-lt _ (pow_pos w)
-placed_below w v (negsuc n) width part = mod-lt _ (pow_pos w)
 
 -- an update of a signal that has one word
 pub record IsOfSignal (is_memory : ℕ → Bool) (u : Update) : Type 0 where

@@ -1,6 +1,6 @@
 -- Which bits a statement may assign.
 use Rattle.std.specs.Prelude.{◌≡◌, ℕ, ◌≤◌, pos, Bool, true, false, ◌||◌, List, length, slice_index}
-use Rattle.vl_base.specs.Selects.{bit_of}
+use Rattle.vl_design.specs.vl_base.specs.Selects.{bit_of}
 use Rattle.vl_design.specs.Value.{words_of}
 use Rattle.vl_design.specs.Syntax.{Stm, Nop, Then, If, Case, For, Repeat, Set, Later, Sys, Items, NoItems, Labelled, Default}
 use Rattle.vl_design.specs.Width.{Names}

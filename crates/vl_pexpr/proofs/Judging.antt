@@ -3,13 +3,13 @@ use Rattle.std.proofs.Common.{◌≡◌, ℕ, ◌+◌, ◌-◌, ◌<◌, ◌≤�
 use Rattle.std.specs.List.{slice_range}
 use Rattle.std.specs.Result.{IfOk}
 use Rattle.std.proofs.lemmas.List.{take-append-drop}
-use Rattle.vl_base.specs.declared.place.Place.{Place}
+use Rattle.vl_tree.specs.vl_base.specs.declared.place.Place.{Place}
 use Rattle.vl_tree.specs.declared.token.Token.{Token}
-use Rattle.vl_grammar.specs.declared.tree.Expression.{Expression}
-use Rattle.vl_grammar.specs.Begins.{IsExpression, IsReach, place_at}
-use Rattle.vl_grammar.specs.Expressions.{expr}
-use Rattle.vl_grammar.proofs.Reaching.{Reaches, took_reaches, stuck_reaches, only_one}
-use Rattle.vl_grammar.proofs.Reached.{slice_front, slice_begins, reach_of, reach_once}
+use Rattle.vl_tree.specs.declared.tree.Expression.{Expression}
+use Rattle.vl_tree.specs.Begins.{IsExpression, IsReach, place_at}
+use Rattle.vl_tree.specs.Expressions.{expr}
+use Rattle.vl_tree.proofs.Reaching.{Reaches, took_reaches, stuck_reaches, only_one}
+use Rattle.vl_tree.proofs.Reached.{slice_front, slice_begins, reach_of, reach_once}
 use Rattle.vl_pexpr.specs.declared.parse.TheConstants.{MOST_TOKENS}
 use Rattle.vl_pexpr.specs.declared.parse.ParseFault.{ParseFault}
 use Rattle.vl_pexpr.specs.declared.parse.ParseFault.TheVariants as f

@@ -1,6 +1,6 @@
 -- An expression is a level, with expressions that nest less inside.
 use Rattle.std.proofs.Common.{◌≡◌, ℕ, zero, suc, ◌-◌, ◌<◌, arith, refl, sub-one}
-use Rattle.vl_grammar.specs.Expressions.{expr, level}
+use Rattle.vl_tree.specs.Expressions.{expr, level}
 
 pub expr_opens : (n : ℕ) → 0 < n → expr n ≡ level (expr (n - 1)) (n - 1)
 unfolding expr

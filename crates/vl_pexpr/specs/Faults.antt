@@ -1,10 +1,10 @@
 -- Why tokens are no expression.
 use Rattle.std.specs.Prelude.{◌≡◌, ℕ, ◌+◌, ◌<◌, ◌≤◌, List, length}
 use Rattle.std.specs.List.{slice_range}
-use Rattle.vl_base.specs.declared.place.Place.{Place}
+use Rattle.vl_tree.specs.vl_base.specs.declared.place.Place.{Place}
 use Rattle.vl_tree.specs.declared.token.Token.{Token}
-use Rattle.vl_grammar.specs.declared.tree.Expression.{Expression}
-use Rattle.vl_grammar.specs.Begins.{IsExpression, BeginsExpression, IsReach, place_at}
+use Rattle.vl_tree.specs.declared.tree.Expression.{Expression}
+use Rattle.vl_tree.specs.Begins.{IsExpression, BeginsExpression, IsReach, place_at}
 use Rattle.vl_pexpr.specs.declared.parse.TheConstants.{MOST_TOKENS}
 
 -- the tokens from `from` up to their reach are no expression, and p is the place of the token there, or the end

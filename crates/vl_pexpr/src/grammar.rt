@@ -1,27 +1,26 @@
 //! The productions. Each takes the parser of expressions as a parameter, so that it is proved by itself.
 
 ghost use Rattle.std.specs.Prelude.{◌≡◌, ℕ, ◌<◌, ◌≤◌, ◌+◌, [], ◌∷◌, length, IfOk};
-ghost use Rattle.vl_grammar.specs.Reading.{Gives, with_front, many, mark, pure};
-ghost use Rattle.vl_grammar.specs.declared.tree.Primary.TheVariants as x;
-ghost use Rattle.vl_grammar.specs.Marks.{unary_operator};
-ghost use Rattle.vl_grammar.specs.Expressions as spec;
-ghost use Rattle.vl_grammar.specs.Grammar as tree;
+ghost use Rattle.vl_tree.specs.Reading.{Gives, with_front, many, mark, pure};
+ghost use Rattle.vl_tree.specs.declared.tree.Primary.TheVariants as x;
+ghost use Rattle.vl_tree.specs.MarksOfGrammar.{unary_operator};
+ghost use Rattle.vl_tree.specs.Expressions as spec;
+ghost use Rattle.vl_tree.specs.Grammar as tree;
 ghost use Rattle.vl_pexpr.specs.Nests.{Nests};
 
 use std::alloc::{AllocError, Global};
-use vl_base::items::Text;
-use vl_base::number::Number;
-use vl_base::place::Place;
-use vl_grammar::fault::Fault;
-use vl_grammar::parts::{Boxed, Parts};
-use vl_grammar::steps::{
+use vl_tree::fault::Fault;
+use vl_tree::number::Number;
+use vl_tree::parts::{Boxed, Parts};
+use vl_tree::steps::{
     after_binary, after_mark, after_select, after_unary, copy_of, ends_argument, first_place,
 };
-use vl_grammar::tree::{
+use vl_tree::token::{Token, TokenKind};
+use vl_tree::tree::{
     Binary, Bound, Choice, Expression, Identifier, Link, Name, Primary, Select, SystemArgument,
     SystemCall, Unary, UnaryMark,
 };
-use vl_tree::token::{Token, TokenKind};
+use vl_tree::{Place, Text};
 
 /// An expression at the front of the tokens. It nests less deep than `depth`.
 #[tactic(auto, using(crate::proofs::Opening::expr_opens))]
@@ -66,7 +65,7 @@ impl<'a, F: Fn(Global, &'a [Token], usize) -> Result<(Expression, &'a [Token]), 
     }
 
     /// `expr = binary [ "?" expr ":" expr ]`
-    #[tactic(auto, using(vl_grammar::proofs::Passing::hands_on), unfolding(vl_grammar::specs::Expressions::level))]
+    #[tactic(auto, using(vl_tree::proofs::Passing::hands_on), unfolding(vl_tree::specs::Expressions::level))]
     fn level(&self, tokens: &'a [Token]) -> Result<(Expression, &'a [Token]), Fault<'a>>
         requires nests { Nests self.now.depth (F.pre self.now.expression) (F.post self.now.expression) }
         requires room { length tokens.now < self.now.depth }
@@ -87,7 +86,7 @@ impl<'a, F: Fn(Global, &'a [Token], usize) -> Result<(Expression, &'a [Token]), 
     }
 
     /// `[ "?" expr ":" expr ]`
-    #[tactic(auto, using(vl_grammar::proofs::Passing::hands_on), unfolding(vl_grammar::specs::Expressions::choice))]
+    #[tactic(auto, using(vl_tree::proofs::Passing::hands_on), unfolding(vl_tree::specs::Expressions::choice))]
     fn choice(&self, tokens: &'a [Token]) -> Result<(Option<Boxed<Choice>>, &'a [Token]), Fault<'a>>
         requires nests { Nests self.now.depth (F.pre self.now.expression) (F.post self.now.expression) }
         requires room { length tokens.now < self.now.depth }
@@ -102,7 +101,7 @@ impl<'a, F: Fn(Global, &'a [Token], usize) -> Result<(Expression, &'a [Token]), 
     }
 
     /// What stands behind a `?`.
-    #[tactic(auto, using(vl_grammar::proofs::Passing::hands_on), unfolding(vl_grammar::specs::Expressions::branches))]
+    #[tactic(auto, using(vl_tree::proofs::Passing::hands_on), unfolding(vl_tree::specs::Expressions::branches))]
     fn branches(&self, tokens: &'a [Token]) -> Result<(Choice, &'a [Token]), Fault<'a>>
         requires nests { Nests self.now.depth (F.pre self.now.expression) (F.post self.now.expression) }
         requires room { length tokens.now + 1 < self.now.depth }
@@ -118,7 +117,7 @@ impl<'a, F: Fn(Global, &'a [Token], usize) -> Result<(Expression, &'a [Token]), 
     }
 
     /// `binary = unary { binop unary }`
-    #[tactic(auto, using(vl_grammar::proofs::Passing::hands_on), unfolding(vl_grammar::specs::Expressions::binary))]
+    #[tactic(auto, using(vl_tree::proofs::Passing::hands_on), unfolding(vl_tree::specs::Expressions::binary))]
     fn binary(&self, tokens: &'a [Token]) -> Result<(Boxed<Binary>, &'a [Token]), Fault<'a>>
         requires nests { Nests self.now.depth (F.pre self.now.expression) (F.post self.now.expression) }
         requires room { length tokens.now < self.now.depth }
@@ -149,7 +148,7 @@ impl<'a, F: Fn(Global, &'a [Token], usize) -> Result<(Expression, &'a [Token]), 
     }
 
     /// `unary = { unop } primary`
-    #[tactic(auto, using(vl_grammar::proofs::Passing::hands_on), unfolding(vl_grammar::specs::Expressions::unary))]
+    #[tactic(auto, using(vl_tree::proofs::Passing::hands_on), unfolding(vl_tree::specs::Expressions::unary))]
     fn unary(&self, tokens: &'a [Token]) -> Result<(Unary, &'a [Token]), Fault<'a>>
         requires nests { Nests self.now.depth (F.pre self.now.expression) (F.post self.now.expression) }
         requires room { length tokens.now < self.now.depth }
@@ -170,7 +169,7 @@ impl<'a, F: Fn(Global, &'a [Token], usize) -> Result<(Expression, &'a [Token]), 
     }
 
     /// `primary`
-    #[tactic(auto, using(vl_grammar::proofs::Passing::hands_on), unfolding(vl_grammar::specs::Expressions::primary, vl_grammar::specs::Expressions::primary_by, vl_grammar::specs::Reading::next_by))]
+    #[tactic(auto, using(vl_tree::proofs::Passing::hands_on), unfolding(vl_tree::specs::Expressions::primary, vl_tree::specs::Expressions::primary_by, vl_tree::specs::Reading::next_by))]
     fn primary(&self, tokens: &'a [Token]) -> Result<(Boxed<Primary>, &'a [Token]), Fault<'a>>
         requires nests { Nests self.now.depth (F.pre self.now.expression) (F.post self.now.expression) }
         requires room { length tokens.now < self.now.depth }
@@ -227,7 +226,7 @@ impl<'a, F: Fn(Global, &'a [Token], usize) -> Result<(Expression, &'a [Token]), 
     }
 
     /// A system call as a primary, from behind its name
-    #[tactic(auto, using(vl_grammar::proofs::Passing::hands_on), unfolding(vl_grammar::specs::Expressions::system_primary))]
+    #[tactic(auto, using(vl_tree::proofs::Passing::hands_on), unfolding(vl_tree::specs::Expressions::system_primary))]
     fn system_primary(
         &self,
         place: Place,
@@ -244,7 +243,7 @@ impl<'a, F: Fn(Global, &'a [Token], usize) -> Result<(Expression, &'a [Token]), 
     }
 
     /// `"(" expr ")"`, from behind the `(`
-    #[tactic(auto, using(vl_grammar::proofs::Passing::hands_on), unfolding(vl_grammar::specs::Expressions::parenthesized))]
+    #[tactic(auto, using(vl_tree::proofs::Passing::hands_on), unfolding(vl_tree::specs::Expressions::parenthesized))]
     fn parenthesized(
         &self,
         place: Place,
@@ -263,7 +262,7 @@ impl<'a, F: Fn(Global, &'a [Token], usize) -> Result<(Expression, &'a [Token]), 
     }
 
     /// A concatenation or a replication, from behind its `{`
-    #[tactic(auto, using(vl_grammar::proofs::Passing::hands_on), unfolding(vl_grammar::specs::Expressions::braced))]
+    #[tactic(auto, using(vl_tree::proofs::Passing::hands_on), unfolding(vl_tree::specs::Expressions::braced))]
     fn braced(
         &self,
         place: Place,
@@ -282,7 +281,7 @@ impl<'a, F: Fn(Global, &'a [Token], usize) -> Result<(Expression, &'a [Token]), 
     }
 
     /// `{ "," expr } "}"` behind the first expression of a concatenation
-    #[tactic(auto, using(vl_grammar::proofs::Passing::hands_on), unfolding(vl_grammar::specs::Expressions::concatenation))]
+    #[tactic(auto, using(vl_tree::proofs::Passing::hands_on), unfolding(vl_tree::specs::Expressions::concatenation))]
     fn concatenation(
         &self,
         place: Place,
@@ -303,7 +302,7 @@ impl<'a, F: Fn(Global, &'a [Token], usize) -> Result<(Expression, &'a [Token]), 
     }
 
     /// What a replication repeats, from behind its inner `{`
-    #[tactic(auto, using(vl_grammar::proofs::Passing::hands_on), unfolding(vl_grammar::specs::Expressions::replication))]
+    #[tactic(auto, using(vl_tree::proofs::Passing::hands_on), unfolding(vl_tree::specs::Expressions::replication))]
     fn replication(
         &self,
         place: Place,
@@ -328,7 +327,7 @@ impl<'a, F: Fn(Global, &'a [Token], usize) -> Result<(Expression, &'a [Token]), 
     }
 
     /// `expr { "," expr }`
-    #[tactic(auto, using(vl_grammar::proofs::Passing::hands_on), unfolding(vl_grammar::specs::Expressions::expressions))]
+    #[tactic(auto, using(vl_tree::proofs::Passing::hands_on), unfolding(vl_tree::specs::Expressions::expressions))]
     fn expressions(
         &self,
         tokens: &'a [Token],
@@ -365,7 +364,7 @@ impl<'a, F: Fn(Global, &'a [Token], usize) -> Result<(Expression, &'a [Token]), 
     }
 
     /// A call of a function or a name, from behind the name
-    #[tactic(auto, using(vl_grammar::proofs::Passing::hands_on), unfolding(vl_grammar::specs::Expressions::named))]
+    #[tactic(auto, using(vl_tree::proofs::Passing::hands_on), unfolding(vl_tree::specs::Expressions::named))]
     fn named(
         &self,
         place: Place,
@@ -416,7 +415,7 @@ impl<'a, F: Fn(Global, &'a [Token], usize) -> Result<(Expression, &'a [Token]), 
     }
 
     /// A select, from behind its `[`
-    #[tactic(auto, using(vl_grammar::proofs::Passing::hands_on), unfolding(vl_grammar::specs::Expressions::select))]
+    #[tactic(auto, using(vl_tree::proofs::Passing::hands_on), unfolding(vl_tree::specs::Expressions::select))]
     fn select(&self, place: Place, tokens: &'a [Token]) -> Result<(Select, &'a [Token]), Fault<'a>>
         requires nests { Nests self.now.depth (F.pre self.now.expression) (F.post self.now.expression) }
         requires room { length tokens.now + 1 < self.now.depth }
@@ -439,7 +438,7 @@ impl<'a, F: Fn(Global, &'a [Token], usize) -> Result<(Expression, &'a [Token]), 
     }
 
     /// `[ (":" | "+:" | "-:") expr ]`
-    #[tactic(auto, using(vl_grammar::proofs::Passing::hands_on), unfolding(vl_grammar::specs::Expressions::bound))]
+    #[tactic(auto, using(vl_tree::proofs::Passing::hands_on), unfolding(vl_tree::specs::Expressions::bound))]
     fn bound(&self, tokens: &'a [Token]) -> Result<(Option<Bound>, &'a [Token]), Fault<'a>>
         requires nests { Nests self.now.depth (F.pre self.now.expression) (F.post self.now.expression) }
         requires room { length tokens.now < self.now.depth }
@@ -454,7 +453,7 @@ impl<'a, F: Fn(Global, &'a [Token], usize) -> Result<(Expression, &'a [Token]), 
     }
 
     /// A system call, from behind its name
-    #[tactic(auto, using(vl_grammar::proofs::Passing::hands_on), unfolding(vl_grammar::specs::Expressions::system))]
+    #[tactic(auto, using(vl_tree::proofs::Passing::hands_on), unfolding(vl_tree::specs::Expressions::system))]
     fn system(
         &self,
         place: Place,
@@ -489,7 +488,7 @@ impl<'a, F: Fn(Global, &'a [Token], usize) -> Result<(Expression, &'a [Token]), 
     }
 
     /// `sarg { "," sarg } ")"`
-    #[tactic(auto, using(vl_grammar::proofs::Passing::hands_on), unfolding(vl_grammar::specs::Expressions::arguments))]
+    #[tactic(auto, using(vl_tree::proofs::Passing::hands_on), unfolding(vl_tree::specs::Expressions::arguments))]
     fn arguments(
         &self,
         tokens: &'a [Token],
@@ -530,7 +529,7 @@ impl<'a, F: Fn(Global, &'a [Token], usize) -> Result<(Expression, &'a [Token]), 
     }
 
     /// `sarg = [ expr ]`
-    #[tactic(auto, using(vl_grammar::proofs::Passing::hands_on), unfolding(vl_grammar::specs::Expressions::argument))]
+    #[tactic(auto, using(vl_tree::proofs::Passing::hands_on), unfolding(vl_tree::specs::Expressions::argument))]
     fn argument(&self, tokens: &'a [Token]) -> Result<(SystemArgument, &'a [Token]), Fault<'a>>
         requires nests { Nests self.now.depth (F.pre self.now.expression) (F.post self.now.expression) }
         requires room { length tokens.now + 1 < self.now.depth }

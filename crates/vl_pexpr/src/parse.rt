@@ -2,15 +2,15 @@
 
 ghost use Rattle.std.specs.Prelude.{◌≡◌, ℕ, ◌+◌, ◌≤◌, ◌⊎◌, length, IfOk};
 ghost use Rattle.std.specs.List.{slice_range};
-ghost use Rattle.vl_grammar.specs.Begins.{IsExpression, IsReach, place_at as place_at_lem};
+ghost use Rattle.vl_tree.specs.Begins.{IsExpression, IsReach, place_at as place_at_lem};
 ghost use Rattle.vl_pexpr.specs.Faults.{IsFirstFault, PassesLimit};
 
 use crate::grammar::expression_at;
 use std::alloc::Global;
-use vl_base::place::Place;
-use vl_grammar::fault::Fault;
-use vl_grammar::tree::Expression;
+use vl_tree::Place;
+use vl_tree::fault::Fault;
 use vl_tree::token::Token;
+use vl_tree::tree::Expression;
 
 /// The most tokens of an expression that stands in no other: limit 4.
 pub const MOST_TOKENS: usize = 1000;

@@ -1,14 +1,14 @@
 -- The items of a case, of which at most one is a default.
 use Rattle.std.proofs.Common.{◌≡◌, ℕ, zero, suc, ◌<◌, length, List, [], ◌∷◌, ◌++◌, Ok, Bool, true, false, codes, sym, arith, append-nil, ◌∙◌}
 use Rattle.vl_tree.specs.declared.token.Token.{Token}
-use Rattle.vl_grammar.specs.declared.tree.Expression.{Expression}
-use Rattle.vl_grammar.specs.Reading.{is_next}
-use Rattle.vl_source.specs.declared.fault.Fault.{Fault}
-use Rattle.vl_source.specs.declared.tree.CaseItem.{CaseItem}
-use Rattle.vl_source.specs.declared.tree.Lvalue.{Lvalue}
-use Rattle.vl_source.specs.declared.tree.Statement.{Statement}
-use Rattle.vl_source.specs.Parsers.{Outcome, Parser, with_front, is_word, Fails}
-use Rattle.vl_source.specs.Parsing.{case_item, case_items}
+use Rattle.vl_tree.specs.declared.tree.Expression.{Expression}
+use Rattle.vl_tree.specs.Reading.{is_next}
+use Rattle.vl_tree.specs.declared.source_fault.Fault.{Fault}
+use Rattle.vl_tree.specs.declared.source_tree.CaseItem.{CaseItem}
+use Rattle.vl_tree.specs.declared.source_tree.Lvalue.{Lvalue}
+use Rattle.vl_tree.specs.declared.source_tree.Statement.{Statement}
+use Rattle.vl_tree.specs.Parsers.{Outcome, Parser, with_front, is_word, Fails}
+use Rattle.vl_tree.specs.Parsing.{case_item, case_items}
 use Rattle.vl_pstmt.proofs.Passing.{fails_on, with_front_more}
 
 module _ (whole : Parser Expression) (target : Parser Lvalue) (n : ℕ) (inner : Parser Statement) where

@@ -1,15 +1,15 @@
 -- A left side or a statement is a level, with others that nest less inside.
 use Rattle.std.proofs.Common.{◌≡◌, ℕ, zero, suc, ◌-◌, ◌<◌, List, Err, if◌then◌else◌, codes, arith, refl, sub-one}
-use Rattle.vl_base.specs.declared.place.Place.{Place}
+use Rattle.vl_tree.specs.vl_base.specs.declared.place.Place.{Place}
 use Rattle.vl_tree.specs.declared.token.Token.{Token}
-use Rattle.vl_grammar.specs.declared.tree.Expression.{Expression}
-use Rattle.vl_grammar.specs.Reading.{mark, is_next}
-use Rattle.vl_source.specs.declared.fault.Cause.TheVariants.{Syntax, Statements}
-use Rattle.vl_source.specs.declared.tree.Lvalue.{Lvalue}
-use Rattle.vl_source.specs.declared.tree.Statement.{Statement}
-use Rattle.vl_source.specs.declared.tree.Statement.TheVariants as s
-use Rattle.vl_source.specs.Parsers.{Parser, ◌>>=◌, pure, must}
-use Rattle.vl_source.specs.Parsing.{assignment, begins_statement, loop, too_deep, lvalue, target_level, statement, statement_level}
+use Rattle.vl_tree.specs.declared.tree.Expression.{Expression}
+use Rattle.vl_tree.specs.Reading.{mark, is_next}
+use Rattle.vl_tree.specs.declared.source_fault.Cause.TheVariants.{Syntax, Statements}
+use Rattle.vl_tree.specs.declared.source_tree.Lvalue.{Lvalue}
+use Rattle.vl_tree.specs.declared.source_tree.Statement.{Statement}
+use Rattle.vl_tree.specs.declared.source_tree.Statement.TheVariants as s
+use Rattle.vl_tree.specs.Parsers.{Parser, ◌>>=◌, pure, must}
+use Rattle.vl_tree.specs.Parsing.{assignment, begins_statement, loop, too_deep, lvalue, target_level, statement, statement_level}
 
 pub lvalue_opens : (n k : ℕ) → 0 < n → lvalue n k ≡ target_level (lvalue (n - 1)) (n - 1) k
 unfolding lvalue

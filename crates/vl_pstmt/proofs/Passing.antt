@@ -4,12 +4,13 @@ use Rattle.std.specs.Result.{IsErrAnd}
 use Rattle.std.proofs.lemmas.Result.{err_from_is_err_and}
 use Rattle.std.proofs.lemmas.Bool.{lt-ltb, le-ltb}
 use Rattle.vl_tree.specs.declared.token.Token.{Token}
-use Rattle.vl_grammar.specs.Reading.{next_by, is_next}
-use Rattle.vl_source.specs.declared.fault.Fault.{Fault}
-use Rattle.vl_source.specs.declared.fault.Fault.TheVariants as fault
-use Rattle.vl_source.specs.declared.fault.Cause.TheVariants.{Tokens}
-use Rattle.vl_source.specs.Bounds.{most_tokens}
-use Rattle.vl_source.specs.Parsers.{Outcome, Parser, and_then, pure, with_front, many, before, many_counted, with_counted_front, Fails, Gives}
+use Rattle.vl_tree.specs.Reading.{next_by, is_next}
+use Rattle.vl_tree.specs.declared.source_fault.Fault.{Fault}
+use Rattle.vl_tree.specs.declared.source_fault.Fault.TheVariants as fault
+use Rattle.vl_tree.specs.declared.source_fault.Cause.TheVariants.{Tokens}
+use Rattle.vl_tree.specs.Bounds.{most_tokens}
+use Rattle.vl_tree.specs.Parsers.{Outcome, Parser, and_then, pure, with_front, many, before, many_counted, with_counted_front, Fails, Gives}
+pub use Rattle.vl_tree.proofs.Shared.{with_front_none}
 
 -- a fault stands, whatever were to come behind
 pub fails_on : {A B : Type 0} (e : Fault) (o : Outcome A) (f : A → Parser B) → Fails e o → Fails e (and_then o f)
@@ -29,10 +30,6 @@ hands_on r e o f h g = passed r e _ h (fails_on e o f g)
 pub with_front_more : {A : Type 0} (front : List A) (e : A) (o : Outcome (List A)) → with_front (front ++ e ∷ []) o ≡ with_front front (and_then o (λ es. pure (e ∷ es)))
 with_front_more front e (Ok x) = ap (λ es. Ok (es, x.1)) (append_assoc front (e ∷ []) x.0)
 with_front_more front e (Err r) = refl
-
-pub with_front_none : {A : Type 0} (o : Outcome (List A)) → with_front [] o ≡ o
-with_front_none (Ok x) = refl
-with_front_none (Err r) = refl
 
 -- what a list is from here on, with these in front, is the whole
 abbrev pub GoesOn : {X A : Type 0} → (Token → Option X) → (X → Parser A) → List A → List Token → Outcome (List A) → Type 0

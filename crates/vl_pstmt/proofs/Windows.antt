@@ -5,12 +5,12 @@ use Rattle.std.proofs.lemmas.List.{take-append-drop, take_min}
 use Rattle.std.proofs.Math.Seq.{take-append-add, drop-append_seam}
 use Rattle.std.specs.Result.{IfOk}
 use Rattle.vl_tree.specs.declared.token.Token.{Token}
-use Rattle.vl_grammar.specs.declared.fault.Fault.{Fault}
-use Rattle.vl_grammar.specs.declared.fault.Fault.TheVariants as fault
-use Rattle.vl_grammar.specs.Reading.{Outcome, Parser, Gives}
-use Rattle.vl_grammar.proofs.Follows.{Follows, next, left, no_longer}
-use Rattle.vl_source.specs.declared.fault.Cause.TheVariants.{Syntax, Tokens}
-use Rattle.vl_source.specs.Parsers.{taken, limited, unlimited}
+use Rattle.vl_tree.specs.declared.fault.Fault.{Fault}
+use Rattle.vl_tree.specs.declared.fault.Fault.TheVariants as fault
+use Rattle.vl_tree.specs.Reading.{Outcome, Parser, Gives}
+use Rattle.vl_tree.proofs.Follows.{Follows, next, left, no_longer}
+use Rattle.vl_tree.specs.declared.source_fault.Cause.TheVariants.{Syntax, Tokens}
+use Rattle.vl_tree.specs.Parsers.{taken, limited, unlimited}
 use Rattle.vl_pstmt.specs.Limits.{window, moved, narrowed, LeavesOf}
 
 -- what is left

@@ -2,11 +2,11 @@
 use Rattle.std.specs.Prelude.{ℕ, ◌+◌, ◌<◌, ◌≤◌, nat_lt, List, length, take, drop, Result, Ok, Err, cond}
 use Rattle.std.specs.Borrow.{Bor}
 use Rattle.vl_tree.specs.declared.token.Token.{Token}
-use Rattle.vl_grammar.specs.declared.fault.Fault.{Fault}
-use Rattle.vl_grammar.specs.declared.fault.Fault.TheVariants as fault
-use Rattle.vl_grammar.specs.Reading as plain
-use Rattle.vl_source.specs.declared.fault.Cause.TheVariants.{Tokens}
-use Rattle.vl_source.specs.Parsers.{Outcome, taken, unlimited}
+use Rattle.vl_tree.specs.declared.fault.Fault.{Fault}
+use Rattle.vl_tree.specs.declared.fault.Fault.TheVariants as fault
+use Rattle.vl_tree.specs.Reading as plain
+use Rattle.vl_tree.specs.declared.source_fault.Cause.TheVariants.{Tokens}
+use Rattle.vl_tree.specs.Parsers.{Outcome, taken, unlimited}
 
 -- as many tokens as the limit allows, and one more
 abbrev pub window : ℕ → List Token → List Token

@@ -3,11 +3,11 @@ use Rattle.std.specs.Prelude.{ℕ, ◌+◌, ◌<◌, length, List, Result, IfOk}
 use Rattle.std.specs.Borrow.{Bor}
 use Rattle.std.specs.declared.alloc.Global.{Global}
 use Rattle.vl_tree.specs.declared.token.Token.{Token}
-use Rattle.vl_source.specs.declared.tree.Lvalue.{Lvalue}
-use Rattle.vl_source.specs.declared.tree.Statement.{Statement}
-use Rattle.vl_source.specs.declared.fault.Fault.{Fault}
-use Rattle.vl_source.specs.Parsers.{Parser, Gives}
-use Rattle.vl_source.specs.Parsing.{lvalue, statement, whole, target}
+use Rattle.vl_tree.specs.declared.source_tree.Lvalue.{Lvalue}
+use Rattle.vl_tree.specs.declared.source_tree.Statement.{Statement}
+use Rattle.vl_tree.specs.declared.source_fault.Fault.{Fault}
+use Rattle.vl_tree.specs.Parsers.{Parser, Gives}
+use Rattle.vl_tree.specs.Parsing.{lvalue, statement, whole, target}
 use Rattle.vl_pstmt.specs.declared.reader.Reader.{Reader}
 
 -- it reads left sides to a depth

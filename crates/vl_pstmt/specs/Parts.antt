@@ -1,15 +1,15 @@
 -- Parts of statements that functions of their own read, where there are fewer than n tokens.
 use Rattle.std.specs.Prelude.{ℕ, Bool, List, Option, Some, None, codes}
-use Rattle.vl_base.specs.declared.place.Place.{Place}
+use Rattle.vl_tree.specs.vl_base.specs.declared.place.Place.{Place}
 use Rattle.vl_tree.specs.declared.token.Token.{Token}
-use Rattle.vl_grammar.specs.declared.tree.Expression.{Expression}
-use Rattle.vl_grammar.specs.declared.tree.SystemArgument.{SystemArgument}
-use Rattle.vl_grammar.specs.Reading.{mark, behind}
-use Rattle.vl_source.specs.declared.tree.AssignMark.{AssignMark}
-use Rattle.vl_source.specs.declared.tree.CaseItem.{CaseItem}
-use Rattle.vl_source.specs.declared.tree.Statement.{Statement}
-use Rattle.vl_source.specs.Parsers.{Parser, ◌>>=◌, pure, if_next, must, next_or, list}
-use Rattle.vl_source.specs.Parsing.{whole, target, assign_mark, system_argument, labels, by_keyword, assign}
+use Rattle.vl_tree.specs.declared.tree.Expression.{Expression}
+use Rattle.vl_tree.specs.declared.tree.SystemArgument.{SystemArgument}
+use Rattle.vl_tree.specs.Reading.{mark, behind}
+use Rattle.vl_tree.specs.declared.source_tree.AssignMark.{AssignMark}
+use Rattle.vl_tree.specs.declared.source_tree.CaseItem.{CaseItem}
+use Rattle.vl_tree.specs.declared.source_tree.Statement.{Statement}
+use Rattle.vl_tree.specs.Parsers.{Parser, ◌>>=◌, pure, if_next, must, next_or, list}
+use Rattle.vl_tree.specs.Parsing.{whole, target, assign_mark, system_argument, labels, by_keyword, assign}
 
 -- ("=" | "<=") expr ";"
 abbrev pub assigned : ℕ → Parser (AssignMark × Expression)

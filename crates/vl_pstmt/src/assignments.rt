@@ -1,24 +1,23 @@
 //! Statements in which no other stands, and the lists inside statements.
 
 ghost use Rattle.std.specs.Prelude.{◌≡◌, ◌+◌, ◌<◌, ◌≤◌, [], ◌∷◌, length, option_map, IfOk, IfSome, codes};
-ghost use Rattle.vl_grammar.specs.Reading.{next_by, mark};
-ghost use Rattle.vl_source.specs.Parsers.{Gives, with_front, many, list};
-ghost use Rattle.vl_source.specs.Parsing as spec;
+ghost use Rattle.vl_tree.specs.Reading.{next_by, mark};
+ghost use Rattle.vl_tree.specs.Parsers.{Gives, with_front, many, list};
+ghost use Rattle.vl_tree.specs.Parsing as spec;
 ghost use Rattle.vl_pstmt.specs.Parts as part;
 
 use crate::reader::Reader;
-use vl_base::items::Text;
-use vl_base::place::Place;
-use vl_grammar::parts::Parts;
-use vl_grammar::steps::{after_mark, copy_of, first_place};
-use vl_grammar::tree::{Expression, Identifier, SystemArgument, SystemCall};
-use vl_source::fault::{Cause, Fault};
-use vl_source::tree::{AssignMark, Statement};
+use vl_tree::parts::Parts;
+use vl_tree::source_fault::{Cause, Fault};
+use vl_tree::source_tree::{AssignMark, Statement};
+use vl_tree::steps::{after_mark, copy_of, first_place};
 use vl_tree::token::{Token, TokenKind};
+use vl_tree::tree::{Expression, Identifier, SystemArgument, SystemCall};
+use vl_tree::{Place, Text};
 
 impl Reader {
     /// `lvalue ("=" | "<=") expr ";"`
-    #[tactic(auto, using(crate::proofs::Passing::hands_on), unfolding(vl_source::specs::Parsing::assign))]
+    #[tactic(auto, using(crate::proofs::Passing::hands_on), unfolding(vl_tree::specs::Parsing::assign))]
     pub(crate) fn assign<'a>(
         &self,
         tokens: &'a [Token],
@@ -52,7 +51,7 @@ impl Reader {
     }
 
     /// `"=" | "<="`, if one comes first, and the tokens after it
-    #[tactic(auto, unfolding(vl_grammar::specs::Reading::next_by))]
+    #[tactic(auto, unfolding(vl_tree::specs::Reading::next_by))]
     fn after_assign<'a>(&self, tokens: &'a [Token]) -> Option<(AssignMark, &'a [Token])>
         ensures value { let n = self.now.depth in option_map (λ x. (x.0, x.1.now)) result ≡ next_by (spec.assign_mark (spec.whole n) (spec.target n) n) tokens.now }
         ensures shorter { IfSome result (λ x. length x.1.now < length tokens.now) }
@@ -63,7 +62,7 @@ impl Reader {
     }
 
     /// The mark of an assignment that a token is
-    #[tactic(auto, unfolding(vl_source::specs::Parsing::assign_mark, vl_grammar::specs::Reading::mark))]
+    #[tactic(auto, unfolding(vl_tree::specs::Parsing::assign_mark, vl_tree::specs::Reading::mark))]
     fn assign_mark(&self, token: &Token) -> Option<AssignMark>
         ensures { let n = self.now.depth in result ≡ spec.assign_mark (spec.whole n) (spec.target n) n token.now }
     {
@@ -80,7 +79,7 @@ impl Reader {
     }
 
     /// A system task, from behind its name
-    #[tactic(auto, using(crate::proofs::Passing::hands_on), unfolding(vl_source::specs::Parsing::task))]
+    #[tactic(auto, using(crate::proofs::Passing::hands_on), unfolding(vl_tree::specs::Parsing::task))]
     pub(crate) fn task<'a>(
         &self,
         place: Place,
@@ -121,7 +120,7 @@ impl Reader {
     }
 
     /// `sarg { "," sarg }`
-    #[tactic(auto, using(crate::proofs::Passing::hands_on), unfolding(vl_source::specs::Parsers::list))]
+    #[tactic(auto, using(crate::proofs::Passing::hands_on), unfolding(vl_tree::specs::Parsers::list))]
     fn system_arguments<'a>(
         &self,
         tokens: &'a [Token],
@@ -156,7 +155,7 @@ impl Reader {
     }
 
     /// `sarg = [ expr ]`
-    #[tactic(auto, using(crate::proofs::Passing::hands_on), unfolding(vl_source::specs::Parsing::system_argument))]
+    #[tactic(auto, using(crate::proofs::Passing::hands_on), unfolding(vl_tree::specs::Parsing::system_argument))]
     fn system_argument<'a>(
         &self,
         tokens: &'a [Token],
@@ -170,7 +169,7 @@ impl Reader {
     }
 
     /// `[ ":" id ]`
-    #[tactic(auto, using(crate::proofs::Passing::hands_on), unfolding(vl_source::specs::Parsing::label))]
+    #[tactic(auto, using(crate::proofs::Passing::hands_on), unfolding(vl_tree::specs::Parsing::label))]
     pub(crate) fn label<'a>(
         &self,
         tokens: &'a [Token],
@@ -186,7 +185,7 @@ impl Reader {
     }
 
     /// `expr { "," expr }`
-    #[tactic(auto, using(crate::proofs::Passing::hands_on), unfolding(vl_source::specs::Parsers::list))]
+    #[tactic(auto, using(crate::proofs::Passing::hands_on), unfolding(vl_tree::specs::Parsers::list))]
     pub(crate) fn expressions<'a>(
         &self,
         tokens: &'a [Token],

@@ -1,13 +1,13 @@
 //! How many tokens an expression may have, and a left side but for its indices.
 
 ghost use Rattle.std.specs.Prelude.{◌≡◌, ℕ, ◌+◌, ◌<◌, ◌≤◌, length, drop, IfOk};
-ghost use Rattle.vl_grammar.specs.Reading as plain;
-ghost use Rattle.vl_source.specs.Bounds.{most_tokens};
-ghost use Rattle.vl_source.specs.Parsers.{Gives};
+ghost use Rattle.vl_tree.specs.Reading as plain;
+ghost use Rattle.vl_tree.specs.Bounds.{most_tokens};
+ghost use Rattle.vl_tree.specs.Parsers.{Gives};
 ghost use Rattle.vl_pstmt.specs.Limits.{window as window_lem, narrowed, LeavesOf};
 
-use vl_grammar::fault::Fault as PlainFault;
-use vl_source::fault::{Cause, Fault};
+use vl_tree::fault::Fault as PlainFault;
+use vl_tree::source_fault::{Cause, Fault};
 use vl_tree::token::Token;
 
 /// The most tokens of an expression that stands in no other, and of a left side but for those in its indices: limit 4.

@@ -1,21 +1,21 @@
 //! What each production is read with.
 
 ghost use Rattle.std.specs.Prelude.{◌+◌, ◌<◌, ◌≤◌, [], ◌∷◌, length, IfOk, codes};
-ghost use Rattle.vl_grammar.specs.Reading as plain;
-ghost use Rattle.vl_source.specs.Parsers as parsers;
-ghost use Rattle.vl_source.specs.Parsers.{Gives, must, pure, with_front, many};
-ghost use Rattle.vl_source.specs.Parsing as spec;
+ghost use Rattle.vl_tree.specs.Reading as plain;
+ghost use Rattle.vl_tree.specs.Parsers as parsers;
+ghost use Rattle.vl_tree.specs.Parsers.{Gives, must, pure, with_front, many};
+ghost use Rattle.vl_tree.specs.Parsing as spec;
 
 use crate::limits::{window, within_limit};
 use crate::steps::after_keyword;
 use std::alloc::Global;
-use vl_base::place::Place;
-use vl_grammar::parts::Parts;
-use vl_grammar::steps::{after_mark, copy_of, ends_argument};
-use vl_grammar::tree::{Expression, Identifier};
 use vl_pexpr::expression_at;
-use vl_source::fault::{Cause, Fault};
+use vl_tree::Place;
+use vl_tree::parts::Parts;
+use vl_tree::source_fault::{Cause, Fault};
+use vl_tree::steps::{after_mark, copy_of, ends_argument};
 use vl_tree::token::{Token, TokenKind};
+use vl_tree::tree::{Expression, Identifier};
 
 /// Reads parts of a source from the front of a slice: the part and the tokens after it, or the fault.
 #[derive(Clone, Copy)]
@@ -58,7 +58,7 @@ impl Reader {
     }
 
     /// `id`
-    #[tactic(auto, unfolding(vl_source::specs::Parsers::identifier, vl_source::specs::Parsers::identifier_token, vl_grammar::specs::Reading::next_by))]
+    #[tactic(auto, unfolding(vl_tree::specs::Parsers::identifier, vl_tree::specs::Parsers::identifier_token, vl_tree::specs::Reading::next_by))]
     pub fn identifier<'a>(
         &self,
         tokens: &'a [Token],
@@ -80,7 +80,7 @@ impl Reader {
     }
 
     /// `id { "," id }`
-    #[tactic(auto, using(crate::proofs::Passing::hands_on), unfolding(vl_source::specs::Parsers::list))]
+    #[tactic(auto, using(crate::proofs::Passing::hands_on), unfolding(vl_tree::specs::Parsers::list))]
     pub fn identifiers<'a>(
         &self,
         tokens: &'a [Token],
@@ -148,7 +148,7 @@ impl Reader {
     }
 
     /// `[ expr ]` before a `,` or a `)`
-    #[tactic(auto, using(crate::proofs::Passing::hands_on), unfolding(vl_source::specs::Parsing::argument))]
+    #[tactic(auto, using(crate::proofs::Passing::hands_on), unfolding(vl_tree::specs::Parsing::argument))]
     pub fn argument<'a>(
         &self,
         tokens: &'a [Token],

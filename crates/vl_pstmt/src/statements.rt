@@ -1,21 +1,20 @@
 //! Statements (IEEE 1364-2005, clause 9 and annex A.6).
 
 ghost use Rattle.std.specs.Prelude.{◌≡◌, ℕ, ◌+◌, ◌<◌, ◌≤◌, [], ◌∷◌, Bool, true, length, IfOk, codes, if◌then◌else◌};
-ghost use Rattle.vl_grammar.specs.Reading.{is_next, mark, keyword};
-ghost use Rattle.vl_source.specs.Parsers.{Gives, if_next, must, with_front, before, is_word};
-ghost use Rattle.vl_source.specs.Parsing as spec;
+ghost use Rattle.vl_tree.specs.Reading.{is_next, mark, keyword};
+ghost use Rattle.vl_tree.specs.Parsers.{Gives, if_next, must, with_front, before, is_word};
+ghost use Rattle.vl_tree.specs.Parsing as spec;
 ghost use Rattle.vl_pstmt.specs.Nests.{Nests, nested};
 ghost use Rattle.vl_pstmt.specs.Parts as part;
 
 use crate::reader::Reader;
 use crate::steps::{after_keyword, comes};
-use vl_base::items::Text;
-use vl_base::place::Place;
-use vl_grammar::parts::{Boxed, Parts};
-use vl_grammar::steps::{after_mark, first_place};
-use vl_source::fault::{Cause, Fault};
-use vl_source::tree::{CaseItem, CaseKeyword, Statement};
+use vl_tree::parts::{Boxed, Parts};
+use vl_tree::source_fault::{Cause, Fault};
+use vl_tree::source_tree::{CaseItem, CaseKeyword, Statement};
+use vl_tree::steps::{after_mark, first_place};
 use vl_tree::token::{Token, TokenKind};
+use vl_tree::{Place, Text};
 
 /// The most statements around a token: limit 3.
 const MOST_STATEMENTS: u8 = 128;
@@ -70,7 +69,7 @@ fn deep_cause(tokens: &[Token]) -> Cause
 }
 
 /// Whether a statement begins with such a token.
-#[tactic(auto, unfolding(vl_source::specs::Parsing::begins_statement))]
+#[tactic(auto, unfolding(vl_tree::specs::Parsing::begins_statement))]
 fn begins_statement(token: &Token) -> bool
     ensures { result ≡ spec.begins_statement token.now }
 {
@@ -131,7 +130,7 @@ impl<'a, F: Fn(Reader, &'a [Token], u8) -> Result<(Statement, &'a [Token]), Faul
     }
 
     /// `stmt`, by its first token
-    #[tactic(auto, unfolding(vl_source::specs::Parsing::statement_level, vl_source::specs::Parsing::statement_by, vl_grammar::specs::Reading::next_by))]
+    #[tactic(auto, unfolding(vl_tree::specs::Parsing::statement_level, vl_tree::specs::Parsing::statement_by, vl_tree::specs::Reading::next_by))]
     fn level(&self, tokens: &'a [Token]) -> Result<(Statement, &'a [Token]), Fault<'a>>
         requires nests { Nests self.now.room (F.pre self.now.inner) (F.post self.now.inner) }
         requires size { length tokens.now + 1 < self.now.reader.depth }
@@ -188,7 +187,7 @@ impl<'a, F: Fn(Reader, &'a [Token], u8) -> Result<(Statement, &'a [Token]), Faul
     }
 
     /// `[ ":" id ] { stmt } "end"`
-    #[tactic(auto, using(crate::proofs::Passing::hands_on), unfolding(vl_source::specs::Parsing::block))]
+    #[tactic(auto, using(crate::proofs::Passing::hands_on), unfolding(vl_tree::specs::Parsing::block))]
     fn block(
         &self,
         place: Place,
@@ -223,7 +222,7 @@ impl<'a, F: Fn(Reader, &'a [Token], u8) -> Result<(Statement, &'a [Token]), Faul
     }
 
     /// `"(" expr ")" stmt [ "else" stmt ]`
-    #[tactic(auto, using(crate::proofs::Passing::hands_on), unfolding(vl_source::specs::Parsing::when))]
+    #[tactic(auto, using(crate::proofs::Passing::hands_on), unfolding(vl_tree::specs::Parsing::when))]
     fn when(&self, place: Place, tokens: &'a [Token]) -> Result<(Statement, &'a [Token]), Fault<'a>>
         requires nests { Nests self.now.room (F.pre self.now.inner) (F.post self.now.inner) }
         requires size { length tokens.now + 1 < self.now.reader.depth }
@@ -240,7 +239,7 @@ impl<'a, F: Fn(Reader, &'a [Token], u8) -> Result<(Statement, &'a [Token]), Faul
     }
 
     /// `"(" expr ")" citem { citem } "endcase"`
-    #[tactic(auto, using(crate::proofs::Passing::hands_on), unfolding(vl_source::specs::Parsing::cases))]
+    #[tactic(auto, using(crate::proofs::Passing::hands_on), unfolding(vl_tree::specs::Parsing::cases))]
     fn cases(
         &self,
         keyword: CaseKeyword,
@@ -285,7 +284,7 @@ impl<'a, F: Fn(Reader, &'a [Token], u8) -> Result<(Statement, &'a [Token]), Faul
     }
 
     /// `citem`, and whether a later one may be a default, if this one may
-    #[tactic(auto, using(crate::proofs::Passing::hands_on), unfolding(vl_source::specs::Parsing::case_item))]
+    #[tactic(auto, using(crate::proofs::Passing::hands_on), unfolding(vl_tree::specs::Parsing::case_item))]
     fn case_item(
         &self,
         may: bool,
@@ -323,7 +322,7 @@ impl<'a, F: Fn(Reader, &'a [Token], u8) -> Result<(Statement, &'a [Token]), Faul
     }
 
     /// `[ ":" ] stmt` behind `default`
-    #[tactic(auto, using(crate::proofs::Passing::hands_on), unfolding(vl_source::specs::Parsing::default_item))]
+    #[tactic(auto, using(crate::proofs::Passing::hands_on), unfolding(vl_tree::specs::Parsing::default_item))]
     fn default_item(
         &self,
         place: Place,
@@ -352,7 +351,7 @@ impl<'a, F: Fn(Reader, &'a [Token], u8) -> Result<(Statement, &'a [Token]), Faul
     }
 
     /// `expr { "," expr } ":" stmt`
-    #[tactic(auto, using(crate::proofs::Passing::hands_on), unfolding(vl_source::specs::Parsing::labels))]
+    #[tactic(auto, using(crate::proofs::Passing::hands_on), unfolding(vl_tree::specs::Parsing::labels))]
     fn labels(&self, tokens: &'a [Token]) -> Result<(CaseItem, &'a [Token]), Fault<'a>>
         requires nests { Nests self.now.room (F.pre self.now.inner) (F.post self.now.inner) }
         requires size { length tokens.now + 1 < self.now.reader.depth }
@@ -396,7 +395,7 @@ impl<'a, F: Fn(Reader, &'a [Token], u8) -> Result<(Statement, &'a [Token]), Faul
     }
 
     /// `"(" expr ")" stmt`
-    #[tactic(auto, using(crate::proofs::Passing::hands_on), unfolding(vl_source::specs::Parsing::repeat))]
+    #[tactic(auto, using(crate::proofs::Passing::hands_on), unfolding(vl_tree::specs::Parsing::repeat))]
     fn repeat(
         &self,
         place: Place,

@@ -1,14 +1,14 @@
 //! Steps over a slice of tokens that hand no fault on.
 
 ghost use Rattle.std.specs.Prelude.{◌≡◌, ◌<◌, ◌≤◌, length, option_map, IfSome, Ok};
-ghost use Rattle.vl_grammar.specs.Reading.{keyword, next_by, is_next};
-ghost use Rattle.vl_source.specs.Parsers.{word as word_lem, is_word};
+ghost use Rattle.vl_tree.specs.Reading.{keyword, next_by, is_next};
+ghost use Rattle.vl_tree.specs.Parsers.{word as word_lem, is_word};
 
-use vl_base::place::Place;
+use vl_tree::Place;
 use vl_tree::token::{Token, TokenKind};
 
 /// The place of a token that is this reserved word.
-#[tactic(auto, unfolding(vl_grammar::specs::Reading::keyword))]
+#[tactic(auto, unfolding(vl_tree::specs::Reading::keyword))]
 fn keyword_place(token: &Token, word: &[u8]) -> Option<Place>
     ensures { result ≡ keyword word.now token.now }
 {
@@ -25,7 +25,7 @@ fn keyword_place(token: &Token, word: &[u8]) -> Option<Place>
 }
 
 /// The place of this reserved word and the tokens after it, if it comes first.
-#[tactic(auto, unfolding(vl_grammar::specs::Reading::next_by))]
+#[tactic(auto, unfolding(vl_tree::specs::Reading::next_by))]
 pub fn after_keyword<'a>(tokens: &'a [Token], word: &[u8]) -> Option<(Place, &'a [Token])>
     ensures value { option_map (λ x. (x.0, x.1.now)) result ≡ next_by (keyword word.now) tokens.now }
     ensures shorter { IfSome result (λ x. length x.1.now < length tokens.now) }
@@ -46,7 +46,7 @@ pub fn comes(tokens: &[Token], word: &[u8]) -> bool
 }
 
 /// Whether this reserved word comes first, and the tokens after it.
-#[tactic(auto, unfolding(vl_source::specs::Parsers::word))]
+#[tactic(auto, unfolding(vl_tree::specs::Parsers::word))]
 pub fn past_keyword<'a>(tokens: &'a [Token], word: &[u8]) -> (bool, &'a [Token])
     ensures reads { word_lem word.now tokens.now ≡ Ok (result.0, result.1.now) }
     ensures no_longer { length result.1.now ≤ length tokens.now }

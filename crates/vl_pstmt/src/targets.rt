@@ -4,24 +4,24 @@
 //! of them stand before, and gives how many stand up to its end.
 
 ghost use Rattle.std.specs.Prelude.{ℕ, ◌+◌, ◌<◌, ◌≤◌, [], ◌∷◌, length, IfOk};
-ghost use Rattle.vl_source.specs.Parsers.{Gives, must_counted, with_counted_front, identifier_token};
-ghost use Rattle.vl_source.specs.Parsing as spec;
+ghost use Rattle.vl_tree.specs.Parsers.{Gives, must_counted, with_counted_front, identifier_token};
+ghost use Rattle.vl_tree.specs.Parsing as spec;
 ghost use Rattle.vl_pstmt.specs.Nests.{NestsTargets};
 
 use crate::limits::MOST_TOKENS;
 use crate::reader::Reader;
 use std::alloc::Global;
-use vl_base::place::Place;
-use vl_grammar::parts::Parts;
-use vl_grammar::steps::{after_mark, after_select, copy_of, first_place};
-use vl_grammar::tree::{Bound, Identifier, Name, Select};
-use vl_source::fault::{Cause, Fault};
-use vl_source::tree::{Assignment, Lvalue};
+use vl_tree::Place;
+use vl_tree::parts::Parts;
+use vl_tree::source_fault::{Cause, Fault};
+use vl_tree::source_tree::{Assignment, Lvalue};
+use vl_tree::steps::{after_mark, after_select, copy_of, first_place};
 use vl_tree::token::{Token, TokenKind};
+use vl_tree::tree::{Bound, Identifier, Name, Select};
 
 impl Reader {
     /// `lvalue`, in no other
-    #[tactic(auto, using(crate::proofs::Passing::hands_on), unfolding(vl_source::specs::Parsing::target))]
+    #[tactic(auto, using(crate::proofs::Passing::hands_on), unfolding(vl_tree::specs::Parsing::target))]
     pub fn target<'a>(&self, tokens: &'a [Token]) -> Result<(Lvalue, &'a [Token]), Fault<'a>>
         requires { length tokens.now + 1 < self.now.depth }
         ensures reads { Gives result (spec.target self.now.depth tokens.now) }
@@ -32,7 +32,7 @@ impl Reader {
     }
 
     /// `lset = lvalue "=" expr`
-    #[tactic(auto, using(crate::proofs::Passing::hands_on), unfolding(vl_source::specs::Parsing::assignment))]
+    #[tactic(auto, using(crate::proofs::Passing::hands_on), unfolding(vl_tree::specs::Parsing::assignment))]
     pub fn assignment<'a>(
         &self,
         tokens: &'a [Token],
@@ -81,7 +81,7 @@ impl Reader {
     }
 
     /// An index, from behind its `[`
-    #[tactic(auto, using(crate::proofs::Passing::hands_on), unfolding(vl_source::specs::Parsing::index))]
+    #[tactic(auto, using(crate::proofs::Passing::hands_on), unfolding(vl_tree::specs::Parsing::index))]
     fn index<'a>(
         &self,
         place: Place,
@@ -109,7 +109,7 @@ impl Reader {
     }
 
     /// `[ (":" | "+:" | "-:") expr ]`
-    #[tactic(auto, using(crate::proofs::Passing::hands_on), unfolding(vl_source::specs::Parsing::index_bound))]
+    #[tactic(auto, using(crate::proofs::Passing::hands_on), unfolding(vl_tree::specs::Parsing::index_bound))]
     fn index_bound<'a>(
         &self,
         tokens: &'a [Token],
@@ -180,7 +180,7 @@ impl<
     }
 
     /// `lvalue = name | "{" lvalue { "," lvalue } "}"`
-    #[tactic(auto, using(crate::proofs::Passing::hands_on), unfolding(vl_source::specs::Parsing::target_level))]
+    #[tactic(auto, using(crate::proofs::Passing::hands_on), unfolding(vl_tree::specs::Parsing::target_level))]
     fn level(
         &self,
         tokens: &'a [Token],
@@ -201,7 +201,7 @@ impl<
     }
 
     /// A name with its indices
-    #[tactic(auto, using(crate::proofs::Passing::hands_on), unfolding(vl_source::specs::Parsing::target_name, vl_source::specs::Parsers::identifier_token, vl_grammar::specs::Reading::next_by))]
+    #[tactic(auto, using(crate::proofs::Passing::hands_on), unfolding(vl_tree::specs::Parsing::target_name, vl_tree::specs::Parsers::identifier_token, vl_tree::specs::Reading::next_by))]
     fn name(
         &self,
         tokens: &'a [Token],
@@ -235,7 +235,7 @@ impl<
     }
 
     /// A list of left sides, from behind its `{`
-    #[tactic(auto, using(crate::proofs::Passing::hands_on), unfolding(vl_source::specs::Parsing::targets))]
+    #[tactic(auto, using(crate::proofs::Passing::hands_on), unfolding(vl_tree::specs::Parsing::targets))]
     fn concatenation(
         &self,
         place: Place,

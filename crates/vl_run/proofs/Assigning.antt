@@ -13,10 +13,10 @@ use Rattle.vl_design.proofs.Ranging.{updates_in_range}
 use Rattle.vl_design.proofs.Shaping.{all_shape, shape_on}
 use Rattle.vl_eval.proofs.Names.{named-width, signal-named, memory-named}
 use Rattle.vl_eval.proofs.Widths.{form-width}
-use Rattle.vl_assign.specs.declared.spot.Spot.{Spot}
-use Rattle.vl_assign.specs.declared.update.Update.{Update}
-use Rattle.vl_assign.specs.Spots.{spot_of}
-use Rattle.vl_assign.specs.Updates.{update_of}
+use Rattle.vl_eval.specs.declared.spot.Spot.{Spot}
+use Rattle.vl_eval.specs.declared.update.Update.{Update}
+use Rattle.vl_eval.specs.Spots.{spot_of}
+use Rattle.vl_eval.specs.Updates.{update_of}
 use Rattle.vl_run.specs.declared.machine.Machine.{Machine}
 use Rattle.vl_run.specs.Lists.{Spotted}
 use Rattle.vl_run.specs.Machines.{sample_in, Does}
@@ -27,14 +27,6 @@ target-width names (WordAt m a) h = named-width names m (memory-named names m h.
 target-width names (PickAt b i from w) h = h.0
 target-width names (SliceAt b low w) h = h.0
 target-width names (Several ts) h = h.0
-
--- the updates of an assignment by its spots and their width
-pub assignment-by : (scope : Scope) (s : Sample) (t : Target) (e : Exp) (ps : List Spot) (w v : ℕ) → Spotted scope.names [] ps (spots scope s t) (target_width scope.names t)
-    → w ≡ spots_width (map spot_of ps) → v ≡ value scope s e (assigned w (form scope.names e)) → updates_at (map spot_of ps) v ≡ assignment scope s t e
-assignment-by scope s t e ps w v h i j =
-    let are : map spot_of ps ≡ spots scope s t = h.are in
-    let width : w ≡ target_width scope.names t = i ∙ (ap spots_width are ∙ h.width) in
-    rw (are, j, width) refl
 
 pub updates-fine : (names : Names) (values new : List (List ℕ)) (us : List Update) → IsFine names.rows values → new ≡ all_updated names.rows values (map update_of us) → IsFine names.rows new
 updates-fine names values new us f e = rw e (record {

@@ -53,12 +53,6 @@ body-gives scope g args m n e h d =
 pub inside : (names n : Names) (g : Fun) → n ≡ names_in names g → n ≡ names_in n g
 inside names n g e = e ∙ ap (λ z. names_in z g) (sym e)
 
-pub sound-in : (names n : Names) (g h : Fun) → n ≡ names_in names g → IsSoundFun names h → IsSoundFun n h
-sound-in names n g h e s = subst (λ z. IsSoundFun z h) (sym e) (record { inputs = s.inputs; result = s.result; body = s.body })
-
-pub fit-in : (names n : Names) (g : Fun) (args : List ℕ) (f : ℕ) → n ≡ names_in names g → slice_get names.funs f ≡ Some g → Fit args (input_widths names f) → Fit args (input_widths_of n (Some g))
-fit-in names n g args f e s h = subst (λ z. Fit args (input_widths_of z (Some g))) (sym e) (subst (λ r. Fit args (input_widths_of names r)) s h)
-
 pub inner-calls : (names n : Names) (g : Fun) (files : List File) (depth : ℕ) (pre : ℕ → Vec ℕ Global → Type 0) (post : ℕ → Vec ℕ Global → Result ℕ AllocError → Type 0) → n ≡ names_in names g
     → All (IsSoundFun names) names.funs → AreOfOneWord names
     → ((f : ℕ) (args : Vec ℕ Global) → Fit args.items (input_widths names f) → pre f args)
@@ -78,9 +72,6 @@ call-gives names n g files next depth f args v e d s h =
     ∙ (ap (λ z. result_of (scope_at z files (calls_in z files next)) (Some g) args) e
     ∙ (ap (λ r. result_of (scope_with (flat_in names) files (calls_in names files next)) r args) (sym s)
     ∙ ap (λ k. calls_in names files k f args) (sym d)))
-
-pub no-depth : (names : Names) (files : List File) (depth f : ℕ) (args : List ℕ) → depth ≡ 0 → 0 ≡ calls_in names files depth f args
-no-depth names files depth f args e = ap (λ k. calls_in names files k f args) (sym e)
 
 pub no-function : (names : Names) (fs : List Func) (files : List File) (depth f : ℕ) (args : List ℕ) → names.funs ≡ map fun_of fs → length fs ≤ f → 0 ≡ calls_in names files depth f args
 no-function names fs files zero f args e l = refl

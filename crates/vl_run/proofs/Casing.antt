@@ -27,6 +27,7 @@ use Rattle.vl_eval.proofs.Rows.{exps-more, first-sound}
 use Rattle.vl_eval.proofs.Widths.{form-width}
 use Rattle.vl_run.proofs.Doing.{not-zero}
 use Rattle.vl_run.specs.Cases.{items_of, body_of, body_at, body_or, AreWithin, AreSoundLabels, AreLabelsWithin}
+use Rattle.vl_design.proofs.Shared.{item-sound}
 
 -- ---- items one by one
 
@@ -52,10 +53,6 @@ case-of path x e v wild h =
     ap (λ n. plain.stm path (seen.node_stm x.place n)) h
     ∙ ap (Case (exp_of e)) (row_items-items path (sb.hidden-the_row-CaseItem-1 v) ∙ ap (items_of path) (s.items_hidden-the_row-CaseItem-1 v))
 
-item-sound : (names : Names) (es : p.Exps) (a : Stm) (others : Items) → AreSoundItems names (plain.item es a others) → AreSound names (plain.exps es) × IsSoundStm names a × AreSoundItems names others
-item-sound names p.NoExps a others h = (tt, h.0, h.1)
-item-sound names (p.MoreExps e es) a others h = h
-
 pub labels-sound : (names : Names) (path : List ℕ) (xs : List CaseItem) → AreSoundItems names (items_of path xs) → AreSoundLabels names xs
 labels-sound names path [] h = tt
 labels-sound names path (x ∷ xs) h =
@@ -76,9 +73,6 @@ case-items names path x e v wild xs h k q = let both = rw (case-of path x e v wi
 
 -- ---- forms
 
-joined-grows : (a b : Form) → a.width ≤ (joined a b).width
-joined-grows a b = omega arith
-
 labels-grow : (names : Names) (f : Form) (es : Exps) → f.width ≤ (labels_form names f es).width
 labels-grow names f NoExps = omega arith
 labels-grow names f (MoreExps e es) =
@@ -93,7 +87,7 @@ labels-within names f (MoreExps e es) =
     let k : (form names e).width ≤ (joined f (form names e)).width = omega arith in
     (omega (arith, h, k), labels-within names (joined f (form names e)) es)
 
-within-more : (names : Names) (v w : ℕ) (es : Exps) → v ≤ w → AreWithin names v es → AreWithin names w es
+pub within-more : (names : Names) (v w : ℕ) (es : Exps) → v ≤ w → AreWithin names v es → AreWithin names w es
 within-more names v w NoExps l h = tt
 within-more names v w (MoreExps e es) l h = let k = h.0 in (omega (arith, l, k), within-more names v w es l h.1)
 

@@ -17,9 +17,8 @@ use Rattle.vl_design.proofs.Shaping.{exec_shape, shape_on}
 use Rattle.vl_run.specs.declared.machine.Machine.{Machine}
 use Rattle.vl_run.specs.Lists.{loop_turns}
 use Rattle.vl_run.specs.Machines.{sample_in, state_of, Leads, Does}
-
-pub leads-on : (f g : State → State) (m n o : Machine) → Leads f m n → Leads g n o → Leads (λ s. g (f s)) m o
-leads-on f g m n o h k = record { leads = λ c. let x = h.leads c in let y = k.leads x.0 in (y.0, ap g x.1 ∙ y.1) }
+use Rattle.vl_design.proofs.Shared.{stays}
+pub use Rattle.vl_base.proofs.Numbers.{nonzero_false as not-zero}
 
 pub leads-as : (f g : State → State) (m n : Machine) → ((s : State) → f s ≡ g s) → Leads g m n → Leads f m n
 leads-as f g m n e h = record { leads = λ c. let x = h.leads c in (x.0, e (state_of m c) ∙ x.1) }
@@ -34,9 +33,6 @@ does-then scope a b m n o h k = record { leads = λ c. let x = h.leads c in let 
 counted-or : (f : State → State) (m n : Machine) → Leads f m n → (held : Bool) (c : ℕ) → (c' : ℕ) × (f (if held then counted (state_of m c) else state_of m c) ≡ state_of n c')
 counted-or f m n h true c = h.leads (c + 1)
 counted-or f m n h false c = h.leads c
-
-pub not-zero : (x : ℕ) → ¬ (x ≡ 0) → (x == 0) ≡ false
-not-zero x h = grind (arith, nat_tests)
 
 pub does-first : (scope : Scope) (t : Exp) (a b : Stm) (m n : Machine) → ¬ (own_value scope (sample_in m) t ≡ 0) → Does scope a m n → Does scope (If t a b) m n
 does-first scope t a b m n e h = record {
@@ -72,10 +68,6 @@ at-true false x y h = cc
 at-false : {S : Type 0} (b : Bool) (x y : S) → b ≡ false → (elim b [ true ↦ x | false ↦ y ]) ≡ y
 at-false true x y h = cc
 at-false false x y h = refl
-
-stays : (n : ℕ) (test : State → Bool) (turn : State → State) (s : State) → test s ≡ false → turns n test turn s ≡ s
-stays zero test turn s h = refl
-stays (suc n) test turn s h = at-false (test s) (turns n test turn (turn s)) s h
 
 pub turns-over : (scope : Scope) (k n : ℕ) (start : Stm) (test : Exp) (step a : Stm) (m : Machine) → ((c : ℕ) → false ≡ goes_on scope test (state_of m c))
     → Leads (loop_turns scope n (For k start test step a)) m m

@@ -14,7 +14,10 @@ use Rattle.vl_design.specs.declared.design.SysArg.{SysArg}
 use Rattle.vl_design.specs.Tasks.{piece_text, pieces_text}
 use Rattle.vl_design.specs.Value.{Sample}
 use Rattle.vl_design.specs.Width.{Scope}
-use Rattle.vl_show.specs.Modes.{position_after}
+use Rattle.fmt_text.specs.Modes.{position_after}
+use Rattle.vl_base.proofs.Numbers.{unequal_false as not-equal}
+pub use Rattle.vl_design.proofs.Shared.{skip-some}
+use Rattle.vl_design.proofs.Shared.{behind-item-is}
 
 -- pieces show, take and need what two other lists do together
 pub record Splits (scope : Scope) (s : Sample) (ps qs rs : List Piece) : Type 0 where
@@ -29,14 +32,6 @@ pub record Formatted (scope : Scope) (s : Sample) (path text : List ℕ) (args :
   pub takes : count + taken (format_pieces path r (drop i text) (drop count args)) ≡ taken (format_pieces path InText text args)
   pub sound : AllByRecursion (IsSoundPiece scope.names) (format_pieces path r (drop i text) (drop count args))
   pub small : count ≤ i
-
-not-equal : (x y : ℕ) → ¬ (x ≡ y) → (x == y) ≡ false
-not-equal x y h = grind (arith, nat_tests)
-
-behind-item-is : (o : Option Format) (e : Exp) (args : List Arg) → behind_item o args ≡ drop (taken (with_item o e [])) args
-behind-item-is None e args = refl
-behind-item-is (Some format) e [] = refl
-behind-item-is (Some format) e (a ∷ args) = refl
 
 module _ (scope : Scope) (s : Sample) where
   splits-none : (ps : List Piece) → Splits scope s ps [] ps
@@ -194,10 +189,6 @@ module _ (scope : Scope) (s : Sample) where
     value-first e args h =
         let k : IsSoundExp scope.names e × AllByRecursion (IsSoundPiece scope.names) (pieces_from path 0 args) = recursion_from_All (IsSoundPiece scope.names) (pieces_from path 0 (Value e ∷ args)) h in
         k.0
-
-pub skip-some : (path : List ℕ) (n : ℕ) (a : Arg) (args : List Arg) → ¬ (n ≡ 0) → pieces_from path n (a ∷ args) ≡ pieces_from path (n - 1) args
-skip-some path zero a args h = absurd (h refl)
-skip-some path (suc n) a args h = let e : suc n - 1 ≡ n = omega arith in rw e refl
 
 pub rest-at : (xs : List SysArg) (i : ℕ) (x : SysArg) → i < length xs → x ≡ get_or xs i x → drop i xs ≡ x ∷ drop (i + 1) xs
 rest-at xs i x l e = at_drop_more (λ ys. ys) xs i x l ∙ ap (λ y. y ∷ drop (i + 1) xs) (sym e)

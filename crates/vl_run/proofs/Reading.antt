@@ -23,6 +23,7 @@ use Rattle.vl_eval.proofs.Reading.{arguments-fit}
 use Rattle.vl_eval.proofs.Rows.{cat-of, rep-of, call-of, exps-more, first-sound}
 use Rattle.vl_eval.proofs.Widths.{form-width, called-there}
 use Rattle.vl_run.specs.Scopes.{call_arguments}
+pub use Rattle.vl_design.proofs.Shared.{function-there}
 
 -- ---- lists at a place
 
@@ -46,11 +47,6 @@ pub append-three : (o x y z m n r : List ℕ) → m ≡ o ++ x → n ≡ m ++ y 
 append-three o x y z m n r h i j = append-two o x (y ++ z) m r h (append-two m y z n r i j)
 
 -- ---- arguments
-
-pub function-there : (fs : List Func) (f n : ℕ) → Takes (slice_get (map fun_of fs) f) n → f < length fs
-function-there fs f n h =
-    let l = called-there (record { rows = []; signals = []; funs = map fun_of fs }) f n h in
-    omega (arith, length-map fs fun_of, l)
 
 pub call-sound : (names : Names) (x : Expr) (f : ℕ) (v : Vec Expr Global) → x.node ≡ d.Call f v → IsSoundExp names (exp_of x) → Takes (slice_get names.funs f) (count_of (exps_of v.items)) × AreSound names (exps_of v.items)
 call-sound names x f v h s = let k = rw (call-of x f v h) at s in (k.0, k.2)

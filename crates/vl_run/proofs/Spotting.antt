@@ -17,8 +17,8 @@ use Rattle.vl_design.specs.Value.{Sample}
 use Rattle.vl_design.specs.Sound.{IsNamed}
 use Rattle.vl_design.specs.Targets.{Spot, spots, spots_width, target_width}
 use Rattle.vl_eval.proofs.Names.{named-width, named-there, signal-named, memory-named}
-use Rattle.vl_assign.specs.declared.spot.Spot.{Spot as SpotCode}
-use Rattle.vl_assign.specs.Spots.{spot_of, IsSoundSpot}
+use Rattle.vl_eval.specs.declared.spot.Spot.{Spot as SpotCode}
+use Rattle.vl_eval.specs.Spots.{spot_of, IsSoundSpot}
 use Rattle.vl_run.specs.Lists.{targets_of, Spotted}
 
 -- ---- lists of targets

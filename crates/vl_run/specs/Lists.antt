@@ -8,8 +8,8 @@ use Rattle.vl_design.specs.Trees.{target_of}
 use Rattle.vl_design.specs.Width.{Names, Scope, signal_form}
 use Rattle.vl_design.specs.State.{State}
 use Rattle.vl_design.specs.Exec.{exec, turns, goes_on}
-use Rattle.vl_assign.specs.declared.spot.Spot.{Spot as SpotCode}
-use Rattle.vl_assign.specs.Spots.{spot_of, IsSoundSpot}
+use Rattle.vl_eval.specs.declared.spot.Spot.{Spot as SpotCode}
+use Rattle.vl_eval.specs.Spots.{spot_of, IsSoundSpot}
 
 abbrev pub targets_of : List TargetCode → Targets
 targets_of [] = NoTargets

@@ -7,7 +7,7 @@ use Rattle.vl_design.specs.State.{State, sample}
 use Rattle.vl_design.specs.Sound.{IsNamed}
 use Rattle.vl_design.specs.Laws.{IsFine}
 use Rattle.vl_design.specs.Exec.{exec}
-use Rattle.vl_assign.specs.Updates.{update_of}
+use Rattle.vl_eval.specs.Updates.{update_of}
 use Rattle.vl_run.specs.declared.machine.Machine.{Machine}
 
 -- the state of a machine where so many counted acts were done

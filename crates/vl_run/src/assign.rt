@@ -7,19 +7,19 @@ ghost use Rattle.vl_design.specs.Syntax as y;
 ghost use Rattle.vl_design.specs.Targets as targets;
 ghost use Rattle.vl_design.specs.Trees.{exp_of, target_of};
 ghost use Rattle.vl_eval.specs.Rooms.{names_of, sample_of};
-ghost use Rattle.vl_assign.specs.Updates.{update_of};
+ghost use Rattle.vl_eval.specs.Updates.{update_of};
 ghost use Rattle.vl_run.specs.Machines.{IsMachine, Does};
 ghost use Rattle.vl_run.specs.Scopes.{scope_of, Calls};
 
 use crate::machine::Machine;
 use crate::scope::Scope;
 use std::alloc::AllocError;
-use vl_assign::spot::{push_updates, spots_width};
-use vl_assign::update::{Update, write_all};
 use vl_design::design::{Expr, Target};
 use vl_eval::form::form_of;
+use vl_eval::form_form::assigned;
 use vl_eval::room::Sample;
-use vl_form::form::assigned;
+use vl_eval::spot::{push_updates, spots_width};
+use vl_eval::update::{Update, write_all};
 
 impl<F: Fn(u32, Vec<u128>) -> Result<u128, AllocError>> Scope<'_, F> {
     /// Adds the updates of an assignment.

@@ -10,7 +10,8 @@ ghost use Rattle.vl_run.specs.Machines.{state_of};
 use crate::machine::{Machine, put};
 use std::alloc::{AllocError, Global};
 use vl_design::design::{Func, Signal};
-use vl_eval::room::{Kept, Room};
+use vl_design::words::Kept;
+use vl_eval::room::Room;
 use vl_eval::selects::word_count;
 
 /// Adds the words of signals, all 0.

@@ -18,8 +18,8 @@ use vl_base::bits::{Bits, UnOp, resize, unary};
 use vl_base::number::Number;
 use vl_design::design::{CaseItem, Expr, ExprNode, Form};
 use vl_eval::form::form_of;
+use vl_eval::form_form::joined;
 use vl_eval::room::{Room, Sample};
-use vl_form::form::joined;
 
 /// The form of a form and of labels joined.
 #[tactic(auto, using(crate::proofs::Casing::labels))]

@@ -11,18 +11,18 @@ ghost use Rattle.vl_design.specs.Value as v;
 ghost use Rattle.vl_design.specs.Width as w;
 ghost use Rattle.vl_eval.specs.Rooms.{names_of, sample_of};
 ghost use Rattle.vl_run.specs.Scopes.{scope_of, Calls};
-ghost use Rattle.vl_show.specs.Modes.{reading_of};
+ghost use Rattle.fmt_text.specs.Modes.{reading_of};
 
 use crate::given::behind;
 use crate::scope::Scope;
+use fmt_text::format::{Mode, after, is_path};
+use fmt_text::item::{is_item, push_item};
+use fmt_text::show_text::text_bits;
 use std::alloc::AllocError;
 use vl_base::bits::Bits;
 use vl_design::design::{Expr, SysArg};
 use vl_eval::form::form_of;
 use vl_eval::room::Sample;
-use vl_show::format::{Mode, after, is_path};
-use vl_show::item::{is_item, push_item};
-use vl_show::text::text_bits;
 
 /// What an item shows.
 #[derive(Clone, Copy)]

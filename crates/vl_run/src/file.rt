@@ -17,6 +17,9 @@ use crate::given::{behind, signal_first, text_first, value_first};
 use crate::machine::{Machine, put, words_at};
 use crate::scope::Scope;
 use std::alloc::AllocError;
+use ten_files::name::copy_text;
+use ten_files::open::{close, open};
+use ten_files::read::{at_end, next_character, read};
 use vl_base::bits::{Bits, resize};
 use vl_base::items::Text;
 use vl_design::design::{Expr, Signal, SysArg};
@@ -24,9 +27,6 @@ use vl_eval::eval::signal_at;
 use vl_eval::form::{form_of, signal_form};
 use vl_eval::room::Sample;
 use vl_eval::selects::word_count;
-use vl_files::name::copy_text;
-use vl_files::open::{close, open};
-use vl_files::read::{at_end, next_character, read};
 use vl_hex::load::{Memory, load};
 
 /// The lower of two addresses.

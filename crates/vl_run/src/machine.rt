@@ -6,10 +6,11 @@ ghost use Rattle.vl_eval.specs.Rooms.{sample_of};
 ghost use Rattle.vl_run.specs.Machines.{sample_in};
 
 use std::alloc::{AllocError, Global};
-use vl_assign::update::Update;
 use vl_base::files::OpenFile;
 use vl_base::items::Text;
-use vl_eval::room::{Kept, Sample};
+use vl_design::words::Kept;
+use vl_eval::room::Sample;
+use vl_eval::update::Update;
 
 /// The state of a run (IEEE 1364-2005, clause 11.3).
 #[derive(Drop)]

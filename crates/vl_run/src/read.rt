@@ -16,10 +16,10 @@ use std::alloc::AllocError;
 use vl_base::bits::{Bits, resize};
 use vl_design::design::{Expr, ExprNode, Form};
 use vl_eval::form::form_of;
+use vl_eval::form_form::assigned;
 use vl_eval::room::Sample;
 use vl_eval::selects::{Whole, whole_number};
 use vl_eval::value::value;
-use vl_form::form::assigned;
 
 impl<F: Fn(u32, Vec<u128>) -> Result<u128, AllocError>> Scope<'_, F> {
     /// The values of a call's arguments, each as assigned to its input.

@@ -8,20 +8,20 @@ ghost use Rattle.vl_design.specs.Syntax as y;
 ghost use Rattle.vl_design.specs.Trees.{exp_of, target_of};
 ghost use Rattle.vl_design.specs.Width as w;
 ghost use Rattle.vl_eval.specs.Rooms.{names_of, sample_of};
-ghost use Rattle.vl_assign.specs.Spots.{spot_of, IsSoundSpot};
-ghost use Rattle.vl_assign.specs.Updates.{low_of};
+ghost use Rattle.vl_eval.specs.Spots.{spot_of, IsSoundSpot};
+ghost use Rattle.vl_eval.specs.Updates.{low_of};
 ghost use Rattle.vl_run.specs.Lists.{whole_at, part_of, Spotted};
 ghost use Rattle.vl_run.specs.Scopes.{scope_of, Calls};
 
 use crate::scope::Scope;
 use std::alloc::AllocError;
-use vl_assign::spot::Spot;
-use vl_assign::update::Low;
 use vl_design::design::{Expr, LowestBit, Target, TargetNode};
 use vl_eval::eval::signal_at;
 use vl_eval::form::signal_form;
 use vl_eval::room::{Room, Sample};
 use vl_eval::selects::{Whole, word_number};
+use vl_eval::spot::Spot;
+use vl_eval::update::Low;
 
 /// A bit by its number.
 fn bit_at(number: i32) -> Low

@@ -1,7 +1,6 @@
 //! System tasks (IEEE 1364-2005, clause 17).
 
 ghost use Rattle.std.specs.Prelude.{◌≡◌, All, OnOk, map, false};
-ghost use Rattle.std.specs.Str.{bytes_eq};
 ghost use Rattle.vl_design.specs.Formats as f;
 ghost use Rattle.vl_design.specs.Plainly as plain;
 ghost use Rattle.vl_design.specs.Seen as seen;
@@ -16,6 +15,7 @@ ghost use Rattle.vl_run.specs.Scopes.{scope_of, Calls};
 use crate::machine::Machine;
 use crate::scope::Scope;
 use std::alloc::AllocError;
+use vl_base::text::is_word;
 use vl_design::design::{SysArg, SysCall};
 use vl_eval::room::Sample;
 
@@ -44,13 +44,6 @@ enum Kind {
     Load,
     /// Nothing.
     Other,
-}
-
-/// The name is this one.
-fn is_word(name: &[u8], word: &[u8]) -> bool
-    ensures { result ≡ bytes_eq name.now word.now }
-{
-    name == word
 }
 
 /// What `$save` or a task on files of this name does.

@@ -5,3 +5,4 @@ pub mod Keys
 pub mod Repeats
 pub mod Noting
 pub mod Meanings
+pub mod Shared

@@ -4,18 +4,19 @@ use Rattle.std.specs.List.{flat_map, list_any}
 use Rattle.std.specs.Str.{bytes_eq}
 use Rattle.std.proofs.lemmas.Bool.{and_parts, and_from, eqb-true, eq-eqb, not-true}
 use Rattle.std.proofs.lemmas.Slice.Eq.{bytes_eq-Decides}
-use Rattle.vl_grammar.specs.declared.tree.Identifier.{Identifier}
-use Rattle.vl_source.specs.declared.tree.Source.{Source}
-use Rattle.vl_source.specs.declared.tree.Module.{Module}
-use Rattle.vl_source.specs.declared.tree.PortDeclaration.{PortDeclaration}
-use Rattle.vl_source.specs.declared.tree.Item.{Item}
-use Rattle.vl_source.specs.declared.tree.Item.TheVariants as i
-use Rattle.vl_source.specs.declared.tree.Function.{Function}
+use Rattle.vl_tree.specs.declared.tree.Identifier.{Identifier}
+use Rattle.vl_tree.specs.declared.source_tree.Source.{Source}
+use Rattle.vl_tree.specs.declared.source_tree.Module.{Module}
+use Rattle.vl_tree.specs.declared.source_tree.PortDeclaration.{PortDeclaration}
+use Rattle.vl_tree.specs.declared.source_tree.Item.{Item}
+use Rattle.vl_tree.specs.declared.source_tree.Item.TheVariants as i
+use Rattle.vl_tree.specs.declared.source_tree.Function.{Function}
 use Rattle.vl_scope.specs.declared.fault.Fault.{Fault}
 use Rattle.vl_scope.specs.Faults.{at, fault_if, In}
 use Rattle.vl_scope.specs.Declarations.{Declared, declarations, port_declarations, function_declarations, function_inputs, body_inputs}
 use Rattle.vl_scope.specs.DeclarationFaults.{clash, mismatch, clashes, mismatches, listed, IsScope, of_module, of_function, IsDeclarationFault, declared_twice, mismatched, listed_twice, undirected, unlisted, no_input, input_beside, declaration_faults_after, scope_faults, names_have, repeated_after, repeated_faults, directs, undirected_faults, item_ports, unlisted_faults, function_faults, item_faults, module_faults, declaration_faults}
 use Rattle.vl_scope.proofs.Members.{In-append_left, In-append_right, In-append_cases, In-flat_map, In-flat_map_cases, In-fault_if, In-fault_if_cases, In-each_after, In-each_after_cases, list_any-In, list_any-In_cases, list_any-none, none-list_any}
+use Rattle.vl_base.proofs.Options.{none_from as none_left}
 
 -- ---- spellings
 
@@ -78,10 +79,6 @@ has_no_name_cases : (names : List Identifier) (t : List ℕ) → not (names_have
 has_no_name_cases names t h n there same = let e : names_have names t ≡ true = has_name names n t there same in let k : names_have names t ≡ false = not-true (names_have names t) h in cc
 
 -- ---- directions
-
-none_left : {X : Type 0} (o : Option X) → is_some o ≡ false → o ≡ None
-none_left None h = refl
-none_left (Some x) h = absurd cc
 
 directs_none : (all : List Declared) (t : List ℕ) → ((a : Declared) → In a all → a.name.name ≡ t → a.direction ≡ None) → not (directs all t) ≡ true
 directs_none all t none = rw (none-list_any (λ a. bytes_eq t a.name.name && is_some a.direction) all (λ a there. one a there (bytes_eq t a.name.name) refl)) refl

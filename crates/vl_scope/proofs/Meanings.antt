@@ -4,7 +4,7 @@ use Rattle.std.specs.List.{list_any, count_by, fold}
 use Rattle.std.specs.Str.{bytes_eq}
 use Rattle.std.proofs.lemmas.Bool.{true≢false}
 use Rattle.std.proofs.lemmas.List.Sums.{sum_by-cons}
-use Rattle.vl_source.specs.declared.tree.Module.{Module}
+use Rattle.vl_tree.specs.declared.source_tree.Module.{Module}
 use Rattle.vl_scope.specs.declared.kind.Class.{Class}
 use Rattle.vl_scope.specs.declared.kind.Class.TheVariants as c
 use Rattle.vl_scope.specs.declared.kind.Kind.{Kind}

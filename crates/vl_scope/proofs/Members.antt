@@ -22,9 +22,6 @@ In-append_cases y [] ys h = inr h
 In-append_cases y (x ∷ xs) ys (inl h) = inl (inl h)
 In-append_cases y (x ∷ xs) ys (inr h) = ⊎_elim (λ a. inl (inr a)) (λ b. inr b) (In-append_cases y xs ys h)
 
-pub In-append : {X : Type 0} (y : X) (xs ys : List X) → In y (xs ++ ys) ↔ (In y xs ⊎ In y ys)
-In-append y xs ys = (In-append_cases y xs ys, ⊎_elim (In-append_left y xs ys) (In-append_right y xs ys))
-
 -- a member stands behind some and before others
 pub In-split : {X : Type 0} (y : X) (xs : List X) → In y xs → (before : List X) × (after : List X) × (xs ≡ before ++ y ∷ after)
 In-split y [] h = absurd h

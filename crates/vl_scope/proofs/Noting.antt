@@ -5,7 +5,7 @@ use Rattle.std.proofs.lemmas.List.{map_push, take_more}
 use Rattle.std.proofs.lemmas.Grind.{flat_map-append}
 use Rattle.indexmap.specs.IndexMap.{IndexMap}
 use Rattle.indexmap.specs.IndexSet.{IndexSet}
-use Rattle.vl_grammar.specs.declared.tree.Identifier.{Identifier}
+use Rattle.vl_tree.specs.declared.tree.Identifier.{Identifier}
 use Rattle.vl_scope.specs.declared.fault.Fault.{Fault}
 use Rattle.vl_scope.specs.declared.marks.Marks.{Marks}
 use Rattle.vl_scope.specs.Faults.{earliest, fault_if}
@@ -16,16 +16,13 @@ use Rattle.vl_scope.specs.Marks.{marks_of, marks_in, marks_at, clash_of, mismatc
 use Rattle.vl_scope.proofs.Orders.{earliest-append}
 use Rattle.vl_scope.proofs.Members.{each_after-push}
 use Rattle.vl_scope.proofs.Repeats.{clashes-marks, mismatches-marks, directs-marks}
+pub use Rattle.vl_base.proofs.Lists.{map_take_more as push_seen}
 
 pub repeated_faults-push : (ns : List Identifier) (n : Identifier) → repeated_faults (ns ++ n ∷ []) ≡ repeated_faults ns ++ fault_if (names_have ns n.name) n.place 3
 repeated_faults-push ns n = each_after-push repeated_after [] ns n
 
 pub scope_faults-push : (all : List Declared) (a : Declared) → scope_faults (all ++ a ∷ []) ≡ scope_faults all ++ declaration_faults_after all a
 scope_faults-push all a = each_after-push declaration_faults_after [] all a
-
--- one more item of a list, seen so
-pub push_seen : {X Y : Type 0} (see : X → Y) (xs : List X) (i : ℕ) (x : X) → i < length xs → x ≡ get_or xs i x → map see (take (i + 1) xs) ≡ map see (take i xs) ++ see x ∷ []
-push_seen see xs i x l e = ap (map see) (take_more xs i x l) ∙ map_push see (take i xs) (get_or xs i x) ∙ ap (λ y. map see (take i xs) ++ see y ∷ []) (sym e)
 
 -- what a declaration gives by what is known of its name
 pub by_marks : (before : List Declared) (a : Declared) (known : Marks) → known ≡ marks_in before a.name.name

@@ -6,15 +6,12 @@ use Rattle.vl_scope.specs.declared.marks.Marks.{Marks}
 use Rattle.vl_scope.specs.Declarations.{Declared}
 use Rattle.vl_scope.specs.DeclarationFaults.{clashes, mismatches, directs}
 use Rattle.vl_scope.specs.Marks.{marks_of, no_marks, either, marks_after, marks_in, clash_of, mismatch_of}
+use Rattle.vl_base.proofs.Booleans.{or_assoc}
 
 -- a test that holds of what one or the other says just where it holds of one of them
 record IsJoint (test : Marks → Bool) : Type 0 where
   none : test no_marks ≡ false
   joint : (a b : Marks) → test (either a b) ≡ (test a || test b)
-
-or_assoc : (a b c : Bool) → ((a || b) || c) ≡ (a || (b || c))
-or_assoc true b c = refl
-or_assoc false b c = refl
 
 from : (test : Marks → Bool) → IsJoint test → (t : List ℕ) (known : Marks) (all : List Declared)
     → test (fold (marks_after t) known all) ≡ (test known || list_any (λ a. bytes_eq t a.name.name && test (marks_of a)) all)

@@ -2,17 +2,17 @@
 use Rattle.std.specs.Prelude.{◌≡◌, ℕ, Bool, true, false, not, ◌&&◌, ◌||◌, ◌==◌, List, [], ◌∷◌, ◌++◌, length, flat_map, Option, Some, None, is_some, IsTrue, IsSome}
 use Rattle.std.specs.List.{list_any}
 use Rattle.std.specs.Str.{bytes_eq}
-use Rattle.vl_grammar.specs.declared.tree.Identifier.{Identifier}
-use Rattle.vl_source.specs.declared.tree.Source.{Source}
-use Rattle.vl_source.specs.declared.tree.Module.{Module}
-use Rattle.vl_source.specs.declared.tree.Ports.{Ports}
-use Rattle.vl_source.specs.declared.tree.Ports.TheVariants as ps
-use Rattle.vl_source.specs.declared.tree.PortDeclaration.{PortDeclaration}
-use Rattle.vl_source.specs.declared.tree.Direction.{Direction}
-use Rattle.vl_source.specs.declared.tree.Direction.TheVariants as d
-use Rattle.vl_source.specs.declared.tree.Item.{Item}
-use Rattle.vl_source.specs.declared.tree.Item.TheVariants as i
-use Rattle.vl_source.specs.declared.tree.Function.{Function}
+use Rattle.vl_tree.specs.declared.tree.Identifier.{Identifier}
+use Rattle.vl_tree.specs.declared.source_tree.Source.{Source}
+use Rattle.vl_tree.specs.declared.source_tree.Module.{Module}
+use Rattle.vl_tree.specs.declared.source_tree.Ports.{Ports}
+use Rattle.vl_tree.specs.declared.source_tree.Ports.TheVariants as ps
+use Rattle.vl_tree.specs.declared.source_tree.PortDeclaration.{PortDeclaration}
+use Rattle.vl_tree.specs.declared.source_tree.Direction.{Direction}
+use Rattle.vl_tree.specs.declared.source_tree.Direction.TheVariants as d
+use Rattle.vl_tree.specs.declared.source_tree.Item.{Item}
+use Rattle.vl_tree.specs.declared.source_tree.Item.TheVariants as i
+use Rattle.vl_tree.specs.declared.source_tree.Function.{Function}
 use Rattle.vl_scope.specs.declared.kind.Class.{Class}
 use Rattle.vl_scope.specs.declared.kind.Class.TheVariants as c
 use Rattle.vl_scope.specs.declared.fault.Fault.{Fault}

@@ -3,25 +3,25 @@ use Rattle.std.specs.Prelude.{ℕ, ◌+◌, Bool, true, false, not, ◌&&◌, �
 use Rattle.std.specs.Borrow.{Bor}
 use Rattle.std.specs.Option.{option_or, option_map_or}
 use Rattle.std.specs.Str.{bytes_eq}
-use Rattle.vl_grammar.specs.declared.tree.Identifier.{Identifier}
-use Rattle.vl_source.specs.declared.tree.Module.{Module}
-use Rattle.vl_source.specs.declared.tree.ParameterType.{ParameterType}
-use Rattle.vl_source.specs.declared.tree.ParameterType.TheVariants as t
-use Rattle.vl_source.specs.declared.tree.ParameterAssignment.{ParameterAssignment}
-use Rattle.vl_source.specs.declared.tree.Ports.{Ports}
-use Rattle.vl_source.specs.declared.tree.Ports.TheVariants as ps
-use Rattle.vl_source.specs.declared.tree.PortDeclaration.{PortDeclaration}
-use Rattle.vl_source.specs.declared.tree.PortDeclaration.TheVariants as p
-use Rattle.vl_source.specs.declared.tree.Direction.{Direction}
-use Rattle.vl_source.specs.declared.tree.Direction.TheVariants as d
-use Rattle.vl_source.specs.declared.tree.Item.{Item}
-use Rattle.vl_source.specs.declared.tree.Item.TheVariants as i
-use Rattle.vl_source.specs.declared.tree.VariableMore.{VariableMore}
-use Rattle.vl_source.specs.declared.tree.VariableMore.TheVariants as v
-use Rattle.vl_source.specs.declared.tree.Function.{Function}
-use Rattle.vl_source.specs.declared.tree.FunctionPort.{FunctionPort}
-use Rattle.vl_source.specs.declared.tree.FunctionDeclaration.{FunctionDeclaration}
-use Rattle.vl_source.specs.declared.tree.FunctionDeclaration.TheVariants as f
+use Rattle.vl_tree.specs.declared.tree.Identifier.{Identifier}
+use Rattle.vl_tree.specs.declared.source_tree.Module.{Module}
+use Rattle.vl_tree.specs.declared.source_tree.ParameterType.{ParameterType}
+use Rattle.vl_tree.specs.declared.source_tree.ParameterType.TheVariants as t
+use Rattle.vl_tree.specs.declared.source_tree.ParameterAssignment.{ParameterAssignment}
+use Rattle.vl_tree.specs.declared.source_tree.Ports.{Ports}
+use Rattle.vl_tree.specs.declared.source_tree.Ports.TheVariants as ps
+use Rattle.vl_tree.specs.declared.source_tree.PortDeclaration.{PortDeclaration}
+use Rattle.vl_tree.specs.declared.source_tree.PortDeclaration.TheVariants as p
+use Rattle.vl_tree.specs.declared.source_tree.Direction.{Direction}
+use Rattle.vl_tree.specs.declared.source_tree.Direction.TheVariants as d
+use Rattle.vl_tree.specs.declared.source_tree.Item.{Item}
+use Rattle.vl_tree.specs.declared.source_tree.Item.TheVariants as i
+use Rattle.vl_tree.specs.declared.source_tree.VariableMore.{VariableMore}
+use Rattle.vl_tree.specs.declared.source_tree.VariableMore.TheVariants as v
+use Rattle.vl_tree.specs.declared.source_tree.Function.{Function}
+use Rattle.vl_tree.specs.declared.source_tree.FunctionPort.{FunctionPort}
+use Rattle.vl_tree.specs.declared.source_tree.FunctionDeclaration.{FunctionDeclaration}
+use Rattle.vl_tree.specs.declared.source_tree.FunctionDeclaration.TheVariants as f
 use Rattle.vl_scope.specs.declared.kind.Class.{Class}
 use Rattle.vl_scope.specs.declared.kind.Class.TheVariants as c
 use Rattle.vl_scope.specs.declared.kind.Kind.{Kind}

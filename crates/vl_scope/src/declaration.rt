@@ -10,8 +10,8 @@ use crate::kind::{Class, Kind};
 use crate::locals::add_locals;
 use crate::ports::add_port;
 use std::alloc::{AllocError, Global};
-use vl_grammar::tree::Identifier;
-use vl_source::tree::{Direction, Function, Module, ParameterGroup, Ports};
+use vl_tree::source_tree::{Direction, Function, Module, ParameterGroup, Ports};
+use vl_tree::tree::Identifier;
 
 /// A declaration of a name.
 #[derive(Clone, Copy)]

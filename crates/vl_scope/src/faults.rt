@@ -16,8 +16,8 @@ use crate::ports::add_port;
 use indexmap::{IndexMap, IndexSet};
 use std::alloc::{AllocError, Global};
 use vl_base::place::Place;
-use vl_grammar::tree::Identifier;
-use vl_source::tree::{Function, Item, Module, Ports, Source};
+use vl_tree::source_tree::{Function, Item, Module, Ports, Source};
+use vl_tree::tree::Identifier;
 
 /// Notes a fault, if it holds.
 fn note_if(holds: bool, place: Place, construct: u8, best: Option<Fault>) -> Option<Fault>

@@ -4,8 +4,8 @@ ghost use Rattle.std.specs.Prelude.{◌≡◌, ◌++◌, IfOk, OnOk};
 ghost use Rattle.vl_scope.specs.Declarations as spec;
 
 use std::alloc::{AllocError, Global};
-use vl_grammar::tree::Identifier;
-use vl_source::tree::{Function, FunctionDeclaration};
+use vl_tree::source_tree::{Function, FunctionDeclaration};
+use vl_tree::tree::Identifier;
 
 /// Adds names at the end.
 fn add_names<'a>(names: &mut Vec<&'a Identifier>, more: &'a [Identifier]) -> Result<(), AllocError>

@@ -9,7 +9,7 @@ use crate::inputs::function_inputs;
 use crate::kind::Class;
 use crate::ports::add_port;
 use std::alloc::{AllocError, Global};
-use vl_source::tree::{
+use vl_tree::source_tree::{
     DeclarationAssignment, Function, Item, NamedInstance, ParameterAssignment, VariableMore,
     VariableType,
 };

@@ -1,8 +1,8 @@
 //! Laws of the definitions: what their readers may count on. Each function does nothing; its contract is the law.
 
 ghost use Rattle.std.specs.Prelude.{◌≡◌, ℕ, List, ◌∷◌, ◌++◌, None, ◌↔◌, count_by};
-ghost use Rattle.vl_source.specs.declared.tree.Module.{Module};
-ghost use Rattle.vl_source.specs.declared.tree.Source.{Source};
+ghost use Rattle.vl_tree.specs.declared.source_tree.Module.{Module};
+ghost use Rattle.vl_tree.specs.declared.source_tree.Source.{Source};
 ghost use Rattle.vl_scope.specs.declared.fault.Fault.{Fault};
 ghost use Rattle.vl_scope.specs.declared.kind.Class.TheVariants as class;
 ghost use Rattle.vl_scope.specs.Faults.{In, earliest, IsFirst};

@@ -7,7 +7,7 @@ ghost use Rattle.vl_scope.specs.Declarations as spec;
 use crate::declaration::{Declaration, add_declared, declared};
 use crate::kind::Class;
 use std::alloc::AllocError;
-use vl_source::tree::{Function, FunctionDeclaration, FunctionPort, ParameterType};
+use vl_tree::source_tree::{Function, FunctionDeclaration, FunctionPort, ParameterType};
 
 /// Whether a type has bits to select.
 pub fn is_vector(kind: &ParameterType) -> bool

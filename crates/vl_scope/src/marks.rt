@@ -9,7 +9,7 @@ use crate::declaration::Declaration;
 use crate::kind::Class;
 use indexmap::IndexMap;
 use std::alloc::AllocError;
-use vl_source::tree::Direction;
+use vl_tree::source_tree::Direction;
 
 /// What some declarations of a name say, as far as later ones depend on it.
 #[derive(Clone, Copy)]

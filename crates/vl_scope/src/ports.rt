@@ -6,8 +6,8 @@ ghost use Rattle.vl_scope.specs.Declarations as spec;
 use crate::declaration::Declaration;
 use crate::kind::{Class, Kind};
 use std::alloc::AllocError;
-use vl_grammar::tree::Identifier;
-use vl_source::tree::{DeclarationAssignment, Direction, PortDeclaration};
+use vl_tree::source_tree::{DeclarationAssignment, Direction, PortDeclaration};
+use vl_tree::tree::Identifier;
 
 /// A declaration of a port with nothing but its direction, or of a net too.
 fn port(direction: Direction, wire: bool, vector: bool, name: &Identifier) -> Declaration<'_>

@@ -1,7 +1,6 @@
 //! Sites in expressions (IEEE 1364-2005, clause 5).
 
 ghost use Rattle.std.specs.Prelude.{◌≡◌, ◌++◌, ◌∷◌, map, OnOk};
-ghost use Rattle.std.specs.Str.{bytes_eq};
 ghost use Rattle.vl_design.specs.Placed as p;
 ghost use Rattle.vl_design.specs.Seen as seen;
 ghost use Rattle.vl_sites.specs.Seen.{site_of};
@@ -10,14 +9,8 @@ ghost use Rattle.vl_sites.specs.Sites as x;
 use crate::site::{Site, What, add};
 use std::alloc::AllocError;
 use vl_base::place::Place;
+use vl_base::text::is_word;
 use vl_design::design::{Expr, ExprNode, SysArg, SysCall};
-
-/// The name is this one.
-fn is_word(name: &[u8], word: &[u8]) -> bool
-    ensures { result ≡ bytes_eq name.now word.now }
-{
-    name == word
-}
 
 /// Adds the assignment to a bare name.
 fn bare<'a>(sites: &mut Vec<Site<'a>>, word: bool, e: &'a Expr) -> Result<(), AllocError>

@@ -6,8 +6,8 @@ use Rattle.std.specs.Str.{bytes_eq}
 use Rattle.vl_flat.specs.Surface.{Ex}
 use Rattle.vl_flat.specs.Items.{Connection}
 use Rattle.vl_flat.specs.Connections.{is_for, by_name, connection_of, named_connection, expression_of}
-use Rattle.vl_used.specs.Used.{Classes, IsUsed, IsUsedValue, AreConnected}
-use Rattle.vl_laws.proofs.Lists.{found-holds, at-holds}
+use Rattle.vl_sound.specs.Used.{Classes, IsUsed, IsUsedValue, AreConnected}
+use Rattle.vl_sound.proofs.Lists.{found-holds, at-holds}
 
 module _ (k : Classes) where
   abbrev Used : Connection → Type 0

@@ -7,46 +7,47 @@ use Rattle.std.specs.Str.{bytes_eq}
 use Rattle.std.proofs.lemmas.Bool.{and_parts}
 use Rattle.std.proofs.lemmas.List.Elements.{All-nil, All-cons, All-append, All-head, All-tail, All-map}
 use Rattle.std.proofs.lemmas.Slice.Eq.{bytes_eq-Decides}
-use Rattle.vl_grammar.specs.declared.tree.Identifier.{Identifier}
-use Rattle.vl_source.specs.declared.tree.Source.{Source}
-use Rattle.vl_source.specs.declared.tree.Module.{Module as ModuleTree}
-use Rattle.vl_source.specs.declared.tree.Item.{Item as ItemTree}
-use Rattle.vl_source.specs.declared.tree.Item.TheVariants as j
-use Rattle.vl_source.specs.declared.tree.Ports.{Ports}
-use Rattle.vl_source.specs.declared.tree.Ports.TheVariants as ps
-use Rattle.vl_source.specs.declared.tree.PortDeclaration.{PortDeclaration}
-use Rattle.vl_source.specs.declared.tree.PortDeclaration.TheVariants as pd
-use Rattle.vl_source.specs.declared.tree.ParameterGroup.{ParameterGroup}
-use Rattle.vl_source.specs.declared.tree.ParameterAssignment.{ParameterAssignment}
-use Rattle.vl_source.specs.declared.tree.DeclarationAssignment.{DeclarationAssignment}
-use Rattle.vl_source.specs.declared.tree.VariableType.{VariableType}
-use Rattle.vl_source.specs.declared.tree.VariableMore.{VariableMore}
-use Rattle.vl_source.specs.declared.tree.VariableMore.TheVariants as v
-use Rattle.vl_source.specs.declared.tree.Function.{Function as FunctionTree}
-use Rattle.vl_source.specs.declared.tree.FunctionPort.{FunctionPort}
-use Rattle.vl_source.specs.declared.tree.FunctionDeclaration.{FunctionDeclaration}
-use Rattle.vl_source.specs.declared.tree.FunctionDeclaration.TheVariants as fd
-use Rattle.vl_source.specs.Hierarchy as h
-use Rattle.vl_scope.specs.declared.fault.Fault.{Fault}
-use Rattle.vl_scope.specs.declared.kind.Kind.{Kind}
-use Rattle.vl_scope.specs.declared.kind.Class.{Class}
-use Rattle.vl_scope.specs.declared.kind.Class.TheVariants as c
-use Rattle.vl_scope.specs.Faults.{In}
-use Rattle.vl_scope.specs.Declarations as s
-use Rattle.vl_scope.specs.DeclarationFaults.{is_no_port, is_memory, listed_in, listed, directs, IsDeclarationFault, undirected}
-use Rattle.vl_scope.proofs.Members.{In-append_left, In-append_right, In-map, In-map_cases, In-flat_map, In-flat_map_cases, list_any-In_cases, list_any-none}
+use Rattle.vl_flat.specs.vl_tree.specs.declared.tree.Identifier.{Identifier}
+use Rattle.vl_flat.specs.vl_tree.specs.declared.source_tree.Source.{Source}
+use Rattle.vl_flat.specs.vl_tree.specs.declared.source_tree.Module.{Module as ModuleTree}
+use Rattle.vl_flat.specs.vl_tree.specs.declared.source_tree.Item.{Item as ItemTree}
+use Rattle.vl_flat.specs.vl_tree.specs.declared.source_tree.Item.TheVariants as j
+use Rattle.vl_flat.specs.vl_tree.specs.declared.source_tree.Ports.{Ports}
+use Rattle.vl_flat.specs.vl_tree.specs.declared.source_tree.Ports.TheVariants as ps
+use Rattle.vl_flat.specs.vl_tree.specs.declared.source_tree.PortDeclaration.{PortDeclaration}
+use Rattle.vl_flat.specs.vl_tree.specs.declared.source_tree.PortDeclaration.TheVariants as pd
+use Rattle.vl_flat.specs.vl_tree.specs.declared.source_tree.ParameterGroup.{ParameterGroup}
+use Rattle.vl_flat.specs.vl_tree.specs.declared.source_tree.ParameterAssignment.{ParameterAssignment}
+use Rattle.vl_flat.specs.vl_tree.specs.declared.source_tree.DeclarationAssignment.{DeclarationAssignment}
+use Rattle.vl_flat.specs.vl_tree.specs.declared.source_tree.VariableType.{VariableType}
+use Rattle.vl_flat.specs.vl_tree.specs.declared.source_tree.VariableMore.{VariableMore}
+use Rattle.vl_flat.specs.vl_tree.specs.declared.source_tree.VariableMore.TheVariants as v
+use Rattle.vl_flat.specs.vl_tree.specs.declared.source_tree.Function.{Function as FunctionTree}
+use Rattle.vl_flat.specs.vl_tree.specs.declared.source_tree.FunctionPort.{FunctionPort}
+use Rattle.vl_flat.specs.vl_tree.specs.declared.source_tree.FunctionDeclaration.{FunctionDeclaration}
+use Rattle.vl_flat.specs.vl_tree.specs.declared.source_tree.FunctionDeclaration.TheVariants as fd
+use Rattle.vl_flat.specs.vl_tree.specs.Hierarchy as h
+use Rattle.vl_names.specs.vl_scope.specs.declared.fault.Fault.{Fault}
+use Rattle.vl_names.specs.vl_scope.specs.declared.kind.Kind.{Kind}
+use Rattle.vl_names.specs.vl_scope.specs.declared.kind.Class.{Class}
+use Rattle.vl_names.specs.vl_scope.specs.declared.kind.Class.TheVariants as c
+use Rattle.vl_names.specs.vl_scope.specs.Faults.{In}
+use Rattle.vl_names.specs.vl_scope.specs.Declarations as s
+use Rattle.vl_names.specs.vl_scope.specs.DeclarationFaults.{is_no_port, is_memory, listed_in, listed, directs, IsDeclarationFault, undirected}
+use Rattle.vl_names.specs.vl_scope.proofs.Members.{In-append_left, In-append_right, In-map, In-map_cases, In-flat_map, In-flat_map_cases, list_any-In_cases, list_any-none}
 use Rattle.vl_flat.specs.Surface as e
 use Rattle.vl_flat.specs.Items as x
 use Rattle.vl_flat.specs.Declarations as d
 use Rattle.vl_flat.specs.Kinds.{signals_in}
-use Rattle.vl_used.specs.Used as u
-use Rattle.vl_laws.proofs.Lists.{at-holds}
-use Rattle.vl_agree.proofs.Pairs.{pairs-there, pairs-back}
-use Rattle.vl_agree.proofs.Names.{Name, P, S, F, I, names_in, names_of, Said, all-said}
-use Rattle.vl_agree.proofs.Alone.{class-of, alone, no-signal-apart}
-use Rattle.vl_agree.proofs.Agree.{memory-apart}
+use Rattle.vl_sound.specs.Used as u
+use Rattle.vl_sound.proofs.Lists.{at-holds}
+use Rattle.vl_sound.proofs.Pairs.{pairs-there, pairs-back}
+use Rattle.vl_sound.proofs.Names.{Name, P, S, F, I, names_in, names_of, Said, all-said}
+use Rattle.vl_sound.proofs.Alone.{class-of, alone, no-signal-apart}
+use Rattle.vl_sound.proofs.Agree.{memory-apart}
 use Rattle.vl_sound.proofs.Functions.{IsPrepared}
 use Rattle.vl_sound.proofs.Items.{HasOwn}
+pub use Rattle.vl_names.specs.vl_scope.proofs.Shared.{all-in as from-in}
 
 -- ---- lists
 
@@ -58,10 +59,6 @@ pub at-in : {A : Type 0} (Q : A → Type 0) (ys : List A) (y : A) → All Q ys �
 at-in Q [] y g i = absurd i
 at-in Q (z ∷ ys) y g (inl i) = subst Q i (All-head Q z ys g)
 at-in Q (z ∷ ys) y g (inr i) = at-in Q ys y (All-tail Q z ys g) i
-
-pub from-in : {A : Type 0} (Q : A → Type 0) (ys : List A) → ((y : A) → In y ys → Q y) → All Q ys
-from-in Q [] g = All-nil Q
-from-in Q (z ∷ ys) g = All-cons Q z ys (g z (inl refl)) (from-in Q ys (λ y i. g y (inr i)))
 
 every-flat : {A B : Type 0} (Q : B → Type 0) (f : A → List B) → ((y : A) → All Q (f y)) → (ys : List A) → All Q (flat_map f ys)
 every-flat Q f g [] = All-nil Q

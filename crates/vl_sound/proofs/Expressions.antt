@@ -5,20 +5,20 @@ use Rattle.std.specs.Str.{bytes_eq}
 use Rattle.std.proofs.lemmas.Bool.{or_from}
 use Rattle.std.proofs.lemmas.Slice.Eq.{bytes_eq-Decides}
 use Rattle.std.proofs.lemmas.Option.{slice_get_within}
-use Rattle.vl_base.specs.declared.place.Place.{Place}
-use Rattle.vl_base.specs.declared.bits.UnOp.{UnOp}
-use Rattle.vl_grammar.specs.declared.tree.SelectMark.{SelectMark}
-use Rattle.vl_grammar.specs.declared.tree.SelectMark.TheVariants as m
-use Rattle.vl_scope.specs.declared.kind.Class.{Class}
-use Rattle.vl_scope.specs.declared.kind.Class.TheVariants as c
-use Rattle.vl_design.specs.declared.design.Form.{Form}
-use Rattle.vl_design.specs.declared.design.SigKind.{SigKind}
-use Rattle.vl_design.specs.declared.design.SigKind.TheVariants as sk
-use Rattle.vl_design.specs.Rows.{range_width, has_width}
-use Rattle.vl_design.specs.Width as w
-use Rattle.vl_design.specs.Sound.{IsWidth, IsOf, HasValue, IsMem, IsMemory, Takes, count_of, IsSoundExp, AreSound}
-use Rattle.vl_design.specs.Placed as p
-use Rattle.vl_design.specs.Plainly as plain
+use Rattle.vl_flat.specs.vl_base.specs.declared.place.Place.{Place}
+use Rattle.vl_flat.specs.vl_base.specs.declared.bits.UnOp.{UnOp}
+use Rattle.vl_flat.specs.vl_tree.specs.declared.tree.SelectMark.{SelectMark}
+use Rattle.vl_flat.specs.vl_tree.specs.declared.tree.SelectMark.TheVariants as m
+use Rattle.vl_names.specs.vl_scope.specs.declared.kind.Class.{Class}
+use Rattle.vl_names.specs.vl_scope.specs.declared.kind.Class.TheVariants as c
+use Rattle.vl_flat.specs.vl_design.specs.declared.design.Form.{Form}
+use Rattle.vl_flat.specs.vl_design.specs.declared.design.SigKind.{SigKind}
+use Rattle.vl_flat.specs.vl_design.specs.declared.design.SigKind.TheVariants as sk
+use Rattle.vl_flat.specs.vl_design.specs.Rows.{range_width, has_width}
+use Rattle.vl_flat.specs.vl_design.specs.Width as w
+use Rattle.vl_flat.specs.vl_design.specs.Sound.{IsWidth, IsOf, HasValue, IsMem, IsMemory, Takes, count_of, IsSoundExp, AreSound}
+use Rattle.vl_flat.specs.vl_design.specs.Placed as p
+use Rattle.vl_flat.specs.vl_design.specs.Plainly as plain
 use Rattle.vl_flat.specs.declared.binding.Binding.{Binding}
 use Rattle.vl_flat.specs.declared.binding.Binding.TheVariants as b
 use Rattle.vl_flat.specs.declared.binding.Shape.{Shape}
@@ -29,8 +29,8 @@ use Rattle.vl_flat.specs.Expressions as e
 use Rattle.vl_flat.specs.ExpressionFaults as ef
 use Rattle.vl_sound.specs.Naming.{StandsIn, IsValue, IsCalled, IsResolved, AreResolved, AreResolvedSelects, AreResolvedArgs}
 use Rattle.vl_sound.proofs.Forms.{form-same}
-use Rattle.vl_used.specs.Used as u
-use Rattle.vl_used.specs.Agreeing.{StandsAs, Agrees, StandsFor}
+use Rattle.vl_sound.specs.Used as u
+use Rattle.vl_sound.specs.Agreeing.{StandsAs, Agrees, StandsFor}
 use Rattle.vl_sound.specs.Widths.{HasWidth, HaveWidths}
 use Rattle.vl_sound.proofs.Parts.{none-left, none-right, clear, past-clear, width-is, one-bit, zero-is, number-is, operand-is}
 

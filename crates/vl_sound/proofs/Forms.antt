@@ -2,18 +2,18 @@
 use Rattle.std.proofs.Common.{◌≡◌, ℕ, ◌+◌, ◌*◌, Bool, true, false, if◌then◌else◌, List, length, Option, Some, None, refl, ap, ◌∙◌}
 use Rattle.std.specs.Prelude.{ℤ, max, fold, codes}
 use Rattle.std.specs.Str.{bytes_eq}
-use Rattle.vl_base.specs.declared.place.Place.{Place}
-use Rattle.vl_base.specs.declared.bits.UnOp.{UnOp}
-use Rattle.vl_grammar.specs.declared.tree.SelectMark.{SelectMark}
-use Rattle.vl_grammar.specs.declared.tree.SelectMark.TheVariants as m
-use Rattle.vl_design.specs.declared.design.Form.{Form}
-use Rattle.vl_design.specs.Width as w
+use Rattle.vl_flat.specs.vl_base.specs.declared.place.Place.{Place}
+use Rattle.vl_flat.specs.vl_base.specs.declared.bits.UnOp.{UnOp}
+use Rattle.vl_flat.specs.vl_tree.specs.declared.tree.SelectMark.{SelectMark}
+use Rattle.vl_flat.specs.vl_tree.specs.declared.tree.SelectMark.TheVariants as m
+use Rattle.vl_flat.specs.vl_design.specs.declared.design.Form.{Form}
+use Rattle.vl_flat.specs.vl_design.specs.Width as w
 use Rattle.vl_flat.specs.declared.binding.Binding.{Binding}
 use Rattle.vl_flat.specs.declared.binding.Binding.TheVariants.{Constant, Signal, Function}
 use Rattle.vl_flat.specs.declared.binding.Shape.{Shape}
 use Rattle.vl_flat.specs.Surface as x
-use Rattle.vl_design.specs.Placed as p
-use Rattle.vl_design.specs.Plainly as plain
+use Rattle.vl_flat.specs.vl_design.specs.Placed as p
+use Rattle.vl_flat.specs.vl_design.specs.Plainly as plain
 use Rattle.vl_flat.specs.Scopes.{Scope, form_of, shape_form, range_of, number_of}
 use Rattle.vl_flat.specs.Constants.{count_of}
 use Rattle.vl_flat.specs.Expressions as e

@@ -3,23 +3,23 @@ use Rattle.std.proofs.Common.{◌≡◌, ℕ, suc, ◌+◌, Bool, true, false, i
 use Rattle.std.specs.Prelude.{ℤ, ◌&&◌, not, nat_lt, flat_map, slice_get, All, option_map}
 use Rattle.std.proofs.lemmas.List.Elements.{All-nil, All-cons}
 use Rattle.std.proofs.lemmas.Option.{slice_get-map}
-use Rattle.vl_base.specs.declared.place.Place.{Place}
-use Rattle.vl_design.specs.declared.design.SigKind.TheVariants.{Var, Loop}
-use Rattle.vl_design.specs.Syntax as d
-use Rattle.vl_design.specs.Rows.{row_of}
-use Rattle.vl_design.specs.Stops.{construct_if}
-use Rattle.vl_design.specs.Width as w
-use Rattle.vl_design.specs.Sound.{IsWidth, IsOf, HasValue, IsSignal, IsSoundFun}
-use Rattle.vl_design.specs.Plainly as plain
+use Rattle.vl_flat.specs.vl_base.specs.declared.place.Place.{Place}
+use Rattle.vl_flat.specs.vl_design.specs.declared.design.SigKind.TheVariants.{Var, Loop}
+use Rattle.vl_flat.specs.vl_design.specs.Syntax as d
+use Rattle.vl_flat.specs.vl_design.specs.Rows.{row_of}
+use Rattle.vl_flat.specs.vl_design.specs.Stops.{construct_if}
+use Rattle.vl_flat.specs.vl_design.specs.Width as w
+use Rattle.vl_flat.specs.vl_design.specs.Sound.{IsWidth, IsOf, HasValue, IsSignal, IsSoundFun}
+use Rattle.vl_flat.specs.vl_design.specs.Plainly as plain
 use Rattle.vl_flat.specs.Items as x
 use Rattle.vl_flat.specs.Uses.{controls, strays}
 use Rattle.vl_flat.specs.Scopes.{Env}
 use Rattle.vl_flat.specs.Ranges as r
 use Rattle.vl_flat.specs.Statements.{statement_faults}
 use Rattle.vl_flat.specs.Functions.{local_shape, function_scope, signal, dotted, input_numbers, function, function_faults}
-use Rattle.vl_used.specs.Used as u
-use Rattle.vl_used.specs.Agreeing.{Agrees, StandsFor}
-use Rattle.vl_laws.proofs.Lists.{right-part}
+use Rattle.vl_sound.specs.Used as u
+use Rattle.vl_sound.specs.Agreeing.{Agrees, StandsFor}
+use Rattle.vl_sound.proofs.Lists.{right-part}
 use Rattle.vl_sound.specs.Widths.{HaveWidths}
 use Rattle.vl_sound.specs.Inputs.{IsNoLoop, HasNoLoopInputs}
 use Rattle.vl_sound.proofs.Parts.{none-left, none-right, clear, narrow-is, one-clear}

@@ -5,13 +5,13 @@ use Rattle.std.specs.Option.{option_map_or}
 use Rattle.std.proofs.lemmas.List.{append_assoc, length-map}
 use Rattle.std.proofs.lemmas.List.Sums.{fold-append}
 use Rattle.std.proofs.lemmas.List.Elements.{All-nil, All-append, All-head, All-tail, All-map, All-weaker}
-use Rattle.vl_grammar.specs.declared.tree.Identifier.{Identifier}
-use Rattle.vl_design.specs.declared.stop.Stop.{Stop}
-use Rattle.vl_design.specs.Rows.{row_of}
-use Rattle.vl_design.specs.Width as w
-use Rattle.vl_design.specs.Sound.{IsSoundFun, IsSoundProc, IsSound}
-use Rattle.vl_design.specs.Placed as p
-use Rattle.vl_design.specs.Plainly as plain
+use Rattle.vl_flat.specs.vl_tree.specs.declared.tree.Identifier.{Identifier}
+use Rattle.vl_flat.specs.vl_design.specs.declared.stop.Stop.{Stop}
+use Rattle.vl_flat.specs.vl_design.specs.Rows.{row_of}
+use Rattle.vl_flat.specs.vl_design.specs.Width as w
+use Rattle.vl_flat.specs.vl_design.specs.Sound.{IsSoundFun, IsSoundProc, IsSound}
+use Rattle.vl_flat.specs.vl_design.specs.Placed as p
+use Rattle.vl_flat.specs.vl_design.specs.Plainly as plain
 use Rattle.vl_flat.specs.Items as i
 use Rattle.vl_flat.specs.Scopes.{plainly}
 use Rattle.vl_flat.specs.Environments.{Counts, Given, plus, module_named, size, environment}
@@ -21,11 +21,11 @@ use Rattle.vl_flat.specs.Flat as f
 use Rattle.vl_flat.specs.Flat.{instance}
 use Rattle.vl_flat.specs.Outcome as o
 use Rattle.vl_flat.specs.Outcome.{◌>>=◌}
-use Rattle.vl_used.specs.Used as u
-use Rattle.vl_used.specs.Agreeing.{Agrees, StandsFor}
-use Rattle.vl_laws.specs.Instances.{IsInstance, of_top, of_item, here_of}
-use Rattle.vl_laws.proofs.Numbers.{design-is}
-use Rattle.vl_laws.proofs.Depth.{judged-clear}
+use Rattle.vl_sound.specs.Used as u
+use Rattle.vl_sound.specs.Agreeing.{Agrees, StandsFor}
+use Rattle.vl_sound.specs.Instances.{IsInstance, of_top, of_item, here_of}
+use Rattle.vl_sound.proofs.Numbers.{design-is}
+use Rattle.vl_sound.proofs.Depth.{judged-clear}
 use Rattle.vl_sound.specs.Widths.{HaveWidths}
 use Rattle.vl_sound.specs.Inputs.{HasNoLoopInputs, NoLoopInputs}
 use Rattle.vl_sound.proofs.Parts.{at-split}

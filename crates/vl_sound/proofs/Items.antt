@@ -4,23 +4,23 @@ use Rattle.std.specs.Prelude.{⊤, ◌&&◌, not, flat_map, All}
 use Rattle.std.specs.Option.{option_map_or}
 use Rattle.std.proofs.lemmas.Bool.{and_parts}
 use Rattle.std.proofs.lemmas.List.Elements.{All-nil, All-cons, All-append, All-head, All-tail, All-map, All-weaker}
-use Rattle.vl_base.specs.declared.place.Place.{Place}
-use Rattle.vl_source.specs.declared.tree.Trigger.{Trigger}
-use Rattle.vl_source.specs.declared.tree.Trigger.TheVariants as g
-use Rattle.vl_source.specs.declared.tree.Event.{Event as EventTree}
-use Rattle.vl_scope.specs.declared.kind.Class.{Class}
-use Rattle.vl_scope.specs.declared.kind.Class.TheVariants as c
-use Rattle.vl_design.specs.declared.design.Event.{Event}
-use Rattle.vl_design.specs.declared.design.ProcKind.{ProcKind}
-use Rattle.vl_design.specs.declared.design.ProcKind.TheVariants.{Init, Assign}
-use Rattle.vl_design.specs.declared.stop.Stop.{Stop}
-use Rattle.vl_design.specs.declared.stop.Stop.TheVariants.{Construct}
-use Rattle.vl_design.specs.declared.design.Signal.{Signal}
-use Rattle.vl_design.specs.Syntax as d
-use Rattle.vl_design.specs.Width as w
-use Rattle.vl_design.specs.Sound.{IsSignal, IsNamed, IsSoundStm, IsSoundProc}
-use Rattle.vl_design.specs.Placed as p
-use Rattle.vl_design.specs.Plainly as plain
+use Rattle.vl_flat.specs.vl_base.specs.declared.place.Place.{Place}
+use Rattle.vl_flat.specs.vl_tree.specs.declared.source_tree.Trigger.{Trigger}
+use Rattle.vl_flat.specs.vl_tree.specs.declared.source_tree.Trigger.TheVariants as g
+use Rattle.vl_flat.specs.vl_tree.specs.declared.source_tree.Event.{Event as EventTree}
+use Rattle.vl_names.specs.vl_scope.specs.declared.kind.Class.{Class}
+use Rattle.vl_names.specs.vl_scope.specs.declared.kind.Class.TheVariants as c
+use Rattle.vl_flat.specs.vl_design.specs.declared.design.Event.{Event}
+use Rattle.vl_flat.specs.vl_design.specs.declared.design.ProcKind.{ProcKind}
+use Rattle.vl_flat.specs.vl_design.specs.declared.design.ProcKind.TheVariants.{Init, Assign}
+use Rattle.vl_flat.specs.vl_design.specs.declared.stop.Stop.{Stop}
+use Rattle.vl_flat.specs.vl_design.specs.declared.stop.Stop.TheVariants.{Construct}
+use Rattle.vl_flat.specs.vl_design.specs.declared.design.Signal.{Signal}
+use Rattle.vl_flat.specs.vl_design.specs.Syntax as d
+use Rattle.vl_flat.specs.vl_design.specs.Width as w
+use Rattle.vl_flat.specs.vl_design.specs.Sound.{IsSignal, IsNamed, IsSoundStm, IsSoundProc}
+use Rattle.vl_flat.specs.vl_design.specs.Placed as p
+use Rattle.vl_flat.specs.vl_design.specs.Plainly as plain
 use Rattle.vl_flat.specs.declared.binding.Binding.{Binding}
 use Rattle.vl_flat.specs.declared.binding.Binding.TheVariants as b
 use Rattle.vl_flat.specs.Surface as x
@@ -38,17 +38,18 @@ use Rattle.vl_flat.specs.Processes.{Here}
 use Rattle.vl_flat.specs.Environments.{Given}
 use Rattle.vl_flat.specs.Connections as cn
 use Rattle.vl_flat.specs.Flat as f
-use Rattle.vl_used.specs.Used as u
-use Rattle.vl_used.specs.Agreeing.{StandsAs, Agrees, StandsFor}
-use Rattle.vl_laws.proofs.Lists.{Each, each-left, each-right}
-use Rattle.vl_laws.proofs.Depth.{NoFault}
-use Rattle.vl_named.proofs.Sides.{used-side}
+use Rattle.vl_sound.specs.Used as u
+use Rattle.vl_sound.specs.Agreeing.{StandsAs, Agrees, StandsFor}
+use Rattle.vl_sound.proofs.Lists.{Each, each-left, each-right}
+use Rattle.vl_sound.proofs.Depth.{NoFault}
+use Rattle.vl_sound.proofs.Sides.{used-side}
 use Rattle.vl_sound.specs.Widths.{HaveWidths}
 use Rattle.vl_sound.proofs.Parts.{none-right, all-flat, all-clear}
 use Rattle.vl_sound.proofs.Targets.{signal-named, event-named, left-sound}
 use Rattle.vl_sound.proofs.Connected.{connected-used}
 use Rattle.vl_sound.proofs.Statements.{assign-sound, set-sound, statement-sound}
 use Rattle.vl_sound.proofs.Functions.{IsPrepared, IsGood, function-good}
+use Rattle.vl_flat.specs.vl_base.proofs.Lists.{all_both as both}
 
 -- ---- parts
 
@@ -95,9 +96,6 @@ abbrev pub IsHere : u.Classes → Here → w.Names → i.Item → Type 0
 IsHere k here design (i.Signals ds) = All (λ (y : i.Declared). HasOwn (k.read y.name.name) y.value) ds
 IsHere k here design (i.Functions a) = IsFunctionHere k here design a
 IsHere k here design item = ⊤
-
-both : {A : Type 0} (P Q : A → Type 0) (xs : List A) → All P xs → All Q xs → All (λ x. P x × Q x) xs
-both P Q xs h g = λ n x there. (h n x there, g n x there)
 
 module _ (k : u.Classes) (here : Here) (agrees : Agrees k (plainly here.env)) (design : w.Names) (stands : StandsFor k (plainly here.env) design) (widths : HaveWidths here.env) where
   process-good : (at : Place) (kind : ProcKind) (events : List Event) (a : p.Stm) → All (λ (e : d.Event). IsNamed design e.signal) (map plain.event events)

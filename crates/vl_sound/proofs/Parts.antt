@@ -6,43 +6,28 @@ use Rattle.std.proofs.lemmas.List.Elements.{All-nil, All-cons, All-append, All-h
 use Rattle.std.proofs.lemmas.Bool.{and_parts}
 use Rattle.std.proofs.lemmas.Bool.Decides.{nat_tests}
 use Rattle.std.proofs.lemmas.Nat.{mod_below}
-use Rattle.vl_base.specs.declared.number.Number.{Number}
-use Rattle.vl_base.specs.declared.place.Place.{Place}
-use Rattle.vl_design.specs.declared.design.Form.{Form}
-use Rattle.vl_design.specs.Formats.{text_width, text_number}
-use Rattle.vl_design.specs.Rows.{has_width}
-use Rattle.vl_design.specs.Sound.{IsWidth}
-use Rattle.vl_design.specs.Stops.{construct_if}
-use Rattle.vl_design.specs.Width.{unsigned}
+use Rattle.vl_flat.specs.vl_base.specs.declared.number.Number.{Number}
+use Rattle.vl_flat.specs.vl_base.specs.declared.place.Place.{Place}
+use Rattle.vl_flat.specs.vl_design.specs.declared.design.Form.{Form}
+use Rattle.vl_flat.specs.vl_design.specs.Formats.{text_width, text_number}
+use Rattle.vl_flat.specs.vl_design.specs.Rows.{has_width}
+use Rattle.vl_flat.specs.vl_design.specs.Sound.{IsWidth}
+use Rattle.vl_flat.specs.vl_design.specs.Stops.{construct_if}
+use Rattle.vl_flat.specs.vl_design.specs.Width.{unsigned}
 use Rattle.vl_flat.specs.Binding.{is_proper}
 use Rattle.vl_flat.specs.Expressions.{is_long, text_form, text_value}
 use Rattle.vl_flat.specs.Ranges.{bits_in}
-use Rattle.vl_laws.proofs.Lists.{Each, each-from, each-right}
-
-pub none-left : {A : Type 0} (xs ys : List A) → xs ++ ys ≡ [] → xs ≡ []
-none-left [] ys h = refl
-none-left (x ∷ xs) ys h = let z : ⊥ = cc in absurd z
-
-pub none-right : {A : Type 0} (xs ys : List A) → xs ++ ys ≡ [] → ys ≡ []
-none-right [] ys h = h
-none-right (x ∷ xs) ys h = let z : ⊥ = cc in absurd z
-
-pub clear : (c : Bool) (at : Place) (n : ℕ) → construct_if c at n ≡ [] → c ≡ false
-clear true at n h = let z : ⊥ = cc in absurd z
-clear false at n h = refl
-
-pub not-false : (c : Bool) → not c ≡ false → c ≡ true
-not-false true h = refl
-not-false false h = let z : ⊥ = cc in absurd z
+use Rattle.vl_sound.proofs.Lists.{Each, each-from, each-right}
+pub use Rattle.vl_flat.specs.vl_base.proofs.Booleans.{not_false as not-false}
+pub use Rattle.vl_flat.specs.vl_base.proofs.Lists.{append_none_right as none-right, append_none_left as none-left}
+pub use Rattle.vl_flat.specs.vl_design.proofs.Shared.{clear, one as one-bit}
+use Rattle.vl_flat.specs.vl_base.proofs.Numbers.{lt_from as below-is}
 
 -- a fault of a whole whose strings are all short is none of its width
 pub past-clear : (wide long : Bool) → long ≡ false → (not wide && not long) ≡ false → wide ≡ true
 past-clear true long h e = refl
 past-clear false true h e = let z : ⊥ = cc in absurd z
 past-clear false false h e = let z : ⊥ = cc in absurd z
-
-pub one-bit : IsWidth 1
-one-bit = record { wide = omega arith; narrow = omega arith }
 
 width-from : (w : ℕ) → nat_le 1 w ≡ true → nat_le w 128 ≡ true → IsWidth w
 width-from w low high = record { wide = grind (arith, nat_tests); narrow = grind (arith, nat_tests) }
@@ -53,9 +38,6 @@ width-is w h = let (low, high) = and_parts (nat_le 1 w) (nat_le w 128) h in widt
 -- a range that isn't too wide
 pub narrow-is : (r : ℤ × ℤ) → nat_lt 128 (bits_in r) ≡ false → IsWidth (bits_in r)
 narrow-is r h = record { wide = omega arith; narrow = grind (arith, nat_tests) }
-
-below-is : (v w : ℕ) → nat_lt v w ≡ true → v < w
-below-is v w h = grind (arith, nat_tests)
 
 -- ---- numbers and strings
 

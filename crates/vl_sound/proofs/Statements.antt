@@ -2,18 +2,18 @@
 use Rattle.std.proofs.Common.{◌≡◌, ℕ, Bool, true, false, List, [], ◌∷◌, ◌++◌, Option, Some, None, refl, sym, subst}
 use Rattle.std.specs.Prelude.{⊤, ◌||◌, fold, codes}
 use Rattle.std.specs.Str.{bytes_eq}
-use Rattle.vl_scope.proofs.Listed.{bytes_eq-to}
-use Rattle.vl_base.specs.declared.place.Place.{Place}
-use Rattle.vl_base.specs.declared.bits.UnOp.TheVariants.{LogNot}
-use Rattle.vl_grammar.specs.declared.tree.UnaryOperator.{UnaryOperator}
-use Rattle.vl_grammar.specs.declared.tree.UnaryOperator.TheVariants as uo
-use Rattle.vl_design.specs.declared.stop.Stop.{Stop}
-use Rattle.vl_design.specs.Syntax as d
-use Rattle.vl_design.specs.Calls.{task_of}
-use Rattle.vl_design.specs.Width as w
-use Rattle.vl_design.specs.Sound.{IsSoundExp, AreSound, IsSoundTarget, IsSoundTask, IsSoundStm, AreSoundItems}
-use Rattle.vl_design.specs.Placed as p
-use Rattle.vl_design.specs.Plainly as plain
+use Rattle.vl_names.specs.vl_scope.proofs.Listed.{bytes_eq-to}
+use Rattle.vl_flat.specs.vl_base.specs.declared.place.Place.{Place}
+use Rattle.vl_flat.specs.vl_base.specs.declared.bits.UnOp.TheVariants.{LogNot}
+use Rattle.vl_flat.specs.vl_tree.specs.declared.tree.UnaryOperator.{UnaryOperator}
+use Rattle.vl_flat.specs.vl_tree.specs.declared.tree.UnaryOperator.TheVariants as uo
+use Rattle.vl_flat.specs.vl_design.specs.declared.stop.Stop.{Stop}
+use Rattle.vl_flat.specs.vl_design.specs.Syntax as d
+use Rattle.vl_flat.specs.vl_design.specs.Calls.{task_of}
+use Rattle.vl_flat.specs.vl_design.specs.Width as w
+use Rattle.vl_flat.specs.vl_design.specs.Sound.{IsSoundExp, AreSound, IsSoundTarget, IsSoundTask, IsSoundStm, AreSoundItems}
+use Rattle.vl_flat.specs.vl_design.specs.Placed as p
+use Rattle.vl_flat.specs.vl_design.specs.Plainly as plain
 use Rattle.vl_flat.specs.declared.binding.Binding.{Binding}
 use Rattle.vl_flat.specs.declared.binding.Binding.TheVariants as b
 use Rattle.vl_flat.specs.Surface as x
@@ -22,9 +22,9 @@ use Rattle.vl_flat.specs.Expressions as e
 use Rattle.vl_flat.specs.ExpressionFaults as ef
 use Rattle.vl_flat.specs.Targets as t
 use Rattle.vl_flat.specs.Statements as s
-use Rattle.vl_used.specs.Used as u
-use Rattle.vl_used.specs.Agreeing.{Agrees, StandsFor}
-use Rattle.vl_named.proofs.Sides.{loads-none}
+use Rattle.vl_sound.specs.Used as u
+use Rattle.vl_sound.specs.Agreeing.{Agrees, StandsFor}
+use Rattle.vl_sound.proofs.Sides.{loads-none}
 use Rattle.vl_sound.specs.Widths.{HaveWidths}
 use Rattle.vl_sound.proofs.Parts.{none-left, none-right, number-is}
 use Rattle.vl_sound.proofs.Expressions.{operand-by, made, sound}

@@ -1,19 +1,19 @@
 -- A left side whose names are used as what they are, and stand for it, is sound where it has no fault.
 use Rattle.std.proofs.Common.{◌≡◌, ℕ, ◌+◌, if◌then◌else◌, List, [], ◌++◌, Option, Some, None, refl, sym, ap, ◌∙◌, subst, arith}
 use Rattle.std.specs.Prelude.{ℤ, ⊤, fold, not}
-use Rattle.vl_base.specs.declared.place.Place.{Place}
-use Rattle.vl_grammar.specs.declared.tree.SelectMark.TheVariants as m
-use Rattle.vl_scope.specs.declared.kind.Class.{Class}
-use Rattle.vl_scope.specs.declared.kind.Class.TheVariants as c
-use Rattle.vl_design.specs.declared.design.Form.{Form}
-use Rattle.vl_design.specs.declared.stop.Stop.{Stop}
-use Rattle.vl_design.specs.Stops.{construct_if}
-use Rattle.vl_design.specs.Rows.{has_width}
-use Rattle.vl_design.specs.Width as w
-use Rattle.vl_design.specs.Targets.{target_width, targets_width}
-use Rattle.vl_design.specs.Sound.{IsWidth, HasValue, IsMem, IsSignal, IsNamed, IsMemory, IsSoundExp, IsSoundBase, IsSoundTarget, AreSoundTargets}
-use Rattle.vl_design.specs.Placed as p
-use Rattle.vl_design.specs.Plainly as plain
+use Rattle.vl_flat.specs.vl_base.specs.declared.place.Place.{Place}
+use Rattle.vl_flat.specs.vl_tree.specs.declared.tree.SelectMark.TheVariants as m
+use Rattle.vl_names.specs.vl_scope.specs.declared.kind.Class.{Class}
+use Rattle.vl_names.specs.vl_scope.specs.declared.kind.Class.TheVariants as c
+use Rattle.vl_flat.specs.vl_design.specs.declared.design.Form.{Form}
+use Rattle.vl_flat.specs.vl_design.specs.declared.stop.Stop.{Stop}
+use Rattle.vl_flat.specs.vl_design.specs.Stops.{construct_if}
+use Rattle.vl_flat.specs.vl_design.specs.Rows.{has_width}
+use Rattle.vl_flat.specs.vl_design.specs.Width as w
+use Rattle.vl_flat.specs.vl_design.specs.Targets.{target_width, targets_width}
+use Rattle.vl_flat.specs.vl_design.specs.Sound.{IsWidth, HasValue, IsMem, IsSignal, IsNamed, IsMemory, IsSoundExp, IsSoundBase, IsSoundTarget, AreSoundTargets}
+use Rattle.vl_flat.specs.vl_design.specs.Placed as p
+use Rattle.vl_flat.specs.vl_design.specs.Plainly as plain
 use Rattle.vl_flat.specs.declared.binding.Binding.{Binding}
 use Rattle.vl_flat.specs.declared.binding.Binding.TheVariants as b
 use Rattle.vl_flat.specs.declared.binding.Shape.{Shape}
@@ -23,8 +23,8 @@ use Rattle.vl_flat.specs.Expressions as e
 use Rattle.vl_flat.specs.ExpressionFaults as ef
 use Rattle.vl_flat.specs.Targets as t
 use Rattle.vl_flat.specs.Statements.{first_name, first_among}
-use Rattle.vl_used.specs.Used as u
-use Rattle.vl_used.specs.Agreeing.{StandsAs, Agrees, StandsFor}
+use Rattle.vl_sound.specs.Used as u
+use Rattle.vl_sound.specs.Agreeing.{StandsAs, Agrees, StandsFor}
 use Rattle.vl_sound.specs.Widths.{HaveWidths}
 use Rattle.vl_sound.proofs.Parts.{none-left, none-right, clear, not-false, width-is, one-bit}
 use Rattle.vl_sound.proofs.Expressions.{AtIndices, not-mem, is-mem, stands-in, signal-is, indices-sound}

@@ -4,28 +4,29 @@ use Rattle.std.specs.Prelude.{⊤, codes, ◌||◌, ◌==◌, All}
 use Rattle.std.specs.Str.{bytes_eq}
 use Rattle.std.proofs.lemmas.List.Elements.{All-nil, All-cons, All-append, All-tail}
 use Rattle.std.proofs.lemmas.Slice.Eq.{bytes_eq-Decides}
-use Rattle.vl_base.specs.Display.{Format, Decimal, format_of, lower_case}
-use Rattle.vl_base.specs.declared.place.Place.{Place}
-use Rattle.vl_uses.specs.Nodes.{is_load}
-use Rattle.vl_scope.specs.declared.kind.Class.TheVariants as c
-use Rattle.vl_design.specs.Syntax as d
-use Rattle.vl_design.specs.Formats as f
-use Rattle.vl_design.specs.Calls.{finish_of, save_of, fopen_of, fread_of, file_of, read_hex_of, task_of}
-use Rattle.vl_design.specs.Width as w
-use Rattle.vl_design.specs.Sound.{IsMem, IsSoundExp, AreSound, IsSoundPiece, IsSoundTask}
-use Rattle.vl_design.specs.Placed as p
-use Rattle.vl_design.specs.Plainly as plain
+use Rattle.vl_flat.specs.vl_base.specs.Display.{Format, Decimal, format_of, lower_case}
+use Rattle.vl_flat.specs.vl_base.specs.declared.place.Place.{Place}
+use Rattle.vl_names.specs.vl_uses.specs.Nodes.{is_load}
+use Rattle.vl_names.specs.vl_scope.specs.declared.kind.Class.TheVariants as c
+use Rattle.vl_flat.specs.vl_design.specs.Syntax as d
+use Rattle.vl_flat.specs.vl_design.specs.Formats as f
+use Rattle.vl_flat.specs.vl_design.specs.Calls.{finish_of, save_of, fopen_of, fread_of, file_of, read_hex_of, task_of}
+use Rattle.vl_flat.specs.vl_design.specs.Width as w
+use Rattle.vl_flat.specs.vl_design.specs.Sound.{IsMem, IsSoundExp, AreSound, IsSoundPiece, IsSoundTask}
+use Rattle.vl_flat.specs.vl_design.specs.Placed as p
+use Rattle.vl_flat.specs.vl_design.specs.Plainly as plain
 use Rattle.vl_flat.specs.declared.binding.Binding.{Binding}
 use Rattle.vl_flat.specs.declared.binding.Binding.TheVariants as b
 use Rattle.vl_flat.specs.Surface as x
 use Rattle.vl_flat.specs.Scopes.{Scope}
 use Rattle.vl_flat.specs.Expressions as e
 use Rattle.vl_flat.specs.ExpressionFaults as ef
-use Rattle.vl_used.specs.Used as u
-use Rattle.vl_used.specs.Agreeing.{StandsAs, Agrees, StandsFor}
+use Rattle.vl_sound.specs.Used as u
+use Rattle.vl_sound.specs.Agreeing.{StandsAs, Agrees, StandsFor}
 use Rattle.vl_sound.specs.Widths.{HaveWidths}
 use Rattle.vl_sound.proofs.Parts.{none-left, none-right, clear, zero-is, text-is}
 use Rattle.vl_sound.proofs.Expressions.{signal-is, sound}
+use Rattle.vl_flat.specs.vl_design.proofs.Pieces.{taken-text}
 
 -- ---- names of calls
 
@@ -48,11 +49,6 @@ displays-keep name h = by (bytes_eq name (codes "$display")) (bytes_eq name (cod
     by false false c h = let z : ⊥ = cc in absurd z
 
 -- ---- how many arguments a format takes, whatever they are and whatever the path is
-
-taken-text : (text : List ℕ) (ps : List d.Piece) → f.taken (f.with_text text ps) ≡ f.taken ps
-taken-text text [] = refl
-taken-text text (d.Literal t ∷ ps) = refl
-taken-text text (d.Shown format a ∷ ps) = refl
 
 same-text : (text other : List ℕ) (ps qs : List d.Piece) → f.taken ps ≡ f.taken qs → f.taken (f.with_text text ps) ≡ f.taken (f.with_text other qs)
 same-text text other ps qs h = taken-text text ps ∙ (h ∙ sym (taken-text other qs))

@@ -1,34 +1,34 @@
 -- The flat design of a source whose names have no faults is sound.
 use Rattle.std.proofs.Common.{◌≡◌, ℕ, List, length, Option, Some, None, Ok, refl, sym, ap, ◌∙◌, subst}
-use Rattle.vl_source.specs.declared.tree.Source.{Source}
-use Rattle.vl_source.specs.declared.tree.Module.{Module as ModuleTree}
-use Rattle.vl_source.specs.Hierarchy.{graph_of, first_top}
-use Rattle.vl_scope.specs.declared.fault.Fault.{Fault}
-use Rattle.vl_scope.specs.Faults.{In}
-use Rattle.vl_scope.specs.Declarations.{declarations}
-use Rattle.vl_scope.specs.DeclarationFaults.{IsDeclarationFault}
-use Rattle.vl_uses.specs.UseFaults.{IsUseFault}
-use Rattle.vl_design.specs.declared.design.Signal.{Signal}
-use Rattle.vl_design.specs.Width.{Names, names_of}
-use Rattle.vl_design.specs.Placed as p
-use Rattle.vl_design.specs.Plainly as plain
+use Rattle.vl_flat.specs.vl_tree.specs.declared.source_tree.Source.{Source}
+use Rattle.vl_flat.specs.vl_tree.specs.declared.source_tree.Module.{Module as ModuleTree}
+use Rattle.vl_flat.specs.vl_tree.specs.Hierarchy.{graph_of, first_top}
+use Rattle.vl_names.specs.vl_scope.specs.declared.fault.Fault.{Fault}
+use Rattle.vl_names.specs.vl_scope.specs.Faults.{In}
+use Rattle.vl_names.specs.vl_scope.specs.Declarations.{declarations}
+use Rattle.vl_names.specs.vl_scope.specs.DeclarationFaults.{IsDeclarationFault}
+use Rattle.vl_names.specs.vl_uses.specs.UseFaults.{IsUseFault}
+use Rattle.vl_flat.specs.vl_design.specs.declared.design.Signal.{Signal}
+use Rattle.vl_flat.specs.vl_design.specs.Width.{Names, names_of}
+use Rattle.vl_flat.specs.vl_design.specs.Placed as p
+use Rattle.vl_flat.specs.vl_design.specs.Plainly as plain
 use Rattle.vl_flat.specs.Items as i
 use Rattle.vl_flat.specs.Declarations.{module', modules}
 use Rattle.vl_flat.specs.Environments.{Given, size, environment}
 use Rattle.vl_flat.specs.Flat as f
 use Rattle.vl_flat.specs.Outcome as o
 use Rattle.vl_flat.specs.Outcome.{flattened}
-use Rattle.vl_used.specs.Used as u
-use Rattle.vl_laws.specs.Apart.{AreApart}
-use Rattle.vl_laws.specs.Instances.{IsInstance, here_of}
-use Rattle.vl_laws.proofs.Lists.{told-at}
-use Rattle.vl_laws.proofs.Declared.{all-apart}
-use Rattle.vl_laws.proofs.Numbers.{body-adds, instance-adds, design-is}
-use Rattle.vl_named.proofs.Modules.{source-used}
-use Rattle.vl_agree.proofs.Agree.{agrees}
-use Rattle.vl_agree.proofs.Bodies.{body-agrees}
-use Rattle.vl_agree.proofs.Instances.{clocks-are-inputs, instance-of}
-use Rattle.vl_agree.proofs.Stands.{stands, function-stands-for}
+use Rattle.vl_sound.specs.Used as u
+use Rattle.vl_sound.specs.Apart.{AreApart}
+use Rattle.vl_sound.specs.Instances.{IsInstance, here_of}
+use Rattle.vl_sound.proofs.Lists.{told-at}
+use Rattle.vl_sound.proofs.DeclaredOfLaws.{all-apart}
+use Rattle.vl_sound.proofs.Numbers.{body-adds, instance-adds, design-is}
+use Rattle.vl_sound.proofs.Modules.{source-used}
+use Rattle.vl_sound.proofs.Agree.{agrees}
+use Rattle.vl_sound.proofs.Bodies.{body-agrees}
+use Rattle.vl_sound.proofs.InstancesOfAgree.{clocks-are-inputs, instance-of}
+use Rattle.vl_sound.proofs.Stands.{stands, function-stands-for}
 use Rattle.vl_sound.specs.Widths.{HaveWidths}
 use Rattle.vl_sound.proofs.Widths.{IsUsedModule, instance-widths}
 use Rattle.vl_sound.proofs.Items.{IsHere}

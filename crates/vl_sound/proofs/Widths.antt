@@ -4,15 +4,15 @@ use Rattle.std.specs.Prelude.{⊤, pos, ◌&&◌, fold, is_some, option_map, All
 use Rattle.std.specs.Str.{bytes_eq}
 use Rattle.std.proofs.lemmas.Bool.{and_parts}
 use Rattle.std.proofs.lemmas.List.Elements.{All-head, All-tail}
-use Rattle.vl_base.specs.declared.bits.UnOp.{UnOp}
-use Rattle.vl_base.specs.declared.bits.UnOp.TheVariants.{Neg, Not}
-use Rattle.vl_base.specs.declared.bits.BinOp.{BinOp}
-use Rattle.vl_base.specs.declared.bits.BinOp.TheVariants.{Shl}
-use Rattle.vl_base.specs.declared.place.Place.{Place}
-use Rattle.vl_design.specs.declared.design.Form.{Form}
-use Rattle.vl_design.specs.Width.{unary_form, binary_form}
-use Rattle.vl_design.specs.Sound.{IsWidth}
-use Rattle.vl_design.specs.Placed as p
+use Rattle.vl_flat.specs.vl_base.specs.declared.bits.UnOp.{UnOp}
+use Rattle.vl_flat.specs.vl_base.specs.declared.bits.UnOp.TheVariants.{Neg, Not}
+use Rattle.vl_flat.specs.vl_base.specs.declared.bits.BinOp.{BinOp}
+use Rattle.vl_flat.specs.vl_base.specs.declared.bits.BinOp.TheVariants.{Shl}
+use Rattle.vl_flat.specs.vl_base.specs.declared.place.Place.{Place}
+use Rattle.vl_flat.specs.vl_design.specs.declared.design.Form.{Form}
+use Rattle.vl_flat.specs.vl_design.specs.Width.{unary_form, binary_form}
+use Rattle.vl_flat.specs.vl_design.specs.Sound.{IsWidth}
+use Rattle.vl_flat.specs.vl_design.specs.Placed as p
 use Rattle.vl_flat.specs.declared.binding.Binding.{Binding}
 use Rattle.vl_flat.specs.declared.binding.Binding.TheVariants as b
 use Rattle.vl_flat.specs.Surface as x
@@ -26,8 +26,8 @@ use Rattle.vl_flat.specs.Kinds.{kind_of}
 use Rattle.vl_flat.specs.Environments.{Counts, Given, Known, plus, shape, with_signal, with_parameter, with_item, environment, size}
 use Rattle.vl_flat.specs.Functions.{local_shape, with_locals, function_scope}
 use Rattle.vl_flat.specs.Connections as cn
-use Rattle.vl_used.specs.Used as u
-use Rattle.vl_laws.specs.Instances.{IsInstance, of_top, of_item}
+use Rattle.vl_sound.specs.Used as u
+use Rattle.vl_sound.specs.Instances.{IsInstance, of_top, of_item}
 use Rattle.vl_sound.specs.Widths.{HasWidth, HaveWidths}
 use Rattle.vl_sound.proofs.Parts.{one-bit, number-is, operand-is, narrow-is, at-split}
 use Rattle.vl_sound.proofs.Connected.{connected-value}

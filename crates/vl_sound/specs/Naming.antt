@@ -1,8 +1,8 @@
 -- What the laws on widths speak of: expressions whose names stand for what they are used as (IEEE 1364-2005, clause 5.2), and
 -- designs in which the numbers of names stand for the same (clause 12).
 use Rattle.std.specs.Prelude.{◌≡◌, ℕ, ◌<◌, List, length, ⊤, Option, Some}
-use Rattle.vl_design.specs.declared.design.Form.{Form}
-use Rattle.vl_design.specs.Width as w
+use Rattle.vl_flat.specs.vl_design.specs.declared.design.Form.{Form}
+use Rattle.vl_flat.specs.vl_design.specs.Width as w
 use Rattle.vl_flat.specs.declared.binding.Binding.{Binding}
 use Rattle.vl_flat.specs.declared.binding.Binding.TheVariants.{Signal, Function}
 use Rattle.vl_flat.specs.declared.binding.Shape.{Shape}

@@ -1,6 +1,6 @@
 -- Parameters of 1 to 128 bits (IEEE 1364-2005, clause 4.10; the bound is own).
 use Rattle.std.specs.Prelude.{ℕ, ⊤, List, Option, Some}
-use Rattle.vl_design.specs.Sound.{IsWidth}
+use Rattle.vl_flat.specs.vl_design.specs.Sound.{IsWidth}
 use Rattle.vl_flat.specs.declared.binding.Binding.{Binding}
 use Rattle.vl_flat.specs.declared.binding.Binding.TheVariants.{Constant}
 use Rattle.vl_flat.specs.Scopes.{Env}

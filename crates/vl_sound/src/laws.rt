@@ -1,14 +1,14 @@
 //! What the readers of flat designs may count on. Each function does nothing; its contract is the law.
 
 ghost use Rattle.std.specs.Prelude.{◌≡◌, ℕ, List, [], Some, Ok};
-ghost use Rattle.vl_source.specs.declared.tree.Source.{Source};
-ghost use Rattle.vl_scope.specs.declared.fault.Fault.{Fault};
-ghost use Rattle.vl_scope.specs.DeclarationFaults.{IsDeclarationFault};
-ghost use Rattle.vl_uses.specs.UseFaults.{IsUseFault};
-ghost use Rattle.vl_design.specs.Width as width;
-ghost use Rattle.vl_design.specs.Sound.{IsSoundExp, IsSoundStm, IsSound};
-ghost use Rattle.vl_design.specs.Placed as placed;
-ghost use Rattle.vl_design.specs.Plainly as plain;
+ghost use Rattle.vl_flat.specs.vl_tree.specs.declared.source_tree.Source.{Source};
+ghost use Rattle.vl_names.specs.vl_scope.specs.declared.fault.Fault.{Fault};
+ghost use Rattle.vl_names.specs.vl_scope.specs.DeclarationFaults.{IsDeclarationFault};
+ghost use Rattle.vl_names.specs.vl_uses.specs.UseFaults.{IsUseFault};
+ghost use Rattle.vl_flat.specs.vl_design.specs.Width as width;
+ghost use Rattle.vl_flat.specs.vl_design.specs.Sound.{IsSoundExp, IsSoundStm, IsSound};
+ghost use Rattle.vl_flat.specs.vl_design.specs.Placed as placed;
+ghost use Rattle.vl_flat.specs.vl_design.specs.Plainly as plain;
 ghost use Rattle.vl_flat.specs.Surface.{Ex, Statement};
 ghost use Rattle.vl_flat.specs.Items.{Module};
 ghost use Rattle.vl_flat.specs.Declarations.{modules};
@@ -19,9 +19,9 @@ ghost use Rattle.vl_flat.specs.ExpressionFaults.{faults};
 ghost use Rattle.vl_flat.specs.Statements.{statement, statement_faults};
 ghost use Rattle.vl_flat.specs.Flat.{top_of};
 ghost use Rattle.vl_flat.specs.Outcome.{flattened};
-ghost use Rattle.vl_laws.specs.Instances.{IsInstance};
-ghost use Rattle.vl_used.specs.Used.{Classes, IsUsed, IsUsedStatement};
-ghost use Rattle.vl_used.specs.Agreeing.{Agrees, StandsFor};
+ghost use Rattle.vl_sound.specs.Instances.{IsInstance};
+ghost use Rattle.vl_sound.specs.Used.{Classes, IsUsed, IsUsedStatement};
+ghost use Rattle.vl_sound.specs.Agreeing.{Agrees, StandsFor};
 ghost use Rattle.vl_sound.specs.Inputs.{NoLoopInputs};
 ghost use Rattle.vl_sound.specs.Widths.{HaveWidths};
 

@@ -6,3 +6,19 @@ pub mod Marks
 pub mod Gaps
 pub mod Tokens
 pub mod Faults
+pub mod formers
+pub mod MarksOfGrammar
+pub mod Grammar
+pub mod Begins
+pub mod Reading
+pub mod Expressions
+pub mod Binding
+pub mod Bounds
+pub mod Lists
+pub mod Statements
+pub mod GrammarOfSource
+pub mod FaultsOfSource
+pub mod Parsers
+pub mod Parsing
+pub mod Hierarchy
+pub use Rattle.vl_base as vl_base

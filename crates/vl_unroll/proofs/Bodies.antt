@@ -17,13 +17,13 @@ use Rattle.vl_design.specs.Placed as p
 use Rattle.vl_design.specs.Plainly as plain
 use Rattle.vl_design.specs.Seen.{stm_of, func_of, process_of, placed}
 use Rattle.vl_design.specs.Trees.{flat_of}
-use Rattle.vl_turns.specs.Unroll.{is_loop, still}
-use Rattle.vl_turns.specs.Fits.{CanUnroll, HasLoops, HasFunLoops}
-use Rattle.vl_turns.specs.Placed.{stm_unrolled, func_unrolled, process_unrolled, unrolled_placed}
-use Rattle.vl_header.specs.Loops.{HasHeads}
-use Rattle.vl_header.specs.Rooms.{state_of}
-use Rattle.vl_header.proofs.Loops.{Meets, heads_of}
-use Rattle.vl_header.proofs.Zeros.{none, none-numbers, none-meets}
+use Rattle.vl_loops.specs.Unroll.{is_loop, still}
+use Rattle.vl_loops.specs.Fits.{CanUnroll, HasLoops, HasFunLoops}
+use Rattle.vl_loops.specs.Placed.{stm_unrolled, func_unrolled, process_unrolled, unrolled_placed}
+use Rattle.vl_loops.specs.Loops.{HasHeads}
+use Rattle.vl_loops.specs.Rooms.{state_of}
+use Rattle.vl_loops.proofs.Loops.{Meets, heads_of}
+use Rattle.vl_loops.proofs.Zeros.{none, none-numbers, none-meets}
 use Rattle.vl_unroll.specs.Heads.{AreReady}
 use Rattle.vl_unroll.specs.Bodies.{IsBody, rows_with, func_at, process_at}
 use Rattle.vl_unroll.proofs.Bridge.{stm_same}

@@ -1,6 +1,6 @@
 -- What unrolling reads of a scope and a state: the signals and the loop variables alone.
 use Rattle.std.proofs.Common.{◌≡◌, ℕ, zero, suc, Bool, true, false, List, [], refl, sym, ap}
-use Rattle.vl_base.specs.declared.files.File.{File}
+use Rattle.vl_design.specs.vl_base.specs.declared.files.File.{File}
 use Rattle.vl_design.specs.Syntax.{Row, Fun}
 use Rattle.vl_design.specs.Width.{Scope}
 use Rattle.vl_design.specs.Value.{words_of}
@@ -9,10 +9,10 @@ use Rattle.vl_design.specs.Exec.{exec, goes_on, most_turns}
 use Rattle.vl_design.specs.Plain.{plain_scope}
 use Rattle.vl_design.specs.Placed as p
 use Rattle.vl_design.specs.Plainly as plain
-use Rattle.vl_turns.specs.Unroll.{is_loop}
-use Rattle.vl_turns.specs.Placed.{number_at, exp_put, exps_put, args_put, target_put, targets_put, turn_list, copies, stm_unrolled, stms_unrolled, items_unrolled}
-use Rattle.vl_header.specs.Loops.{HasHeads, HaveHeads, ItemsHaveHeads}
-use Rattle.vl_header.proofs.Loops.{Meets, full, goes_same_bare, step_meets_bare, head_assigns}
+use Rattle.vl_loops.specs.Unroll.{is_loop}
+use Rattle.vl_loops.specs.Placed.{number_at, exp_put, exps_put, args_put, target_put, targets_put, turn_list, copies, stm_unrolled, stms_unrolled, items_unrolled}
+use Rattle.vl_loops.specs.Loops.{HasHeads, HaveHeads, ItemsHaveHeads}
+use Rattle.vl_loops.proofs.Loops.{Meets, full, goes_same_bare, step_meets_bare, head_assigns}
 
 -- ---- numbers put in
 

@@ -20,11 +20,11 @@ use Rattle.vl_design.specs.Exec.{exec, goes_on}
 use Rattle.vl_design.specs.Placed as p
 use Rattle.vl_design.specs.Seen.{exps_of, target_of, node_target, row_targets, stm_of, stms_of, node_stm, row_stms, row_items}
 use Rattle.vl_design.proofs.TreeLemmas.{row_stms-items}
-use Rattle.vl_turns.specs.Placed.{targets_put, turn_list, copies, stm_unrolled, stms_unrolled, items_unrolled}
-use Rattle.vl_header.proofs.Turning.{map-push}
-use Rattle.vl_header.specs.Heads.{turn_states, AreTurns}
-use Rattle.vl_header.specs.Loops.{HasHeads, HaveHeads, ItemsHaveHeads}
-use Rattle.vl_header.specs.Rooms.{state_of}
+use Rattle.vl_loops.specs.Placed.{targets_put, turn_list, copies, stm_unrolled, stms_unrolled, items_unrolled}
+use Rattle.vl_loops.proofs.Turning.{map-push}
+use Rattle.vl_loops.specs.Heads.{turn_states, AreTurns}
+use Rattle.vl_loops.specs.Loops.{HasHeads, HaveHeads, ItemsHaveHeads}
+use Rattle.vl_loops.specs.Rooms.{state_of}
 use Rattle.vl_unroll.specs.Listed.{target_put_of, stm_unrolled_of, Item, item_of, item_unrolled_of}
 
 -- ---- parts of targets

@@ -7,9 +7,9 @@ use Rattle.vl_design.specs.Syntax.{Row}
 use Rattle.vl_design.specs.Width.{row_form}
 use Rattle.vl_design.specs.Plain.{plain_scope}
 use Rattle.vl_design.specs.Sound.{IsNamed, IsOf, IsWidth}
-use Rattle.vl_turns.specs.Unroll.{is_loop, is_loop_row}
-use Rattle.vl_header.specs.Rooms.{AreNumbers}
-use Rattle.vl_header.proofs.Names.{loop-there}
+use Rattle.vl_loops.specs.Unroll.{is_loop, is_loop_row}
+use Rattle.vl_loops.specs.Rooms.{AreNumbers}
+use Rattle.vl_loops.proofs.Names.{loop-there}
 use Rattle.vl_unroll.specs.Heads.{AreReady}
 
 pub loop-named : (rows : List Row) (numbers : List ℕ) (j : ℕ) → AreReady rows numbers → is_loop rows j ≡ true → IsNamed (plain_scope rows).names j

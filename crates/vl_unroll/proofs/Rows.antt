@@ -10,7 +10,7 @@ use Rattle.vl_design.specs.declared.design.ExprNode.TheBlock as blk
 use Rattle.vl_design.specs.Syntax.{Row}
 use Rattle.vl_design.specs.Placed as p
 use Rattle.vl_design.specs.Seen.{exp_of, exps_of, arg, args_of, node_exp, row_exps, row_args}
-use Rattle.vl_turns.specs.Placed.{exps_put, args_put}
+use Rattle.vl_loops.specs.Placed.{exps_put, args_put}
 use Rattle.vl_unroll.specs.Listed.{put_of, args_with}
 
 listed : List p.Exp → p.Exps

@@ -10,10 +10,10 @@ use Rattle.vl_design.specs.Sound.{IsWidth}
 use Rattle.vl_design.specs.Plain.{plain_scope}
 use Rattle.vl_design.specs.Placed as p
 use Rattle.vl_design.specs.Seen.{stm_of, func_of, process_of}
-use Rattle.vl_turns.specs.Unroll.{is_loop}
-use Rattle.vl_turns.specs.Placed.{stm_unrolled}
-use Rattle.vl_header.specs.Loops.{HasHeads}
-use Rattle.vl_header.specs.Rooms.{state_of}
+use Rattle.vl_loops.specs.Unroll.{is_loop}
+use Rattle.vl_loops.specs.Placed.{stm_unrolled}
+use Rattle.vl_loops.specs.Loops.{HasHeads}
+use Rattle.vl_loops.specs.Rooms.{state_of}
 
 -- the design's signals, and behind them the locals of a function
 abbrev pub rows_with : List Signal → List Signal → List Row

@@ -3,8 +3,8 @@ use Rattle.std.specs.Prelude.{◌≡◌, ℕ, true, List}
 use Rattle.vl_design.specs.Syntax.{Row}
 use Rattle.vl_design.specs.Width.{signal_form}
 use Rattle.vl_design.specs.Sound.{IsWidth}
-use Rattle.vl_turns.specs.Unroll.{is_loop}
-use Rattle.vl_header.specs.Rooms.{AreNumbers}
+use Rattle.vl_loops.specs.Unroll.{is_loop}
+use Rattle.vl_loops.specs.Rooms.{AreNumbers}
 
 -- a number for each signal, and a width from 1 to 128 for each loop variable
 pub record AreReady (rows : List Row) (numbers : List ℕ) : Type 0 where

@@ -10,7 +10,7 @@ use Rattle.vl_design.specs.Width.{Scope}
 use Rattle.vl_design.specs.State.{State}
 use Rattle.vl_design.specs.Placed as p
 use Rattle.vl_design.specs.Seen.{exp_of, exps_of, arg, target_of, stm_of}
-use Rattle.vl_turns.specs.Placed.{exp_put, exps_put, target_put, stm_unrolled}
+use Rattle.vl_loops.specs.Placed.{exp_put, exps_put, target_put, stm_unrolled}
 
 abbrev pub put_of : List Row → List (List ℕ) → Expr → p.Exp
 put_of rows values x = exp_put rows values (exp_of x)

@@ -5,8 +5,8 @@ use Rattle.vl_design.specs.declared.stop.Stop.{Stop}
 use Rattle.vl_design.specs.declared.stop.Stop.TheVariants.{Memory}
 use Rattle.vl_design.specs.Placed as p
 use Rattle.vl_design.specs.Seen.{placed}
-use Rattle.vl_turns.specs.Limits.{first_limit}
-use Rattle.vl_turns.specs.Placed.{unrolled_placed}
+use Rattle.vl_loops.specs.Limits.{first_limit}
+use Rattle.vl_loops.specs.Placed.{unrolled_placed}
 
 -- the design with its loops unrolled, or the first limit that it passes; want of memory says nothing
 abbrev pub Unrolls : p.Design → Result Design Stop → Type 0

@@ -3,8 +3,8 @@
 ghost use Rattle.std.specs.Prelude.{◌≡◌, IfOk};
 
 use std::alloc::{AllocError, Global};
-use vl_base::items::{Items, Nums, Text};
 use vl_design::design::{Event, Signal};
+use vl_design::{Items, Nums, Text};
 
 /// A copy of a text.
 pub(crate) fn copied(alloc: Global, text: &Text) -> Result<Text, AllocError>

@@ -5,16 +5,16 @@ ghost use Rattle.vl_design.specs.Rows.{range_width};
 ghost use Rattle.vl_design.specs.Seen.{stm_of, func_of, process_of, placed};
 ghost use Rattle.vl_design.specs.Sound.{IsWidth};
 ghost use Rattle.vl_design.specs.Trees.{flat_of};
-ghost use Rattle.vl_turns.specs.Fits.{CanUnroll};
-ghost use Rattle.vl_turns.specs.Placed.{unrolled_placed};
+ghost use Rattle.vl_loops.specs.Fits.{CanUnroll};
+ghost use Rattle.vl_loops.specs.Placed.{unrolled_placed};
 ghost use Rattle.vl_unroll.specs.Bodies.{IsBody, rows_with, body_unrolled, func_at, process_at};
 
 use crate::copies::{copied, copied_events, copied_numbers, copied_signals};
 use crate::statements::statement;
 use std::alloc::{AllocError, Global};
-use vl_base::items::Items;
+use vl_design::Items;
 use vl_design::design::{Design, Func, Process, Signal, Stmt};
-use vl_header::room::{Room, zeros};
+use vl_loops::room::{Room, zeros};
 
 /// A body with its loops unrolled: around them no loop variable has a number.
 #[tactic(auto, using(crate::proofs::Bodies::bodies))]

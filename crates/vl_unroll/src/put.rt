@@ -3,17 +3,17 @@
 ghost use Rattle.std.specs.Prelude.{◌≡◌, map, IfOk};
 ghost use Rattle.vl_design.specs.Placed as p;
 ghost use Rattle.vl_design.specs.Seen.{exp_of, arg};
-ghost use Rattle.vl_turns.specs.Placed.{exp_put, args_put, number_at};
-ghost use Rattle.vl_turns.specs.Unroll.{is_loop as spec_is_loop};
-ghost use Rattle.vl_header.specs.Rooms.{rows_of, values_of};
+ghost use Rattle.vl_loops.specs.Placed.{exp_put, args_put, number_at};
+ghost use Rattle.vl_loops.specs.Unroll.{is_loop as spec_is_loop};
+ghost use Rattle.vl_loops.specs.Rooms.{rows_of, values_of};
 ghost use Rattle.vl_unroll.specs.Heads.{AreReady};
 ghost use Rattle.vl_unroll.specs.Listed.{put_of, args_with};
 
 use crate::copies::copied;
 use std::alloc::{AllocError, Global};
-use vl_base::place::Place;
+use vl_design::Place;
 use vl_design::design::{Expr, ExprNode, SysArg, SysCall};
-use vl_header::room::{Room, is_loop, number_of, signal_form};
+use vl_loops::room::{Room, is_loop, number_of, signal_form};
 
 /// A signal, or the number of a loop variable.
 #[tactic(auto, using(crate::proofs::Names::names))]

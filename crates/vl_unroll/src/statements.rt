@@ -3,10 +3,10 @@
 ghost use Rattle.std.specs.Prelude.{◌≡◌, map, IfOk, All, slice_set, replicate, true};
 ghost use Rattle.vl_design.specs.Seen.{stm_of, target_of, exp_of, args_of};
 ghost use Rattle.vl_design.specs.Placed as p;
-ghost use Rattle.vl_turns.specs.Placed.{exp_put, target_put, args_put, stm_unrolled};
-ghost use Rattle.vl_turns.specs.Unroll.{is_loop};
-ghost use Rattle.vl_header.specs.Rooms.{rows_of, scope_of, values_of, state_of};
-ghost use Rattle.vl_header.specs.Loops.{HasHeads, IsLoop};
+ghost use Rattle.vl_loops.specs.Placed.{exp_put, target_put, args_put, stm_unrolled};
+ghost use Rattle.vl_loops.specs.Unroll.{is_loop};
+ghost use Rattle.vl_loops.specs.Rooms.{rows_of, scope_of, values_of, state_of};
+ghost use Rattle.vl_loops.specs.Loops.{HasHeads, IsLoop};
 ghost use Rattle.vl_unroll.specs.Heads.{AreReady};
 ghost use Rattle.vl_unroll.specs.Listed.{item_of, item_unrolled_of, stm_unrolled_of};
 
@@ -14,10 +14,10 @@ use crate::copies::copied;
 use crate::put::{put, put_args, puts};
 use crate::targets::put_target;
 use std::alloc::{AllocError, Global};
-use vl_base::place::Place;
+use vl_design::Place;
 use vl_design::design::{CaseItem, Expr, Stmt, StmtNode, SysCall, Target};
-use vl_header::header::turns_of;
-use vl_header::room::Room;
+use vl_loops::header::turns_of;
+use vl_loops::room::Room;
 
 /// A blocking assignment.
 fn assigned(

@@ -2,15 +2,15 @@
 
 ghost use Rattle.std.specs.Prelude.{◌≡◌, map, IfOk};
 ghost use Rattle.vl_design.specs.Seen.{target_of};
-ghost use Rattle.vl_turns.specs.Placed.{target_put};
-ghost use Rattle.vl_header.specs.Rooms.{rows_of, values_of};
+ghost use Rattle.vl_loops.specs.Placed.{target_put};
+ghost use Rattle.vl_loops.specs.Rooms.{rows_of, values_of};
 ghost use Rattle.vl_unroll.specs.Heads.{AreReady};
 ghost use Rattle.vl_unroll.specs.Listed.{target_put_of};
 
 use crate::put::put;
 use std::alloc::{AllocError, Global};
 use vl_design::design::{Target, TargetNode};
-use vl_header::room::Room;
+use vl_loops::room::Room;
 
 /// Parts of a concatenation one by one.
 #[cycle(target)]

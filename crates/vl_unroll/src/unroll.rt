@@ -5,7 +5,7 @@ ghost use Rattle.vl_design.specs.Rows.{range_width};
 ghost use Rattle.vl_design.specs.Seen.{placed};
 ghost use Rattle.vl_design.specs.Sound.{IsWidth};
 ghost use Rattle.vl_design.specs.Trees.{flat_of};
-ghost use Rattle.vl_turns.specs.Fits.{CanUnroll};
+ghost use Rattle.vl_loops.specs.Fits.{CanUnroll};
 ghost use Rattle.vl_unroll.specs.Outcome.{Unrolls};
 
 use crate::designs::unrolled;

@@ -1,30 +1,30 @@
 -- The parts of expressions, by what the walks over them look at.
 use Rattle.std.proofs.Common.{◌≡◌, ℕ, Bool, List, [], ◌∷◌, ◌++◌, length, ◌+◌, append-nil, add-one, Option, Some, None, refl, sym, ap, ◌∙◌, subst}
 use Rattle.std.specs.List.{flat_map}
-use Rattle.vl_base.specs.declared.place.Place.{Place}
-use Rattle.vl_base.specs.declared.number.Number.{Number as Numeral}
-use Rattle.vl_grammar.specs.declared.tree.Identifier.{Identifier}
-use Rattle.vl_grammar.specs.declared.tree.Expression as e
-use Rattle.vl_grammar.specs.declared.tree.Expression.{Expression, roll-Expression, out-Expression, roll-out-Expression}
-use Rattle.vl_grammar.specs.declared.tree.Choice as c
-use Rattle.vl_grammar.specs.declared.tree.Choice.{Choice, out-Choice, roll-out-Choice}
-use Rattle.vl_grammar.specs.declared.tree.Binary as b
-use Rattle.vl_grammar.specs.declared.tree.Binary.{Binary, out-Binary, roll-Binary, roll-out-Binary}
-use Rattle.vl_grammar.specs.declared.tree.Link.{Link}
-use Rattle.vl_grammar.specs.declared.tree.Unary.{Unary}
-use Rattle.vl_grammar.specs.declared.tree.Primary as p
-use Rattle.vl_grammar.specs.declared.tree.Primary.TheVariants as v
-use Rattle.vl_grammar.specs.declared.tree.Primary.TheBlock as t
-use Rattle.vl_grammar.specs.declared.tree.Name as nm
-use Rattle.vl_grammar.specs.declared.tree.Name.{Name, out-Name, roll-Name, roll-out-Name}
-use Rattle.vl_grammar.specs.declared.tree.Select as se
-use Rattle.vl_grammar.specs.declared.tree.Select.{Select, out-Select, roll-Select, roll-out-Select}
-use Rattle.vl_grammar.specs.declared.tree.Bound as bd
-use Rattle.vl_grammar.specs.declared.tree.Bound.{Bound, out-Bound}
-use Rattle.vl_grammar.specs.declared.tree.SystemCall as y
-use Rattle.vl_grammar.specs.declared.tree.SystemCall.{SystemCall, out-SystemCall, roll-SystemCall, roll-out-SystemCall}
-use Rattle.vl_grammar.specs.declared.tree.SystemArgument as g
-use Rattle.vl_grammar.specs.declared.tree.SystemArgument.{SystemArgument, out-SystemArgument}
+use Rattle.vl_tree.specs.vl_base.specs.declared.place.Place.{Place}
+use Rattle.vl_tree.specs.vl_base.specs.declared.number.Number.{Number as Numeral}
+use Rattle.vl_tree.specs.declared.tree.Identifier.{Identifier}
+use Rattle.vl_tree.specs.declared.tree.Expression as e
+use Rattle.vl_tree.specs.declared.tree.Expression.{Expression, roll-Expression, out-Expression, roll-out-Expression}
+use Rattle.vl_tree.specs.declared.tree.Choice as c
+use Rattle.vl_tree.specs.declared.tree.Choice.{Choice, out-Choice, roll-out-Choice}
+use Rattle.vl_tree.specs.declared.tree.Binary as b
+use Rattle.vl_tree.specs.declared.tree.Binary.{Binary, out-Binary, roll-Binary, roll-out-Binary}
+use Rattle.vl_tree.specs.declared.tree.Link.{Link}
+use Rattle.vl_tree.specs.declared.tree.Unary.{Unary}
+use Rattle.vl_tree.specs.declared.tree.Primary as p
+use Rattle.vl_tree.specs.declared.tree.Primary.TheVariants as v
+use Rattle.vl_tree.specs.declared.tree.Primary.TheBlock as t
+use Rattle.vl_tree.specs.declared.tree.Name as nm
+use Rattle.vl_tree.specs.declared.tree.Name.{Name, out-Name, roll-Name, roll-out-Name}
+use Rattle.vl_tree.specs.declared.tree.Select as se
+use Rattle.vl_tree.specs.declared.tree.Select.{Select, out-Select, roll-Select, roll-out-Select}
+use Rattle.vl_tree.specs.declared.tree.Bound as bd
+use Rattle.vl_tree.specs.declared.tree.Bound.{Bound, out-Bound}
+use Rattle.vl_tree.specs.declared.tree.SystemCall as y
+use Rattle.vl_tree.specs.declared.tree.SystemCall.{SystemCall, out-SystemCall, roll-SystemCall, roll-out-SystemCall}
+use Rattle.vl_tree.specs.declared.tree.SystemArgument as g
+use Rattle.vl_tree.specs.declared.tree.SystemArgument.{SystemArgument, out-SystemArgument}
 use Rattle.vl_uses.specs.declared.setting.Setting.{Setting}
 use Rattle.vl_uses.specs.declared.setting.Usage.{Usage}
 use Rattle.vl_uses.specs.declared.setting.Usage.TheVariants.{Operand}

@@ -2,7 +2,7 @@
 use Rattle.std.proofs.Common.{◌≡◌, ℕ, zero, suc, ◌-◌, ◌<◌, false, ◌&&◌, nat_eq, List, [], ◌∷◌, Some, None, refl, sym, arith}
 use Rattle.std.proofs.lemmas.Grind.{common_steps}
 use Rattle.std.proofs.lemmas.Bool.Decides.{nat_tests}
-use Rattle.vl_grammar.specs.declared.tree.SystemArgument.{SystemArgument}
+use Rattle.vl_tree.specs.declared.tree.SystemArgument.{SystemArgument}
 use Rattle.vl_uses.specs.Calls.{fit, is_given, shown_of, argument_text}
 
 -- an argument that the format before it shows

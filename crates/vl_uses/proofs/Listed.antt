@@ -1,9 +1,9 @@
 -- The list has just the faults of uses.
 use Rattle.std.proofs.Common.{◌≡◌, Bool, true, false, ◌&&◌, List, ◌++◌, ⊎_elim, ◌↔◌, refl, sym, subst}
 use Rattle.std.specs.List.{flat_map}
-use Rattle.vl_base.specs.declared.place.Place.{Place}
-use Rattle.vl_source.specs.declared.tree.Source.{Source}
-use Rattle.vl_source.specs.declared.tree.Module.{Module}
+use Rattle.vl_tree.specs.vl_base.specs.declared.place.Place.{Place}
+use Rattle.vl_tree.specs.declared.source_tree.Source.{Source}
+use Rattle.vl_tree.specs.declared.source_tree.Module.{Module}
 use Rattle.vl_scope.specs.declared.fault.Fault.{Fault}
 use Rattle.vl_scope.specs.Faults.{In, fault_if}
 use Rattle.vl_scope.specs.Declarations.{declarations}
@@ -11,6 +11,7 @@ use Rattle.vl_scope.proofs.Members.{In-append_left, In-append_right, In-append_c
 use Rattle.vl_uses.specs.Nodes.{Node, Site, sites}
 use Rattle.vl_uses.specs.UseFaults as u
 use Rattle.vl_uses.specs.UseFaults.{IsUseFault, Meanings, node_faults, module_faults, use_faults, z_digit, undeclared, misused, varying, refused}
+use Rattle.vl_tree.specs.vl_base.proofs.Booleans.{and_left as first_of_both, and_right as second_of_both, and_both as both}
 
 abbrev z : Node → List Fault
 z a = fault_if (u.has_z_digit a.part) (u.place_of a.part) 1
@@ -35,17 +36,6 @@ opened m a = refl
 module-opened : (m : Module) → module_faults m ≡ flat_map (u.site_faults (declarations m)) (sites m)
 unfolding module_faults
 module-opened m = refl
-
-both : (a b : Bool) → a ≡ true → b ≡ true → (a && b) ≡ true
-both a b e f = rw (e, f) refl
-
-first_of_both : (a b : Bool) → (a && b) ≡ true → a ≡ true
-first_of_both true b h = refl
-first_of_both false b h = h
-
-second_of_both : (a b : Bool) → (a && b) ≡ true → b ≡ true
-second_of_both true b h = h
-second_of_both false b h = absurd cc
 
 -- a fault at a part of a module is in the list
 listed : (s : Source) (m : Module) (a : Site) (f : Fault) → In m s.modules → In a (sites m) → In f (node_faults (u.meanings_at m a) a.node) → In f (use_faults s)

@@ -5,10 +5,10 @@ use Rattle.std.specs.Option.{option_map_or}
 use Rattle.std.proofs.lemmas.List.{length-map}
 use Rattle.std.proofs.lemmas.List.Concat.{length-flat_map}
 use Rattle.std.proofs.lemmas.List.Sums.{sum_by-le-sum_by}
-use Rattle.vl_source.specs.declared.tree.Module.{Module}
-use Rattle.vl_source.specs.declared.tree.Item.{Item}
-use Rattle.vl_source.specs.declared.tree.Item.TheVariants as i
-use Rattle.vl_source.specs.declared.tree.ParameterGroup.{ParameterGroup}
+use Rattle.vl_tree.specs.declared.source_tree.Module.{Module}
+use Rattle.vl_tree.specs.declared.source_tree.Item.{Item}
+use Rattle.vl_tree.specs.declared.source_tree.Item.TheVariants as i
+use Rattle.vl_tree.specs.declared.source_tree.ParameterGroup.{ParameterGroup}
 use Rattle.vl_scope.specs.declared.kind.Class.TheVariants.{Parameter}
 use Rattle.vl_scope.specs.Declarations.{Declared, declared, declarations, numbered, item_declarations, parameter_declarations, header_declarations, is_parameter}
 use Rattle.vl_uses.specs.Nodes.{item_parameters, items_parameters, header_parameters}

@@ -1,21 +1,21 @@
 -- What an expression is, apart from parentheses, by the parts that the program looks at.
 use Rattle.std.proofs.Common.{◌≡◌, List, [], ◌∷◌, Option, Some, None, refl, sym, ap, ◌∙◌, subst, if◌then◌else◌}
-use Rattle.vl_grammar.specs.declared.tree.Expression as e
-use Rattle.vl_grammar.specs.declared.tree.Expression.{Expression, roll-Expression, out-Expression, roll-out-Expression}
-use Rattle.vl_grammar.specs.declared.tree.Binary as b
-use Rattle.vl_grammar.specs.declared.tree.Choice.{Choice}
-use Rattle.vl_grammar.specs.declared.tree.Link.{Link}
-use Rattle.vl_grammar.specs.declared.tree.UnaryMark.{UnaryMark}
-use Rattle.vl_grammar.specs.declared.tree.Primary as p
-use Rattle.vl_grammar.specs.declared.tree.Primary.{Primary}
-use Rattle.vl_grammar.specs.declared.tree.Primary.TheVariants as v
-use Rattle.vl_grammar.specs.declared.tree.Primary.TheBlock as t
-use Rattle.vl_grammar.specs.declared.tree.Primary.TheViews as tv
+use Rattle.vl_tree.specs.declared.tree.Expression as e
+use Rattle.vl_tree.specs.declared.tree.Expression.{Expression, roll-Expression, out-Expression, roll-out-Expression}
+use Rattle.vl_tree.specs.declared.tree.Binary as b
+use Rattle.vl_tree.specs.declared.tree.Choice.{Choice}
+use Rattle.vl_tree.specs.declared.tree.Link.{Link}
+use Rattle.vl_tree.specs.declared.tree.UnaryMark.{UnaryMark}
+use Rattle.vl_tree.specs.declared.tree.Primary as p
+use Rattle.vl_tree.specs.declared.tree.Primary.{Primary}
+use Rattle.vl_tree.specs.declared.tree.Primary.TheVariants as v
+use Rattle.vl_tree.specs.declared.tree.Primary.TheBlock as t
+use Rattle.vl_tree.specs.declared.tree.Primary.TheViews as tv
 use Rattle.std.specs.Borrow.{Bor}
 use Rattle.vl_uses.specs.Walks.{pointed}
-use Rattle.vl_grammar.specs.declared.tree.Unary.{Unary}
-use Rattle.vl_grammar.specs.declared.tree.Binary.{Binary, roll-Binary, out-Binary, roll-out-Binary}
-use Rattle.vl_base.specs.declared.place.Place.{Place}
+use Rattle.vl_tree.specs.declared.tree.Unary.{Unary}
+use Rattle.vl_tree.specs.declared.tree.Binary.{Binary, roll-Binary, out-Binary, roll-out-Binary}
+use Rattle.vl_tree.specs.vl_base.specs.declared.place.Place.{Place}
 use Rattle.vl_uses.specs.Alone as s
 
 -- an expression, by what stands in the parentheses that it is

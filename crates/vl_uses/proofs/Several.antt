@@ -7,8 +7,5 @@ use Rattle.vl_uses.specs.Nodes.{Node}
 use Rattle.vl_uses.specs.UseFaults.{Meanings}
 use Rattle.vl_uses.specs.Walks.{faults}
 
-pub faults-two : (m : Meanings) (xs ys : List Node) (best a b : Option Fault) → a ≡ earliest best (faults m xs) → b ≡ earliest a (faults m ys) → b ≡ earliest best (faults m (xs ++ ys))
-faults-two m xs ys best a b e f = grind (arith, common_steps)
-
 pub faults-three : (m : Meanings) (xs ys zs : List Node) (best a b c : Option Fault) → a ≡ earliest best (faults m xs) → b ≡ earliest a (faults m ys) → c ≡ earliest b (faults m zs) → c ≡ earliest best (faults m (xs ++ ys ++ zs))
 faults-three m xs ys zs best a b c e f g = grind (arith, common_steps)

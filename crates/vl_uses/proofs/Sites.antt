@@ -4,18 +4,18 @@ use Rattle.std.specs.List.{flat_map}
 use Rattle.std.specs.Option.{option_or}
 use Rattle.std.proofs.lemmas.Grind.{flat_map-append}
 use Rattle.std.proofs.lemmas.List.{at_drop_more, at_drop_all}
-use Rattle.vl_source.specs.declared.tree.Item.{Item}
-use Rattle.vl_source.specs.declared.tree.Item.TheVariants as i
+use Rattle.vl_tree.specs.declared.source_tree.Item.{Item}
+use Rattle.vl_tree.specs.declared.source_tree.Item.TheVariants as i
 use Rattle.vl_scope.specs.declared.fault.Fault.{Fault}
 use Rattle.vl_scope.specs.Faults.{earliest}
 use Rattle.vl_scope.proofs.Orders.{earliest-append}
 use Rattle.vl_uses.specs.Settings.{behind}
-use Rattle.vl_source.specs.declared.tree.Function.{Function}
+use Rattle.vl_tree.specs.declared.source_tree.Function.{Function}
 use Rattle.vl_scope.specs.Declarations.{Declared, declarations, all_seen, kind_in}
 use Rattle.vl_scope.specs.declared.scope.Scope.{Scope}
 use Rattle.vl_scope.specs.declared.declaration.Declaration.{Declaration}
 use Rattle.vl_scope.specs.Scopes.{look}
-use Rattle.vl_source.specs.declared.tree.Module.{Module}
+use Rattle.vl_tree.specs.declared.source_tree.Module.{Module}
 use Rattle.vl_uses.specs.Nodes.{Node, site, item_nodes, item_sites, items_sites, item_parameters, header_nodes, header_parameters}
 use Rattle.vl_uses.specs.UseFaults.{meanings, inner_declarations, node_faults, site_faults, module_faults}
 use Rattle.vl_uses.specs.Walks.{Knows, scoped, faults}

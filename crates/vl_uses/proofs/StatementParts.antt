@@ -2,21 +2,21 @@
 use Rattle.std.proofs.Common.{◌≡◌, List, [], ◌∷◌, ◌++◌, append-nil, Option, Some, None, refl, ap}
 use Rattle.std.proofs.lemmas.Grind.{common_steps}
 use Rattle.std.specs.List.{flat_map}
-use Rattle.vl_base.specs.declared.place.Place.{Place}
-use Rattle.vl_grammar.specs.declared.tree.Expression.{Expression}
-use Rattle.vl_grammar.specs.declared.tree.Name.{Name}
-use Rattle.vl_grammar.specs.declared.tree.SystemCall.{SystemCall}
-use Rattle.vl_source.specs.declared.tree.Assignment.{Assignment}
-use Rattle.vl_source.specs.declared.tree.AssignMark.{AssignMark}
-use Rattle.vl_source.specs.declared.tree.CaseKeyword.{CaseKeyword}
-use Rattle.vl_source.specs.declared.tree.CaseItem.{CaseItem}
-use Rattle.vl_source.specs.declared.tree.CaseItem.TheVariants as ci
-use Rattle.vl_source.specs.declared.tree.Statement.{Statement}
-use Rattle.vl_source.specs.declared.tree.Statement.TheVariants as s
-use Rattle.vl_source.specs.declared.tree.CaseItem.TheBlock as t
-use Rattle.vl_source.specs.declared.tree.Lvalue.{Lvalue}
-use Rattle.vl_source.specs.declared.tree.Lvalue.TheVariants as l
-use Rattle.vl_source.specs.declared.tree.Lvalue.TheBlock as lt
+use Rattle.vl_tree.specs.vl_base.specs.declared.place.Place.{Place}
+use Rattle.vl_tree.specs.declared.tree.Expression.{Expression}
+use Rattle.vl_tree.specs.declared.tree.Name.{Name}
+use Rattle.vl_tree.specs.declared.tree.SystemCall.{SystemCall}
+use Rattle.vl_tree.specs.declared.source_tree.Assignment.{Assignment}
+use Rattle.vl_tree.specs.declared.source_tree.AssignMark.{AssignMark}
+use Rattle.vl_tree.specs.declared.source_tree.CaseKeyword.{CaseKeyword}
+use Rattle.vl_tree.specs.declared.source_tree.CaseItem.{CaseItem}
+use Rattle.vl_tree.specs.declared.source_tree.CaseItem.TheVariants as ci
+use Rattle.vl_tree.specs.declared.source_tree.Statement.{Statement}
+use Rattle.vl_tree.specs.declared.source_tree.Statement.TheVariants as s
+use Rattle.vl_tree.specs.declared.source_tree.CaseItem.TheBlock as t
+use Rattle.vl_tree.specs.declared.source_tree.Lvalue.{Lvalue}
+use Rattle.vl_tree.specs.declared.source_tree.Lvalue.TheVariants as l
+use Rattle.vl_tree.specs.declared.source_tree.Lvalue.TheBlock as lt
 use Rattle.vl_uses.specs.declared.setting.Setting.{Setting}
 use Rattle.vl_uses.specs.declared.setting.Side.{Side}
 use Rattle.vl_uses.specs.declared.setting.Side.TheVariants.{Procedural}

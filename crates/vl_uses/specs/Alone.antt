@@ -1,21 +1,21 @@
 -- What an expression is, apart from parentheses.
 use Rattle.std.specs.Prelude.{Bool, true, false, if◌then◌else◌, List, [], ◌∷◌, Option, Some, None}
-use Rattle.vl_grammar.specs.declared.tree.Expression as e
-use Rattle.vl_grammar.specs.declared.tree.Expression.{Expression, out-Expression}
-use Rattle.vl_grammar.specs.declared.tree.Choice.{Choice}
-use Rattle.vl_grammar.specs.declared.tree.Binary as b
-use Rattle.vl_grammar.specs.declared.tree.Binary.{out-Binary}
-use Rattle.vl_grammar.specs.declared.tree.Link.{Link}
-use Rattle.vl_grammar.specs.declared.tree.Unary.{Unary, out-Unary}
-use Rattle.vl_grammar.specs.declared.tree.UnaryMark.{UnaryMark}
-use Rattle.vl_grammar.specs.declared.tree.UnaryOperator.{UnaryOperator}
-use Rattle.vl_grammar.specs.declared.tree.UnaryOperator.TheVariants as o
-use Rattle.vl_grammar.specs.declared.tree.Primary as p
-use Rattle.vl_grammar.specs.declared.tree.Primary.{Primary}
-use Rattle.vl_grammar.specs.declared.tree.Primary.TheVariants as v
-use Rattle.vl_grammar.specs.declared.tree.Name.{out-Name}
-use Rattle.vl_grammar.specs.declared.tree.Select.{Select}
-use Rattle.vl_grammar.specs.declared.tree.Identifier.{Identifier}
+use Rattle.vl_tree.specs.declared.tree.Expression as e
+use Rattle.vl_tree.specs.declared.tree.Expression.{Expression, out-Expression}
+use Rattle.vl_tree.specs.declared.tree.Choice.{Choice}
+use Rattle.vl_tree.specs.declared.tree.Binary as b
+use Rattle.vl_tree.specs.declared.tree.Binary.{out-Binary}
+use Rattle.vl_tree.specs.declared.tree.Link.{Link}
+use Rattle.vl_tree.specs.declared.tree.Unary.{Unary, out-Unary}
+use Rattle.vl_tree.specs.declared.tree.UnaryMark.{UnaryMark}
+use Rattle.vl_tree.specs.declared.tree.UnaryOperator.{UnaryOperator}
+use Rattle.vl_tree.specs.declared.tree.UnaryOperator.TheVariants as o
+use Rattle.vl_tree.specs.declared.tree.Primary as p
+use Rattle.vl_tree.specs.declared.tree.Primary.{Primary}
+use Rattle.vl_tree.specs.declared.tree.Primary.TheVariants as v
+use Rattle.vl_tree.specs.declared.tree.Name.{out-Name}
+use Rattle.vl_tree.specs.declared.tree.Select.{Select}
+use Rattle.vl_tree.specs.declared.tree.Identifier.{Identifier}
 
 -- the operand of an expression that has no binary operator and no `?`
 abbrev pub operand_in : Option Choice → List Link → Unary → Option Unary

@@ -2,13 +2,13 @@
 use Rattle.std.specs.Prelude.{ℕ, zero, suc, ◌+◌, ◌-◌, ◌^◌, Bool, true, false, not, ◌&&◌, ◌||◌, if◌then◌else◌, ◌==◌, nat_le, List, [], ◌∷◌, length, Option, Some, None, is_some, codes}
 use Rattle.std.specs.List.{list_all}
 use Rattle.std.specs.Str.{bytes_eq}
-use Rattle.vl_base.specs.declared.number.Number.{Number as Numeral}
-use Rattle.vl_base.specs.Display.{format_of, lower_case}
-use Rattle.vl_grammar.specs.declared.tree.Expression.{Expression}
-use Rattle.vl_grammar.specs.declared.tree.Identifier.{Identifier}
-use Rattle.vl_grammar.specs.declared.tree.Primary as p
-use Rattle.vl_grammar.specs.declared.tree.Primary.{Primary}
-use Rattle.vl_grammar.specs.declared.tree.SystemArgument.{SystemArgument, out-SystemArgument}
+use Rattle.vl_tree.specs.vl_base.specs.declared.number.Number.{Number as Numeral}
+use Rattle.vl_tree.specs.vl_base.specs.Display.{format_of, lower_case}
+use Rattle.vl_tree.specs.declared.tree.Expression.{Expression}
+use Rattle.vl_tree.specs.declared.tree.Identifier.{Identifier}
+use Rattle.vl_tree.specs.declared.tree.Primary as p
+use Rattle.vl_tree.specs.declared.tree.Primary.{Primary}
+use Rattle.vl_tree.specs.declared.tree.SystemArgument.{SystemArgument, out-SystemArgument}
 use Rattle.vl_scope.specs.declared.kind.Class.{Class}
 use Rattle.vl_scope.specs.declared.kind.Class.TheVariants as c
 use Rattle.vl_scope.specs.declared.kind.Kind.{Kind}

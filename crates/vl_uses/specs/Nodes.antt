@@ -4,58 +4,58 @@
 use Rattle.std.specs.Prelude.{ℕ, ◌+◌, Bool, true, false, ◌&&◌, if◌then◌else◌, List, [], ◌∷◌, ◌++◌, length, map, flat_map, sum_by, Option, Some, None, is_some, codes}
 use Rattle.std.specs.List.{list_any}
 use Rattle.std.specs.Str.{bytes_eq}
-use Rattle.vl_base.specs.declared.place.Place.{Place}
-use Rattle.vl_base.specs.declared.number.Number.{Number as Numeral}
-use Rattle.vl_grammar.specs.declared.tree.Identifier.{Identifier}
-use Rattle.vl_grammar.specs.declared.tree.Expression as e
-use Rattle.vl_grammar.specs.declared.tree.Expression.{Expression}
-use Rattle.vl_grammar.specs.declared.tree.Choice as c
-use Rattle.vl_grammar.specs.declared.tree.Binary as b
-use Rattle.vl_grammar.specs.declared.tree.Primary as p
-use Rattle.vl_grammar.specs.declared.tree.Primary.{Primary}
-use Rattle.vl_grammar.specs.declared.tree.Name as n
-use Rattle.vl_grammar.specs.declared.tree.Name.{Name}
-use Rattle.vl_grammar.specs.declared.tree.Select as x
-use Rattle.vl_grammar.specs.declared.tree.Select.{Select}
-use Rattle.vl_grammar.specs.declared.tree.Bound as d
-use Rattle.vl_grammar.specs.declared.tree.SystemCall as y
-use Rattle.vl_grammar.specs.declared.tree.SystemCall.{SystemCall}
-use Rattle.vl_grammar.specs.declared.tree.SystemArgument as g
-use Rattle.vl_source.specs.declared.tree.Module.{Module}
-use Rattle.vl_source.specs.declared.tree.ParameterGroup.{ParameterGroup}
-use Rattle.vl_source.specs.declared.tree.ParameterType.{ParameterType}
-use Rattle.vl_source.specs.declared.tree.ParameterType.TheVariants as pt
-use Rattle.vl_source.specs.declared.tree.ParameterAssignment.{ParameterAssignment}
-use Rattle.vl_source.specs.declared.tree.Ports.{Ports}
-use Rattle.vl_source.specs.declared.tree.Ports.TheVariants as ps
-use Rattle.vl_source.specs.declared.tree.PortDeclaration.{PortDeclaration}
-use Rattle.vl_source.specs.declared.tree.PortDeclaration.TheVariants as pd
-use Rattle.vl_source.specs.declared.tree.DeclarationAssignment.{DeclarationAssignment}
-use Rattle.vl_source.specs.declared.tree.Range.{Range}
-use Rattle.vl_source.specs.declared.tree.Item.{Item}
-use Rattle.vl_source.specs.declared.tree.Item.TheVariants as i
-use Rattle.vl_source.specs.declared.tree.VariableType.{VariableType}
-use Rattle.vl_source.specs.declared.tree.VariableMore.{VariableMore}
-use Rattle.vl_source.specs.declared.tree.VariableMore.TheVariants as vm
-use Rattle.vl_source.specs.declared.tree.Assignment.{Assignment}
-use Rattle.vl_source.specs.declared.tree.Trigger.{Trigger}
-use Rattle.vl_source.specs.declared.tree.Trigger.TheVariants as tr
-use Rattle.vl_source.specs.declared.tree.Function.{Function}
-use Rattle.vl_source.specs.declared.tree.FunctionPort.{FunctionPort}
-use Rattle.vl_source.specs.declared.tree.FunctionDeclaration.{FunctionDeclaration}
-use Rattle.vl_source.specs.declared.tree.FunctionDeclaration.TheVariants as fd
-use Rattle.vl_source.specs.declared.tree.Instance.{Instance}
-use Rattle.vl_source.specs.declared.tree.NamedInstance.{NamedInstance}
-use Rattle.vl_source.specs.declared.tree.Connection.{Connection}
-use Rattle.vl_source.specs.declared.tree.Connection.TheVariants as cn
-use Rattle.vl_source.specs.declared.tree.Statement as s
-use Rattle.vl_source.specs.declared.tree.Statement.{Statement}
-use Rattle.vl_source.specs.declared.tree.CaseItem as ci
-use Rattle.vl_source.specs.declared.tree.CaseItem.{CaseItem}
-use Rattle.vl_source.specs.declared.tree.CaseKeyword.{CaseKeyword}
-use Rattle.vl_source.specs.declared.tree.CaseKeyword.TheVariants as ck
-use Rattle.vl_source.specs.declared.tree.Lvalue as l
-use Rattle.vl_source.specs.declared.tree.Lvalue.{Lvalue}
+use Rattle.vl_tree.specs.vl_base.specs.declared.place.Place.{Place}
+use Rattle.vl_tree.specs.vl_base.specs.declared.number.Number.{Number as Numeral}
+use Rattle.vl_tree.specs.declared.tree.Identifier.{Identifier}
+use Rattle.vl_tree.specs.declared.tree.Expression as e
+use Rattle.vl_tree.specs.declared.tree.Expression.{Expression}
+use Rattle.vl_tree.specs.declared.tree.Choice as c
+use Rattle.vl_tree.specs.declared.tree.Binary as b
+use Rattle.vl_tree.specs.declared.tree.Primary as p
+use Rattle.vl_tree.specs.declared.tree.Primary.{Primary}
+use Rattle.vl_tree.specs.declared.tree.Name as n
+use Rattle.vl_tree.specs.declared.tree.Name.{Name}
+use Rattle.vl_tree.specs.declared.tree.Select as x
+use Rattle.vl_tree.specs.declared.tree.Select.{Select}
+use Rattle.vl_tree.specs.declared.tree.Bound as d
+use Rattle.vl_tree.specs.declared.tree.SystemCall as y
+use Rattle.vl_tree.specs.declared.tree.SystemCall.{SystemCall}
+use Rattle.vl_tree.specs.declared.tree.SystemArgument as g
+use Rattle.vl_tree.specs.declared.source_tree.Module.{Module}
+use Rattle.vl_tree.specs.declared.source_tree.ParameterGroup.{ParameterGroup}
+use Rattle.vl_tree.specs.declared.source_tree.ParameterType.{ParameterType}
+use Rattle.vl_tree.specs.declared.source_tree.ParameterType.TheVariants as pt
+use Rattle.vl_tree.specs.declared.source_tree.ParameterAssignment.{ParameterAssignment}
+use Rattle.vl_tree.specs.declared.source_tree.Ports.{Ports}
+use Rattle.vl_tree.specs.declared.source_tree.Ports.TheVariants as ps
+use Rattle.vl_tree.specs.declared.source_tree.PortDeclaration.{PortDeclaration}
+use Rattle.vl_tree.specs.declared.source_tree.PortDeclaration.TheVariants as pd
+use Rattle.vl_tree.specs.declared.source_tree.DeclarationAssignment.{DeclarationAssignment}
+use Rattle.vl_tree.specs.declared.source_tree.Range.{Range}
+use Rattle.vl_tree.specs.declared.source_tree.Item.{Item}
+use Rattle.vl_tree.specs.declared.source_tree.Item.TheVariants as i
+use Rattle.vl_tree.specs.declared.source_tree.VariableType.{VariableType}
+use Rattle.vl_tree.specs.declared.source_tree.VariableMore.{VariableMore}
+use Rattle.vl_tree.specs.declared.source_tree.VariableMore.TheVariants as vm
+use Rattle.vl_tree.specs.declared.source_tree.Assignment.{Assignment}
+use Rattle.vl_tree.specs.declared.source_tree.Trigger.{Trigger}
+use Rattle.vl_tree.specs.declared.source_tree.Trigger.TheVariants as tr
+use Rattle.vl_tree.specs.declared.source_tree.Function.{Function}
+use Rattle.vl_tree.specs.declared.source_tree.FunctionPort.{FunctionPort}
+use Rattle.vl_tree.specs.declared.source_tree.FunctionDeclaration.{FunctionDeclaration}
+use Rattle.vl_tree.specs.declared.source_tree.FunctionDeclaration.TheVariants as fd
+use Rattle.vl_tree.specs.declared.source_tree.Instance.{Instance}
+use Rattle.vl_tree.specs.declared.source_tree.NamedInstance.{NamedInstance}
+use Rattle.vl_tree.specs.declared.source_tree.Connection.{Connection}
+use Rattle.vl_tree.specs.declared.source_tree.Connection.TheVariants as cn
+use Rattle.vl_tree.specs.declared.source_tree.Statement as s
+use Rattle.vl_tree.specs.declared.source_tree.Statement.{Statement}
+use Rattle.vl_tree.specs.declared.source_tree.CaseItem as ci
+use Rattle.vl_tree.specs.declared.source_tree.CaseItem.{CaseItem}
+use Rattle.vl_tree.specs.declared.source_tree.CaseKeyword.{CaseKeyword}
+use Rattle.vl_tree.specs.declared.source_tree.CaseKeyword.TheVariants as ck
+use Rattle.vl_tree.specs.declared.source_tree.Lvalue as l
+use Rattle.vl_tree.specs.declared.source_tree.Lvalue.{Lvalue}
 use Rattle.vl_uses.specs.declared.setting.Setting.{Setting}
 use Rattle.vl_uses.specs.declared.setting.Side.{Side}
 use Rattle.vl_uses.specs.declared.setting.Side.TheVariants.{Continuous, Procedural}

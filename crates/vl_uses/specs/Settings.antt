@@ -1,7 +1,7 @@
 -- Where a part of a source stands.
 use Rattle.std.specs.Prelude.{ℕ, ◌+◌, true, false}
-use Rattle.vl_grammar.specs.declared.tree.SelectMark.{SelectMark}
-use Rattle.vl_grammar.specs.declared.tree.SelectMark.TheVariants as m
+use Rattle.vl_tree.specs.declared.tree.SelectMark.{SelectMark}
+use Rattle.vl_tree.specs.declared.tree.SelectMark.TheVariants as m
 use Rattle.vl_uses.specs.declared.setting.Setting.{Setting}
 use Rattle.vl_uses.specs.declared.setting.Side.{Side}
 use Rattle.vl_uses.specs.declared.setting.Side.TheVariants as s

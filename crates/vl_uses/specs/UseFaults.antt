@@ -1,12 +1,12 @@
 -- The faults of uses: refused constructs 1, 2, 4, 8 and 9 (IEEE 1364-2005, clauses 3.5, 4, 5.2, 10.4.3, 12.7 and 17).
 use Rattle.std.specs.Prelude.{ℕ, Bool, true, false, not, ◌&&◌, ◌||◌, ◌==◌, nat_lt, List, [], ◌∷◌, ◌++◌, flat_map, Option, Some, None, is_some, IsTrue}
-use Rattle.vl_base.specs.declared.place.Place.{Place}
-use Rattle.vl_grammar.specs.declared.tree.Name.{out-Name}
-use Rattle.vl_grammar.specs.declared.tree.Select.{Select, out-Select}
-use Rattle.vl_grammar.specs.declared.tree.SystemCall.{out-SystemCall}
-use Rattle.vl_source.specs.declared.tree.Source.{Source}
-use Rattle.vl_source.specs.declared.tree.Module.{Module}
-use Rattle.vl_source.specs.declared.tree.Function.{Function}
+use Rattle.vl_tree.specs.vl_base.specs.declared.place.Place.{Place}
+use Rattle.vl_tree.specs.declared.tree.Name.{out-Name}
+use Rattle.vl_tree.specs.declared.tree.Select.{Select, out-Select}
+use Rattle.vl_tree.specs.declared.tree.SystemCall.{out-SystemCall}
+use Rattle.vl_tree.specs.declared.source_tree.Source.{Source}
+use Rattle.vl_tree.specs.declared.source_tree.Module.{Module}
+use Rattle.vl_tree.specs.declared.source_tree.Function.{Function}
 use Rattle.vl_scope.specs.declared.kind.Class.{Class}
 use Rattle.vl_scope.specs.declared.kind.Class.TheVariants as c
 use Rattle.vl_scope.specs.declared.kind.Kind.{Kind}

@@ -9,12 +9,12 @@ use Rattle.vl_uses.specs.declared.names.Names.{Names}
 use Rattle.vl_uses.specs.declared.formats.Mode.{Mode}
 use Rattle.vl_uses.specs.declared.formats.Mode.TheVariants as m
 use Rattle.vl_uses.specs.Calls.{shown_by, shown_after, shown_least, with_item}
-use Rattle.vl_grammar.specs.declared.tree.Expression.{Expression}
-use Rattle.vl_grammar.specs.declared.tree.Choice.{Choice, out-Choice}
-use Rattle.vl_grammar.specs.declared.tree.Link.{Link, out-Link}
-use Rattle.vl_grammar.specs.declared.tree.Unary.{Unary, out-Unary}
-use Rattle.vl_grammar.specs.declared.tree.Bound.{Bound, out-Bound}
-use Rattle.vl_grammar.specs.declared.tree.SystemArgument.{SystemArgument, out-SystemArgument}
+use Rattle.vl_tree.specs.declared.tree.Expression.{Expression}
+use Rattle.vl_tree.specs.declared.tree.Choice.{Choice, out-Choice}
+use Rattle.vl_tree.specs.declared.tree.Link.{Link, out-Link}
+use Rattle.vl_tree.specs.declared.tree.Unary.{Unary, out-Unary}
+use Rattle.vl_tree.specs.declared.tree.Bound.{Bound, out-Bound}
+use Rattle.vl_tree.specs.declared.tree.SystemArgument.{SystemArgument, out-SystemArgument}
 use Rattle.vl_uses.specs.declared.setting.Setting.{Setting}
 use Rattle.vl_uses.specs.Settings.{constantly, before_mark}
 use Rattle.vl_uses.specs.Nodes.{Node, expression_nodes, primary_nodes, is_loaded, given}

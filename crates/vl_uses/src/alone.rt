@@ -4,7 +4,7 @@ ghost use Rattle.std.specs.Prelude.{◌≡◌};
 ghost use Rattle.vl_uses.specs.Alone as spec;
 ghost use Rattle.vl_uses.specs.Walks.{pointed};
 
-use vl_grammar::tree::{Expression, Identifier, Primary, Unary, UnaryOperator};
+use vl_tree::tree::{Expression, Identifier, Primary, Unary, UnaryOperator};
 
 /// The operand of an expression that has no binary operator and no `?`.
 fn operand_of(expression: &Expression) -> Option<&Unary>

@@ -2,8 +2,8 @@
 
 ghost use Rattle.std.specs.Prelude.{◌≡◌, ◌≤◌, ◌-◌, ◌^◌, ◌∷◌, List, Some, option_map};
 ghost use Rattle.std.specs.List.{list_all};
-ghost use Rattle.vl_grammar.specs.declared.tree.SystemCall.{out-SystemCall};
-ghost use Rattle.vl_grammar.specs.declared.tree.SystemArgument.{SystemArgument as Argument};
+ghost use Rattle.vl_tree.specs.declared.tree.SystemCall.{out-SystemCall};
+ghost use Rattle.vl_tree.specs.declared.tree.SystemArgument.{SystemArgument as Argument};
 ghost use Rattle.vl_uses.specs.Calls as spec;
 ghost use Rattle.vl_uses.specs.Walks.{means, pointed};
 
@@ -11,10 +11,10 @@ use crate::alone::{bare, sole};
 use crate::formats::shown_by;
 use crate::names::{Names, read_kind};
 use crate::setting::Usage;
-use vl_base::number::Number;
-use vl_grammar::parts::Parts;
-use vl_grammar::tree::{Primary, SystemArgument, SystemCall};
 use vl_scope::kind::{Class, Kind};
+use vl_tree::number::Number;
+use vl_tree::parts::Parts;
+use vl_tree::tree::{Primary, SystemArgument, SystemCall};
 
 /// The number whose bits are the lowest `width`.
 fn lowest_bits(width: u8) -> u128

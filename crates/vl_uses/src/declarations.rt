@@ -12,14 +12,14 @@ use crate::names::Names;
 use crate::parts::note_event;
 use crate::setting::{Setting, Side, constantly, later, timely};
 use crate::statements::{note_assignment, note_right_side, note_statement};
-use vl_grammar::parts::Parts;
-use vl_grammar::tree::Expression;
 use vl_scope::fault::Fault;
-use vl_source::tree::{
+use vl_tree::parts::Parts;
+use vl_tree::source_tree::{
     Assignment, Connection, DeclarationAssignment, Event, Function, FunctionDeclaration,
     FunctionPort, Item, NamedInstance, ParameterAssignment, ParameterGroup, ParameterType,
     PortDeclaration, Ports, Range, Statement, Trigger, VariableMore, VariableType,
 };
+use vl_tree::tree::Expression;
 
 /// Notes the faults in a range.
 fn note_range(

@@ -10,10 +10,10 @@ use crate::alone::{apart, bare, negated};
 use crate::names::Names;
 use crate::parts::{note_call, note_group, note_number, note_system, note_value};
 use crate::setting::{Setting, Usage, before_mark, constantly};
-use vl_grammar::tree::{
+use vl_scope::fault::Fault;
+use vl_tree::tree::{
     Choice, Expression, Identifier, Link, Name, Primary, Select, SystemArgument, SystemCall,
 };
-use vl_scope::fault::Fault;
 
 /// Whether a call loads a memory.
 fn is_load(name: &[u8]) -> bool

@@ -12,11 +12,11 @@ use crate::declarations::{note_function, note_groups, note_item, note_ports};
 use crate::names::Names;
 use crate::setting::behind;
 use std::alloc::{AllocError, Global};
-use vl_grammar::parts::Parts;
 use vl_scope::declaration::{Declaration, function_declarations, module_declarations};
 use vl_scope::fault::Fault;
 use vl_scope::scope::Scope;
-use vl_source::tree::{Function, Item, Module, ParameterGroup, Source};
+use vl_tree::parts::Parts;
+use vl_tree::source_tree::{Function, Item, Module, ParameterGroup, Source};
 
 /// The declarations behind the first.
 fn behind_first<'s, 'a>(declarations: &'s [Declaration<'a>]) -> &'s [Declaration<'a>]

@@ -1,7 +1,7 @@
 //! Formats of displays (IEEE 1364-2005, clause 17.1.1).
 
 ghost use Rattle.std.specs.Prelude.{◌≡◌, ◌∷◌, ℕ, List, is_some, Some};
-ghost use Rattle.vl_base.specs.Display as d;
+ghost use Rattle.vl_tree.specs.vl_base.specs.Display as d;
 ghost use Rattle.vl_uses.specs.Calls as spec;
 ghost use Rattle.vl_uses.specs.Walks as w;
 

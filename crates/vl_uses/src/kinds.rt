@@ -5,8 +5,8 @@ ghost use Rattle.vl_scope.specs.Declarations as scope;
 ghost use Rattle.vl_uses.specs.UseFaults as spec;
 
 use crate::setting::Side;
-use vl_grammar::tree::Select;
 use vl_scope::kind::{Class, Kind};
+use vl_tree::tree::Select;
 
 /// Whether a name isn't declared where so many parameters are, or isn't yet.
 pub fn is_unknown(parameters: usize, kind: Option<Kind>) -> bool

@@ -1,4 +1,7 @@
-//! The uses of names in a source, and its first fault there: refused constructs 1, 2, 4, 8 and 9.
+//! The uses of names in a source, and the first that is refused: constructs 1, 2, 4, 8 and 9.
+//!
+//! Proved: `first_use_fault` gives the earliest fault of uses: z digits, undeclared names, names of the wrong kind, what no constant has,
+//! system calls; the list has just the faults of the relation (`laws.rt`).
 #![tactic(auto)]
 
 mod alone;

@@ -13,10 +13,10 @@ use crate::kinds::{
 };
 use crate::names::{Names, called_kind, read_kind};
 use crate::setting::{Setting, Side, Usage};
-use vl_base::number::Number;
-use vl_base::place::Place;
-use vl_grammar::tree::{Identifier, Name, SystemCall};
 use vl_scope::fault::{Fault, earlier};
+use vl_tree::Place;
+use vl_tree::number::Number;
+use vl_tree::tree::{Identifier, Name, SystemCall};
 
 /// Notes a fault of a construct at a place, if it holds.
 fn note(best: Option<Fault>, holds: bool, place: Place, construct: u8) -> Option<Fault>

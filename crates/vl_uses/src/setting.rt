@@ -3,7 +3,7 @@
 ghost use Rattle.std.specs.Prelude.{◌≡◌, ◌+◌, ◌^◌, ◌<◌};
 ghost use Rattle.vl_uses.specs.Settings as spec;
 
-use vl_grammar::tree::SelectMark;
+use vl_tree::tree::SelectMark;
 
 /// Where a part of a source stands.
 #[derive(Clone, Copy, Debug, PartialEq, Eq)]

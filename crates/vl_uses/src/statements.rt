@@ -10,10 +10,10 @@ use crate::expressions::{note_call_of_system, note_expression, note_selects};
 use crate::names::Names;
 use crate::parts::note_target;
 use crate::setting::{Setting, Side, Usage, constantly, of_index};
-use vl_grammar::parts::Boxed;
-use vl_grammar::tree::{Expression, Primary, SystemCall};
 use vl_scope::fault::Fault;
-use vl_source::tree::{Assignment, CaseItem, CaseKeyword, Lvalue, Statement};
+use vl_tree::parts::Boxed;
+use vl_tree::source_tree::{Assignment, CaseItem, CaseKeyword, Lvalue, Statement};
+use vl_tree::tree::{Expression, Primary, SystemCall};
 
 /// The call of a system function that a primary is.
 fn call_in(primary: Option<&Primary>) -> Option<&SystemCall>

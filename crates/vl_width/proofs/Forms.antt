@@ -1,16 +1,18 @@
 -- The forms of sound expressions have 1 to 128 bits, and contexts are no narrower than what stands in them.
 use Rattle.std.proofs.Common.{◌≡◌, ◌≤◌, ℕ, Bool, true, false, refl, arith, Option, Some, None}
 use Rattle.std.specs.Prelude.{slice_get, ◌&&◌, IsTrue}
-use Rattle.vl_base.specs.declared.bits.UnOp.{UnOp}
-use Rattle.vl_base.specs.declared.bits.UnOp.TheVariants.{Neg, Not, LogNot, RedAnd, RedOr, RedXor, RedNand, RedNor, RedXnor}
-use Rattle.vl_base.specs.declared.bits.BinOp.{BinOp}
-use Rattle.vl_base.specs.declared.bits.BinOp.TheVariants.{Add, Sub, Mul, Div, Rem, And, Or, Xor, Xnor, Shl, Shr, Sshr, Lt, Le, Gt, Ge, Eq, Ne, LogAnd, LogOr}
-use Rattle.vl_base.specs.Value.{unary_width, binary_width, needs_one_width}
+use Rattle.vl_design.specs.vl_base.specs.declared.bits.UnOp.{UnOp}
+use Rattle.vl_design.specs.vl_base.specs.declared.bits.UnOp.TheVariants.{Neg, Not, LogNot, RedAnd, RedOr, RedXor, RedNand, RedNor, RedXnor}
+use Rattle.vl_design.specs.vl_base.specs.declared.bits.BinOp.{BinOp}
+use Rattle.vl_design.specs.vl_base.specs.declared.bits.BinOp.TheVariants.{Add, Sub, Mul, Div, Rem, And, Or, Xor, Xnor, Shl, Shr, Sshr, Lt, Le, Gt, Ge, Eq, Ne, LogAnd, LogOr}
+use Rattle.vl_design.specs.vl_base.specs.Value.{unary_width, binary_width, needs_one_width}
 use Rattle.vl_design.specs.declared.design.Form.{Form}
 use Rattle.vl_design.specs.declared.design.SigKind.{SigKind}
 use Rattle.vl_design.specs.Syntax.{Exp, Num, Label, Sig, Word, Pick, Slice, Un, Bin, Cond, Cat, Rep, Cast, Call, Time, LastAnswer, Row}
 use Rattle.vl_design.specs.Width.{Names, form, row_form, joined, unary_form, binary_form, operand_form, left_form, right_form}
 use Rattle.vl_design.specs.Sound.{IsSoundExp, IsOf, HasValue, IsMem, IsWidth}
+use Rattle.vl_design.specs.vl_base.proofs.Booleans.{and_parts as both}
+use Rattle.vl_design.proofs.Shared.{one}
 
 -- a context is at least as wide as what stands in it, and signed only where that is
 pub record Fits (f c : Form) : Type 0 where
@@ -26,9 +28,6 @@ row-wide P (Some r) h = h.1
 
 joined-is : (a b : Form) → IsWidth a.width → IsWidth b.width → IsWidth (joined a b).width
 joined-is a b p q = record { wide = omega arith; narrow = omega arith }
-
-one : IsWidth 1
-one = record { wide = omega arith; narrow = omega arith }
 
 unary-is : (op : UnOp) (a : Form) → IsWidth a.width → IsWidth (unary_form op a).width
 unary-is Neg a p = p
@@ -69,11 +68,6 @@ form-is names Time h = record { wide = omega arith; narrow = omega arith }
 form-is names LastAnswer h = record { wide = omega arith; narrow = omega arith }
 
 -- ---- operands in their contexts
-
-both : (a b : Bool) → (a && b) ≡ true → (a ≡ true) × (b ≡ true)
-both true true h = (refl, refl)
-both true false h = let z : ⊥ = cc in absurd z
-both false b h = let z : ⊥ = cc in absurd z
 
 pub first-joined : (a b : Form) → Fits a (joined a b)
 first-joined a b = record { wide = omega arith; signed = λ h. (both a.signed b.signed h).0 }

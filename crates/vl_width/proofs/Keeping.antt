@@ -4,12 +4,12 @@ use Rattle.std.specs.Prelude.{if◌then◌else◌, ℤ, pos, negsuc}
 use Rattle.std.proofs.Math.Nat.{mod-eq_of_lt}
 use Rattle.std.proofs.Math.Pow.{pow_mono, pow_pos}
 use Rattle.std.proofs.lemmas.Nat.{mod_below}
-use Rattle.vl_base.specs.Value.{reading, resized, unary_value, unary_width, binary_value, binary_width}
-use Rattle.vl_base.specs.Selects.{picked}
-use Rattle.vl_base.proofs.Congruent.{wrapped-below}
-use Rattle.vl_base.proofs.Readings.{wrapped-reading}
-use Rattle.vl_base.proofs.Bounds.{unary-below, binary-below}
-use Rattle.vl_base.proofs.Parts.{joined-below}
+use Rattle.vl_design.specs.vl_base.specs.Value.{reading, resized, unary_value, unary_width, binary_value, binary_width}
+use Rattle.vl_design.specs.vl_base.specs.Selects.{picked}
+use Rattle.vl_design.specs.vl_base.proofs.Congruent.{wrapped-below}
+use Rattle.vl_design.specs.vl_base.proofs.Readings.{wrapped-reading}
+use Rattle.vl_design.specs.vl_base.proofs.Bounds.{unary-below, binary-below}
+use Rattle.vl_design.specs.vl_base.proofs.Parts.{joined-below}
 use Rattle.vl_design.specs.declared.design.Form.{Form}
 use Rattle.vl_design.specs.Syntax.{Exp, Num, Label, Sig, Word, Pick, Slice, Un, Bin, Cond, Cat, Rep, Cast, Call, Time, LastAnswer, Exps, NoExps, MoreExps}
 use Rattle.vl_design.specs.Sized.{Sized, At, Several, NoneSized, MoreSized}
@@ -21,6 +21,8 @@ use Rattle.vl_width.specs.Widths.{width_of, widths_of, node_width}
 use Rattle.vl_width.specs.Value.{sized_value, node_value, side_by_side, arguments}
 use Rattle.vl_width.specs.Sizing.{own, own_parts, own_arguments, read_at, several_at}
 use Rattle.vl_width.proofs.Forms.{Fits, Stays, itself, then-fits, first-joined, second-joined, operand-fits, left-fits, right-fits, unary-stays, binary-stays, one_width, unsigned-stays, whole-stays}
+use Rattle.vl_design.specs.vl_base.proofs.Shared.{picked-below}
+use Rattle.vl_design.proofs.Shared.{repeated-below}
 
 -- a value that stays in its context
 unchanged : (w v : ℕ) (c : Form) → v < 2 ^ w → Stays w c → resized c.signed w c.width v ≡ v
@@ -37,17 +39,9 @@ unchanged w v c h s = at c.signed refl
 sized-below : (scope : Scope) (s : Sample) (x : Sized) → sized_value scope s x < 2 ^ width_of x
 sized-below scope s (At w g n) = wrapped-below w (reading g (node_width scope.names n) (node_value scope s n))
 
-picked-below : (w v : ℕ) (low : ℤ) (width : ℕ) → picked w v low width < 2 ^ width
-picked-below w v (pos low) width = mod_below _ (2 ^ width) (pow_pos width)
-picked-below w v (negsuc n) width = mod_below _ (2 ^ width) (pow_pos width)
-
 side-below : (scope : Scope) (s : Sample) (xs : Several) → side_by_side scope s xs < 2 ^ widths_of xs
 side-below scope s NoneSized = omega arith
 side-below scope s (MoreSized x xs) = joined-below (sized_value scope s x) (side_by_side scope s xs) (width_of x) (widths_of xs) (sized-below scope s x) (side-below scope s xs)
-
-repeated-below : (n w v : ℕ) → v < 2 ^ w → repeated n w v < 2 ^ (n * w)
-repeated-below zero w v h = let z : zero * w ≡ 0 = omega arith in rw z (omega arith)
-repeated-below (suc n) w v h = rw (suc-mul n w) (joined-below (repeated n w v) v (n * w) w (repeated-below n w v h) h)
 
 if-below : (b : Bool) (x y m : ℕ) → x < m → y < m → (if b then x else y) < m
 if-below true x y m h k = h

@@ -25,6 +25,7 @@ use Rattle.vl_width.specs.Nodes.{nodes, all_nodes}
 use Rattle.vl_width.specs.Sizing.{own, own_parts, own_arguments}
 use Rattle.vl_width.specs.Read.{own_of, at_input, at_inputs, widths_together, AreAllSound}
 use Rattle.vl_width.proofs.Rows.{listed, several-hidden}
+pub use Rattle.vl_design.proofs.Shared.{many-count, function-there as call-there, repeated-narrow as total-narrow}
 
 -- ---- expressions that have a list
 
@@ -49,21 +50,11 @@ sound-item names [] i x h l = absurd (omega arith)
 sound-item names (e ∷ es) zero x h l = h.0
 sound-item names (e ∷ es) (suc i) x h l = sound-item names es i x h.1 (omega arith)
 
-pub many-count : (es : List Expr) → count_of (exps_of es) ≡ length es
-many-count [] = refl
-many-count (e ∷ es) = let h = many-count es in omega arith
-
 -- ---- widths together
 
 pub widths-own : (names : Names) (es : List Expr) → widths_together (map (own_of names) es) ≡ total_width names (exps_of es)
 widths-own names [] = refl
 widths-own names (e ∷ es) = ap (λ n. (form names (exp_of e)).width + n) (widths-own names es)
-
-pub widths-rest : (xs : List SizedExpr) (i : ℕ) (x : SizedExpr) → i < length xs
-    → widths_together (map sized_of (drop i xs)) ≡ (get_or xs i x).width + widths_together (map sized_of (drop (suc i) xs))
-widths-rest [] i x l = absurd (omega arith)
-widths-rest (e ∷ es) zero x l = refl
-widths-rest (e ∷ es) (suc i) x l = widths-rest es i x (omega arith)
 
 -- ---- lists of sized expressions
 
@@ -104,15 +95,6 @@ own-Call names x k v parts f h g e =
 
 -- ---- functions
 
-pub call-there : (fs : List Func) (k n : ℕ) → Takes (slice_get (map fun_of fs) k) n → k < length fs
-call-there fs k n h = at (slice_get fs k) refl
-  where
-    at : (o : Option Func) → slice_get fs k ≡ o → k < length fs
-    at None e =
-        let z : slice_get (map fun_of fs) k ≡ None = slice_get-map fun_of fs k ∙ ap (option_map fun_of) e in
-        absurd (subst (λ o. Takes o n) z h)
-    at (Some f) e = slice_get_within fs k f e
-
 -- ---- arguments one by one
 
 pub at-more : {A : Type 0} (g : A → Sized) (xs : List A) (ws : List ℕ) (i : ℕ) (x : A) → i < length xs → length xs ≡ length ws
@@ -131,10 +113,6 @@ item-nodes es i x l e = rw e (at es i l)
     at [] i l = absurd (omega arith)
     at (y ∷ ys) zero l = omega arith
     at (y ∷ ys) (suc i) l = let h = at ys i (omega arith) in omega arith
-
-pub total-narrow : (n t : ℕ) → IsWidth (n * t) → t ≤ 128
-total-narrow zero t h = let z : 1 ≤ zero * t = h.wide in absurd (omega arith)
-total-narrow (suc n) t h = let z : suc n * t ≤ 128 = h.narrow in omega (arith, suc-mul n t)
 
 pub item-sound : (names : Names) (es : List Expr) (i : ℕ) (x : Expr) → AreAllSound names es → i < length es → x ≡ get_or es i x → IsSoundExp names (exp_of x)
 item-sound names es i x h l e = rw e (sound-item names es i x h l)

@@ -11,6 +11,7 @@ use Rattle.vl_design.specs.declared.design.Signal.{Signal}
 use Rattle.vl_design.specs.Trees.{row_of, fun_of, flat_of}
 use Rattle.vl_design.proofs.TreeLemmas.{funs-map}
 use Rattle.vl_width.specs.Room.{HaveInputs}
+use Rattle.vl_design.specs.vl_base.proofs.Lists.{append_nil as no-more}
 
 -- the names of a room of these
 abbrev names_with : List Signal → List Signal → List Func → Names
@@ -39,10 +40,6 @@ have-inputs d s f = at (slice_get d.funs f) refl
         let there = s.funs f g (slice_get_within d.funs f g e) in
         let g' = get_or_from_slice_get d.funs f g g e in
         inputs-wide (names_of d) g g.inputs (rw g' at there).inputs
-
-no-more : {A : Type 0} (xs : List A) → xs ++ [] ≡ xs
-no-more [] = refl
-no-more (x ∷ xs) = ap (λ ys. x ∷ ys) (no-more xs)
 
 -- the names of a design
 pub names-design : (d : Design) (signals locals : List Signal) (functions : List Func) → signals ≡ d.signals → locals ≡ [] → functions ≡ d.funcs

@@ -1,11 +1,11 @@
 -- A sized expression is well-formed.
 use Rattle.std.proofs.Common.{◌≡◌, ◌≤◌, ◌+◌, ℕ, zero, suc, List, [], ◌∷◌, length, refl, sym, ap, ◌∙◌, arith, subst}
 use Rattle.std.specs.Prelude.{slice_get, All}
-use Rattle.vl_base.specs.declared.bits.UnOp.{UnOp}
-use Rattle.vl_base.specs.declared.bits.UnOp.TheVariants.{Neg, Not, LogNot, RedAnd, RedOr, RedXor, RedNand, RedNor, RedXnor}
-use Rattle.vl_base.specs.declared.bits.BinOp.{BinOp}
-use Rattle.vl_base.specs.declared.bits.BinOp.TheVariants.{Add, Sub, Mul, Div, Rem, And, Or, Xor, Xnor, Shl, Shr, Sshr, Lt, Le, Gt, Ge, Eq, Ne, LogAnd, LogOr}
-use Rattle.vl_base.specs.Value.{unary_width, binary_width}
+use Rattle.vl_design.specs.vl_base.specs.declared.bits.UnOp.{UnOp}
+use Rattle.vl_design.specs.vl_base.specs.declared.bits.UnOp.TheVariants.{Neg, Not, LogNot, RedAnd, RedOr, RedXor, RedNand, RedNor, RedXnor}
+use Rattle.vl_design.specs.vl_base.specs.declared.bits.BinOp.{BinOp}
+use Rattle.vl_design.specs.vl_base.specs.declared.bits.BinOp.TheVariants.{Add, Sub, Mul, Div, Rem, And, Or, Xor, Xnor, Shl, Shr, Sshr, Lt, Le, Gt, Ge, Eq, Ne, LogAnd, LogOr}
+use Rattle.vl_design.specs.vl_base.specs.Value.{unary_width, binary_width}
 use Rattle.vl_design.specs.declared.design.Form.{Form}
 use Rattle.vl_design.specs.Syntax.{Exp, Num, Label, Sig, Word, Pick, Slice, Un, Bin, Cond, Cat, Rep, Cast, Call, Time, LastAnswer, Exps, NoExps, MoreExps}
 use Rattle.vl_design.specs.Width.{Scope, Names, form, input_widths, operand_form, left_form, right_form, joined, assigned}
@@ -19,9 +19,7 @@ use Rattle.vl_design.specs.Sized.{Sized}
 use Rattle.vl_design.specs.Value.{Sample, value}
 use Rattle.vl_width.specs.Value.{sized_value}
 use Rattle.vl_width.proofs.Keeping.{keeps, widths-same, assigned-fits}
-
-one : IsWidth 1
-one = record { wide = omega arith; narrow = omega arith }
+use Rattle.vl_design.proofs.Shared.{one}
 
 unary-is : (op : UnOp) (w : ℕ) → IsWidth w → IsWidth (unary_width op w)
 unary-is Neg w h = h

@@ -1,7 +1,7 @@
 -- Well-formed sized expressions: each node has 1 to 128 bits, and no fewer than its own value; operands have one width where
 -- the operator wants it; a number names what it is to name (IEEE 1364-2005, clauses 5.2, 5.4 and 10.4).
 use Rattle.std.specs.Prelude.{◌≡◌, ℕ, ◌+◌, ◌^◌, ◌<◌, ◌≤◌, ⊤, IsTrue, slice_get}
-use Rattle.vl_base.specs.Value.{needs_one_width}
+use Rattle.vl_design.specs.vl_base.specs.Value.{needs_one_width}
 use Rattle.vl_design.specs.Sized.{Sized, At, Node, Num, Label, Sig, Word, Pick, Slice, Un, Bin, Cond, Cat, Rep, Cast, Call, Time, LastAnswer, Several, NoneSized, MoreSized}
 use Rattle.vl_design.specs.Width.{Names}
 use Rattle.vl_design.specs.Sound.{IsWidth, IsSignal, IsMemory, Takes}

@@ -1,7 +1,7 @@
 -- The value of a sized expression: no contexts are left (IEEE 1364-2005, clause 5).
 use Rattle.std.specs.Prelude.{ℕ, ◌%◌, ◌^◌, List, [], ◌∷◌, slice_index, slice_get, if◌then◌else◌, ◌==◌}
-use Rattle.vl_base.specs.Value.{reading, resized, unary_value, binary_value}
-use Rattle.vl_base.specs.Selects.{picked, appended}
+use Rattle.vl_design.specs.vl_base.specs.Value.{reading, resized, unary_value, binary_value}
+use Rattle.vl_design.specs.vl_base.specs.Selects.{picked, appended}
 use Rattle.vl_design.specs.Sized.{Sized, At, Node, Num, Label, Sig, Word, Pick, Slice, Un, Bin, Cond, Cat, Rep, Cast, Call, Time, LastAnswer, Several, NoneSized, MoreSized}
 use Rattle.vl_design.specs.Width.{Scope, input_widths}
 use Rattle.vl_design.specs.Value.{Sample, words_of, value_of, word_at, lowest_bit, repeated}

@@ -1,7 +1,7 @@
 -- The width and sign at which a sized expression stands, and the width of its node's own value (IEEE 1364-2005,
 -- clauses 5.4 and 5.5).
 use Rattle.std.specs.Prelude.{ℕ, ◌+◌, ◌*◌, Bool}
-use Rattle.vl_base.specs.Value.{unary_width, binary_width}
+use Rattle.vl_design.specs.vl_base.specs.Value.{unary_width, binary_width}
 use Rattle.vl_design.specs.declared.design.Form.{Form}
 use Rattle.vl_design.specs.Sized.{Sized, At, Node, Num, Label, Sig, Word, Pick, Slice, Un, Bin, Cond, Cat, Rep, Cast, Call, Time, LastAnswer, Several, NoneSized, MoreSized}
 use Rattle.vl_design.specs.Width.{Names, signal_form, result_form}

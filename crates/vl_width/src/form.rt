@@ -9,7 +9,7 @@ ghost use Rattle.vl_width.specs.Read.{AreAllSound};
 
 use crate::room::{Room, result_form, signal_form};
 use vl_design::design::{Expr, ExprNode, Form};
-use vl_form::form::{binary_form, joined, unary_form, unsigned};
+use vl_eval::form_form::{binary_form, joined, unary_form, unsigned};
 
 /// The widths of parts together.
 #[cycle(form)]

@@ -12,10 +12,10 @@ ghost use Rattle.vl_width.specs.Read.{own_of, at_input, at_inputs, widths_togeth
 use crate::reading::form_of;
 use crate::room::{Room, input_width, result_form, signal_form};
 use std::alloc::{AllocError, Global};
-use vl_base::items::Items;
+use vl_design::Items;
 use vl_design::design::{Expr, ExprNode, Form, SysCall};
 use vl_design::sized::{SizedExpr, SizedNode};
-use vl_form::form::{binary_form, joined, unary_form, unsigned};
+use vl_eval::form_form::{binary_form, joined, unary_form, unsigned};
 
 /// A node at a width and sign.
 fn at(form: Form, node: SizedNode) -> SizedExpr

@@ -9,7 +9,7 @@ ghost use Rattle.vl_width.specs.Read.{each_at};
 use std::mem::replace;
 use vl_design::design::Form;
 use vl_design::sized::{SizedExpr, SizedNode};
-use vl_form::form::{left_form, operand_form, right_form};
+use vl_eval::form_form::{left_form, operand_form, right_form};
 
 /// The width and sign at which an expression stands.
 pub(crate) fn form_of(x: &SizedExpr) -> Form

@@ -7,7 +7,7 @@ ghost use Rattle.vl_design.specs.Sound.{IsSound, IsWidth};
 ghost use Rattle.vl_width.specs.Room.{names_of, HaveInputs};
 
 use vl_design::design::{Design, Form, Func, Signal};
-use vl_form::form::unsigned;
+use vl_eval::form_form::unsigned;
 
 /// What the numbers of an expression name: signals of a design, behind them the locals of the function in whose body the
 /// expression stands, and functions.

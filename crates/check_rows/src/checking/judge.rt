@@ -1,21 +1,22 @@
 //! What the front end answers to a source.
 
 ghost use Rattle.vl_design.specs.Seen.{placed};
-ghost use Rattle.vl_checked.specs.Fit.{IsFit};
+ghost use Rattle.vl_accept.specs.Fit.{IsFit};
 
 use crate::checking::words::{costs, numbered, plain};
-use cell_accept::accept::accept;
-use cell_accept::fault::Fault;
+use elab_laws::fit_laws::an_elaborated_design_is_fit_to_be_judged;
 use std::alloc::{AllocError, Global};
-use vl_base::place::Place;
+use vl_accept::accept::accept;
+use vl_accept::fault::Fault;
 use vl_cost::cost::cost;
+use vl_design::Place;
 use vl_design::design::Design;
 use vl_design::stop::Stop;
-use vl_fit::laws::an_elaborated_design_is_fit_to_be_judged;
-use vl_flatten::elaborate::elaborate;
+use vl_elab::elaborate::elaborate;
 use vl_lex::lex::{LexFault, lex};
-use vl_parse::{ParseFault, parse};
-use vl_source::tree::Source;
+use vl_parse::parse;
+use vl_pexpr::ParseFault;
+use vl_tree::source_tree::Source;
 use vl_tree::token::Token;
 
 /// The answer to the flat design of a source.

@@ -1,8 +1,8 @@
 //! Faults and costs in words.
 
 use std::alloc::{AllocError, Global};
-use vl_base::place::Place;
-use vl_cost::capacity::Cost;
+use vl_design::Place;
+use vl_design::capacity::Cost;
 
 /// A cost by its three numbers.
 pub fn costs(alloc: Global, cost: Cost) -> Result<String, AllocError> {

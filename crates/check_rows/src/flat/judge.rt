@@ -2,10 +2,10 @@
 
 use crate::flat::table::table;
 use std::alloc::{AllocError, Global};
-use vl_base::place::Place;
+use vl_design::Place;
 use vl_design::design::Design;
 use vl_design::stop::Stop;
-use vl_flatten::elaborate::elaborate;
+use vl_elab::elaborate::elaborate;
 use vl_lex::lex::lex;
 use vl_parse::parse;
 

@@ -1,9 +1,9 @@
 //! The words of a table: operators as they are written, numbers, kinds.
 
 use std::alloc::AllocError;
-use vl_base::bits::{BinOp, Bits, UnOp};
-use vl_base::number::Number;
 use vl_design::design::{LowestBit, ProcKind, SigKind};
+use vl_design::number::Number;
+use vl_design::{BinOp, Bits, UnOp};
 
 /// An operator on one operand.
 pub fn unary_mark(op: UnOp) -> &'static str {

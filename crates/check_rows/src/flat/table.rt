@@ -3,7 +3,7 @@
 use crate::flat::marks::{edge_mark, process_kind, show_bytes, signal_kind};
 use crate::flat::statements::show_statement;
 use std::alloc::{AllocError, Global};
-use vl_base::place::Place;
+use vl_design::Place;
 use vl_design::design::{Design, Event, Func, Process, SigKind, Signal};
 
 /// A place behind a path.

@@ -5,10 +5,10 @@ use crate::parsing::modules::show_source;
 use crate::parsing::printer::Printer;
 use crate::parsing::tokens::{show_lex_fault, show_tokens};
 use std::alloc::{AllocError, Global};
-use vl_base::place::Place;
+use vl_design::Place;
 use vl_lex::lex::lex;
-use vl_parse::{ParseFault, parse};
-use vl_pexpr::expression;
+use vl_parse::parse;
+use vl_pexpr::{ParseFault, expression};
 use vl_tree::token::Token;
 
 /// This place stands for the end of a source.

@@ -4,8 +4,8 @@ use crate::parsing::expressions::show_identifier;
 use crate::parsing::parts::{show_expression, show_identifiers, show_range, show_value};
 use crate::parsing::printer::Printer;
 use crate::parsing::statements::show_statement;
-use vl_grammar::parts::Parts;
-use vl_source::tree::{
+use vl_tree::parts::Parts;
+use vl_tree::source_tree::{
     DeclarationAssignment, Direction, Function, FunctionDeclaration, FunctionPort,
     ParameterAssignment, ParameterType, PortDeclaration, Range, VariableMore, VariableType,
 };

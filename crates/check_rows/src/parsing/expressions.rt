@@ -1,7 +1,7 @@
 //! Expressions as texts, with the place of each node.
 
 use crate::parsing::printer::Printer;
-use vl_grammar::tree::{
+use vl_tree::tree::{
     Binary, BinaryOperator, Bound, Choice, Expression, Identifier, Name, Primary, Select,
     SelectMark, SystemArgument, SystemCall, Unary, UnaryOperator,
 };

@@ -8,8 +8,8 @@ use crate::parsing::expressions::show_identifier;
 use crate::parsing::parts::{show_assignment, show_identifiers, show_optional};
 use crate::parsing::printer::Printer;
 use crate::parsing::statements::show_statement;
-use vl_grammar::parts::Parts;
-use vl_source::tree::{
+use vl_tree::parts::Parts;
+use vl_tree::source_tree::{
     Connection, Edge, Event, Instance, Item, Module, NamedInstance, ParameterGroup,
     ParameterKeyword, Ports, Source, Trigger,
 };

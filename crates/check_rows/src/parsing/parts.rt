@@ -2,9 +2,9 @@
 
 use crate::parsing::expressions::show_identifier;
 use crate::parsing::printer::Printer;
-use vl_grammar::parts::Parts;
-use vl_grammar::tree::{Expression, Identifier, Name, Select, SystemCall};
-use vl_source::tree::{Assignment, Lvalue, Range};
+use vl_tree::parts::Parts;
+use vl_tree::source_tree::{Assignment, Lvalue, Range};
+use vl_tree::tree::{Expression, Identifier, Name, Select, SystemCall};
 
 /// The place of an expression.
 pub fn show_expression(out: &mut Printer, tree: &Expression) {

@@ -1,8 +1,7 @@
 //! The text of a row's answer.
 
 use std::alloc::{AllocError, Global};
-use vl_base::items::Text;
-use vl_base::place::Place;
+use vl_design::{Place, Text};
 
 /// A text that grows. Once memory fails it stays failed, and `finish` says so.
 #[derive(Drop)]

@@ -2,9 +2,9 @@
 
 use crate::parsing::parts::{show_assignment, show_call, show_expression, show_lvalue};
 use crate::parsing::printer::Printer;
-use vl_grammar::parts::Parts;
-use vl_grammar::tree::Expression;
-use vl_source::tree::{AssignMark, CaseItem, CaseKeyword, Statement};
+use vl_tree::parts::Parts;
+use vl_tree::source_tree::{AssignMark, CaseItem, CaseKeyword, Statement};
+use vl_tree::tree::Expression;
 
 fn mark(mark: AssignMark) -> &'static str {
     match mark {

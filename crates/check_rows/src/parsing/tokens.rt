@@ -1,7 +1,7 @@
 //! Tokens and the faults of the lexer as texts.
 
 use crate::parsing::printer::Printer;
-use vl_base::number::Number;
+use vl_design::number::Number;
 use vl_lex::lex::LexFault;
 use vl_tree::token::{Token, TokenKind};
 

@@ -1,7 +1,7 @@
 //! A gate at which some are held until others have come there.
 
 use crate::hosts::numbers::number;
-use fab_io::gate::Gate;
+use host_run::gate::Gate;
 use std::sync::atomic::{AtomicBool, AtomicU64, Ordering};
 use std::thread;
 use std::time::{Clock, Duration};

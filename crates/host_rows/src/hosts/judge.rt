@@ -3,11 +3,11 @@
 use crate::hosts::gates::RowGate;
 use crate::hosts::lines::{are_wanted, has_unwanted};
 use crate::hosts::row::Row;
-use fab_io::gate::{Gate, NoGate};
-use fab_io::mem_sink::MemSink;
-use fab_io::mem_store::MemStore;
 use host_run::bays::Bays;
+use host_run::gate::{Gate, NoGate};
 use host_run::host::host;
+use host_run::mem_sink::MemSink;
+use host_run::mem_store::MemStore;
 use std::alloc::{AllocError, Global};
 use std::sync::Wait;
 use std::thread::Threads;

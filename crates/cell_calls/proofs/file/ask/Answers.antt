@@ -2,9 +2,9 @@ use Rattle.std.proofs.Common.{map}
 use Rattle.vl_design.specs.Trees.{arg_of, exp_of, flat_of}
 use Rattle.vl_design.specs.Width.{names_of}
 use Rattle.vl_run.proofs.Filing.{file-some, file-sound}
-use Rattle.cell_form.specs.Views.{list_of}
-use Rattle.cell_steps.proofs.Newest.{ok-gives}
-use Rattle.cell_paths.specs.Envs.{env_of}
+use Rattle.cell_emit.specs.cell_form.specs.Views.{list_of}
+use Rattle.cell_emit.proofs.Newest.{ok-gives}
+use Rattle.cell_emit.specs.Envs.{env_of}
 use Rattle.cell_calls.specs.FileCalls.{query_task}
 use Rattle.cell_calls.proofs.Calling.{traps-no-file, traps-query, query-sound}
 use Rattle.cell_calls.proofs.file.ask.Goals as goal

@@ -3,8 +3,8 @@ use Rattle.std.proofs.lemmas.List.{drop-map}
 use Rattle.vl_design.specs.Trees.{arg_of, flat_of}
 use Rattle.vl_design.specs.Width.{names_of}
 use Rattle.vl_run.proofs.Filing.{load-some, load-sound}
-use Rattle.cell_form.specs.Views.{list_of}
-use Rattle.cell_paths.specs.Envs.{env_of}
+use Rattle.cell_emit.specs.cell_form.specs.Views.{list_of}
+use Rattle.cell_emit.specs.Envs.{env_of}
 use Rattle.cell_calls.proofs.Calling.{traps-no-name, traps-no-memory}
 use Rattle.cell_calls.proofs.file.load.Goals as goal
 

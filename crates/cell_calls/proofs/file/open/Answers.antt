@@ -1,8 +1,8 @@
 use Rattle.std.proofs.Common.{map}
 use Rattle.vl_design.specs.Trees.{arg_of, flat_of}
 use Rattle.vl_run.proofs.Filing.{open-some}
-use Rattle.cell_form.specs.Views.{list_of}
-use Rattle.cell_paths.specs.Envs.{env_of}
+use Rattle.cell_emit.specs.cell_form.specs.Views.{list_of}
+use Rattle.cell_emit.specs.Envs.{env_of}
 use Rattle.cell_calls.proofs.Calling.{traps-no-open, traps-open}
 use Rattle.cell_calls.proofs.file.open.Goals as goal
 

@@ -3,8 +3,8 @@ use Rattle.std.proofs.lemmas.List.{drop-map}
 use Rattle.vl_design.specs.Trees.{arg_of, exp_of, flat_of}
 use Rattle.vl_design.specs.Width.{names_of}
 use Rattle.vl_run.proofs.Filing.{read-some, read-sound}
-use Rattle.cell_form.specs.Views.{list_of}
-use Rattle.cell_paths.specs.Envs.{env_of}
+use Rattle.cell_emit.specs.cell_form.specs.Views.{list_of}
+use Rattle.cell_emit.specs.Envs.{env_of}
 use Rattle.cell_calls.proofs.Calling.{traps-no-signal, traps-no-descriptor}
 use Rattle.cell_calls.proofs.file.read.Goals as goal
 

@@ -2,9 +2,9 @@ use Rattle.std.proofs.Common.{◌∙◌, ap}
 use Rattle.vl_design.specs.declared.design.Form.{Form}
 use Rattle.vl_design.specs.Trees.{exp_of, flat_of}
 use Rattle.vl_design.specs.Width.{Names, signal_form}
-use Rattle.cell_form.specs.Views.{list_of}
-use Rattle.cell_steps.proofs.Newest.{ok-gives}
-use Rattle.cell_paths.specs.Envs.{env_of}
+use Rattle.cell_emit.specs.cell_form.specs.Views.{list_of}
+use Rattle.cell_emit.proofs.Newest.{ok-gives}
+use Rattle.cell_emit.specs.Envs.{env_of}
 use Rattle.cell_calls.proofs.Calling.{traps-read}
 use Rattle.cell_calls.proofs.file.read_to.Goals as goal
 

@@ -2,8 +2,8 @@ use Rattle.std.proofs.Common.{subst}
 use Rattle.std.specs.Prelude.{IfOk}
 use Rattle.vl_design.specs.Trees.{flat_of}
 use Rattle.vl_run.proofs.Operands.{operand-value}
-use Rattle.cell_form.specs.Views.{list_of}
-use Rattle.cell_paths.specs.Envs.{env_of}
+use Rattle.cell_emit.specs.cell_form.specs.Views.{list_of}
+use Rattle.cell_emit.specs.Envs.{env_of}
 use Rattle.cell_calls.specs.Displays.{IsOwn}
 use Rattle.cell_calls.proofs.format.operand.Goals as goal
 

@@ -5,9 +5,9 @@ use Rattle.vl_design.specs.Sound.{IsSoundExp}
 use Rattle.vl_design.specs.Syntax.{Literal, Shown}
 use Rattle.vl_design.specs.Trees.{arg_of, exp_of, flat_of}
 use Rattle.vl_design.specs.Width.{names_of}
-use Rattle.cell_form.specs.Views.{list_of}
-use Rattle.cell_paths.specs.Envs.{env_of}
-use Rattle.ten_traps.specs.Asked.{shown}
+use Rattle.cell_emit.specs.cell_form.specs.Views.{list_of}
+use Rattle.cell_emit.specs.Envs.{env_of}
+use Rattle.ten_form.specs.Asked.{shown}
 use Rattle.cell_calls.proofs.Extending.{shown-append}
 use Rattle.cell_calls.proofs.Walking.{adds-text, adds-item, walked-adds, first-of, head-of}
 use Rattle.cell_calls.proofs.format.push_argument.Goals as goal

@@ -2,9 +2,9 @@ use Rattle.std.proofs.Common.{◌≡◌, ◌+◌, ap, refl, ◌∙◌, drop, map
 use Rattle.std.proofs.lemmas.List.{drop_all}
 use Rattle.vl_design.specs.Formats.{pieces_from}
 use Rattle.vl_design.specs.Trees.{arg_of, flat_of}
-use Rattle.cell_form.specs.Views.{list_of}
-use Rattle.cell_steps.proofs.Frames.{grows-same, grows-then}
-use Rattle.cell_paths.specs.Envs.{env_of}
+use Rattle.cell_emit.specs.cell_form.specs.Views.{list_of}
+use Rattle.cell_emit.proofs.Frames.{grows-same, grows-then}
+use Rattle.cell_emit.specs.Envs.{env_of}
 use Rattle.vl_run.proofs.Pieces.{rest-at}
 use Rattle.cell_calls.proofs.Owning.{ready-stays}
 use Rattle.cell_calls.proofs.Walking.{walked-none, walked-then, walked-sound}

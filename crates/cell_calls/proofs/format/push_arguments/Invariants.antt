@@ -4,10 +4,10 @@ use Rattle.vl_design.specs.Formats.{pieces_from}
 use Rattle.vl_design.specs.Sound.{IsSoundExp}
 use Rattle.vl_design.specs.Trees.{arg_of, flat_of}
 use Rattle.vl_design.specs.Width.{names_of}
-use Rattle.cell_form.specs.Views.{list_of}
-use Rattle.cell_steps.specs.Slots.{Grows}
-use Rattle.cell_paths.specs.Envs.{env_of}
-use Rattle.ten_traps.specs.Asked.{shown}
+use Rattle.cell_emit.specs.cell_form.specs.Views.{list_of}
+use Rattle.cell_emit.specs.Slots.{Grows}
+use Rattle.cell_emit.specs.Envs.{env_of}
+use Rattle.ten_form.specs.Asked.{shown}
 use Rattle.cell_calls.specs.Displays.{IsReady, Walked}
 use Rattle.cell_calls.proofs.format.push_arguments.Given as goal
 

@@ -1,7 +1,7 @@
 use Rattle.std.proofs.Common.{map, [], ◌∷◌}
 use Rattle.vl_design.specs.Trees.{arg_of, flat_of}
-use Rattle.cell_form.specs.Views.{list_of}
-use Rattle.cell_paths.specs.Envs.{env_of}
+use Rattle.cell_emit.specs.cell_form.specs.Views.{list_of}
+use Rattle.cell_emit.specs.Envs.{env_of}
 use Rattle.cell_calls.proofs.Bytes.{percent-is, plain-is}
 use Rattle.cell_calls.proofs.Walking.{adds-none, adds-text}
 use Rattle.cell_calls.proofs.format.push_byte.Goals as goal

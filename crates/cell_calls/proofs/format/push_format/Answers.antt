@@ -1,9 +1,9 @@
 use Rattle.std.proofs.Common.{◌≡◌, refl, ap, sym, ◌∙◌, map, drop, get_or}
 use Rattle.std.proofs.lemmas.List.{drop-map}
 use Rattle.vl_design.specs.Trees.{arg_of, flat_of}
-use Rattle.vl_show.specs.Modes.{reading_of}
-use Rattle.cell_form.specs.Views.{list_of}
-use Rattle.cell_paths.specs.Envs.{env_of}
+use Rattle.fmt_text.specs.Modes.{reading_of}
+use Rattle.cell_emit.specs.cell_form.specs.Views.{list_of}
+use Rattle.cell_emit.specs.Envs.{env_of}
 use Rattle.cell_calls.proofs.Reading.{formatted-none, byte-ready, byte-sound, formatted-more, formatted-all}
 use Rattle.cell_calls.proofs.format.push_format.Goals as goal
 

@@ -3,8 +3,8 @@ use Rattle.vl_base.specs.Display.{format_of}
 use Rattle.vl_design.specs.Formats.{operand}
 use Rattle.vl_design.specs.Trees.{arg_of, flat_of}
 use Rattle.vl_design.specs.Width.{names_of}
-use Rattle.cell_form.specs.Views.{list_of}
-use Rattle.cell_paths.specs.Envs.{env_of}
+use Rattle.cell_emit.specs.cell_form.specs.Views.{list_of}
+use Rattle.cell_emit.specs.Envs.{env_of}
 use Rattle.cell_calls.proofs.Walking.{adds-no-letter, adds-letter, letter-sound}
 use Rattle.cell_calls.proofs.format.push_letter.Goals as goal
 

@@ -1,8 +1,8 @@
 use Rattle.std.proofs.Common.{◌-◌, map}
 use Rattle.vl_design.specs.Formats.{pieces_from}
 use Rattle.vl_design.specs.Trees.{arg_of, flat_of}
-use Rattle.cell_form.specs.Views.{list_of}
-use Rattle.cell_paths.specs.Envs.{env_of}
+use Rattle.cell_emit.specs.cell_form.specs.Views.{list_of}
+use Rattle.cell_emit.specs.Envs.{env_of}
 use Rattle.cell_calls.proofs.Formatting.{skip-some}
 use Rattle.cell_calls.proofs.Walking.{walked-none}
 use Rattle.cell_calls.proofs.format.push_next.Goals as goal

@@ -1,8 +1,8 @@
 use Rattle.std.proofs.Common.{◌≡◌, ◌∙◌, ap, refl}
 use Rattle.vl_design.specs.Trees.{exp_of, flat_of}
 use Rattle.vl_design.specs.Width.{form, names_of}
-use Rattle.cell_form.specs.Views.{list_of}
-use Rattle.cell_paths.specs.Envs.{env_of}
+use Rattle.cell_emit.specs.cell_form.specs.Views.{list_of}
+use Rattle.cell_emit.specs.Envs.{env_of}
 use Rattle.cell_calls.proofs.Owning.{own-compiled}
 use Rattle.cell_calls.proofs.own.own_value.Goals as goal
 

@@ -1,8 +1,8 @@
 use Rattle.std.proofs.Common.{arith, false}
 use Rattle.std.specs.Prelude.{int_lt}
 use Rattle.vl_base.specs.Value.{truth, reading}
-use Rattle.cell_form.specs.Views.{list_of}
-use Rattle.cell_steps.proofs.Newest.{ok-gives}
+use Rattle.cell_emit.specs.cell_form.specs.Views.{list_of}
+use Rattle.cell_emit.proofs.Newest.{ok-gives}
 use Rattle.cell_expr.proofs.Addressing.{by-number, below-is}
 use Rattle.cell_expr.proofs.address.below.Goals as goal
 

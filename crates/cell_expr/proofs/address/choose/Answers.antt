@@ -4,10 +4,10 @@ use Rattle.std.proofs.lemmas.Int.{to_z-of_z}
 use Rattle.vl_base.specs.Value.{truth}
 use Rattle.vl_design.specs.Trees.{row_of}
 use Rattle.vl_eval.specs.Rooms.{names_of}
-use Rattle.cell_form.specs.Views.{list_of}
-use Rattle.cell_steps.specs.Slots.{held, Gives, Nothing}
-use Rattle.cell_steps.proofs.Frames.{grows-then, in-stays}
-use Rattle.cell_paths.proofs.Staying.{is-slot-stays, always-stays, gives-slot}
+use Rattle.cell_emit.specs.cell_form.specs.Views.{list_of}
+use Rattle.cell_emit.specs.Slots.{held, Gives, Nothing}
+use Rattle.cell_emit.proofs.Frames.{grows-then, in-stays}
+use Rattle.cell_emit.proofs.Staying.{is-slot-stays, always-stays, gives-slot}
 use Rattle.cell_expr.specs.Words.{found_in}
 use Rattle.cell_expr.proofs.Addressing.{fits-small, chosen}
 use Rattle.cell_expr.proofs.Holding.{resizes-most}

@@ -3,8 +3,8 @@ use Rattle.std.specs.Int.RustNames.{unsigned_abs}
 use Rattle.std.proofs.lemmas.Int.{to_z-of_z}
 use Rattle.std.specs.Prelude.{pos, ◌-ℤ◌, int_lt}
 use Rattle.vl_base.specs.Value.{wrapped}
-use Rattle.cell_form.specs.Views.{list_of}
-use Rattle.cell_steps.proofs.Newest.{ok-gives}
+use Rattle.cell_emit.specs.cell_form.specs.Views.{list_of}
+use Rattle.cell_emit.proofs.Newest.{ok-gives}
 use Rattle.cell_expr.proofs.Addressing.{by-number, moved-none, moved-up, moved-down, negative-is, positive-is}
 use Rattle.cell_expr.proofs.address.moved.Goals as goal
 

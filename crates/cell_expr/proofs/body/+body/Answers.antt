@@ -10,10 +10,10 @@ use Rattle.vl_eval.specs.Rooms.{names_of, scope_at}
 use Rattle.vl_run.specs.Scopes.{calls_in}
 use Rattle.vl_run.proofs.Bodies.{function-there}
 use Rattle.vl_run.proofs.Inputs.{all-at}
-use Rattle.cell_form.specs.Views.{list_of}
-use Rattle.cell_paths.specs.Envs.{env_of, Fits}
-use Rattle.cell_paths.specs.Paths.{Does}
-use Rattle.cell_later.specs.Pendings.{ArePending}
+use Rattle.cell_emit.specs.cell_form.specs.Views.{list_of}
+use Rattle.cell_emit.specs.Envs.{env_of, Fits}
+use Rattle.cell_emit.specs.Paths.{Does}
+use Rattle.cell_emit.specs.Pendings.{ArePending}
 use Rattle.cell_expr.specs.Bodies.{IsCellFun}
 use Rattle.cell_expr.specs.Counts.{stm_count, body_count}
 use Rattle.cell_expr.specs.Passes.{AreCompiled}

@@ -2,9 +2,9 @@ use Rattle.cell_expr.proofs.Compiling.{compilers}
 use Rattle.cell_expr.proofs.body.expression_at.Goals as goal
 use Rattle.vl_eval.specs.Rooms.{names_of}
 use Rattle.vl_design.specs.Trees.{exp_of}
-use Rattle.cell_form.specs.Views.{list_of}
-use Rattle.cell_steps.proofs.Newest.{ok-gives}
-use Rattle.cell_paths.specs.Envs.{env_of}
+use Rattle.cell_emit.specs.cell_form.specs.Views.{list_of}
+use Rattle.cell_emit.proofs.Newest.{ok-gives}
+use Rattle.cell_emit.specs.Envs.{env_of}
 use Rattle.cell_expr.specs.Counts.{exp_count, in_count, body_count}
 use Rattle.cell_expr.proofs.Counting.{in-most}
 use Rattle.cell_expr.proofs.Holding.{holds-wider}

@@ -1,9 +1,9 @@
-use Rattle.cell_steps.proofs.Frames.{grows-then}
+use Rattle.cell_emit.proofs.Frames.{grows-then}
 use Rattle.std.proofs.Common.{length, ap, rules}
 use Rattle.vl_design.specs.Trees.{fun_of}
 use Rattle.vl_design.specs.Width.{names_in}
 use Rattle.vl_eval.specs.Rooms.{names_of}
-use Rattle.cell_form.specs.Views.{list_of}
+use Rattle.cell_emit.specs.cell_form.specs.Views.{list_of}
 use Rattle.cell_expr.proofs.Starting.{begins-with, body-many}
 use Rattle.cell_expr.proofs.call.begin.Goals as goal
 

@@ -5,9 +5,9 @@ use Rattle.vl_design.specs.Reads.{target_writes}
 use Rattle.vl_design.specs.Sound.{IsSoundExp, IsSoundTarget}
 use Rattle.vl_design.specs.Trees.{exp_of, target_of, flat_of}
 use Rattle.vl_design.specs.Width.{Names, names_of}
-use Rattle.cell_form.specs.Views.{list_of}
-use Rattle.cell_paths.specs.Envs.{env_of}
-use Rattle.cell_later.specs.Pendings.{slots_of}
+use Rattle.cell_emit.specs.cell_form.specs.Views.{list_of}
+use Rattle.cell_emit.specs.Envs.{env_of}
+use Rattle.cell_emit.specs.Pendings.{slots_of}
 use Rattle.cell_expr.specs.Bodies.{assignment}
 use Rattle.cell_expr.specs.Counts.{body_cells}
 use Rattle.cell_expr.proofs.Outside.{statement-outside, pending-outside, outer-scope, outer-body, outer-compiled}

@@ -1,7 +1,7 @@
 use Rattle.vl_design.specs.Trees.{exp_of}
-use Rattle.cell_form.specs.Views.{list_of}
-use Rattle.cell_paths.specs.Envs.{env_of}
-use Rattle.cell_steps.proofs.Newest.{ok-gives}
+use Rattle.cell_emit.specs.cell_form.specs.Views.{list_of}
+use Rattle.cell_emit.specs.Envs.{env_of}
+use Rattle.cell_emit.proofs.Newest.{ok-gives}
 use Rattle.cell_expr.proofs.Outside.{compiles-outside, outer-scope, outer-body, outer-compiled}
 use Rattle.cell_expr.proofs.compile.compile.Goals as goal
 

@@ -3,9 +3,9 @@ use Rattle.vl_design.specs.Width.{Names}
 use Rattle.std.proofs.Common.{sym, subst}
 use Rattle.vl_design.specs.Sound.{AreSound}
 use Rattle.vl_run.specs.Cases.{AreWithin}
-use Rattle.cell_form.specs.Views.{list_of}
-use Rattle.cell_paths.specs.Envs.{env_of}
-use Rattle.cell_steps.proofs.Newest.{ok-gives}
+use Rattle.cell_emit.specs.cell_form.specs.Views.{list_of}
+use Rattle.cell_emit.specs.Envs.{env_of}
+use Rattle.cell_emit.proofs.Newest.{ok-gives}
 use Rattle.cell_expr.proofs.Outside.{compares-outside, outer-scope, outer-body, outer-compiled}
 use Rattle.cell_expr.proofs.compile.labels.Goals as goal
 

@@ -3,9 +3,9 @@ use Rattle.vl_design.specs.declared.design.Form.{Form}
 use Rattle.vl_design.specs.Functions.{scope_of}
 use Rattle.vl_design.specs.Trees.{exp_of, flat_of}
 use Rattle.vl_design.specs.Width.{Names, form, names_of}
-use Rattle.cell_form.specs.Views.{list_of}
-use Rattle.cell_steps.proofs.Newest.{ok-gives}
-use Rattle.cell_paths.specs.Envs.{env_of}
+use Rattle.cell_emit.specs.cell_form.specs.Views.{list_of}
+use Rattle.cell_emit.proofs.Newest.{ok-gives}
+use Rattle.cell_emit.specs.Envs.{env_of}
 use Rattle.cell_expr.specs.Compiled.{Compiles}
 use Rattle.cell_expr.specs.Counts.{exp_count, body_cells}
 use Rattle.cell_expr.proofs.compile.own.Goals as goal

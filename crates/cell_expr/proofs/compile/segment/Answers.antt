@@ -6,12 +6,12 @@ use Rattle.vl_design.specs.Sound.{IsSoundStm}
 use Rattle.vl_design.specs.Syntax.{Stm}
 use Rattle.vl_design.specs.Trees.{stm_of, flat_of}
 use Rattle.vl_design.specs.Width.{Names, names_of}
-use Rattle.cell_form.specs.Views.{list_of}
-use Rattle.cell_paths.specs.Envs.{env_of}
-use Rattle.cell_later.specs.Pendings.{slots_of, memories_of}
+use Rattle.cell_emit.specs.cell_form.specs.Views.{list_of}
+use Rattle.cell_emit.specs.Envs.{env_of}
+use Rattle.cell_emit.specs.Pendings.{slots_of, memories_of}
 use Rattle.cell_expr.specs.Bodies.{IsSegment, IsAny, CanWait}
 use Rattle.cell_expr.specs.Counts.{body_cells}
-use Rattle.vl_stored.specs.Stored.{stored_words}
+use Rattle.cell_emit.specs.vl_sites.specs.Stored.{stored_words}
 use Rattle.cell_expr.proofs.Outside.{statement-outside, pending-outside, outer-scope, outer-body, outer-compiled}
 use Rattle.cell_expr.proofs.Nets.{any-path, segment-apart, segment-weaker}
 use Rattle.cell_expr.proofs.compile.segment.Goals as goal

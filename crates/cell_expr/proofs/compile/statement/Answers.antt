@@ -4,8 +4,8 @@ use Rattle.vl_design.specs.Reads.{stm_writes}
 use Rattle.vl_design.specs.Sound.{IsSoundStm}
 use Rattle.vl_design.specs.Trees.{stm_of, flat_of}
 use Rattle.vl_design.specs.Width.{Names, names_of}
-use Rattle.cell_form.specs.Views.{list_of}
-use Rattle.cell_paths.specs.Envs.{env_of}
+use Rattle.cell_emit.specs.cell_form.specs.Views.{list_of}
+use Rattle.cell_emit.specs.Envs.{env_of}
 use Rattle.cell_expr.specs.Bodies.{IsNet}
 use Rattle.cell_expr.specs.Counts.{body_cells}
 use Rattle.cell_expr.proofs.Outside.{statement-outside, outer-scope, outer-body, outer-compiled}

@@ -4,15 +4,15 @@ use Rattle.std.proofs.lemmas.Int.{to_z-of_z}
 use Rattle.std.specs.Prelude.{◌-ℤ◌}
 use Rattle.vl_base.specs.Value.{resized, reading}
 use Rattle.vl_design.specs.declared.design.Form.{Form}
-use Rattle.cell_form.specs.Values.{word_at}
-use Rattle.cell_steps.specs.Slots.{Gives, held, width_at}
-use Rattle.cell_nodes.specs.Counts.{resizes}
+use Rattle.cell_emit.specs.cell_form.specs.Values.{word_at}
+use Rattle.cell_emit.specs.Slots.{Gives, held, width_at}
+use Rattle.cell_emit.specs.Counts.{resizes}
 use Rattle.vl_design.specs.Trees.{row_of}
 use Rattle.vl_eval.specs.Rooms.{names_of}
-use Rattle.cell_form.specs.Views.{list_of}
-use Rattle.cell_steps.proofs.Newest.{ok-gives}
+use Rattle.cell_emit.specs.cell_form.specs.Views.{list_of}
+use Rattle.cell_emit.proofs.Newest.{ok-gives}
 use Rattle.vl_design.specs.Width.{signal_form}
-use Rattle.cell_paths.specs.Envs.{env_of, entry}
+use Rattle.cell_emit.specs.Envs.{env_of, entry}
 use Rattle.cell_expr.specs.Words.{lowest_in}
 use Rattle.cell_expr.proofs.Words.{no-word, some-word, lowest-is, lowered}
 use Rattle.cell_expr.proofs.leaf.read_word.Goals as goal

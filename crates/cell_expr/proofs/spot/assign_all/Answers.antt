@@ -3,13 +3,13 @@ use Rattle.std.specs.Prelude.{pos}
 use Rattle.std.proofs.lemmas.List.{drop_more}
 use Rattle.vl_design.specs.declared.design.Form.{Form}
 use Rattle.vl_eval.specs.Rooms.{names_of}
-use Rattle.cell_form.specs.Views.{list_of}
-use Rattle.cell_steps.specs.Slots.{Gives, Nothing, held}
-use Rattle.cell_paths.specs.declared.place.Place.TheVariants as place
+use Rattle.cell_emit.specs.cell_form.specs.Views.{list_of}
+use Rattle.cell_emit.specs.Slots.{Gives, Nothing, held}
+use Rattle.cell_emit.specs.declared.place.Place.TheVariants as place
 use Rattle.cell_expr.specs.declared.spot.Spot.{Spot}
-use Rattle.cell_steps.proofs.Frames.{grows-then, in-stays, width-stays}
-use Rattle.cell_paths.specs.Envs.{env_of}
-use Rattle.cell_paths.proofs.Staying.{fits-stays, is-slot-stays}
+use Rattle.cell_emit.proofs.Frames.{grows-then, in-stays, width-stays}
+use Rattle.cell_emit.specs.Envs.{env_of}
+use Rattle.cell_emit.proofs.Staying.{fits-stays, is-slot-stays}
 use Rattle.cell_expr.specs.Spots.{IsSpot, bits_of}
 use Rattle.cell_expr.proofs.Spotting.{room-one, first-spot, rest-spots, are-spots-stay, whole-spots, of-signal, updates-left, updates-over}
 use Rattle.cell_expr.proofs.spot.assign_all.Goals as goal

@@ -1,11 +1,11 @@
 use Rattle.std.proofs.Common.{◌≡◌, ◌≤◌, [], drop, All, map, false}
 use Rattle.vl_design.specs.Targets.{updates_at}
 use Rattle.vl_eval.specs.Rooms.{names_of}
-use Rattle.cell_form.specs.Data.{ListData}
-use Rattle.cell_form.specs.Views.{list_of}
-use Rattle.cell_steps.specs.Slots.{held, width_at, IsIn, Grows}
-use Rattle.cell_paths.specs.Envs.{Env, env_of, Fits, IsSlot}
-use Rattle.cell_paths.specs.Paths.{Updates}
+use Rattle.cell_emit.specs.cell_form.specs.Data.{ListData}
+use Rattle.cell_emit.specs.cell_form.specs.Views.{list_of}
+use Rattle.cell_emit.specs.Slots.{held, width_at, IsIn, Grows}
+use Rattle.cell_emit.specs.Envs.{Env, env_of, Fits, IsSlot}
+use Rattle.cell_emit.specs.Paths.{Updates}
 use Rattle.cell_expr.specs.Spots as sp
 use Rattle.cell_expr.proofs.spot.assign_all.Given as goal
 

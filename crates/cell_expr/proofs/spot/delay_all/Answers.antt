@@ -2,15 +2,15 @@ use Rattle.std.proofs.Common.{ap, ◌∙◌, arith, subst, ◌+◌, ◌/◌, ◌
 use Rattle.std.specs.Prelude.{pos}
 use Rattle.std.proofs.lemmas.List.{drop_more}
 use Rattle.vl_eval.specs.Rooms.{names_of}
-use Rattle.cell_form.specs.Views.{list_of}
-use Rattle.cell_steps.specs.Slots.{Gives, Nothing, held}
-use Rattle.cell_paths.specs.declared.place.Place.TheVariants as place
+use Rattle.cell_emit.specs.cell_form.specs.Views.{list_of}
+use Rattle.cell_emit.specs.Slots.{Gives, Nothing, held}
+use Rattle.cell_emit.specs.declared.place.Place.TheVariants as place
 use Rattle.cell_expr.specs.declared.spot.Spot.{Spot}
-use Rattle.cell_steps.proofs.Frames.{grows-then, in-stays, width-stays}
-use Rattle.cell_paths.specs.Envs.{env_of}
-use Rattle.cell_paths.proofs.Staying.{fits-stays, is-slot-stays}
-use Rattle.cell_later.specs.Pendings.{slots_of, memories_of}
-use Rattle.cell_later.proofs.Keeping.{pending-stays}
+use Rattle.cell_emit.proofs.Frames.{grows-then, in-stays, width-stays}
+use Rattle.cell_emit.specs.Envs.{env_of}
+use Rattle.cell_emit.proofs.Staying.{fits-stays, is-slot-stays}
+use Rattle.cell_emit.specs.Pendings.{slots_of, memories_of}
+use Rattle.cell_emit.proofs.Keeping.{pending-stays}
 use Rattle.cell_expr.specs.Spots.{IsSpot, bits_of}
 use Rattle.cell_expr.proofs.Spotting.{first-spot, rest-spots, is-spot-stays, are-spots-stay}
 use Rattle.cell_expr.proofs.Delaying.{delays-left, delays-over, sites-left, sites-over}

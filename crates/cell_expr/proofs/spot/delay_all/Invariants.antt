@@ -1,12 +1,12 @@
 use Rattle.std.proofs.Common.{◌≡◌, ◌≤◌, ◌++◌, drop, All, length, map, true}
 use Rattle.vl_design.specs.Targets.{updates_at}
 use Rattle.vl_eval.specs.Rooms.{names_of}
-use Rattle.cell_form.specs.Data.{ListData}
-use Rattle.cell_form.specs.Views.{list_of}
-use Rattle.cell_steps.specs.Slots.{held, width_at, IsIn, Grows}
-use Rattle.cell_paths.specs.Envs.{env_of, Fits, IsSlot}
-use Rattle.cell_later.specs.Pendings.{PendingSlots, slots_of, memories_of, ArePending}
-use Rattle.cell_later.specs.Delays.{Delays}
+use Rattle.cell_emit.specs.cell_form.specs.Data.{ListData}
+use Rattle.cell_emit.specs.cell_form.specs.Views.{list_of}
+use Rattle.cell_emit.specs.Slots.{held, width_at, IsIn, Grows}
+use Rattle.cell_emit.specs.Envs.{env_of, Fits, IsSlot}
+use Rattle.cell_emit.specs.Pendings.{PendingSlots, slots_of, memories_of, ArePending}
+use Rattle.cell_emit.specs.Delays.{Delays}
 use Rattle.cell_expr.specs.Spots as sp
 use Rattle.cell_expr.proofs.spot.delay_all.Given as goal
 

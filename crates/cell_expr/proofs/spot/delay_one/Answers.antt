@@ -2,11 +2,11 @@ use Rattle.std.proofs.Common.{sym, ap, arith}
 use Rattle.std.proofs.lemmas.Result.{on_ok_weaker}
 use Rattle.vl_design.specs.declared.design.Form.{Form}
 use Rattle.vl_eval.specs.Rooms.{names_of}
-use Rattle.cell_form.specs.Views.{list_of}
-use Rattle.cell_paths.proofs.Assigning.{signal-there}
-use Rattle.cell_paths.proofs.Staying.{always-stays}
-use Rattle.cell_later.specs.Pendings.{slots_of}
-use Rattle.cell_later.proofs.Keeping.{pending-stays}
+use Rattle.cell_emit.specs.cell_form.specs.Views.{list_of}
+use Rattle.cell_emit.proofs.Assigning.{signal-there}
+use Rattle.cell_emit.proofs.Staying.{always-stays}
+use Rattle.cell_emit.specs.Pendings.{slots_of}
+use Rattle.cell_emit.proofs.Keeping.{pending-stays}
 use Rattle.cell_expr.proofs.Spotting.{room-one, of-signal, of-memory}
 use Rattle.cell_expr.proofs.Storing.{spot-whole, spot-word}
 use Rattle.cell_expr.proofs.spot.delay_one.Goals as goal

@@ -1,7 +1,7 @@
 use Rattle.std.proofs.Common.{arith, w32}
 use Rattle.std.proofs.lemmas.Int.{to_z_pos}
-use Rattle.cell_form.specs.Views.{list_of}
-use Rattle.cell_steps.proofs.Newest.{ok-gives}
+use Rattle.cell_emit.specs.cell_form.specs.Views.{list_of}
+use Rattle.cell_emit.proofs.Newest.{ok-gives}
 use Rattle.cell_expr.proofs.Spotting.{part-slice}
 use Rattle.cell_expr.proofs.spot.part_of.Goals as goal
 

@@ -1,15 +1,15 @@
 use Rattle.std.proofs.Common.{◌≡◌, ◌∙◌, sym, ap, subst, List, length, ℕ, Result, Ok, Err}
 use Rattle.std.specs.Prelude.{◌↔◌, IfOk, true}
-use Rattle.vl_design.specs.Trees.{flat_of}
-use Rattle.vl_design.specs.Width.{names_of}
-use Rattle.vl_design.proofs.TreeLemmas.{procs-map}
-use Rattle.vl_index.specs.Seen.{names_seen}
-use Rattle.vl_paths.specs.Graph as g
-use Rattle.vl_drivers.proofs.Sounds.{many}
-use Rattle.cell_order.specs.declared.nets.Net.{Net}
-use Rattle.cell_order.specs.declared.nets.Levels.{Levels}
-use Rattle.cell_order.specs.Cycles.{IsOnCycle}
-use Rattle.cell_order.specs.Nets as net
+use Rattle.vl_bits.specs.vl_design.specs.Trees.{flat_of}
+use Rattle.vl_bits.specs.vl_design.specs.Width.{names_of}
+use Rattle.vl_bits.specs.vl_design.proofs.TreeLemmas.{procs-map}
+use Rattle.vl_bits.specs.Seen.{names_seen}
+use Rattle.vl_bits.specs.vl_paths.specs.Graph as g
+use Rattle.vl_bits.proofs.Sounds.{many}
+use Rattle.cell_level.specs.declared.nets.Net.{Net}
+use Rattle.cell_level.specs.declared.nets.Levels.{Levels}
+use Rattle.cell_level.specs.Cycles.{IsOnCycle}
+use Rattle.cell_level.specs.Nets as net
 use Rattle.cell_level.specs.Levelling.{IsLevel}
 use Rattle.cell_level.specs.Netting.{AreNetsOf}
 use Rattle.cell_level.proofs.Netted.{nets-within}

@@ -1,4 +1,4 @@
-use Rattle.vl_drivers.proofs.Sounds.{names-design}
+use Rattle.vl_bits.proofs.Sounds.{names-design}
 use Rattle.cell_level.proofs.level.meanings_of.Goals as goal
 
 pub returns : goal.returns

@@ -1,7 +1,7 @@
 use Rattle.std.proofs.Common.{◌≡◌, length, map, take}
-use Rattle.vl_design.specs.Trees.{proc_of}
-use Rattle.vl_index.specs.Seen.{names_seen}
-use Rattle.vl_walks.specs.Walks.{IsClear}
+use Rattle.vl_bits.specs.vl_design.specs.Trees.{proc_of}
+use Rattle.vl_bits.specs.Seen.{names_seen}
+use Rattle.vl_bits.specs.Walks.{IsClear}
 use Rattle.cell_level.specs.Netting.{AreNetsOf}
 use Rattle.cell_level.proofs.level.nets_of.Given as goal
 

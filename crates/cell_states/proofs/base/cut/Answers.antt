@@ -1,7 +1,7 @@
 use Rattle.std.proofs.Common.{List, map, take, sym, ap, ◌∙◌}
 use Rattle.std.proofs.lemmas.List.{take-map, take_at}
-use Rattle.cell_form.specs.Data.{CellData, ListData}
-use Rattle.cell_form.specs.Views.{cell_of, list_of}
+use Rattle.cell_emit.specs.cell_form.specs.Data.{CellData, ListData}
+use Rattle.cell_emit.specs.cell_form.specs.Views.{cell_of, list_of}
 use Rattle.cell_states.proofs.base.cut.Goals as goal
 
 pub returns : goal.returns

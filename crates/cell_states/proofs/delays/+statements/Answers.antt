@@ -1,7 +1,7 @@
 use Rattle.std.proofs.Common.{refl}
 use Rattle.vl_design.specs.Seen.{stm_of, stms_of}
 use Rattle.vl_design.specs.declared.design.CaseItem.{CaseItem}
-use Rattle.vl_sites.specs.Lists.{items_of}
+use Rattle.cell_emit.specs.vl_sites.specs.Lists.{items_of}
 use Rattle.cell_states.specs.Marks.{stm_signals, stms_signals, items_signals}
 use Rattle.cell_states.proofs.Marking.{step-more}
 use Rattle.cell_states.proofs.delays.+statements.Goals as goal

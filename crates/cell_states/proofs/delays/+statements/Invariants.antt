@@ -1,6 +1,6 @@
 use Rattle.std.proofs.Common.{◌≡◌, drop}
 use Rattle.vl_design.specs.Seen.{stms_of}
-use Rattle.vl_sites.specs.Lists.{items_of}
+use Rattle.cell_emit.specs.vl_sites.specs.Lists.{items_of}
 use Rattle.cell_states.specs.Marks.{stms_signals, items_signals, marked}
 use Rattle.cell_states.proofs.delays.+statements.Given as goal
 

@@ -1,6 +1,6 @@
 use Rattle.std.proofs.Common.{refl}
 use Rattle.vl_design.specs.Seen.{target_of}
-use Rattle.vl_sites.specs.Lists.{targets_of}
+use Rattle.cell_emit.specs.vl_sites.specs.Lists.{targets_of}
 use Rattle.cell_states.specs.Marks.{target_signals, targets_signals}
 use Rattle.cell_states.proofs.Marking.{step-more}
 use Rattle.cell_states.proofs.delays.+targets.Goals as goal

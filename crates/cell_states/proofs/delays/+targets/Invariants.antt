@@ -1,5 +1,5 @@
 use Rattle.std.proofs.Common.{◌≡◌, drop}
-use Rattle.vl_sites.specs.Lists.{targets_of}
+use Rattle.cell_emit.specs.vl_sites.specs.Lists.{targets_of}
 use Rattle.cell_states.specs.Marks.{targets_signals, marked}
 use Rattle.cell_states.proofs.delays.+targets.Given as goal
 

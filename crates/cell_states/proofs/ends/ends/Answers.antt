@@ -1,8 +1,8 @@
 use Rattle.std.proofs.Common.{◌∙◌, ap, ◌++◌, ◌∷◌, []}
 use Rattle.vl_design.specs.Trees.{flat_of}
-use Rattle.cell_form.specs.declared.cell.Write.TheVariants as w
-use Rattle.cell_paths.specs.Envs.{env_of}
-use Rattle.cell_later.specs.Pendings.{slots_of}
+use Rattle.cell_emit.specs.cell_form.specs.declared.cell.Write.TheVariants as w
+use Rattle.cell_emit.specs.Envs.{env_of}
+use Rattle.cell_emit.specs.Pendings.{slots_of}
 use Rattle.ten_form.specs.Registers.{state_register}
 use Rattle.cell_states.proofs.Finishing.{ended}
 use Rattle.cell_states.proofs.ends.ends.Goals as goal

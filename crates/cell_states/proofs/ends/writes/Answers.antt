@@ -1,9 +1,9 @@
 use Rattle.std.proofs.Common.{List, map, take, drop, length, ◌-◌, sym, ap, ◌∙◌, subst}
 use Rattle.std.proofs.lemmas.List.{take_rest}
-use Rattle.cell_later.specs.declared.pending.Site.{Site}
-use Rattle.cell_later.specs.Pendings.{memories_of}
-use Rattle.ten_stores.specs.declared.store.Store.{Store}
-use Rattle.cell_stores.specs.Keeping.{Keeps}
+use Rattle.cell_emit.specs.declared.pending.Site.{Site}
+use Rattle.cell_emit.specs.Pendings.{memories_of}
+use Rattle.ten_form.specs.declared.store.Store.{Store}
+use Rattle.cell_waves.specs.Keeping.{Keeps}
 use Rattle.cell_states.proofs.Fronting.{drop-same}
 use Rattle.cell_states.proofs.ends.writes.Goals as goal
 

@@ -6,17 +6,17 @@ use Rattle.std.proofs.lemmas.Result.{IfOk-weaker}
 use Rattle.vl_design.specs.Sound.{IsMemory}
 use Rattle.vl_design.specs.Trees.{flat_of}
 use Rattle.vl_design.specs.Width.{names_of}
-use Rattle.cell_form.specs.Views.{list_of}
-use Rattle.cell_paths.specs.Envs.{env_of, HasMemories}
-use Rattle.cell_later.specs.Pendings.{slots_of}
+use Rattle.cell_emit.specs.cell_form.specs.Views.{list_of}
+use Rattle.cell_emit.specs.Envs.{env_of, HasMemories}
+use Rattle.cell_emit.specs.Pendings.{slots_of}
 use Rattle.cell_expr.specs.Counts.{body_cells}
-use Rattle.cell_next.specs.Next.{next_count}
+use Rattle.cell_calls.specs.Next.{next_count}
 use Rattle.cell_waves.proofs.Lengths.{longer-few}
-use Rattle.sub_nodes.specs.Nodes as n
-use Rattle.sub_split.specs.Views.{segment_view, way_on_view}
-use Rattle.ten_stores.specs.declared.store.Store.{Store}
-use Rattle.ten_stores.specs.Holding.{mask_register}
-use Rattle.cell_stores.specs.Keeping.{Keeps}
+use Rattle.ten_form.specs.sub_nodes.specs.Nodes as n
+use Rattle.ten_form.specs.sub_split.specs.Views.{segment_view, way_on_view}
+use Rattle.ten_form.specs.declared.store.Store.{Store}
+use Rattle.ten_form.specs.Holding.{mask_register}
+use Rattle.cell_waves.specs.Keeping.{Keeps}
 use Rattle.cell_states.proofs.Making.{starts-same, is-made}
 use Rattle.cell_states.proofs.Storing.{few-above}
 use Rattle.cell_states.proofs.run.made.Goals as goal

@@ -2,29 +2,29 @@ use Rattle.std.proofs.Common.{◌+◌, ◌<◌, ◌^◌, List, length, map, drop
 use Rattle.std.specs.Prelude.{All}
 use Rattle.std.specs.List.{AllByRecursion}
 use Rattle.std.proofs.lemmas.List.Elements.{recursion_from_All}
-use Rattle.vl_base.specs.declared.files.File.{File}
+use Rattle.vl_design.specs.vl_base.specs.declared.files.File.{File}
 use Rattle.vl_design.specs.Functions.{scope_of}
 use Rattle.vl_design.specs.Sound.{IsMemory}
 use Rattle.vl_design.specs.Trees.{flat_of}
 use Rattle.vl_design.specs.Width.{names_of}
-use Rattle.cell_form.specs.Views.{list_of}
-use Rattle.cell_steps.specs.Slots.{Nothing}
-use Rattle.cell_steps.proofs.Frames.{longer-same, longer-grows}
-use Rattle.cell_paths.specs.Envs.{env_of, HasMemories}
-use Rattle.cell_paths.proofs.Staying.{fits-stays, stands-stays}
-use Rattle.cell_later.specs.Pendings.{slots_of}
+use Rattle.cell_emit.specs.cell_form.specs.Views.{list_of}
+use Rattle.cell_emit.specs.Slots.{Nothing}
+use Rattle.cell_emit.proofs.Frames.{longer-same, longer-grows}
+use Rattle.cell_emit.specs.Envs.{env_of, HasMemories}
+use Rattle.cell_emit.proofs.Staying.{fits-stays, stands-stays}
+use Rattle.cell_emit.specs.Pendings.{slots_of}
 use Rattle.cell_calls.specs.Counts.{asked_count}
 use Rattle.cell_expr.specs.Compiled.{Holds}
 use Rattle.cell_expr.specs.Counts.{body_cells}
 use Rattle.cell_expr.proofs.Holding.{holds-then}
-use Rattle.cell_next.specs.Next.{next_node}
+use Rattle.cell_calls.specs.Next.{next_node}
 use Rattle.cell_waves.proofs.Lengths.{longer-few}
-use Rattle.cell_next.proofs.Nexting.{holds-number}
-use Rattle.sub_nodes.specs.Nodes as n
-use Rattle.sub_split.specs.Views.{call_view, segment_view}
-use Rattle.ten_stores.specs.declared.store.Store.{Store}
-use Rattle.ten_stores.specs.Holding.{mask_register}
-use Rattle.cell_stores.specs.Keeping.{Keeps}
+use Rattle.cell_calls.proofs.Nexting.{holds-number}
+use Rattle.ten_form.specs.sub_nodes.specs.Nodes as n
+use Rattle.ten_form.specs.sub_split.specs.Views.{call_view, segment_view}
+use Rattle.ten_form.specs.declared.store.Store.{Store}
+use Rattle.ten_form.specs.Holding.{mask_register}
+use Rattle.cell_waves.specs.Keeping.{Keeps}
 use Rattle.cell_states.proofs.Making.{starts-same, is-made, asks-behind}
 use Rattle.cell_states.proofs.Asking.{slots-there}
 use Rattle.cell_states.proofs.Storing.{few-above}

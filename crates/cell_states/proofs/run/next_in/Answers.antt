@@ -1,10 +1,10 @@
 use Rattle.std.proofs.lemmas.Result.{IfOk-weaker}
 use Rattle.vl_design.specs.Trees.{flat_of}
 use Rattle.vl_design.specs.Width.{names_of}
-use Rattle.cell_form.specs.Views.{list_of}
-use Rattle.cell_steps.proofs.Frames.{longer-same}
-use Rattle.cell_paths.specs.Envs.{env_of, HasMemories}
-use Rattle.cell_next.proofs.Nexting.{holds-number}
+use Rattle.cell_emit.specs.cell_form.specs.Views.{list_of}
+use Rattle.cell_emit.proofs.Frames.{longer-same}
+use Rattle.cell_emit.specs.Envs.{env_of, HasMemories}
+use Rattle.cell_calls.proofs.Nexting.{holds-number}
 use Rattle.cell_states.proofs.run.next_in.Goals as goal
 
 pub returns-in-Go-clause-holds : goal.returns-in-Go-clause-holds

@@ -1,15 +1,15 @@
 use Rattle.std.proofs.Common.{◌≡◌, ◌+◌, ◌*◌, List, [], length, sym, ap, ◌∙◌, arith, subst}
 use Rattle.vl_design.specs.Trees.{flat_of}
 use Rattle.vl_design.specs.Width.{names_of}
-use Rattle.cell_form.specs.Views.{list_of}
-use Rattle.cell_paths.specs.Envs.{Env, env_of, Fits}
-use Rattle.cell_paths.proofs.Staying.{fits-stays}
-use Rattle.cell_later.specs.declared.pending.Site.{Site}
-use Rattle.cell_later.specs.Pendings.{PendingSlots, slots_of, ArePending}
-use Rattle.sub_split.specs.Views.{segment_view}
-use Rattle.ten_stores.specs.declared.store.Store.{Store}
+use Rattle.cell_emit.specs.cell_form.specs.Views.{list_of}
+use Rattle.cell_emit.specs.Envs.{Env, env_of, Fits}
+use Rattle.cell_emit.proofs.Staying.{fits-stays}
+use Rattle.cell_emit.specs.declared.pending.Site.{Site}
+use Rattle.cell_emit.specs.Pendings.{PendingSlots, slots_of, ArePending}
+use Rattle.ten_form.specs.sub_split.specs.Views.{segment_view}
+use Rattle.ten_form.specs.declared.store.Store.{Store}
 use Rattle.std.specs.List.{AllByRecursion}
-use Rattle.cell_stores.specs.Reading.{HasStore, Reads}
+use Rattle.cell_waves.specs.Reading.{HasStore, Reads}
 use Rattle.cell_waves.proofs.Lengths.{longer-few}
 use Rattle.ten_form.specs.Banks.{stores_after}
 use Rattle.cell_states.specs.Mades.{Starts}

@@ -1,6 +1,6 @@
 use Rattle.std.proofs.Common.{ap}
-use Rattle.cell_form.specs.Data.{ListData}
-use Rattle.cell_form.specs.Views.{list_of}
+use Rattle.cell_emit.specs.cell_form.specs.Data.{ListData}
+use Rattle.cell_emit.specs.cell_form.specs.Views.{list_of}
 use Rattle.cell_states.specs.Widths.{register_width}
 use Rattle.cell_states.proofs.Trimming.{calls-trimmed}
 use Rattle.cell_states.proofs.state.call_states.Goals as goal

@@ -1,5 +1,5 @@
 use Rattle.std.proofs.Common.{refl, []}
-use Rattle.cell_form.specs.Views.{list_of}
+use Rattle.cell_emit.specs.cell_form.specs.Views.{list_of}
 use Rattle.cell_states.specs.Widths.{register_width}
 use Rattle.cell_states.proofs.Trimming.{does-trimmed}
 use Rattle.cell_states.proofs.state.plain_state.Goals as goal

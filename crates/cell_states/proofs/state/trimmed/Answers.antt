@@ -1,6 +1,6 @@
 use Rattle.std.proofs.Common.{length, refl, sym}
 use Rattle.std.proofs.lemmas.List.{length-map}
-use Rattle.cell_form.specs.Views.{cell_of, list_of}
+use Rattle.cell_emit.specs.cell_form.specs.Views.{cell_of, list_of}
 use Rattle.cell_states.proofs.Trimming.{is-trimmed}
 use Rattle.cell_states.proofs.state.trimmed.Goals as goal
 

@@ -1,12 +1,12 @@
 use Rattle.std.proofs.Common.{◌≡◌, ◌+◌, ◌∙◌, ◌++◌, ◌∷◌, [], ap, sym, subst, map, take}
 use Rattle.std.proofs.lemmas.List.{map_more}
 use Rattle.vl_design.specs.Trees.{flat_of}
-use Rattle.cell_form.specs.Views.{list_of}
-use Rattle.cell_steps.proofs.Frames.{grows-then}
-use Rattle.cell_paths.specs.Envs.{env_of}
-use Rattle.cell_later.specs.Pendings.{slots_of}
-use Rattle.sub_split.specs.declared.table.Piece.{Piece}
-use Rattle.sub_split.specs.Views.{piece_view}
+use Rattle.cell_emit.specs.cell_form.specs.Views.{list_of}
+use Rattle.cell_emit.proofs.Frames.{grows-then}
+use Rattle.cell_emit.specs.Envs.{env_of}
+use Rattle.cell_emit.specs.Pendings.{slots_of}
+use Rattle.ten_form.specs.sub_split.specs.declared.table.Piece.{Piece}
+use Rattle.ten_form.specs.sub_split.specs.Views.{piece_view}
 use Rattle.cell_states.specs.Segments.{DoesAll}
 use Rattle.cell_states.proofs.Stretching.{all-then}
 use Rattle.cell_states.proofs.stretch.stretch.Goals as goal

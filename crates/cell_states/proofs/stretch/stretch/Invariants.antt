@@ -1,10 +1,10 @@
 use Rattle.std.proofs.Common.{map, take}
 use Rattle.vl_design.specs.Trees.{flat_of}
-use Rattle.cell_form.specs.Views.{list_of}
-use Rattle.cell_steps.specs.Slots.{Grows}
-use Rattle.cell_paths.specs.Envs.{env_of}
-use Rattle.cell_later.specs.Pendings.{slots_of}
-use Rattle.sub_split.specs.Views.{piece_view}
+use Rattle.cell_emit.specs.cell_form.specs.Views.{list_of}
+use Rattle.cell_emit.specs.Slots.{Grows}
+use Rattle.cell_emit.specs.Envs.{env_of}
+use Rattle.cell_emit.specs.Pendings.{slots_of}
+use Rattle.ten_form.specs.sub_split.specs.Views.{piece_view}
 use Rattle.cell_states.specs.Segments.{DoesAll}
 use Rattle.cell_states.proofs.stretch.stretch.Given as goal
 

@@ -1,8 +1,8 @@
 use Rattle.std.proofs.Common.{refl}
 use Rattle.vl_design.specs.Trees.{flat_of, stm_of}
-use Rattle.cell_form.specs.Views.{list_of}
-use Rattle.cell_paths.specs.Envs.{env_of}
-use Rattle.cell_later.specs.Pendings.{slots_of}
+use Rattle.cell_emit.specs.cell_form.specs.Views.{list_of}
+use Rattle.cell_emit.specs.Envs.{env_of}
+use Rattle.cell_emit.specs.Pendings.{slots_of}
 use Rattle.cell_states.proofs.Stretching.{all-one, on-three}
 use Rattle.cell_states.proofs.stretch.whole.Goals as goal
 

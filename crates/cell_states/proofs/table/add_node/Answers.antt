@@ -5,14 +5,14 @@ use Rattle.std.proofs.lemmas.Result.{on_ok_weaker}
 use Rattle.vl_design.specs.Sound.{IsMemory}
 use Rattle.vl_design.specs.Trees.{flat_of}
 use Rattle.vl_design.specs.Width.{names_of}
-use Rattle.cell_form.specs.Views.{state_of}
-use Rattle.sub_nodes.specs.Nodes as n
-use Rattle.sub_nodes.specs.Nodes.{Node}
-use Rattle.sub_split.specs.declared.table.Node.{Node as NodeCode}
-use Rattle.sub_split.specs.declared.table.Node.TheVariants as v
-use Rattle.sub_split.specs.Views.{call_view, node_view, segment_view, way_on_view}
+use Rattle.cell_emit.specs.cell_form.specs.Views.{state_of}
+use Rattle.ten_form.specs.sub_nodes.specs.Nodes as n
+use Rattle.ten_form.specs.sub_nodes.specs.Nodes.{Node}
+use Rattle.ten_form.specs.sub_split.specs.declared.table.Node.{Node as NodeCode}
+use Rattle.ten_form.specs.sub_split.specs.declared.table.Node.TheVariants as v
+use Rattle.ten_form.specs.sub_split.specs.Views.{call_view, node_view, segment_view, way_on_view}
 use Rattle.ten_form.specs.Banks.{cell_nodes}
-use Rattle.ten_stores.specs.declared.store.Store.{Store}
+use Rattle.ten_form.specs.declared.store.Store.{Store}
 use Rattle.cell_states.specs.Mades.{IsKept}
 use Rattle.cell_states.specs.Pieces.{IsCellNode}
 use Rattle.cell_states.proofs.Counting.{left-most, less-one, less-two, front-all, node-at, own-fits, kept-at}

@@ -1,7 +1,7 @@
 use Rattle.std.proofs.Common.{arith}
 use Rattle.vl_design.specs.Trees.{flat_of}
-use Rattle.sub_nodes.specs.Nodes as n
-use Rattle.sub_split.specs.Views.{segment_view, way_on_view}
+use Rattle.ten_form.specs.sub_nodes.specs.Nodes as n
+use Rattle.ten_form.specs.sub_split.specs.Views.{segment_view, way_on_view}
 use Rattle.cell_states.proofs.Noding.{on-both, has-one}
 use Rattle.cell_states.proofs.table.add_run.Goals as goal
 

@@ -1,6 +1,6 @@
 use Rattle.std.proofs.Common.{arith}
 use Rattle.vl_design.specs.Trees.{flat_of}
-use Rattle.sub_nodes.specs.Nodes as n
+use Rattle.ten_form.specs.sub_nodes.specs.Nodes as n
 use Rattle.cell_states.proofs.Noding.{on-both, has-one}
 use Rattle.cell_states.proofs.table.add_update.Goals as goal
 

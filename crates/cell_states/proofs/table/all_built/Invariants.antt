@@ -1,8 +1,8 @@
 use Rattle.std.proofs.Common.{◌-◌, length, map}
 use Rattle.vl_design.specs.Trees.{flat_of}
-use Rattle.cell_form.specs.Views.{list_of, state_of}
-use Rattle.cell_later.specs.Pendings.{slots_of}
-use Rattle.cell_paths.specs.Envs.{env_of}
+use Rattle.cell_emit.specs.cell_form.specs.Views.{list_of, state_of}
+use Rattle.cell_emit.specs.Pendings.{slots_of}
+use Rattle.cell_emit.specs.Envs.{env_of}
 use Rattle.ten_form.specs.Banks.{cell_nodes}
 use Rattle.cell_states.specs.Mades.{IsBase}
 use Rattle.cell_states.specs.Marks.{AreDelayed}

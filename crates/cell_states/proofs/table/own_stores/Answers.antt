@@ -1,5 +1,5 @@
 use Rattle.std.proofs.Common.{List, length, ap, ◌∙◌, arith}
-use Rattle.ten_stores.specs.declared.store.Store.{Store}
+use Rattle.ten_form.specs.declared.store.Store.{Store}
 use Rattle.cell_states.proofs.Counting.{own-many}
 use Rattle.cell_states.proofs.table.own_stores.Goals as goal
 

@@ -2,10 +2,10 @@ use Rattle.std.proofs.Common.{◌≡◌, ◌∙◌, ℕ, List, map, take, sym, a
 use Rattle.std.proofs.lemmas.List.{take-map}
 use Rattle.vl_design.specs.Syntax.{Flat}
 use Rattle.vl_design.specs.Trees.{flat_of}
-use Rattle.sub_facts.specs.Early.{early_from}
-use Rattle.sub_nodes.specs.Code.{table_of}
-use Rattle.sub_split.specs.Views.{node_view}
-use Rattle.sub_split.specs.declared.table.Node.{Node}
+use Rattle.ten_form.specs.sub_nodes.specs.Early.{early_from}
+use Rattle.ten_form.specs.sub_nodes.specs.Code.{table_of}
+use Rattle.ten_form.specs.sub_split.specs.Views.{node_view}
+use Rattle.ten_form.specs.sub_split.specs.declared.table.Node.{Node}
 use Rattle.ten_form.specs.Banks.{cell_nodes}
 use Rattle.cell_states.proofs.table.states.Goals as goal
 

@@ -4,15 +4,15 @@ use Rattle.std.specs.List.{AllByRecursion}
 use Rattle.vl_design.specs.Sound.{IsOf, IsMem}
 use Rattle.vl_design.specs.Trees.{flat_of, row_of}
 use Rattle.vl_design.specs.declared.design.Signal.{Signal}
-use Rattle.cell_form.specs.Data.{ListData}
-use Rattle.cell_form.specs.Sound.{Shape}
-use Rattle.cell_form.specs.Views.{list_of}
-use Rattle.cell_steps.specs.Slots.{AreSound, Nothing}
-use Rattle.cell_steps.proofs.Frames.{held-stays, in-stays, sound-before}
-use Rattle.cell_stores.specs.Reading.{HasStore, Reads}
+use Rattle.cell_emit.specs.cell_form.specs.Data.{ListData}
+use Rattle.cell_emit.specs.cell_form.specs.Sound.{Shape}
+use Rattle.cell_emit.specs.cell_form.specs.Views.{list_of}
+use Rattle.cell_emit.specs.Slots.{AreSound, Nothing}
+use Rattle.cell_emit.proofs.Frames.{held-stays, in-stays, sound-before}
+use Rattle.cell_waves.specs.Reading.{HasStore, Reads}
 use Rattle.cell_waves.proofs.Lengths.{longer-few}
 use Rattle.cell_waves.specs.Copies.{HasSignals, count_to, marked_one}
-use Rattle.ten_stores.specs.declared.store.Store.{Store}
+use Rattle.ten_form.specs.declared.store.Store.{Store}
 use Rattle.cell_states.proofs.Applying.{update-of}
 use Rattle.cell_states.proofs.Counts.{count-same}
 use Rattle.cell_states.proofs.update.made_update.Goals as goal

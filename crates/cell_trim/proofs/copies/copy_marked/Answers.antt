@@ -1,6 +1,6 @@
 use Rattle.std.proofs.Common.{◌≡◌, ℕ, ◌+◌, ◌<◌, List, length, map, refl, ap, arith, subst}
-use Rattle.cell_form.specs.declared.cell.Cell.{Cell}
-use Rattle.cell_form.specs.Views.{cell_of}
+use Rattle.cell_emit.specs.cell_form.specs.declared.cell.Cell.{Cell}
+use Rattle.cell_emit.specs.cell_form.specs.Views.{cell_of}
 use Rattle.cell_trim.specs.Marks.{on}
 use Rattle.cell_trim.specs.Copies.{AreOwed}
 use Rattle.cell_trim.proofs.Stepping.{shows-step, owed-step}

@@ -1,5 +1,5 @@
 use Rattle.std.proofs.Common.{ℕ, List, map, take}
-use Rattle.cell_form.specs.Views.{cell_of}
+use Rattle.cell_emit.specs.cell_form.specs.Views.{cell_of}
 use Rattle.cell_trim.specs.Marks.{AreMarked}
 use Rattle.cell_trim.specs.Copies.{Shows, AreOwed}
 use Rattle.cell_trim.proofs.copies.copy_marked.Given as goal

@@ -1,7 +1,7 @@
 use Rattle.std.proofs.Common.{◌≡◌, ℕ, ◌+◌, ◌-◌, ◌<◌, true, false, List, length, map, sym, ap, ◌∙◌, arith, subst}
 use Rattle.std.proofs.lemmas.List.{get_or_read}
-use Rattle.cell_form.specs.declared.cell.Cell.{Cell}
-use Rattle.cell_form.specs.Views.{cell_of}
+use Rattle.cell_emit.specs.cell_form.specs.declared.cell.Cell.{Cell}
+use Rattle.cell_emit.specs.cell_form.specs.Views.{cell_of}
 use Rattle.cell_trim.specs.Marks.{on, Marked, Closes}
 use Rattle.cell_trim.proofs.Marking.{closes-with}
 use Rattle.cell_trim.proofs.Stepping.{args-here}

@@ -1,5 +1,5 @@
 use Rattle.std.proofs.Common.{map}
-use Rattle.cell_form.specs.Views.{cell_of}
+use Rattle.cell_emit.specs.cell_form.specs.Views.{cell_of}
 use Rattle.cell_trim.specs.Marks.{Closes}
 use Rattle.cell_trim.proofs.marks.close.Given as goal
 

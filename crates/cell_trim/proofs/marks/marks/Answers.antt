@@ -1,7 +1,7 @@
 use Rattle.std.proofs.Common.{ℕ, length, map, sym, ◌∙◌, subst}
 use Rattle.std.specs.List.{flat_map}
 use Rattle.std.proofs.lemmas.List.{length-map}
-use Rattle.cell_form.specs.Views.{cell_of}
+use Rattle.cell_emit.specs.cell_form.specs.Views.{cell_of}
 use Rattle.cell_trim.specs.Marks.{Marked}
 use Rattle.cell_trim.specs.Needs.{sources, roots}
 use Rattle.cell_trim.proofs.Marking.{marked-then, are-marked}

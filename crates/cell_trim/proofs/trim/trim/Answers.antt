@@ -2,8 +2,8 @@ use Rattle.std.proofs.Common.{ℕ, ◌+◌, length, map, refl, sym, arith, subst
 use Rattle.std.specs.List.{AllByRecursion}
 use Rattle.std.proofs.lemmas.List.{length-map}
 use Rattle.std.proofs.lemmas.Result.{IfOk-weaker}
-use Rattle.cell_form.specs.Sound.{IsWrite}
-use Rattle.cell_form.specs.Views.{list_of, cell_of}
+use Rattle.cell_emit.specs.cell_form.specs.Sound.{IsWrite}
+use Rattle.cell_emit.specs.cell_form.specs.Views.{list_of, cell_of}
 use Rattle.cell_trim.specs.declared.trim.Trimmed.{Trimmed}
 use Rattle.cell_trim.specs.Moves.{number_of, AreMoved}
 use Rattle.cell_trim.proofs.Trimming.{Trims, trims-from, trims-first, trims-few, trims-there, trims-sound, trims-values, trims-writes, trims-widths, trims-needed}

@@ -1,12 +1,12 @@
 use Rattle.std.proofs.Common.{◌≡◌, List, length, map, ap, ◌∙◌, arith}
 use Rattle.std.proofs.lemmas.List.{length-map}
-use Rattle.vl_design.specs.declared.design.Signal.{Signal}
-use Rattle.vl_design.specs.Trees.{flat_of, row_of}
-use Rattle.cell_form.specs.Views.{list_of}
-use Rattle.cell_steps.proofs.Frames.{grows-then}
-use Rattle.cell_paths.specs.Envs.{env_of}
-use Rattle.cell_reads.specs.Entries.{read_count}
-use Rattle.cell_later.specs.Pendings.{slots_of}
+use Rattle.ten_form.specs.vl_design.specs.declared.design.Signal.{Signal}
+use Rattle.ten_form.specs.vl_design.specs.Trees.{flat_of, row_of}
+use Rattle.cell_emit.specs.cell_form.specs.Views.{list_of}
+use Rattle.cell_emit.proofs.Frames.{grows-then}
+use Rattle.cell_emit.specs.Envs.{env_of}
+use Rattle.cell_emit.specs.Entries.{read_count}
+use Rattle.cell_emit.specs.Pendings.{slots_of}
 use Rattle.cell_waves.proofs.Placing.{places-of, places-many, copies-of}
 use Rattle.cell_waves.proofs.Starting.{begins}
 use Rattle.cell_waves.proofs.begin.begun.Goals as goal

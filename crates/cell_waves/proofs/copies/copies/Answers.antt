@@ -1,13 +1,13 @@
 use Rattle.std.proofs.Common.{◌≡◌, ℕ, ◌+◌, ◌<◌, false, List, length, map, sym, arith, subst, Option}
 use Rattle.std.specs.Prelude.{if◌then◌else◌}
 use Rattle.std.proofs.lemmas.List.{length-map}
-use Rattle.vl_design.specs.Trees.{row_of}
-use Rattle.vl_design.specs.Sound.{HasValue, IsWidth}
-use Rattle.vl_answers.specs.Others.{is_other}
-use Rattle.cell_form.specs.Views.{list_of}
-use Rattle.cell_steps.specs.Slots.{Longer}
-use Rattle.cell_reads.specs.Entries.{HasCopy}
-use Rattle.cell_reads.proofs.Reading.{row-at}
+use Rattle.ten_form.specs.vl_design.specs.Trees.{row_of}
+use Rattle.ten_form.specs.vl_design.specs.Sound.{HasValue, IsWidth}
+use Rattle.cell_emit.specs.vl_sites.specs.Others.{is_other}
+use Rattle.cell_emit.specs.cell_form.specs.Views.{list_of}
+use Rattle.cell_emit.specs.Slots.{Longer}
+use Rattle.cell_emit.specs.Entries.{HasCopy}
+use Rattle.cell_emit.proofs.Reading.{row-at}
 use Rattle.cell_waves.proofs.Copying.{Copied, copied-more, copied-longer, copied-all}
 use Rattle.cell_waves.proofs.copies.copies.Goals as goal
 

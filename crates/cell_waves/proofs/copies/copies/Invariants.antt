@@ -1,6 +1,6 @@
 use Rattle.std.proofs.Common.{length, map}
-use Rattle.vl_design.specs.Trees.{row_of}
-use Rattle.cell_form.specs.Views.{list_of}
+use Rattle.ten_form.specs.vl_design.specs.Trees.{row_of}
+use Rattle.cell_emit.specs.cell_form.specs.Views.{list_of}
 use Rattle.cell_waves.proofs.Copying.{Copied}
 use Rattle.cell_waves.proofs.copies.copies.Given as goal
 

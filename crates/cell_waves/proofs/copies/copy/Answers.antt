@@ -1,6 +1,6 @@
-use Rattle.vl_design.specs.Trees.{row_of}
-use Rattle.cell_form.specs.Views.{list_of}
-use Rattle.cell_reads.proofs.Reading.{copy-gives}
+use Rattle.ten_form.specs.vl_design.specs.Trees.{row_of}
+use Rattle.cell_emit.specs.cell_form.specs.Views.{list_of}
+use Rattle.cell_emit.proofs.Reading.{copy-gives}
 use Rattle.cell_waves.proofs.copies.copy.Goals as goal
 
 pub returns-in_ok-slot-in-Some-clause-copies : goal.returns-in_ok-slot-in-Some-clause-copies

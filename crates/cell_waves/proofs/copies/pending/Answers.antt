@@ -1,8 +1,8 @@
 use Rattle.std.proofs.Common.{length, map}
-use Rattle.vl_design.specs.Trees.{row_of}
-use Rattle.cell_form.specs.Views.{list_of}
-use Rattle.cell_steps.proofs.Frames.{grows-then, longer-then}
-use Rattle.cell_reads.specs.Entries.{read_count}
+use Rattle.ten_form.specs.vl_design.specs.Trees.{row_of}
+use Rattle.cell_emit.specs.cell_form.specs.Views.{list_of}
+use Rattle.cell_emit.proofs.Frames.{grows-then, longer-then}
+use Rattle.cell_emit.specs.Entries.{read_count}
 use Rattle.cell_waves.specs.Copies.{HasSignals}
 use Rattle.cell_waves.proofs.Copying.{copies-stay}
 use Rattle.cell_waves.proofs.copies.pending.Goals as goal

@@ -1,7 +1,7 @@
-use Rattle.cell_form.specs.Views.{list_of}
-use Rattle.cell_steps.specs.Slots.{width_at}
+use Rattle.cell_emit.specs.cell_form.specs.Views.{list_of}
+use Rattle.cell_emit.specs.Slots.{width_at}
 use Rattle.std.specs.Prelude.{◌==◌}
-use Rattle.cell_paths.specs.Envs.{env_of}
+use Rattle.cell_emit.specs.Envs.{env_of}
 use Rattle.cell_waves.proofs.Rising.{rises, at-most-one}
 use Rattle.cell_waves.proofs.rise.rise.Goals as goal
 

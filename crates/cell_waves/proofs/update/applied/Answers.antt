@@ -2,11 +2,11 @@ use Rattle.std.proofs.Common.{◌≡◌, ℕ, ◌+◌, Bool, List, [], Option, r
 use Rattle.std.specs.Prelude.{slice_get, Some}
 use Rattle.std.proofs.lemmas.List.{length-map}
 use Rattle.std.proofs.lemmas.Result.{on_ok_weaker}
-use Rattle.vl_design.specs.declared.design.Signal.{Signal}
-use Rattle.vl_design.specs.Trees.{flat_of, row_of}
-use Rattle.cell_form.specs.declared.cell.Write.{Write}
-use Rattle.cell_form.specs.Views.{list_of}
-use Rattle.cell_reads.proofs.Reading.{row-at}
+use Rattle.ten_form.specs.vl_design.specs.declared.design.Signal.{Signal}
+use Rattle.ten_form.specs.vl_design.specs.Trees.{flat_of, row_of}
+use Rattle.cell_emit.specs.cell_form.specs.declared.cell.Write.{Write}
+use Rattle.cell_emit.specs.cell_form.specs.Views.{list_of}
+use Rattle.cell_emit.proofs.Reading.{row-at}
 use Rattle.cell_waves.specs.Applies.{HasUpdateIf}
 use Rattle.cell_waves.specs.Copies.{marked_one, Sets}
 use Rattle.cell_waves.proofs.Updating.{Updated, updated-more, applies}

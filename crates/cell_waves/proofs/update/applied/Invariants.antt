@@ -1,5 +1,5 @@
-use Rattle.vl_design.specs.Trees.{flat_of}
-use Rattle.cell_form.specs.Views.{list_of}
+use Rattle.ten_form.specs.vl_design.specs.Trees.{flat_of}
+use Rattle.cell_emit.specs.cell_form.specs.Views.{list_of}
 use Rattle.cell_waves.specs.Copies.{marked_one}
 use Rattle.cell_waves.proofs.Updating.{Updated}
 use Rattle.cell_waves.proofs.update.applied.Given as goal

@@ -1,5 +1,5 @@
-use Rattle.cell_form.specs.Views.{list_of}
-use Rattle.cell_steps.proofs.Newest.{ok-gives}
+use Rattle.cell_emit.specs.cell_form.specs.Views.{list_of}
+use Rattle.cell_emit.proofs.Newest.{ok-gives}
 use Rattle.cell_waves.proofs.Replacing.{replaces}
 use Rattle.cell_waves.proofs.update.replaced.Goals as goal
 

@@ -1,5 +1,5 @@
 use Rattle.std.proofs.Common.{Some, subst}
-use Rattle.cell_form.specs.Views.{list_of}
+use Rattle.cell_emit.specs.cell_form.specs.Views.{list_of}
 use Rattle.cell_waves.proofs.Replacing.{six-longer, update-held}
 use Rattle.cell_waves.specs.Applies.{HoldsUpdate}
 use Rattle.cell_waves.proofs.update.updated.Goals as goal

@@ -1,5 +1,5 @@
 use Rattle.std.proofs.Common.{◌∙◌}
-use Rattle.vl_design.specs.Trees.{row_of}
+use Rattle.ten_form.specs.vl_design.specs.Trees.{row_of}
 use Rattle.cell_waves.proofs.Written.{width-told}
 use Rattle.cell_waves.proofs.widths.has_width.Goals as goal
 

@@ -1,5 +1,5 @@
 use Rattle.std.proofs.Common.{map}
-use Rattle.vl_design.specs.Trees.{row_of}
+use Rattle.ten_form.specs.vl_design.specs.Trees.{row_of}
 use Rattle.cell_waves.specs.Copies.{each_one, Sets}
 use Rattle.cell_waves.proofs.Setting.{below}
 use Rattle.cell_waves.proofs.writes.write_all.Given as goal

@@ -1,9 +1,9 @@
 use Rattle.std.proofs.Common.{◌+◌, ◌*◌, map, ap, ◌∙◌, arith}
 use Rattle.std.proofs.lemmas.List.{length-map}
 use Rattle.std.specs.Prelude.{◌&&◌, unwrap_or, Some}
-use Rattle.vl_design.specs.Trees.{row_of}
-use Rattle.cell_reads.proofs.Reading.{row-at}
-use Rattle.cell_later.specs.Pendings.{slot_of}
+use Rattle.ten_form.specs.vl_design.specs.Trees.{row_of}
+use Rattle.cell_emit.proofs.Reading.{row-at}
+use Rattle.cell_emit.specs.Pendings.{slot_of}
 use Rattle.cell_waves.specs.Copies.{is_written, differs, changed, with_write}
 use Rattle.cell_waves.proofs.Setting.{sets-none, sets-more, sets-all}
 use Rattle.cell_waves.proofs.writes.write_changed.Goals as goal

@@ -1,8 +1,8 @@
 use Rattle.std.proofs.Common.{◌+◌, ◌*◌, map, ap, ◌∙◌, arith}
 use Rattle.std.proofs.lemmas.List.{length-map}
 use Rattle.std.specs.Prelude.{◌&&◌, unwrap_or, Some}
-use Rattle.vl_design.specs.Trees.{row_of}
-use Rattle.cell_reads.proofs.Reading.{row-at}
+use Rattle.ten_form.specs.vl_design.specs.Trees.{row_of}
+use Rattle.cell_emit.proofs.Reading.{row-at}
 use Rattle.cell_waves.specs.Copies.{is_written, marked_one, with_write}
 use Rattle.cell_waves.proofs.Setting.{sets-none, sets-more, sets-all}
 use Rattle.cell_waves.proofs.writes.write_marked.Goals as goal

@@ -1,6 +1,6 @@
 use Rattle.std.proofs.Common.{◌<◌, length, get_or, ap, ◌∙◌, subst, arith}
 use Rattle.std.proofs.lemmas.List.{get_or_default, take_all}
-use Rattle.fab_points.specs.Fabrics.{steppers}
+use Rattle.fab_model.specs.Fabrics.{steppers}
 use Rattle.fab_core.specs.declared.resident.Resident.{Resident}
 use Rattle.fab_core.specs.Standing.{AreStanding}
 use Rattle.fab_core.proofs.Residents.{Changes, apart-set, some-point, standing-long}

@@ -1,6 +1,6 @@
 use Rattle.std.proofs.Common.{◌≡◌, ◌≤◌, List, take}
-use Rattle.fab_points.specs.Points.{Point}
-use Rattle.fab_points.specs.Fabrics.{steppers}
+use Rattle.fab_model.specs.Points.{Point}
+use Rattle.fab_model.specs.Fabrics.{steppers}
 use Rattle.fab_core.specs.Standing.{ArePartsApart, AreStanding}
 use Rattle.fab_core.proofs.Steps.{stepped_first}
 use Rattle.fab_core.proofs.cycle.cycle_all.Given as goal

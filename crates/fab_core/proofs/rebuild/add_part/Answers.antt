@@ -1,6 +1,6 @@
 use Rattle.std.proofs.Common.{sym, subst}
-use Rattle.cell_form.specs.Sound.{shape_of}
-use Rattle.cell_form.specs.Views.{bank_of, table_of}
+use Rattle.ten_core.specs.cell_form.specs.Sound.{shape_of}
+use Rattle.ten_core.specs.cell_form.specs.Views.{bank_of, table_of}
 use Rattle.ten_core.specs.declared.origin.Origin.{Origin}
 use Rattle.fab_join.specs.Parts.{IsTable}
 use Rattle.fab_core.proofs.Tables.{table_may_run}

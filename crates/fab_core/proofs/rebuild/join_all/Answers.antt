@@ -1,6 +1,6 @@
 use Rattle.std.proofs.Common.{◌≡◌, ◌+◌, ◌++◌, ◌∷◌, [], List, length, arith, ap, sym, ◌∙◌, subst, append_assoc}
 use Rattle.std.specs.Vec.Iter.{drain_items}
-use Rattle.ten_parcel.specs.declared.tenant.Tenant.{Tenant}
+use Rattle.fab_model.specs.ten_parcel.specs.declared.tenant.Tenant.{Tenant}
 use Rattle.fab_core.specs.declared.resident.Resident.{Resident}
 use Rattle.fab_core.specs.Alone.{tenants_of, AreNumbered}
 use Rattle.fab_core.proofs.Numbered.{numbers_push, tenants_push}

@@ -1,5 +1,5 @@
 use Rattle.std.proofs.Common.{arith, subst, sym}
-use Rattle.ten_parcel.specs.declared.tenant.Tenant.{Tenant}
+use Rattle.fab_model.specs.ten_parcel.specs.declared.tenant.Tenant.{Tenant}
 use Rattle.fab_core.specs.Alone.{HasPoint}
 use Rattle.fab_core.proofs.Numbered.{parts_more, point_there}
 use Rattle.fab_core.proofs.rebuild.joined_anew.Goals as goal

@@ -1,9 +1,9 @@
 use Rattle.std.proofs.Common.{◌≡◌, arith, ap, sym, ◌∙◌, subst}
 use Rattle.std.proofs.lemmas.Bool.{iff_false}
-use Rattle.vl_cost.specs.declared.capacity.Cost.{Cost}
-use Rattle.vl_cost.specs.Costs.{Fits}
+use Rattle.vl_design.specs.declared.capacity.Cost.{Cost}
+use Rattle.vl_design.specs.Costs.{Fits}
 use Rattle.ten_core.specs.declared.origin.Origin.{Origin}
-use Rattle.fab_points.specs.Fabrics.{plus}
+use Rattle.fab_model.specs.Fabrics.{plus}
 use Rattle.fab_core.proofs.Counted.{cost_in, counted_all, counted_more, counted_stop}
 use Rattle.fab_core.proofs.rebuild.joining_of.Goals as goal
 

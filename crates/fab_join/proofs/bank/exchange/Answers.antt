@@ -1,7 +1,7 @@
 use Rattle.std.proofs.Common.{map, length, take, drop, ap, sym, ◌∙◌}
 use Rattle.std.proofs.lemmas.List.{length-map}
-use Rattle.cell_form.specs.Views.{bank_of}
-use Rattle.cell_form.specs.Sound.{shape_of}
+use Rattle.trap_runtime.specs.cell_form.specs.Views.{bank_of}
+use Rattle.trap_runtime.specs.cell_form.specs.Sound.{shape_of}
 use Rattle.fab_join.specs.Banks.{part, with_part, words_of}
 use Rattle.fab_join.specs.Laid.{shape_of_span}
 use Rattle.fab_join.proofs.Grown.{pasted_mapped, part_mapped, same_bank}

@@ -1,5 +1,5 @@
 use Rattle.std.proofs.Common.{◌≡◌, map, take}
-use Rattle.cell_form.specs.Views.{cell_of}
+use Rattle.trap_runtime.specs.cell_form.specs.Views.{cell_of}
 use Rattle.fab_join.specs.Laid.{shape_of_span}
 use Rattle.fab_join.specs.Numbers.{behind, numbered_cell}
 use Rattle.fab_join.proofs.numbers.cells_at.Given as goal

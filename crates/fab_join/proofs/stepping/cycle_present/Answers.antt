@@ -1,6 +1,6 @@
 use Rattle.std.proofs.Common.{◌<◌, length, get_or, ap, ◌∙◌, arith}
-use Rattle.cell_form.specs.Sound.{shape_of}
-use Rattle.cell_form.specs.Views.{bank_of}
+use Rattle.trap_runtime.specs.cell_form.specs.Sound.{shape_of}
+use Rattle.trap_runtime.specs.cell_form.specs.Views.{bank_of}
 use Rattle.fab_join.proofs.PartCycles.{state_may_run}
 use Rattle.fab_join.proofs.stepping.cycle_present.Goals as goal
 

@@ -3,12 +3,12 @@ use Rattle.std.specs.List.{insert}
 use Rattle.std.specs.Prelude.{All}
 use Rattle.std.proofs.lemmas.List.{map-append, nil_from_length}
 use Rattle.std.proofs.lemmas.List.Elements.{All-cons, All-nil}
-use Rattle.fab_bay.specs.declared.noted.Label.{Label}
-use Rattle.fab_bay.specs.declared.noted.NotedCore.{NotedCore}
+use Rattle.fab_desk.specs.fab_bay.specs.declared.noted.Label.{Label}
+use Rattle.fab_desk.specs.fab_bay.specs.declared.noted.NotedCore.{NotedCore}
 use Rattle.fab_rounds.specs.declared.workers.Worker.{Worker}
-use Rattle.fab_rounds.specs.Totals.{total}
-use Rattle.fab_rounds.specs.Orders.{reached_in}
-use Rattle.fab_rounds.specs.Outcomes.{lefts_there, lines_there}
+use Rattle.fab_orders.specs.Totals.{total}
+use Rattle.fab_orders.specs.Orders.{reached_in}
+use Rattle.fab_orders.specs.Outcomes.{lefts_there, lines_there}
 use Rattle.fab_rounds.specs.Ledgers.{fabric_in, found_there, labels_of, put_there, reach_in, seat_outs, seat_puts, worker_outs, DeskFacts, IsFirst, IsWorker}
 use Rattle.fab_rounds.proofs.Between.{never_any}
 use Rattle.fab_rounds.proofs.Conserved.{outs_in, IsOneClosed}
@@ -16,7 +16,7 @@ use Rattle.fab_rounds.proofs.Ends.{outcome}
 use Rattle.fab_rounds.proofs.Lists.{pair_pop}
 use Rattle.fab_rounds.proofs.Reach.{reach_pop}
 use Rattle.fab_rounds.proofs.Taken.{all_pop}
-use Rattle.fab_rounds.proofs.Totals.{total-append, total_pop}
+use Rattle.fab_orders.proofs.Totals.{total-append, total_pop}
 use Rattle.fab_rounds.proofs.closing.closed.Goals as goal
 
 -- the labels of the desks that are left and of the bays

@@ -1,10 +1,10 @@
 use Rattle.std.proofs.Common.{◌≡◌, ◌<◌, ◌≤◌, max, ℕ, ◌+◌, ◌++◌, false, List, length, get_or, map}
 use Rattle.std.specs.Prelude.{All}
-use Rattle.fab_notes.specs.Tokens.{Token}
+use Rattle.fab_core.specs.fab_model.specs.Tokens.{Token}
 use Rattle.fab_rounds.specs.declared.workers.Worker.{Worker}
-use Rattle.fab_rounds.specs.Totals.{total}
-use Rattle.fab_rounds.specs.Orders.{reached_in}
-use Rattle.fab_rounds.specs.Outcomes.{lefts_there, lines_there}
+use Rattle.fab_orders.specs.Totals.{total}
+use Rattle.fab_orders.specs.Orders.{reached_in}
+use Rattle.fab_orders.specs.Outcomes.{lefts_there, lines_there}
 use Rattle.fab_rounds.specs.Ledgers.{found_there, labels_of, put_there, reach_in, seat_outs, worker_outs, AreFirsts, DeskFacts, IsWorker}
 use Rattle.fab_rounds.proofs.Conserved.{outs_in, IsOneClosed}
 use Rattle.fab_rounds.proofs.closing.closed.Given as goal

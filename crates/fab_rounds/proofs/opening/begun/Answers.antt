@@ -4,19 +4,19 @@ use Rattle.std.specs.declared.alloc.Global.{Global}
 use Rattle.std.specs.declared.snapshot.Snapshot.{Snapshot}
 use Rattle.std.proofs.lemmas.List.{reverse-reverse}
 use Rattle.std.proofs.lemmas.List.Elements.{All-nil}
-use Rattle.fab_notes.specs.declared.note.Note.{Note}
-use Rattle.fab_notes.specs.Tokens.{outs, puts, token_of}
-use Rattle.fab_rounds.specs.declared.outcomes.Answer.{Answer}
-use Rattle.fab_rounds.specs.declared.outcomes.Order.{Order}
-use Rattle.fab_rounds.specs.declared.outcomes.Start.{Start}
-use Rattle.fab_rounds.specs.Totals.{total}
-use Rattle.fab_rounds.specs.Starts.{AreLabels, AreStarts}
-use Rattle.fab_rounds.specs.Outcomes.{cause_of, IsCause}
-use Rattle.fab_rounds.specs.Orders.{ended_by, found_by, put_by, ticks_told, AreAbove, AreOrders, IsOrder}
+use Rattle.fab_core.specs.fab_model.specs.declared.note.Note.{Note}
+use Rattle.fab_core.specs.fab_model.specs.Tokens.{outs, puts, token_of}
+use Rattle.fab_orders.specs.declared.outcomes.Answer.{Answer}
+use Rattle.fab_orders.specs.declared.outcomes.Order.{Order}
+use Rattle.fab_orders.specs.declared.outcomes.Start.{Start}
+use Rattle.fab_orders.specs.Totals.{total}
+use Rattle.fab_orders.specs.Starts.{AreLabels, AreStarts}
+use Rattle.fab_orders.specs.Outcomes.{cause_of, IsCause}
+use Rattle.fab_orders.specs.Orders.{ended_by, found_by, put_by, ticks_told, AreAbove, AreOrders, IsOrder}
 use Rattle.fab_rounds.specs.Ledgers.{fabric_in, found_there, moving_sum, put_there, reach_in, transit_sum, AreSoundAnswers, DeskSeatFacts, HasEnded, IsMoving, IsSound}
 use Rattle.fab_rounds.proofs.Opens.{start_at}
 use Rattle.fab_rounds.proofs.Taken.{all_reverse}
-use Rattle.fab_rounds.proofs.Totals.{total_all, total_pop}
+use Rattle.fab_orders.proofs.Totals.{total_all, total_pop}
 use Rattle.fab_rounds.proofs.opening.begun.Goals as goal
 
 pub loop-start-init : goal.loop-start-init

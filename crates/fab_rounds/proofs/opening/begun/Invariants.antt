@@ -1,6 +1,6 @@
 use Rattle.std.proofs.Common.{◌≡◌, ℕ, ◌+◌, ◌++◌, List, [], length}
-use Rattle.fab_notes.specs.Tokens.{Token}
-use Rattle.fab_rounds.specs.declared.outcomes.Start.{Start}
+use Rattle.fab_core.specs.fab_model.specs.Tokens.{Token}
+use Rattle.fab_orders.specs.declared.outcomes.Start.{Start}
 use Rattle.fab_rounds.specs.Ledgers.{in_hand, start_sum, IsKept}
 use Rattle.fab_rounds.proofs.opening.begun.Given as goal
 

@@ -1,10 +1,10 @@
 use Rattle.std.proofs.Common.{◌≡◌, ◌≤◌, None, sym, ap, ◌∙◌, subst, arith}
-use Rattle.fab_points.specs.Points.{ended, Point}
-use Rattle.fab_points.specs.Fabrics.{within}
+use Rattle.fab_core.specs.fab_model.specs.Points.{ended, Point}
+use Rattle.fab_core.specs.fab_model.specs.Fabrics.{within}
 use Rattle.fab_core.specs.Standing.{IsPointOf}
-use Rattle.fab_notes.specs.declared.transit.Transit.{Transit}
-use Rattle.fab_notes.specs.Tokens.{token_of}
-use Rattle.ten_parcel.specs.Parcels.{cost_of, number_of, ticks_of}
+use Rattle.fab_core.specs.fab_model.specs.declared.transit.Transit.{Transit}
+use Rattle.fab_core.specs.fab_model.specs.Tokens.{token_of}
+use Rattle.fab_core.specs.ten_parcel.specs.Parcels.{cost_of, number_of, ticks_of}
 use Rattle.fab_desk.specs.Desks.{DeskView}
 use Rattle.fab_rounds.specs.Ledgers.{reach}
 use Rattle.fab_rounds.proofs.Steps.{never_large, put_far, put_outs, put_puts, put_reach, refused_outs, refused_puts, refused_reach}

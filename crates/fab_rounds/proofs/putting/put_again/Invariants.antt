@@ -1,5 +1,5 @@
 use Rattle.std.proofs.Common.{◌≡◌, ◌≤◌, ℕ}
-use Rattle.fab_notes.specs.Tokens.{Token}
+use Rattle.fab_core.specs.fab_model.specs.Tokens.{Token}
 use Rattle.fab_rounds.specs.Ledgers.{reach, seat_outs, seat_puts, IsFirst}
 use Rattle.fab_rounds.proofs.putting.put_again.Given as goal
 

@@ -1,7 +1,7 @@
 use Rattle.std.proofs.Common.{rules, List, ap, sym, ◌∙◌, subst}
 use Rattle.std.specs.Prelude.{Vec}
 use Rattle.std.specs.declared.alloc.Global.{Global}
-use Rattle.fab_rounds.specs.declared.outcomes.Start.{Start}
+use Rattle.fab_orders.specs.declared.outcomes.Start.{Start}
 use Rattle.fab_rounds.specs.Ledgers.{DeskFacts, IsBetween, IsLedger, Operates}
 use Rattle.fab_rounds.proofs.Between.{operated_between, started}
 use Rattle.fab_rounds.proofs.rounds.run.Goals as goal

@@ -1,6 +1,6 @@
 use Rattle.std.proofs.Common.{subst}
-use Rattle.ten_parcel.specs.declared.parcel.Parcel.{Parcel}
-use Rattle.fab_points.specs.Points.{Point}
+use Rattle.fab_core.specs.ten_parcel.specs.declared.parcel.Parcel.{Parcel}
+use Rattle.fab_core.specs.fab_model.specs.Points.{Point}
 use Rattle.fab_core.specs.Standing.{IsPointOf}
 use Rattle.fab_rounds.proofs.Stopping.{stop_point}
 use Rattle.fab_rounds.proofs.shells.stop.Goals as goal

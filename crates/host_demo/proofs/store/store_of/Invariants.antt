@@ -1,5 +1,5 @@
 use Rattle.std.proofs.Common.{◌≡◌}
-use Rattle.fab_io.specs.Memory as memory
+use Rattle.host_files.specs.fab_io.specs.Memory as memory
 use Rattle.host_demo.specs.Sources.{files_of}
 use Rattle.host_demo.proofs.store.store_of.Given as goal
 

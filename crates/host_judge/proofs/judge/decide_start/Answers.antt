@@ -1,9 +1,9 @@
 use Rattle.std.proofs.Common.{ℕ, List, Option, Bor, sym, subst}
 use Rattle.std.specs.Prelude.{option_map}
-use Rattle.vl_design.specs.Trees.{flat_of}
+use Rattle.ten_core.specs.vl_design.specs.Trees.{flat_of}
 use Rattle.host_judge.specs.declared.judge.Decision.TheVariants as decision
 use Rattle.host_judge.specs.declared.starting.Start.{Start}
-use Rattle.host_judge.specs.declared.verdict.Refusal.{Refusal}
+use Rattle.host_files.specs.host_form.specs.declared.refusal.Refusal.{Refusal}
 use Rattle.host_judge.specs.Deciding.{IsDecided, IsStarted}
 use Rattle.host_judge.proofs.Decided.{misstarted}
 use Rattle.host_judge.proofs.judge.decide_start.Goals as goal

@@ -1,8 +1,8 @@
 use Rattle.std.proofs.Common.{ℕ, List, Err, refl, subst}
 use Rattle.std.proofs.lemmas.Result.{IfOk-weaker}
 use Rattle.vl_front.specs.Sources.{IsAcceptedOf, IsFront}
-use Rattle.host_form.specs.Origins.{Tenant}
-use Rattle.host_load.specs.Reading.{bytes_in}
+use Rattle.host_files.specs.host_form.specs.Origins.{Tenant}
+use Rattle.host_files.specs.Reading.{bytes_in}
 use Rattle.host_judge.specs.declared.judge.Verdict.{Verdict}
 use Rattle.host_judge.specs.Judged.{IsTenantOf}
 use Rattle.host_judge.specs.Deciding.{accepted, IsSourceRefused, IsVerdict, IsVerdictOf}

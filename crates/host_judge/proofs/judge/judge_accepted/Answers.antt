@@ -1,6 +1,6 @@
-use Rattle.host_load.specs.Reading.{bytes_in}
+use Rattle.host_files.specs.Reading.{bytes_in}
 use Rattle.std.proofs.Common.{Option, subst}
-use Rattle.host_judge.specs.declared.verdict.Refusal.{Refusal}
+use Rattle.host_files.specs.host_form.specs.declared.refusal.Refusal.{Refusal}
 use Rattle.host_judge.specs.Deciding.{IsWeighedOf}
 use Rattle.host_judge.proofs.judge.judge_accepted.Goals as goal
 

@@ -2,7 +2,7 @@ use Rattle.std.proofs.Common.{ℕ, List}
 use Rattle.std.proofs.lemmas.Result.{IfOk-weaker}
 use Rattle.vl_front.specs.Sources.{IsAcceptedOf}
 use Rattle.ten_build.specs.Builds.{IsImageOf}
-use Rattle.host_load.specs.Reading.{bytes_in}
+use Rattle.host_files.specs.Reading.{bytes_in}
 use Rattle.host_judge.specs.declared.judge.Verdict.{Verdict}
 use Rattle.host_judge.specs.Deciding.{accepted, IsVerdict, IsVerdictOf}
 use Rattle.host_judge.proofs.Weighed.{image-cost, image-room}

@@ -1,6 +1,6 @@
 use Rattle.std.proofs.Common.{ℕ, List, Option, subst}
-use Rattle.vl_design.specs.Trees.{flat_of}
-use Rattle.host_load.specs.Reading.{bytes_in}
+use Rattle.ten_core.specs.vl_design.specs.Trees.{flat_of}
+use Rattle.host_files.specs.Reading.{bytes_in}
 use Rattle.host_judge.specs.declared.judge.Decision.{Decision}
 use Rattle.host_judge.specs.Deciding.{IsDecided}
 use Rattle.host_judge.proofs.Moved.{moved-refusal}

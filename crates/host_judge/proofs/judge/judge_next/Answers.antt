@@ -1,6 +1,6 @@
 use Rattle.std.proofs.Common.{◌≡◌, List, get_or, length, subst}
 use Rattle.std.proofs.lemmas.Result.{on_ok_weaker}
-use Rattle.script_text.specs.declared.script.FabricLine.{FabricLine}
+use Rattle.host_files.specs.host_text.specs.declared.script.FabricLine.{FabricLine}
 use Rattle.host_judge.specs.Deciding.{IsVerdict}
 use Rattle.host_judge.proofs.Noted.{next}
 use Rattle.host_judge.proofs.judge.judge_next.Goals as goal

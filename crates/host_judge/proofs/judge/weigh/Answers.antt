@@ -1,6 +1,6 @@
 use Rattle.std.proofs.Common.{length, Some, refl, sym, ◌∙◌, subst}
 use Rattle.std.proofs.lemmas.Option.{slice_get_read}
-use Rattle.host_judge.specs.declared.verdict.Refusal.{Refusal}
+use Rattle.host_files.specs.host_form.specs.declared.refusal.Refusal.{Refusal}
 use Rattle.host_judge.specs.Deciding.{IsWeighed}
 use Rattle.host_judge.proofs.Weighed.{too-dear, has-room}
 use Rattle.host_judge.proofs.judge.weigh.Goals as goal

@@ -1,10 +1,10 @@
 use Rattle.std.proofs.Common.{◌≡◌, ℕ, List, Option}
 use Rattle.std.proofs.lemmas.Result.{IfOk-weaker}
-use Rattle.vl_cost.specs.Costs.{saturated_cost}
-use Rattle.vl_design.specs.Cost.{cost}
-use Rattle.vl_design.specs.Syntax.{Flat}
+use Rattle.ten_core.specs.vl_design.specs.Costs.{saturated_cost}
+use Rattle.ten_core.specs.vl_design.specs.Cost.{cost}
+use Rattle.ten_core.specs.vl_design.specs.Syntax.{Flat}
 use Rattle.vl_front.specs.Sources.{IsAcceptedOf}
-use Rattle.host_judge.specs.declared.verdict.Refusal.{Refusal}
+use Rattle.host_files.specs.host_form.specs.declared.refusal.Refusal.{Refusal}
 use Rattle.host_judge.specs.Deciding.{IsWeighed, IsWeighedOf}
 use Rattle.host_judge.proofs.judge.weigh_accepted.Goals as goal
 

@@ -1,10 +1,10 @@
 use Rattle.std.proofs.Common.{List, [], ◌∷◌, sym, subst}
-use Rattle.fab_io.specs.Outside.{Files}
-use Rattle.script_text.specs.declared.script.TenantLine.{TenantLine}
-use Rattle.host_form.specs.Origins.{Tenant, AreFilesAt, IsSnapshotAt}
-use Rattle.host_form.specs.Reports.{AreRead}
-use Rattle.host_load.specs.declared.loaded.Loaded.{Loaded}
-use Rattle.host_load.specs.Reading.{AreLoaded}
+use Rattle.host_files.specs.fab_io.specs.Outside.{Files}
+use Rattle.host_files.specs.host_text.specs.declared.script.TenantLine.{TenantLine}
+use Rattle.host_files.specs.host_form.specs.Origins.{Tenant, AreFilesAt, IsSnapshotAt}
+use Rattle.host_files.specs.host_form.specs.Reports.{AreRead}
+use Rattle.host_files.specs.declared.loaded.Loaded.{Loaded}
+use Rattle.host_files.specs.Reading.{AreLoaded}
 use Rattle.host_judge.specs.Judged.{judged, AreTenants}
 use Rattle.host_judge.proofs.laws.tenants_are_read.Goals as goal
 

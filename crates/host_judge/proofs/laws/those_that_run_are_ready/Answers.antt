@@ -1,8 +1,8 @@
 use Rattle.std.proofs.Common.{List, [], ◌∷◌, Option, Some, None}
-use Rattle.script_text.specs.declared.script.FabricLine.{FabricLine}
-use Rattle.host_form.specs.Origins.{Tenant}
+use Rattle.host_files.specs.host_text.specs.declared.script.FabricLine.{FabricLine}
+use Rattle.host_files.specs.host_form.specs.Origins.{Tenant}
 use Rattle.host_judge.specs.declared.verdict.Ready.{Ready}
-use Rattle.host_judge.specs.declared.verdict.Refusal.{Refusal}
+use Rattle.host_files.specs.host_form.specs.declared.refusal.Refusal.{Refusal}
 use Rattle.host_judge.specs.Judged.{AreJudged, AreReady}
 use Rattle.host_judge.proofs.laws.those_that_run_are_ready.Goals as goal
 

@@ -1,5 +1,5 @@
 use Rattle.std.proofs.Common.{◌≡◌, filter, take}
-use Rattle.host_form.specs.Origins.{is_planned}
+use Rattle.host_files.specs.host_form.specs.Origins.{is_planned}
 use Rattle.host_judge.specs.Deciding.{sums_of}
 use Rattle.host_judge.proofs.planning.plan_for.Given as goal
 

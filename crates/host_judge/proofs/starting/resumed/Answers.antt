@@ -1,6 +1,6 @@
 use Rattle.std.proofs.Common.{arith}
-use Rattle.vl_design.specs.Trees.{flat_of}
-use Rattle.host_form.specs.Origins.{late, misspelt}
+use Rattle.ten_core.specs.vl_design.specs.Trees.{flat_of}
+use Rattle.host_files.specs.host_form.specs.Origins.{late, misspelt}
 use Rattle.host_judge.proofs.Begun.{starts}
 use Rattle.host_judge.proofs.starting.resumed.Goals as goal
 

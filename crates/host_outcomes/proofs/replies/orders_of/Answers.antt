@@ -1,7 +1,7 @@
 use Rattle.std.proofs.Common.{◌≡◌, ◌+◌, List, ◌∷◌, ◌++◌, drop, map, sym, ap, ◌∙◌}
 use Rattle.std.proofs.lemmas.List.{drop_more}
-use Rattle.script_text.specs.declared.script.Free.{Free}
-use Rattle.host_blocks.specs.Ends.{is_refused}
+use Rattle.host_judge.specs.host_text.specs.declared.script.Free.{Free}
+use Rattle.host_report.specs.Ends.{is_refused}
 use Rattle.host_outcomes.specs.Given.{costs_begun, given}
 use Rattle.host_outcomes.proofs.replies.orders_of.Goals as goal
 

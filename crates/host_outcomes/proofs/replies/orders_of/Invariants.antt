@@ -1,5 +1,5 @@
 use Rattle.std.proofs.Common.{◌≡◌, ◌++◌, drop, map}
-use Rattle.host_blocks.specs.Ends.{is_refused}
+use Rattle.host_report.specs.Ends.{is_refused}
 use Rattle.host_outcomes.specs.Given.{costs_begun, given}
 use Rattle.host_outcomes.proofs.replies.orders_of.Given as goal
 

@@ -1,7 +1,7 @@
 use Rattle.std.proofs.Common.{◌≡◌, ◌+◌, List, ◌∷◌, drop, map, sym, subst, ap, ◌∙◌}
 use Rattle.std.proofs.lemmas.List.{drop_more}
-use Rattle.script_text.specs.declared.script.Free.{Free}
-use Rattle.host_blocks.specs.Ends.{is_refused}
+use Rattle.host_judge.specs.host_text.specs.declared.script.Free.{Free}
+use Rattle.host_report.specs.Ends.{is_refused}
 use Rattle.host_outcomes.specs.Given.{costs_of}
 use Rattle.host_outcomes.specs.Steps.{AreMade}
 use Rattle.host_outcomes.proofs.replies.replies.Goals as goal

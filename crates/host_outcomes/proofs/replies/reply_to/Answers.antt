@@ -1,6 +1,6 @@
 use Rattle.std.proofs.Common.{length, List, subst, sym}
-use Rattle.script_text.specs.declared.script.FabricLine.{FabricLine}
-use Rattle.script_text.specs.Laws.{IsFree}
+use Rattle.host_judge.specs.host_text.specs.declared.script.FabricLine.{FabricLine}
+use Rattle.host_judge.specs.host_text.specs.Laws.{IsFree}
 use Rattle.host_outcomes.proofs.replies.reply_to.Goals as goal
 
 pub reply_at_once-requires-clause-order : goal.reply_at_once-requires-clause-order

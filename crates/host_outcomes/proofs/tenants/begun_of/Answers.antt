@@ -1,7 +1,7 @@
 use Rattle.std.proofs.lemmas.List.Elements.{All-from_recursion}
-use Rattle.vl_design.specs.Cost as design
-use Rattle.ten_parcel.specs.Parcels.{run_of, IsParcel}
-use Rattle.fab_rounds.specs.declared.outcomes.Start.{Start}
+use Rattle.ten_files.specs.vl_design.specs.Cost as design
+use Rattle.fab_orders.specs.ten_parcel.specs.Parcels.{run_of, IsParcel}
+use Rattle.fab_orders.specs.declared.outcomes.Start.{Start}
 use Rattle.host_outcomes.proofs.Making.{cost-at, number-within}
 use Rattle.host_outcomes.proofs.tenants.begun_of.Goals as goal
 

@@ -1,7 +1,7 @@
 use Rattle.std.proofs.lemmas.List.Elements.{All-from_recursion}
-use Rattle.vl_design.specs.Cost as design
-use Rattle.ten_parcel.specs.Parcels.{run_of, IsParcel}
-use Rattle.fab_notes.specs.declared.transit.Transit.{Transit}
+use Rattle.ten_files.specs.vl_design.specs.Cost as design
+use Rattle.fab_orders.specs.ten_parcel.specs.Parcels.{run_of, IsParcel}
+use Rattle.host_report.specs.fab_model.specs.declared.transit.Transit.{Transit}
 use Rattle.host_outcomes.proofs.Making.{cost-at, number-within}
 use Rattle.host_outcomes.proofs.tenants.ended_of.Goals as goal
 

@@ -1,5 +1,5 @@
 use Rattle.std.proofs.Common.{◌∙◌, map, arith}
-use Rattle.host_blocks.specs.Ends.{is_refused}
+use Rattle.host_report.specs.Ends.{is_refused}
 use Rattle.host_outcomes.proofs.Making.{rank-few, rank-is}
 use Rattle.host_outcomes.proofs.tenants.number_among.Goals as goal
 

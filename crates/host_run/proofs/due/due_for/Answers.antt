@@ -1,4 +1,4 @@
-use Rattle.host_load.specs.Reading.{counts_of}
+use Rattle.host_files.specs.Reading.{counts_of}
 use Rattle.host_run.proofs.Dues.{due-shown, nothing-written}
 use Rattle.host_run.proofs.due.due_for.Goals as goal
 

@@ -1,7 +1,7 @@
 use Rattle.std.proofs.Common.{ap, sym, subst, ◌∙◌}
-use Rattle.fab_io.specs.Memory.{files_of}
-use Rattle.script_text.specs.Reading.{reading}
-use Rattle.host_load.specs.Reading.{IsAvailable}
+use Rattle.host_form.specs.fab_io.specs.Memory.{files_of}
+use Rattle.host_text.specs.Reading.{reading}
+use Rattle.host_files.specs.Reading.{IsAvailable}
 use Rattle.host_run.proofs.Dues.{due-shown-of}
 use Rattle.host_run.proofs.Parsing.{some-same}
 use Rattle.host_run.proofs.due.due_of_demo.Goals as goal

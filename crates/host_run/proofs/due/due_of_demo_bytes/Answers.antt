@@ -1,6 +1,6 @@
 use Rattle.std.proofs.Common.{subst}
-use Rattle.fab_io.specs.Memory.{files_of}
-use Rattle.host_load.specs.Reading.{IsAvailable}
+use Rattle.host_form.specs.fab_io.specs.Memory.{files_of}
+use Rattle.host_files.specs.Reading.{IsAvailable}
 use Rattle.host_run.proofs.Dues.{due-summed-of, one-script}
 use Rattle.host_run.proofs.due.due_of_demo_bytes.Goals as goal
 

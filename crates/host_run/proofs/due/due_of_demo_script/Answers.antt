@@ -1,5 +1,5 @@
 use Rattle.std.proofs.Common.{ap, Err}
-use Rattle.fab_io.specs.Memory.{files_of}
+use Rattle.host_form.specs.fab_io.specs.Memory.{files_of}
 use Rattle.host_run.proofs.Dues.{due-summed, none-missed}
 use Rattle.host_run.proofs.due.due_of_demo_script.Goals as goal
 

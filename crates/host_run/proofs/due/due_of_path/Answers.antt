@@ -1,5 +1,5 @@
 use Rattle.std.proofs.Common.{ap, Err, refl}
-use Rattle.host_load.specs.Reading.{counts_of}
+use Rattle.host_files.specs.Reading.{counts_of}
 use Rattle.host_run.specs.Words.{Run}
 use Rattle.host_run.proofs.Dues.{due-told, due-unread}
 use Rattle.host_run.proofs.due.due_of_path.Goals as goal

@@ -1,5 +1,5 @@
 use Rattle.std.proofs.Common.{ap, Err}
-use Rattle.host_load.specs.Reading.{counts_of}
+use Rattle.host_files.specs.Reading.{counts_of}
 use Rattle.host_run.proofs.Dues.{run-due, run-written, unread-file-due}
 use Rattle.host_run.proofs.due.due_of_script.Goals as goal
 

@@ -1,5 +1,5 @@
 use Rattle.std.proofs.Common.{ap, Err, refl}
-use Rattle.host_load.specs.Reading.{counts_of}
+use Rattle.host_files.specs.Reading.{counts_of}
 use Rattle.host_run.specs.Words.{Check}
 use Rattle.host_run.proofs.Dues.{due-checked, due-unread}
 use Rattle.host_run.proofs.due.due_of_source_path.Goals as goal

@@ -1,12 +1,12 @@
 use Rattle.std.proofs.Common.{◌≡◌, ◌<◌, true, false, ◌∷◌, [], length, map, arith, sym, ap, ◌∙◌}
 use Rattle.std.proofs.lemmas.Result.{on_ok_weaker}
-use Rattle.vl_design.specs.Queue.{is_comb}
-use Rattle.vl_design.specs.Functions.{scope_of}
-use Rattle.vl_design.specs.Trees.{flat_of, proc_of, stm_of}
+use Rattle.vl_eval.specs.vl_design.specs.Queue.{is_comb}
+use Rattle.vl_eval.specs.vl_design.specs.Functions.{scope_of}
+use Rattle.vl_eval.specs.vl_design.specs.Trees.{flat_of, proc_of, stm_of}
 use Rattle.vl_run.specs.Machines.{Does}
-use Rattle.vl_settle.specs.Nets.{comb_at}
+use Rattle.vl_runs.specs.NetsOfSettle.{comb_at}
 use Rattle.plain_run.specs.Runs.{Passes}
-use Rattle.plain_run.proofs.Bodies.{procs-are, procs-long, proc-is, sound-at}
+use Rattle.vl_runs.proofs.Bodies.{procs-are, procs-long, proc-is, sound-at}
 use Rattle.plain_run.proofs.Passing.{evaluated, skipped}
 use Rattle.plain_run.proofs.nets.evaluate.Goals as goal
 

@@ -1,14 +1,10 @@
 use Rattle.std.proofs.Common.{◌≡◌, ◌<◌, ℕ, zero, suc, ◌+◌, List, [], ◌∷◌, length, drop, get_or, arith, subst}
 use Rattle.std.proofs.lemmas.List.{at_drop_more, at_drop_all}
-use Rattle.vl_design.specs.Trees.{flat_of}
-use Rattle.settling.specs.Nets.{AllBelow}
+use Rattle.vl_eval.specs.vl_design.specs.Trees.{flat_of}
+use Rattle.vl_runs.specs.Nets.{AllBelow}
 use Rattle.plain_run.proofs.Passing.{Passed, passed-more, passed-all}
 use Rattle.plain_run.proofs.nets.pass.Goals as goal
-
-below-at : (n : ℕ) (xs : List ℕ) (i d : ℕ) → AllBelow n xs → i < length xs → get_or xs i d < n
-below-at n [] i d h l = absurd (omega (arith, l))
-below-at n (x ∷ xs) zero d h l = h.0
-below-at n (x ∷ xs) (suc i) d h l = below-at n xs i d h.1 (omega (arith, l))
+use Rattle.vl_runs.proofs.Shared.{below-at}
 
 pub evaluate-requires-clause-there : goal.evaluate-requires-clause-there
 evaluate-requires-clause-there c = below-at _ c.args.order.now c.loop-number.number-index 0 c.requires.there c.loop-number-test.true

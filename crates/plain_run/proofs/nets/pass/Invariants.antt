@@ -1,6 +1,6 @@
 use Rattle.std.proofs.Common.{drop}
-use Rattle.vl_design.specs.Trees.{flat_of}
-use Rattle.vl_design.specs.Width.{names_of}
+use Rattle.vl_eval.specs.vl_design.specs.Trees.{flat_of}
+use Rattle.vl_eval.specs.vl_design.specs.Width.{names_of}
 use Rattle.vl_run.specs.Machines.{IsMachine}
 use Rattle.plain_run.proofs.Passing.{Passed}
 use Rattle.plain_run.proofs.nets.pass.Given as goal

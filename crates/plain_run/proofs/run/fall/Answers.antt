@@ -1,9 +1,9 @@
 use Rattle.std.proofs.Common.{◌≡◌, true, false, sym, ◌∙◌}
 use Rattle.std.proofs.lemmas.Result.{on_ok_weaker}
-use Rattle.vl_design.specs.declared.design.ProcKind.TheVariants.{Fall}
-use Rattle.vl_design.specs.Queue.{is_fall}
-use Rattle.vl_design.specs.Alone.{blocks, falls}
-use Rattle.vl_design.specs.Trees.{flat_of}
+use Rattle.vl_eval.specs.vl_design.specs.declared.design.ProcKind.TheVariants.{Fall}
+use Rattle.vl_eval.specs.vl_design.specs.Queue.{is_fall}
+use Rattle.vl_eval.specs.vl_design.specs.Alone.{blocks, falls}
+use Rattle.vl_eval.specs.vl_design.specs.Trees.{flat_of}
 use Rattle.plain_run.specs.Runs.{wave_of, has_fall, SettlesAs, Completes}
 use Rattle.plain_run.proofs.Boundaries.{completes-here, completes-fall}
 use Rattle.plain_run.proofs.run.fall.Goals as goal

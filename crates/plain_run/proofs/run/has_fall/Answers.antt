@@ -1,5 +1,6 @@
 use Rattle.std.proofs.Common.{ap}
-use Rattle.plain_run.proofs.Bodies.{any-fall, procs-are}
+use Rattle.vl_runs.proofs.Bodies.{procs-are}
+use Rattle.plain_run.proofs.Bodies.{any-fall}
 use Rattle.plain_run.proofs.run.has_fall.Goals as goal
 
 pub loop-process-init : goal.loop-process-init

@@ -1,5 +1,5 @@
 use Rattle.std.proofs.Common.{◌≡◌, map, drop}
-use Rattle.vl_design.specs.Trees.{flat_of, proc_of}
+use Rattle.vl_eval.specs.vl_design.specs.Trees.{flat_of, proc_of}
 use Rattle.plain_run.specs.Runs as r
 use Rattle.plain_run.proofs.Bodies.{any-fall}
 use Rattle.plain_run.proofs.run.has_fall.Given as goal

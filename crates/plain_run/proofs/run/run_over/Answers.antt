@@ -1,5 +1,5 @@
 use Rattle.std.proofs.Common.{◌≡◌, suc, sym, ap, ◌∙◌, subst, add-one}
-use Rattle.vl_design.specs.Trees.{flat_of}
+use Rattle.vl_eval.specs.vl_design.specs.Trees.{flat_of}
 use Rattle.plain_run.specs.Runs.{StandsAt}
 use Rattle.plain_run.proofs.Boundaries.{stands-zero, goes-on-zero, goes-more}
 use Rattle.plain_run.proofs.run.run_over.Goals as goal

@@ -1,6 +1,6 @@
 use Rattle.std.proofs.Common.{◌-◌}
-use Rattle.vl_design.specs.Trees.{flat_of}
-use Rattle.vl_design.specs.Width.{names_of}
+use Rattle.vl_eval.specs.vl_design.specs.Trees.{flat_of}
+use Rattle.vl_eval.specs.vl_design.specs.Width.{names_of}
 use Rattle.vl_run.specs.Machines.{IsMachine}
 use Rattle.plain_run.specs.Runs.{StandsAt, GoesOn}
 use Rattle.plain_run.proofs.run.run_over.Given as goal

@@ -1,8 +1,8 @@
 use Rattle.std.proofs.Common.{◌≡◌, ℕ, ◌+◌, suc, ap, ◌∙◌}
 use Rattle.std.proofs.lemmas.Result.{on_ok_weaker}
-use Rattle.vl_design.specs.Queue.{is_fall}
-use Rattle.vl_design.specs.Alone.{blocks, falls}
-use Rattle.vl_design.specs.Trees.{flat_of}
+use Rattle.vl_eval.specs.vl_design.specs.Queue.{is_fall}
+use Rattle.vl_eval.specs.vl_design.specs.Alone.{blocks, falls}
+use Rattle.vl_eval.specs.vl_design.specs.Trees.{flat_of}
 use Rattle.plain_run.specs.Runs.{Completes, StandsAt}
 use Rattle.plain_run.proofs.Boundaries.{ticked-once}
 use Rattle.plain_run.proofs.run.tick.Goals as goal

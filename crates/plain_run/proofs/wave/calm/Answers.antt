@@ -1,7 +1,7 @@
 use Rattle.std.proofs.Common.{◌≡◌, [], sym, ap, ◌∙◌}
 use Rattle.std.proofs.lemmas.Result.{on_ok_weaker}
-use Rattle.vl_design.specs.State.{State}
-use Rattle.vl_design.specs.Trees.{flat_of}
+use Rattle.vl_eval.specs.vl_design.specs.State.{State}
+use Rattle.vl_eval.specs.vl_design.specs.Trees.{flat_of}
 use Rattle.plain_run.specs.Runs.{Passes, SettlesAs}
 use Rattle.plain_run.proofs.Passing.{passes-ticks}
 use Rattle.plain_run.proofs.Waves.{all-updated}

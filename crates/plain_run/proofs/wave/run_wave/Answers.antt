@@ -1,9 +1,10 @@
 use Rattle.std.proofs.Common.{◌≡◌, true, false, refl, sym, ◌∙◌}
-use Rattle.vl_design.specs.Functions.{scope_of}
-use Rattle.vl_design.specs.Trees.{flat_of, stm_of}
-use Rattle.vl_design.proofs.TreeLemmas.{procs-map}
+use Rattle.vl_eval.specs.vl_design.specs.Functions.{scope_of}
+use Rattle.vl_eval.specs.vl_design.specs.Trees.{flat_of, stm_of}
+use Rattle.vl_eval.specs.vl_design.proofs.TreeLemmas.{procs-map}
 use Rattle.plain_run.specs.Runs.{is_of}
-use Rattle.plain_run.proofs.Bodies.{procs-are, sound-at, does-ticks}
+use Rattle.vl_runs.proofs.Bodies.{procs-are, sound-at}
+use Rattle.plain_run.proofs.Bodies.{does-ticks}
 use Rattle.plain_run.proofs.Waves.{reaches-here, wave-passed, wave-run}
 use Rattle.plain_run.proofs.wave.run_wave.Goals as goal
 use Rattle.plain_run.proofs.wave.run_wave.Goals.{then-belongs+in_ok-exec_process, else-belongs}

@@ -1,7 +1,7 @@
 use Rattle.std.proofs.Common.{◌≡◌, map, drop}
-use Rattle.vl_design.specs.Alone.{blocks}
-use Rattle.vl_design.specs.Trees.{proc_of, flat_of}
-use Rattle.vl_design.specs.Width.{names_of}
+use Rattle.vl_eval.specs.vl_design.specs.Alone.{blocks}
+use Rattle.vl_eval.specs.vl_design.specs.Trees.{proc_of, flat_of}
+use Rattle.vl_eval.specs.vl_design.specs.Width.{names_of}
 use Rattle.vl_run.specs.Machines.{IsMachine}
 use Rattle.plain_run.specs.Runs.{is_of, wave_of, Reaches}
 use Rattle.plain_run.proofs.wave.run_wave.Given as goal

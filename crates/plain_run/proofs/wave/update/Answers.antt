@@ -1,12 +1,12 @@
 use Rattle.std.proofs.Common.{◌≡◌, refl, sym, ap, ◌∙◌, map, subst}
 use Rattle.std.specs.Prelude.{All}
 use Rattle.std.proofs.lemmas.List.Elements.{All-nil}
-use Rattle.vl_design.specs.Laws.{IsFine}
-use Rattle.vl_design.specs.Sound.{IsNamed}
-use Rattle.vl_design.specs.State.{all_updated}
-use Rattle.vl_design.specs.Trees.{flat_of}
-use Rattle.vl_design.specs.Width.{Names, names_of}
-use Rattle.vl_assign.specs.Updates.{update_of}
+use Rattle.vl_eval.specs.vl_design.specs.Laws.{IsFine}
+use Rattle.vl_eval.specs.vl_design.specs.Sound.{IsNamed}
+use Rattle.vl_eval.specs.vl_design.specs.State.{all_updated}
+use Rattle.vl_eval.specs.vl_design.specs.Trees.{flat_of}
+use Rattle.vl_eval.specs.vl_design.specs.Width.{Names, names_of}
+use Rattle.vl_eval.specs.Updates.{update_of}
 use Rattle.vl_run.proofs.Assigning.{updates-fine}
 use Rattle.plain_run.proofs.wave.update.Goals as goal
 

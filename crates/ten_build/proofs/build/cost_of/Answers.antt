@@ -1,9 +1,9 @@
 use Rattle.std.proofs.Common.{◌≡◌, List, ℕ}
 use Rattle.std.proofs.lemmas.Result.{IfOk-weaker}
-use Rattle.vl_cost.specs.Costs.{saturated_cost}
-use Rattle.vl_cost.specs.declared.capacity.Cost.{Cost}
-use Rattle.vl_design.specs.Cost as sums
-use Rattle.vl_design.specs.Trees.{flat_of}
+use Rattle.vl_loops.specs.vl_design.specs.Costs.{saturated_cost}
+use Rattle.vl_loops.specs.vl_design.specs.declared.capacity.Cost.{Cost}
+use Rattle.vl_loops.specs.vl_design.specs.Cost as sums
+use Rattle.vl_loops.specs.vl_design.specs.Trees.{flat_of}
 use Rattle.vl_front.specs.Sources.{IsAcceptedOf}
 use Rattle.ten_build.specs.Builds.{HasCost}
 use Rattle.ten_build.proofs.Building.{is-unrolled, has-cost}

@@ -1,8 +1,8 @@
 use Rattle.std.proofs.Common.{List, ℕ}
-use Rattle.vl_design.specs.Trees.{flat_of}
+use Rattle.vl_loops.specs.vl_design.specs.Trees.{flat_of}
 use Rattle.vl_front.specs.Sources.{IsAcceptedOf}
-use Rattle.ten_core.specs.declared.image.Image.{Image}
-use Rattle.ten_core.specs.Tenants.{IsImage}
+use Rattle.ten_make.specs.ten_core.specs.declared.image.Image.{Image}
+use Rattle.ten_make.specs.ten_core.specs.Tenants.{IsImage}
 use Rattle.ten_make.specs.Within.{IsWithinCost}
 use Rattle.ten_build.specs.Builds.{IsImageOf}
 use Rattle.ten_build.proofs.Building.{both, tenant, is-image}

@@ -1,5 +1,5 @@
 use Rattle.std.proofs.Common.{refl}
-use Rattle.cell_form.specs.States.{table_cycled}
+use Rattle.trap_runtime.specs.cell_form.specs.States.{table_cycled}
 use Rattle.ten_core.proofs.Cycling.{driven-to}
 use Rattle.ten_core.specs.Tenants.{table_in, tenant_of}
 use Rattle.ten_core.proofs.laws.a_cycle_leads_to_a_state.Goals as goal

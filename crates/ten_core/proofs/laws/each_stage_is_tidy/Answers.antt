@@ -1,8 +1,8 @@
 use Rattle.std.proofs.Common.{◌∙◌, ap, sym, List, ℕ}
-use Rattle.settling.specs.Nets.{pass}
+use Rattle.ten_form.specs.vl_runs.specs.Nets.{pass}
 use Rattle.vl_design.specs.Value.{value_of}
-use Rattle.vl_settle.specs.Nets.{run}
-use Rattle.sub_nodes.specs.Code.{table_of}
+use Rattle.ten_form.specs.vl_runs.specs.NetsOfSettle.{run}
+use Rattle.ten_form.specs.sub_nodes.specs.Code.{table_of}
 use Rattle.ten_form.specs.Nets.{nets_of}
 use Rattle.vl_design.specs.Width.{names_of}
 use Rattle.std.specs.Prelude.{slice_get}

@@ -1,5 +1,5 @@
 use Rattle.std.proofs.Common.{sym}
-use Rattle.cell_form.specs.Views.{state_of}
+use Rattle.trap_runtime.specs.cell_form.specs.Views.{state_of}
 use Rattle.ten_core.proofs.states.step.Goals as goal
 
 pub cycle-requires : goal.cycle-requires

@@ -1,5 +1,5 @@
 use Rattle.std.proofs.Common.{◌-◌, ◌*◌, length, arith}
-use Rattle.vl_files.proofs.Bytes.{room, shifted}
+use Rattle.ten_files.proofs.Bytes.{room, shifted}
 use Rattle.ten_files.proofs.reading.joined.Goals as goal
 
 pub overflow_mul-result : goal.overflow_mul-result

@@ -1,7 +1,7 @@
 use Rattle.std.proofs.Common.{◌≡◌, ◌∙◌, sym, ℕ, true, arith, mod-eq_of_lt}
 use Rattle.std.specs.Prelude.{◌==◌}
 use Rattle.std.proofs.lemmas.Bool.Decides.{nat_tests}
-use Rattle.vl_files.proofs.Bytes.{reads-none}
+use Rattle.ten_files.proofs.Bytes.{reads-none}
 use Rattle.ten_files.proofs.reading.with_bytes.Goals as goal
 
 none : (n : ℕ) → true ≡ (n == 0) → n ≡ 0

@@ -1,6 +1,6 @@
 use Rattle.std.proofs.Common.{◌≡◌, ◌∙◌, sym, true, false, arith}
 use Rattle.vl_base.specs.Files.{is_taken}
-use Rattle.vl_files.proofs.Tables.{slot-free, slot-past}
+use Rattle.ten_files.proofs.Tables.{slot-free, slot-past}
 use Rattle.ten_files.specs.Tables.{open_files}
 use Rattle.ten_files.proofs.Rows.{taken-at}
 use Rattle.ten_files.proofs.slots.free_slot.Goals as goal

@@ -1,4 +1,4 @@
-use Rattle.vl_design.specs.Trees.{flat_of}
+use Rattle.ten_core.specs.vl_design.specs.Trees.{flat_of}
 use Rattle.ten_make.proofs.Imaging.{nodes-are, rise-is}
 use Rattle.ten_make.proofs.image.few_nodes.Goals as goal
 

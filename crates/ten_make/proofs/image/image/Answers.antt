@@ -1,5 +1,5 @@
 use Rattle.std.proofs.Common.{refl, sym, subst}
-use Rattle.vl_design.specs.Trees.{flat_of}
+use Rattle.ten_core.specs.vl_design.specs.Trees.{flat_of}
 use Rattle.ten_core.specs.declared.image.Image.{Image}
 use Rattle.ten_core.specs.Tenants.{IsImage}
 use Rattle.ten_make.proofs.image.image.Goals as goal

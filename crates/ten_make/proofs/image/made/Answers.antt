@@ -1,5 +1,5 @@
 use Rattle.std.proofs.Common.{◌∙◌}
-use Rattle.vl_design.specs.Trees.{flat_of}
+use Rattle.ten_core.specs.vl_design.specs.Trees.{flat_of}
 use Rattle.ten_make.proofs.Imaging.{first-cells, image-is}
 use Rattle.ten_make.proofs.Keeping.{within}
 use Rattle.ten_make.proofs.image.made.Goals as goal

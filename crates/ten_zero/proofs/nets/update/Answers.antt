@@ -6,7 +6,7 @@ use Rattle.vl_design.specs.Sound.{IsNamed}
 use Rattle.vl_design.specs.State.{all_updated}
 use Rattle.vl_design.specs.Trees.{flat_of}
 use Rattle.vl_design.specs.Width.{Names, names_of}
-use Rattle.vl_assign.specs.Updates.{update_of}
+use Rattle.vl_eval.specs.Updates.{update_of}
 use Rattle.vl_run.proofs.Assigning.{updates-fine}
 use Rattle.ten_zero.proofs.nets.update.Goals as goal
 

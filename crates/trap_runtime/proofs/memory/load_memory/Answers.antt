@@ -1,8 +1,8 @@
 use Rattle.std.proofs.Common.{◌≡◌, ℕ, List, ◌∙◌, ap, sym, length, arith, w32, to_z, of_z, rules}
 use Rattle.std.proofs.lemmas.Int.{to_z-of_z}
 use Rattle.std.proofs.lemmas.List.{length-map}
-use Rattle.vl_design.specs.ReadHex.{words_read}
-use Rattle.vl_design.specs.Rows.{lower_of, range_width}
+use Rattle.fmt_text.specs.vl_design.specs.ReadHex.{words_read}
+use Rattle.fmt_text.specs.vl_design.specs.Rows.{lower_of, range_width}
 use Rattle.trap_runtime.proofs.Copying.{length-read, bank-loaded}
 use Rattle.trap_runtime.proofs.memory.load_memory.Goals as goal
 

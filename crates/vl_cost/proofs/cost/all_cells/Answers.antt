@@ -1,6 +1,6 @@
 use Rattle.std.proofs.Common.{◌≡◌, ℕ, List, subst}
 use Rattle.std.specs.Prelude.{sum_by}
-use Rattle.vl_cost.specs.Costs.{saturated}
+use Rattle.vl_design.specs.Costs.{saturated}
 use Rattle.vl_cost.specs.Walks.{block_cells}
 use Rattle.vl_cost.proofs.Summing.{blocks-are, slice-loopless}
 use Rattle.vl_cost.proofs.cost.all_cells.Goals as goal

@@ -1,8 +1,8 @@
 use Rattle.std.proofs.Common.{ℕ, ◌+◌, ◌∷◌, ap, ◌∙◌, sym}
 use Rattle.std.specs.Prelude.{slice_index}
 use Rattle.vl_design.specs.Trees.{arg_of}
-use Rattle.vl_limits.specs.Displays.{items_in}
-use Rattle.vl_cost.specs.Costs.{saturated}
+use Rattle.vl_design.specs.Formats.{items_in}
+use Rattle.vl_design.specs.Costs.{saturated}
 use Rattle.vl_cost.specs.Displays.{shown_cells}
 use Rattle.vl_cost.proofs.Showing.{shown-text}
 use Rattle.vl_cost.proofs.displays.alone.Goals as goal

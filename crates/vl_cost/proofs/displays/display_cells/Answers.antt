@@ -4,7 +4,7 @@ use Rattle.std.proofs.lemmas.List.{at_drop_all, at_drop_more}
 use Rattle.vl_design.specs.declared.design.SysArg.{SysArg}
 use Rattle.vl_design.specs.Formats.{Arg}
 use Rattle.vl_design.specs.Trees.{arg_of}
-use Rattle.vl_cost.specs.Costs.{saturated}
+use Rattle.vl_design.specs.Costs.{saturated}
 use Rattle.vl_cost.specs.Displays.{shown_cells}
 use Rattle.vl_cost.proofs.Showing.{shown-none}
 use Rattle.vl_cost.proofs.displays.display_cells.Goals as goal

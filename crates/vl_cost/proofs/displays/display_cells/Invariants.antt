@@ -1,7 +1,7 @@
 use Rattle.std.proofs.Common.{◌≡◌, ◌+◌, map, drop}
 use Rattle.std.specs.Prelude.{slice_index}
 use Rattle.vl_design.specs.Trees.{arg_of}
-use Rattle.vl_cost.specs.Costs.{saturated}
+use Rattle.vl_design.specs.Costs.{saturated}
 use Rattle.vl_cost.specs.Displays.{shown_cells}
 use Rattle.vl_cost.proofs.displays.display_cells.Given as goal
 

@@ -2,7 +2,7 @@ use Rattle.std.proofs.Common.{◌≡◌, ◌≤◌, ◌+◌, drop}
 use Rattle.std.specs.Prelude.{slice_index}
 use Rattle.vl_design.specs.Cost.{targets_cells}
 use Rattle.vl_limits.specs.Tallies.{targets_of}
-use Rattle.vl_cost.specs.Costs.{saturated}
+use Rattle.vl_design.specs.Costs.{saturated}
 use Rattle.vl_cost.proofs.expressions.+targets.Given as goal
 
 abbrev pub invariant-targets_cells-loop-t : goal.invariant-targets_cells-loop-t

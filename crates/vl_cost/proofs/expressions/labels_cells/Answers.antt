@@ -4,7 +4,7 @@ use Rattle.std.proofs.lemmas.List.{at_drop_more}
 use Rattle.vl_design.specs.declared.design.Expr.{Expr}
 use Rattle.vl_design.specs.Cost.{exp_cells, labels_cells}
 use Rattle.vl_design.specs.Trees.{exp_of, exps_of}
-use Rattle.vl_cost.specs.Costs.{saturated}
+use Rattle.vl_design.specs.Costs.{saturated}
 use Rattle.vl_cost.proofs.expressions.labels_cells.Goals as goal
 
 -- one label more

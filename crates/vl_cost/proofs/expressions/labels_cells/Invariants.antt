@@ -2,7 +2,7 @@ use Rattle.std.proofs.Common.{◌≡◌, ◌≤◌, ◌+◌, drop}
 use Rattle.std.specs.Prelude.{slice_index}
 use Rattle.vl_design.specs.Cost.{labels_cells}
 use Rattle.vl_design.specs.Trees.{exps_of}
-use Rattle.vl_cost.specs.Costs.{saturated}
+use Rattle.vl_design.specs.Costs.{saturated}
 use Rattle.vl_cost.proofs.expressions.labels_cells.Given as goal
 
 abbrev pub invariant-loop-e : goal.invariant-loop-e

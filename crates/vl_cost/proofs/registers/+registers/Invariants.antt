@@ -3,7 +3,7 @@ use Rattle.vl_design.specs.Plainly.{items}
 use Rattle.vl_design.specs.Seen as seen
 use Rattle.vl_design.specs.Trees.{then_of}
 use Rattle.vl_limits.specs.Walks.{items_of}
-use Rattle.vl_cost.specs.Costs.{saturated}
+use Rattle.vl_design.specs.Costs.{saturated}
 use Rattle.vl_cost.specs.Walks.{regs_of, item_regs_of, HaveNoLoop, ItemsHaveNoLoop}
 use Rattle.vl_cost.proofs.registers.+registers.Given as goal
 

@@ -3,7 +3,7 @@ use Rattle.vl_design.specs.Cost.{words_regs}
 use Rattle.vl_design.specs.Plain.{plain_scope}
 use Rattle.vl_design.specs.Rows.{row_of}
 use Rattle.vl_limits.specs.Tallies.{targets_of}
-use Rattle.vl_cost.specs.Costs.{saturated}
+use Rattle.vl_design.specs.Costs.{saturated}
 use Rattle.vl_cost.proofs.registers.+words.Given as goal
 
 abbrev pub invariant-words_regs-loop-t : goal.invariant-words_regs-loop-t

@@ -2,7 +2,7 @@ use Rattle.std.proofs.Common.{◌≡◌, ◌≤◌, ◌+◌, drop}
 use Rattle.std.specs.Prelude.{sum_by}
 use Rattle.vl_design.specs.Cost.{row_mem}
 use Rattle.vl_design.specs.Rows.{row_of}
-use Rattle.vl_cost.specs.Costs.{saturated}
+use Rattle.vl_design.specs.Costs.{saturated}
 use Rattle.vl_cost.proofs.signals.signal_mem.Given as goal
 
 abbrev pub invariant-loop-signal : goal.invariant-loop-signal

@@ -3,7 +3,7 @@ use Rattle.std.specs.Prelude.{slice_index}
 use Rattle.vl_design.specs.Calls.{finish_of}
 use Rattle.vl_design.specs.Cost.{exps_cells}
 use Rattle.vl_design.specs.Trees.{arg_of}
-use Rattle.vl_cost.specs.Costs.{saturated}
+use Rattle.vl_design.specs.Costs.{saturated}
 use Rattle.vl_cost.proofs.tasks.finish_cells.Given as goal
 
 abbrev pub invariant-loop-a : goal.invariant-loop-a

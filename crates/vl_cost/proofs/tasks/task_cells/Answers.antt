@@ -1,6 +1,6 @@
 use Rattle.std.proofs.Common.{ℕ, ap, ◌∙◌}
 use Rattle.std.specs.Prelude.{slice_index}
-use Rattle.vl_cost.specs.Costs.{saturated}
+use Rattle.vl_design.specs.Costs.{saturated}
 use Rattle.vl_cost.proofs.Tasking.{task-is}
 use Rattle.vl_cost.proofs.tasks.task_cells.Goals as goal
 

@@ -1,8 +1,8 @@
 use Rattle.std.proofs.Common.{◌+◌, ◌≤◌, ℕ, Bool, true, false, cond, drop, get_or, sym, ap, ◌∙◌, subst, arith}
 use Rattle.std.specs.Prelude.{◌==◌}
 use Rattle.std.proofs.lemmas.List.{get_or_default}
-use Rattle.vl_base.specs.declared.place.Place.{Place}
-use Rattle.vl_tree.specs.Tokens.{place_after, next_place}
+use Rattle.vl_elab.specs.vl_base.specs.declared.place.Place.{Place}
+use Rattle.vl_lex.specs.vl_tree.specs.Tokens.{place_after, next_place}
 use Rattle.vl_lex.proofs.Values.{place_goes, place_ends}
 use Rattle.vl_front.proofs.end.end_of.Goals as goal
 

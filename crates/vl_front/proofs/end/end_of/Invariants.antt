@@ -1,5 +1,5 @@
 use Rattle.std.proofs.Common.{◌≡◌, ◌+◌, ◌≤◌, drop}
-use Rattle.vl_tree.specs.Tokens.{place_after, start}
+use Rattle.vl_lex.specs.vl_tree.specs.Tokens.{place_after, start}
 use Rattle.vl_front.proofs.end.end_of.Given as goal
 
 -- what is left leads to the end

@@ -1,8 +1,8 @@
 use Rattle.std.proofs.Common.{◌≡◌, ℕ, List, Err, inl, inr, ◌⊎◌, refl, subst, ap}
-use Rattle.vl_base.specs.declared.place.Place.{Place}
-use Rattle.vl_tree.specs.declared.token.Token.{Token}
-use Rattle.vl_tree.specs.Faults.{IsRead}
-use Rattle.vl_source.specs.Faults.{PassesLimit, IsFirstFault, statement_limit, expression_limit}
+use Rattle.vl_elab.specs.vl_base.specs.declared.place.Place.{Place}
+use Rattle.vl_lex.specs.vl_tree.specs.declared.token.Token.{Token}
+use Rattle.vl_lex.specs.vl_tree.specs.Faults.{IsRead}
+use Rattle.vl_lex.specs.vl_tree.specs.FaultsOfSource.{PassesLimit, IsFirstFault, statement_limit, expression_limit}
 use Rattle.vl_front.specs.declared.fault.Kind.TheVariants as k
 use Rattle.vl_front.specs.Sources.{IsRefusal, unparsed, too_deep, too_long, end_of}
 use Rattle.vl_front.proofs.Telling.{told}

@@ -1,5 +1,5 @@
 use Rattle.std.proofs.Common.{refl, ap}
-use Rattle.vl_design.specs.Seen.{placed}
+use Rattle.vl_elab.specs.vl_design.specs.Seen.{placed}
 use Rattle.vl_front.specs.declared.fault.Kind.TheVariants as k
 use Rattle.vl_front.specs.Sources.{misbuilt, outgrown}
 use Rattle.vl_front.proofs.Telling.{told}

@@ -1,6 +1,6 @@
 use Rattle.std.proofs.Common.{ℕ, List, sym, ◌∙◌, subst}
-use Rattle.vl_header.specs.Rooms.{rows_of, AreNumbers}
-use Rattle.vl_header.proofs.Zeros.{none-numbers}
+use Rattle.vl_loops.specs.Rooms.{rows_of, AreNumbers}
+use Rattle.vl_loops.proofs.Zeros.{none-numbers}
 use Rattle.vl_limits.proofs.bodies.body_sum.Goals as goal
 
 pub stm_sum-requires-clause-numbers : goal.stm_sum-requires-clause-numbers

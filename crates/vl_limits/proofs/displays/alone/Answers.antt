@@ -1,6 +1,7 @@
 use Rattle.std.proofs.Common.{◌+◌, ◌∷◌, min, ap, ◌∙◌, sym}
 use Rattle.vl_design.specs.Trees.{arg_of}
-use Rattle.vl_limits.specs.Displays.{shown_count, items_in}
+use Rattle.vl_design.specs.Formats.{items_in}
+use Rattle.vl_limits.specs.Displays.{shown_count}
 use Rattle.vl_limits.specs.Tallies.{counted_of}
 use Rattle.vl_limits.proofs.Showing.{shown-text}
 use Rattle.vl_limits.proofs.displays.alone.Goals as goal

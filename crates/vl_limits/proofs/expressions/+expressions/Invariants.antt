@@ -1,6 +1,6 @@
 use Rattle.std.proofs.Common.{◌≡◌, ◌≤◌, ◌+◌, min, drop}
 use Rattle.vl_design.specs.Trees.{exps_of}
-use Rattle.vl_turns.specs.Limits.{exps_count}
+use Rattle.vl_loops.specs.Limits.{exps_count}
 use Rattle.vl_limits.specs.Tallies.{counted_of}
 use Rattle.vl_limits.proofs.expressions.+expressions.Given as goal
 

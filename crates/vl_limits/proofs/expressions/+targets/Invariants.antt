@@ -1,5 +1,5 @@
 use Rattle.std.proofs.Common.{◌≡◌, ◌≤◌, ◌+◌, min, drop}
-use Rattle.vl_turns.specs.Limits.{targets_count}
+use Rattle.vl_loops.specs.Limits.{targets_count}
 use Rattle.vl_limits.specs.Tallies.{counted_of, targets_of}
 use Rattle.vl_limits.proofs.expressions.+targets.Given as goal
 

@@ -1,6 +1,6 @@
 use Rattle.std.proofs.Common.{◌≡◌, map, drop}
 use Rattle.vl_design.specs.Seen.{placed, func_of}
-use Rattle.vl_turns.specs.Limits.{funcs_limit}
+use Rattle.vl_loops.specs.Limits.{funcs_limit}
 use Rattle.vl_limits.proofs.limits.funcs_limit.Given as goal
 
 abbrev pub invariant-loop-index : goal.invariant-loop-index

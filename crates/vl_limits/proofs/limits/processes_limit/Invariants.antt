@@ -1,6 +1,6 @@
 use Rattle.std.proofs.Common.{map, drop}
 use Rattle.vl_design.specs.Seen.{placed, process_of}
-use Rattle.vl_turns.specs.Limits.{processes_limit}
+use Rattle.vl_loops.specs.Limits.{processes_limit}
 use Rattle.vl_limits.proofs.Passing.{Passes}
 use Rattle.vl_limits.proofs.limits.processes_limit.Given as goal
 

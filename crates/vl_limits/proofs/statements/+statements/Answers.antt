@@ -6,10 +6,10 @@ use Rattle.vl_design.specs.declared.design.StmtNode.{the_lemmas}
 use Rattle.vl_design.specs.Exec.{most_turns}
 use Rattle.vl_design.specs.Seen.{stm_of, stms_of, exp_of, node_stm}
 use Rattle.vl_design.proofs.TreeLemmas.{placed-Seq}
-use Rattle.vl_turns.specs.Limits.{stm_count}
-use Rattle.vl_header.specs.Loops.{HasHeads, HaveHeads, ItemsHaveHeads}
-use Rattle.vl_header.specs.Rooms.{rows_of, scope_of, state_of, AreNumbers}
-use Rattle.vl_header.proofs.Stepping.{loop-there, others-set}
+use Rattle.vl_loops.specs.Limits.{stm_count}
+use Rattle.vl_loops.specs.Loops.{HasHeads, HaveHeads, ItemsHaveHeads}
+use Rattle.vl_loops.specs.Rooms.{rows_of, scope_of, state_of, AreNumbers}
+use Rattle.vl_loops.proofs.SteppingOfHeader.{loop-there, others-set}
 use Rattle.vl_limits.specs.Tallies.{counted_of}
 use Rattle.vl_limits.specs.Walks.{items_of}
 use Rattle.vl_limits.proofs.Adding.{turn-step}

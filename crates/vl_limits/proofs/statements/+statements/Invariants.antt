@@ -1,9 +1,9 @@
 use Rattle.std.proofs.Common.{◌≡◌, ◌≤◌, ◌+◌, ℕ, min, drop, slice_set}
 use Rattle.std.specs.Prelude.{All, sum_by}
 use Rattle.vl_design.specs.Seen.{stm_of, stms_of}
-use Rattle.vl_turns.specs.Limits.{stm_count, stms_count, items_count}
-use Rattle.vl_header.specs.Loops.{HaveHeads, ItemsHaveHeads}
-use Rattle.vl_header.specs.Rooms.{rows_of, scope_of, state_of, AreNumbers}
+use Rattle.vl_loops.specs.Limits.{stm_count, stms_count, items_count}
+use Rattle.vl_loops.specs.Loops.{HaveHeads, ItemsHaveHeads}
+use Rattle.vl_loops.specs.Rooms.{rows_of, scope_of, state_of, AreNumbers}
 use Rattle.vl_limits.specs.Tallies.{counted_of}
 use Rattle.vl_limits.specs.Walks.{items_of}
 use Rattle.vl_limits.proofs.statements.+statements.Given as goal

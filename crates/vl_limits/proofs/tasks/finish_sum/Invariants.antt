@@ -1,7 +1,7 @@
 use Rattle.std.proofs.Common.{◌≡◌, ◌+◌, ◌≤◌, min, map, drop}
 use Rattle.vl_design.specs.Calls.{finish_of}
 use Rattle.vl_design.specs.Trees.{arg_of}
-use Rattle.vl_turns.specs.Limits.{exps_count}
+use Rattle.vl_loops.specs.Limits.{exps_count}
 use Rattle.vl_limits.specs.Tallies.{counted_of}
 use Rattle.vl_limits.proofs.tasks.finish_sum.Given as goal
 

@@ -1,5 +1,5 @@
 use Rattle.std.proofs.Common.{◌≡◌, [], ◌++◌, IfOk, sym, ap, ◌∙◌, subst}
-use Rattle.vl_source.specs.Hierarchy.{graph_of}
+use Rattle.vl_scope.specs.vl_tree.specs.Hierarchy.{graph_of}
 use Rattle.vl_scope.specs.Faults.{earliest, each_after}
 use Rattle.vl_scope.proofs.Orders.{earliest-append}
 use Rattle.vl_names.specs.HierarchyFaults.{repeated_fault, given_faults, graph_faults, hierarchy_faults}

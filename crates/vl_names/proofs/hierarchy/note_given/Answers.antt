@@ -1,5 +1,5 @@
 use Rattle.std.proofs.Common.{◌≡◌, List, flat_map, IfOk, sym, ap, ◌∙◌, subst}
-use Rattle.vl_source.specs.declared.tree.Instance.{Instance}
+use Rattle.vl_scope.specs.vl_tree.specs.declared.source_tree.Instance.{Instance}
 use Rattle.vl_scope.specs.declared.fault.Fault.{Fault}
 use Rattle.vl_scope.specs.Faults.{earliest}
 use Rattle.vl_names.specs.Modules.{all_instances}

@@ -1,6 +1,6 @@
 use Rattle.std.proofs.Common.{◌≡◌, List, map, IfOk, sym, ap, ◌∙◌, subst}
-use Rattle.vl_source.specs.declared.tree.Module.{Module}
-use Rattle.vl_source.specs.Hierarchy.{steps_of, graph_of}
+use Rattle.vl_scope.specs.vl_tree.specs.declared.source_tree.Module.{Module}
+use Rattle.vl_scope.specs.vl_tree.specs.Hierarchy.{steps_of, graph_of}
 use Rattle.vl_scope.specs.Faults.{earliest}
 use Rattle.vl_names.specs.HierarchyFaults.{graph_faults}
 use Rattle.vl_names.specs.Walks.{IsWithin}

@@ -1,7 +1,7 @@
 use Rattle.std.proofs.Common.{◌≡◌, ℕ, ◌<◌, length, map, IfOk, Option, Some, sym, ap, ◌∙◌, subst}
 use Rattle.std.specs.Prelude.{IfSome}
 use Rattle.std.proofs.lemmas.List.{length-map}
-use Rattle.vl_source.specs.Hierarchy.{steps_of, module_number, graph_of, first_top}
+use Rattle.vl_scope.specs.vl_tree.specs.Hierarchy.{steps_of, module_number, graph_of, first_top}
 use Rattle.vl_names.specs.Walks.{IsWithin}
 use Rattle.vl_names.proofs.Graph.{graph-within}
 use Rattle.vl_names.proofs.hierarchy.top_number.Goals as goal

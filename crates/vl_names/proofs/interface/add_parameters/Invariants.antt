@@ -1,5 +1,5 @@
 use Rattle.std.proofs.Common.{◌≡◌, ◌++◌, take}
-use Rattle.vl_source.specs.Hierarchy as spec
+use Rattle.vl_scope.specs.vl_tree.specs.Hierarchy as spec
 use Rattle.vl_names.specs.Seen as seen
 use Rattle.vl_names.proofs.interface.add_parameters.Given as goal
 

@@ -1,5 +1,5 @@
 use Rattle.std.proofs.Common.{◌≡◌, ◌-◌, length}
-use Rattle.vl_source.specs.Hierarchy.{first_from}
+use Rattle.vl_scope.specs.vl_tree.specs.Hierarchy.{first_from}
 use Rattle.vl_names.specs.Walks.{is_unmarked}
 use Rattle.vl_names.proofs.tops.first_unmarked.Given as goal
 

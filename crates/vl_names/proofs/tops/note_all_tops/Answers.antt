@@ -1,5 +1,5 @@
 use Rattle.std.proofs.Common.{◌≡◌, ℕ, Bool, length, IfOk, ap, ◌∙◌, subst}
-use Rattle.vl_source.specs.Hierarchy.{is_top, first_from, first_top}
+use Rattle.vl_scope.specs.vl_tree.specs.Hierarchy.{is_top, first_from, first_top}
 use Rattle.vl_scope.specs.Faults.{earliest}
 use Rattle.vl_names.specs.HierarchyFaults.{top_faults}
 use Rattle.vl_names.specs.Walks.{is_unmarked}

@@ -1,6 +1,6 @@
 use Rattle.std.proofs.Common.{codes, arith}
-use Rattle.vl_grammar.specs.Reading.{mark}
-use Rattle.vl_source.specs.Parsing as spec
+use Rattle.vl_tree.specs.Reading.{mark}
+use Rattle.vl_tree.specs.Parsing as spec
 use Rattle.vl_pstmt.proofs.Passing.{passed, many_end, many_fails}
 use Rattle.vl_parse.proofs.Lists.{list_fails, list_opened, list_turned, added_fails}
 use Rattle.vl_parse.proofs.declarations.declaration_assignments.Goals as goal

@@ -1,6 +1,6 @@
 use Rattle.std.proofs.Common.{codes, arith}
-use Rattle.vl_source.specs.Parsers.{is_word}
-use Rattle.vl_source.specs.Parsing as spec
+use Rattle.vl_tree.specs.Parsers.{is_word}
+use Rattle.vl_tree.specs.Parsing as spec
 use Rattle.vl_pstmt.proofs.Passing.{passed}
 use Rattle.vl_parse.proofs.Lists.{groups_open, groups_step, groups_step_fails, groups_end}
 use Rattle.vl_parse.proofs.declarations.more_groups.Goals as goal

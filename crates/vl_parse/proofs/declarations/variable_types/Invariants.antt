@@ -1,7 +1,7 @@
 use Rattle.std.proofs.Common.{◌<◌, length, codes}
-use Rattle.vl_grammar.specs.Reading.{mark}
-use Rattle.vl_source.specs.Parsers.{list}
-use Rattle.vl_source.specs.Parsing as spec
+use Rattle.vl_tree.specs.Reading.{mark}
+use Rattle.vl_tree.specs.Parsers.{list}
+use Rattle.vl_tree.specs.Parsing as spec
 use Rattle.vl_pstmt.proofs.Passing.{GoesOn}
 use Rattle.vl_parse.proofs.declarations.variable_types.Given as goal
 

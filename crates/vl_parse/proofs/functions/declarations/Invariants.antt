@@ -1,6 +1,6 @@
 use Rattle.std.proofs.Common.{◌≤◌, length}
-use Rattle.vl_source.specs.Parsers.{many}
-use Rattle.vl_source.specs.Parsing as spec
+use Rattle.vl_tree.specs.Parsers.{many}
+use Rattle.vl_tree.specs.Parsing as spec
 use Rattle.vl_pstmt.proofs.Passing.{GoesOn}
 use Rattle.vl_parse.proofs.functions.declarations.Given as goal
 

@@ -1,4 +1,4 @@
-use Rattle.vl_source.specs.Parsing.{function}
+use Rattle.vl_tree.specs.Parsing.{function}
 use Rattle.vl_parse.proofs.functions.function.Goals as goal
 
 pub returns-clause-reads : goal.returns-clause-reads

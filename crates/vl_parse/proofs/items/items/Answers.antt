@@ -1,5 +1,5 @@
 use Rattle.std.proofs.Common.{arith}
-use Rattle.vl_source.specs.Parsing as spec
+use Rattle.vl_tree.specs.Parsing as spec
 use Rattle.vl_pstmt.proofs.Passing.{passed, with_front_none}
 use Rattle.vl_parse.proofs.Lists.{turn, end, fail}
 use Rattle.vl_parse.proofs.items.items.Goals as goal

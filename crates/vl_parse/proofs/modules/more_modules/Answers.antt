@@ -1,6 +1,6 @@
 use Rattle.std.proofs.Common.{codes, arith, refl}
-use Rattle.vl_grammar.specs.Reading.{keyword}
-use Rattle.vl_source.specs.Parsing as spec
+use Rattle.vl_tree.specs.Reading.{keyword}
+use Rattle.vl_tree.specs.Parsing as spec
 use Rattle.vl_pstmt.proofs.Passing.{passed, many_turn, many_end, many_fails}
 use Rattle.vl_parse.proofs.modules.more_modules.Goals as goal
 

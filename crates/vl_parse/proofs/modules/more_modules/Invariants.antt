@@ -1,7 +1,7 @@
 use Rattle.std.proofs.Common.{◌≤◌, length, [], ◌∷◌, codes}
-use Rattle.vl_grammar.specs.Reading.{keyword}
-use Rattle.vl_source.specs.Parsers.{with_front, many}
-use Rattle.vl_source.specs.Parsing as spec
+use Rattle.vl_tree.specs.Reading.{keyword}
+use Rattle.vl_tree.specs.Parsers.{with_front, many}
+use Rattle.vl_tree.specs.Parsing as spec
 use Rattle.vl_pstmt.proofs.Passing.{GoesOn}
 use Rattle.vl_parse.proofs.modules.more_modules.Given as goal
 

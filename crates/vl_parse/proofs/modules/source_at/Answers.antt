@@ -1,5 +1,5 @@
 use Rattle.std.proofs.Common.{sym}
-use Rattle.vl_source.specs.Parsing.{source}
+use Rattle.vl_tree.specs.Parsing.{source}
 use Rattle.vl_parse.proofs.Whole.{all_passed, all_left, all_read}
 use Rattle.vl_parse.proofs.modules.source_at.Goals as goal
 

@@ -1,6 +1,6 @@
 use Rattle.std.proofs.Common.{codes}
-use Rattle.vl_source.specs.Parsers.{is_word}
-use Rattle.vl_source.specs.Parsing.{is_direction}
+use Rattle.vl_tree.specs.Parsers.{is_word}
+use Rattle.vl_tree.specs.Parsing.{is_direction}
 use Rattle.vl_parse.proofs.Lists.{first_next, second_next}
 use Rattle.vl_parse.proofs.ports.begins_with_direction.Goals as goal
 

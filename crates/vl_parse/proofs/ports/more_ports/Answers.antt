@@ -1,5 +1,5 @@
 use Rattle.std.proofs.Common.{arith}
-use Rattle.vl_source.specs.Parsing as spec
+use Rattle.vl_tree.specs.Parsing as spec
 use Rattle.vl_pstmt.proofs.Passing.{passed}
 use Rattle.vl_parse.proofs.Lists.{groups_open, groups_step, groups_step_fails, groups_end}
 use Rattle.vl_parse.proofs.ports.more_ports.Goals as goal

@@ -1,6 +1,6 @@
 use Rattle.std.proofs.Common.{◌≤◌, length}
-use Rattle.vl_source.specs.Parsers.{groups}
-use Rattle.vl_source.specs.Parsing as spec
+use Rattle.vl_tree.specs.Parsers.{groups}
+use Rattle.vl_tree.specs.Parsing as spec
 use Rattle.vl_parse.proofs.Lists.{GroupsGoOn}
 use Rattle.vl_parse.proofs.ports.more_ports.Given as goal
 

@@ -1,5 +1,5 @@
 use Rattle.std.proofs.Common.{arith}
-use Rattle.vl_source.specs.Parsing as spec
+use Rattle.vl_tree.specs.Parsing as spec
 use Rattle.vl_pstmt.proofs.Passing.{passed, many_end, many_fails}
 use Rattle.vl_parse.proofs.Lists.{added_fails, list_turned}
 use Rattle.vl_parse.proofs.Separators.{events_opened, events_fail}

@@ -1,5 +1,5 @@
 use Rattle.std.proofs.Common.{◌<◌, length}
-use Rattle.vl_source.specs.Parsing as spec
+use Rattle.vl_tree.specs.Parsing as spec
 use Rattle.vl_pstmt.proofs.Passing.{GoesOn}
 use Rattle.vl_parse.proofs.triggers.events.Given as goal
 

@@ -1,8 +1,8 @@
 use Rattle.std.proofs.Common.{arith, refl}
-use Rattle.vl_grammar.specs.Expressions.{operators}
-use Rattle.vl_grammar.specs.Marks.{unary_operator}
-use Rattle.vl_grammar.specs.Reading.{pure}
-use Rattle.vl_grammar.proofs.Passing.{with_front_none, many_turn, many_end}
+use Rattle.vl_tree.specs.Expressions.{operators}
+use Rattle.vl_tree.specs.MarksOfGrammar.{unary_operator}
+use Rattle.vl_tree.specs.Reading.{pure}
+use Rattle.vl_tree.proofs.Passing.{with_front_none, many_turn, many_end}
 use Rattle.vl_pexpr.proofs.grammar.operators.Goals as goal
 
 pub each-init : goal.each-init

@@ -1,8 +1,8 @@
 use Rattle.std.proofs.Common.{ℕ, ◌<◌, ◌≤◌, length}
-use Rattle.vl_grammar.specs.Expressions as spec
-use Rattle.vl_grammar.specs.Marks.{unary_operator}
-use Rattle.vl_grammar.specs.Reading.{pure}
-use Rattle.vl_grammar.proofs.Passing.{GoesOn}
+use Rattle.vl_tree.specs.Expressions as spec
+use Rattle.vl_tree.specs.MarksOfGrammar.{unary_operator}
+use Rattle.vl_tree.specs.Reading.{pure}
+use Rattle.vl_tree.proofs.Passing.{GoesOn}
 use Rattle.vl_pexpr.proofs.grammar.operators.Given as goal
 
 abbrev pub invariant-each : goal.invariant-each

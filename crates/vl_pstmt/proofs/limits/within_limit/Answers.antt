@@ -1,5 +1,5 @@
 use Rattle.std.proofs.Common.{◌+◌, arith, length-take}
-use Rattle.vl_source.specs.Bounds.{most_tokens}
+use Rattle.vl_tree.specs.Bounds.{most_tokens}
 use Rattle.vl_pstmt.proofs.limits.within_limit.Goals as goal
 
 pub past_limit-requires : goal.past_limit-requires

@@ -2,8 +2,8 @@ use Rattle.std.proofs.Common.{ap, ◌∙◌, sym, map}
 use Rattle.vl_design.specs.Placed as p
 use Rattle.vl_design.specs.Seen.{node_exp, row_args, arg}
 use Rattle.vl_design.specs.declared.design.ExprNode.TheBlock as blk
-use Rattle.vl_turns.specs.Placed.{exp_put, args_put}
-use Rattle.vl_header.specs.Rooms.{rows_of, values_of}
+use Rattle.vl_loops.specs.Placed.{exp_put, args_put}
+use Rattle.vl_loops.specs.Rooms.{rows_of, values_of}
 use Rattle.vl_unroll.specs.Listed.{put_of, args_with}
 use Rattle.vl_unroll.proofs.Rows.{row_put, args_row_put, args-append, args-more}
 use Rattle.vl_unroll.proofs.put.+put.Goals as goal

@@ -8,10 +8,10 @@ use Rattle.vl_design.specs.Placed as p
 use Rattle.vl_design.specs.Plainly as plain
 use Rattle.vl_design.specs.Seen.{exp_of, stm_of, node_stm, row_items}
 use Rattle.vl_design.specs.Exec.{exec, most_turns}
-use Rattle.vl_turns.specs.Placed.{exp_put, stm_unrolled}
-use Rattle.vl_header.specs.Loops.{HasHeads}
-use Rattle.vl_header.specs.Rooms.{rows_of, scope_of, values_of, state_of}
-use Rattle.vl_header.proofs.Stepping.{set-twice}
+use Rattle.vl_loops.specs.Placed.{exp_put, stm_unrolled}
+use Rattle.vl_loops.specs.Loops.{HasHeads}
+use Rattle.vl_loops.specs.Rooms.{rows_of, scope_of, values_of, state_of}
+use Rattle.vl_loops.proofs.SteppingOfHeader.{set-twice}
 use Rattle.vl_unroll.specs.Heads.{AreReady}
 use Rattle.vl_unroll.specs.Listed.{put_of, stm_unrolled_of, Item, item_unrolled_of}
 use Rattle.vl_unroll.proofs.Rows.{exps-put}

@@ -1,7 +1,7 @@
 use Rattle.std.proofs.Common.{◌≡◌, ℕ, map, take, replicate, slice_set}
 use Rattle.vl_design.specs.Seen.{stm_of}
-use Rattle.vl_turns.specs.Placed.{stm_unrolled}
-use Rattle.vl_header.specs.Rooms.{rows_of, scope_of, state_of}
+use Rattle.vl_loops.specs.Placed.{stm_unrolled}
+use Rattle.vl_loops.specs.Rooms.{rows_of, scope_of, state_of}
 use Rattle.vl_unroll.specs.Heads.{AreReady}
 use Rattle.vl_unroll.specs.Listed.{item_of, item_unrolled_of, stm_unrolled_of}
 use Rattle.vl_unroll.proofs.statements.+unroll.Given as goal

@@ -1,8 +1,8 @@
 use Rattle.std.proofs.Common.{ap, ◌∙◌}
 use Rattle.vl_design.specs.Placed as p
 use Rattle.vl_design.specs.Seen.{args_of}
-use Rattle.vl_turns.specs.Placed.{args_put}
-use Rattle.vl_header.specs.Rooms.{rows_of, values_of}
+use Rattle.vl_loops.specs.Placed.{args_put}
+use Rattle.vl_loops.specs.Rooms.{rows_of, values_of}
 use Rattle.vl_unroll.specs.Listed.{args_with}
 use Rattle.vl_unroll.proofs.Rows.{args-put}
 use Rattle.vl_unroll.proofs.statements.task.Goals as goal

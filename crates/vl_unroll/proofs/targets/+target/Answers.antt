@@ -1,8 +1,8 @@
 use Rattle.std.proofs.Common.{ap, ◌∙◌, sym, map}
 use Rattle.vl_design.specs.Placed as p
 use Rattle.vl_design.specs.Seen.{node_target}
-use Rattle.vl_turns.specs.Placed.{target_put}
-use Rattle.vl_header.specs.Rooms.{rows_of, values_of}
+use Rattle.vl_loops.specs.Placed.{target_put}
+use Rattle.vl_loops.specs.Rooms.{rows_of, values_of}
 use Rattle.vl_unroll.specs.Listed.{target_put_of}
 use Rattle.vl_unroll.proofs.Lists.{parts-put}
 use Rattle.vl_unroll.proofs.targets.+target.Goals as goal

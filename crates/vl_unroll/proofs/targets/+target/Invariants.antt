@@ -1,6 +1,6 @@
 use Rattle.std.proofs.Common.{◌≡◌, map, take}
 use Rattle.vl_design.specs.Seen.{target_of}
-use Rattle.vl_header.specs.Rooms.{rows_of, values_of}
+use Rattle.vl_loops.specs.Rooms.{rows_of, values_of}
 use Rattle.vl_unroll.specs.Listed.{target_put_of}
 use Rattle.vl_unroll.proofs.targets.+target.Given as goal
 

@@ -1,6 +1,6 @@
 use Rattle.std.proofs.Common.{◌≡◌, false, is_some, take}
 use Rattle.std.specs.List.{list_any}
-use Rattle.vl_source.specs.declared.tree.Event.{Event}
+use Rattle.vl_tree.specs.declared.source_tree.Event.{Event}
 use Rattle.vl_uses.proofs.declarations.have_edge.Given as goal
 
 abbrev pub invariant-loop-event : goal.invariant-loop-event

@@ -2,7 +2,7 @@ use Rattle.std.proofs.Common.{◌≡◌, ◌∙◌, ◌+◌, ◌<◌, ◌^◌, l
 use Rattle.std.proofs.lemmas.List.{length-map}
 use Rattle.std.specs.declared.vec.Vec.{Vec}
 use Rattle.std.specs.declared.alloc.Global.{Global}
-use Rattle.vl_source.specs.declared.tree.Module.{Module}
+use Rattle.vl_tree.specs.declared.source_tree.Module.{Module}
 use Rattle.vl_scope.specs.declared.declaration.Declaration.{Declaration}
 use Rattle.vl_scope.specs.Declarations as scope
 use Rattle.vl_uses.specs.Nodes as n

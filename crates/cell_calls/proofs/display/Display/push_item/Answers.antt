@@ -1,6 +1,6 @@
 use Rattle.std.proofs.Common.{[], ◌∷◌, ◌++◌}
 use Rattle.vl_design.specs.Syntax.{Shown}
-use Rattle.cell_form.specs.declared.table.FormatPart.TheVariants as part
+use Rattle.cell_emit.specs.cell_form.specs.declared.table.FormatPart.TheVariants as part
 use Rattle.cell_calls.specs.Displays.{parts_in}
 use Rattle.cell_calls.proofs.Extending.{extends-then, extends-item}
 use Rattle.cell_calls.proofs.display.Display.push_item.Goals as goal

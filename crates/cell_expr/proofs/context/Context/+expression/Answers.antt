@@ -15,13 +15,13 @@ use Rattle.cell_expr.specs.Counts.{own_count, exp_count, in_count, parts_own, pa
 use Rattle.cell_expr.proofs.Counting.{in-own, in-most, node-few, unary-few, binary-few, choice-own, cat-few, rep-few, rep-many, leaf-few, call-few, resize-few}
 use Rattle.cell_expr.proofs.Holding.{holds-plain, holds-wider}
 use Rattle.cell_expr.proofs.Widening.{wide-none, wide-at-once, wide-behind, wide-cast}
-use Rattle.cell_form.specs.Views.{list_of}
-use Rattle.cell_paths.proofs.Staying.{fits-stays}
-use Rattle.cell_paths.specs.Envs.{env_of, HasOneWord, entry, held_or, Fits}
-use Rattle.cell_steps.proofs.Frames.{in-stays, grows-same, grows-then, width-stays}
-use Rattle.cell_steps.proofs.Newest.{ok-gives}
-use Rattle.cell_nodes.specs.Counts.{resizes}
-use Rattle.cell_steps.specs.Slots.{held, width_at, Gives, Nothing}
+use Rattle.cell_emit.specs.cell_form.specs.Views.{list_of}
+use Rattle.cell_emit.proofs.Staying.{fits-stays}
+use Rattle.cell_emit.specs.Envs.{env_of, HasOneWord, entry, held_or, Fits}
+use Rattle.cell_emit.proofs.Frames.{in-stays, grows-same, grows-then, width-stays}
+use Rattle.cell_emit.proofs.Newest.{ok-gives}
+use Rattle.cell_emit.specs.Counts.{resizes}
+use Rattle.cell_emit.specs.Slots.{held, width_at, Gives, Nothing}
 use Rattle.std.proofs.Common.{◌≡◌, ◌∙◌, arith, ap, refl, sym, subst, [], ℤ, ◌+◌, w32, to_z, of_z, rules, drop, ◌*◌, ◌≤◌, ◌<◌, length, get_or, ◌-◌, true, false}
 use Rattle.std.proofs.lemmas.Int.{to_z-of_z}
 use Rattle.std.proofs.lemmas.List.{drop_all}

@@ -2,9 +2,9 @@ use Rattle.cell_expr.proofs.Giving.{Passed}
 use Rattle.cell_expr.proofs.Parts.{Sided}
 use Rattle.cell_expr.proofs.Sizes.{exp_size, exps_size}
 use Rattle.cell_expr.specs.Contexts.{names_of, scope_of, body_of}
-use Rattle.cell_form.specs.Views.{list_of}
-use Rattle.cell_paths.specs.Envs.{env_of, Fits}
-use Rattle.cell_steps.specs.Slots.{Grows}
+use Rattle.cell_emit.specs.cell_form.specs.Views.{list_of}
+use Rattle.cell_emit.specs.Envs.{env_of, Fits}
+use Rattle.cell_emit.specs.Slots.{Grows}
 use Rattle.std.proofs.Common.{◌≡◌, ◌+◌, ◌*◌, List, drop, length}
 use Rattle.vl_base.specs.declared.files.File.{File}
 use Rattle.vl_design.specs.Sound.{AreSound}

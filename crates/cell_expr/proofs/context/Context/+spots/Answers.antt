@@ -4,10 +4,10 @@ use Rattle.cell_expr.proofs.Setting.{spotted-none, spotted-then}
 use Rattle.cell_expr.proofs.Sizes.{targets_size, target-part}
 use Rattle.cell_expr.specs.Contexts.{names_of, body_of}
 use Rattle.cell_expr.specs.Counts.{indices_count, all_indices_count, parts_count, all_parts_count}
-use Rattle.cell_form.specs.Views.{list_of}
-use Rattle.cell_paths.proofs.Staying.{fits-stays}
-use Rattle.cell_paths.specs.Envs.{env_of}
-use Rattle.cell_steps.proofs.Frames.{grows-then}
+use Rattle.cell_emit.specs.cell_form.specs.Views.{list_of}
+use Rattle.cell_emit.proofs.Staying.{fits-stays}
+use Rattle.cell_emit.specs.Envs.{env_of}
+use Rattle.cell_emit.proofs.Frames.{grows-then}
 use Rattle.std.proofs.Common.{◌+◌, refl, drop, ◌≡◌, ◌*◌, arith, rules, w32}
 use Rattle.std.proofs.lemmas.Int.{to_z-of_z}
 use Rattle.std.proofs.lemmas.List.{drop_all}

@@ -2,12 +2,12 @@ use Rattle.cell_expr.proofs.Sizes.{target_size, targets_size}
 use Rattle.cell_expr.specs.Contexts.{names_of, scope_of, body_of}
 use Rattle.cell_expr.specs.Counts.{all_indices_count, all_parts_count}
 use Rattle.cell_expr.specs.Spots.{Spotted}
-use Rattle.vl_stored.specs.Stored.{targets_stored}
+use Rattle.cell_emit.specs.vl_sites.specs.Stored.{targets_stored}
 use Rattle.cell_expr.specs.declared.spot.Spot.{Spot}
-use Rattle.cell_form.specs.Data.{ListData}
-use Rattle.cell_form.specs.Views.{list_of}
-use Rattle.cell_paths.specs.Envs.{env_of, Fits}
-use Rattle.cell_steps.specs.Slots.{Grows}
+use Rattle.cell_emit.specs.cell_form.specs.Data.{ListData}
+use Rattle.cell_emit.specs.cell_form.specs.Views.{list_of}
+use Rattle.cell_emit.specs.Envs.{env_of, Fits}
+use Rattle.cell_emit.specs.Slots.{Grows}
 use Rattle.std.proofs.Common.{◌≡◌, List, drop, false, nat_lt, ◌*◌, ◌+◌}
 use Rattle.vl_base.specs.declared.files.File.{File}
 use Rattle.vl_design.specs.Reads.{targets_write}

@@ -7,20 +7,20 @@ use Rattle.cell_expr.proofs.Trying.{tried-default, tried-item, item-sound, item-
 use Rattle.cell_expr.specs.Bodies.{IsSegment, CanWait}
 use Rattle.cell_expr.specs.Contexts.{names_of, scope_of, body_of}
 use Rattle.cell_expr.specs.Counts.{own_count, stm_count}
-use Rattle.vl_stored.specs.Stored.{stored_words, items_stored, default_stored}
-use Rattle.cell_form.specs.Views.{list_of}
-use Rattle.cell_later.proofs.Keeping.{pending-stays}
-use Rattle.cell_later.proofs.Leaving.{leaves-nop, leaves-set, leaves-then, leaves-if, leaves-no-items}
-use Rattle.cell_later.specs.Delays.{Leaves}
-use Rattle.cell_later.specs.Pendings.{slots_of, memories_of}
-use Rattle.cell_paths.proofs.Casing.{tries-none}
-use Rattle.cell_paths.proofs.Staying.{fits-stays, is-slot-stays, gives-slot}
-use Rattle.cell_paths.proofs.Testing.{does-if}
-use Rattle.cell_paths.proofs.Walking.{does-nop, does-then}
-use Rattle.cell_paths.specs.Envs.{env_of}
-use Rattle.cell_paths.specs.Paths.{Does}
-use Rattle.cell_steps.proofs.Frames.{grows-same, grows-then}
-use Rattle.cell_steps.specs.Slots.{Nothing}
+use Rattle.cell_emit.specs.vl_sites.specs.Stored.{stored_words, items_stored, default_stored}
+use Rattle.cell_emit.specs.cell_form.specs.Views.{list_of}
+use Rattle.cell_emit.proofs.Keeping.{pending-stays}
+use Rattle.cell_emit.proofs.Leaving.{leaves-nop, leaves-set, leaves-then, leaves-if, leaves-no-items}
+use Rattle.cell_emit.specs.Delays.{Leaves}
+use Rattle.cell_emit.specs.Pendings.{slots_of, memories_of}
+use Rattle.cell_emit.proofs.Casing.{tries-none}
+use Rattle.cell_emit.proofs.Staying.{fits-stays, is-slot-stays, gives-slot}
+use Rattle.cell_emit.proofs.Testing.{does-if}
+use Rattle.cell_emit.proofs.Walking.{does-nop, does-then}
+use Rattle.cell_emit.specs.Envs.{env_of}
+use Rattle.cell_emit.specs.Paths.{Does}
+use Rattle.cell_emit.proofs.Frames.{grows-same, grows-then}
+use Rattle.cell_emit.specs.Slots.{Nothing}
 use Rattle.std.proofs.Common.{[], ◌≡◌, ◌+◌, ◌++◌, List, drop, ◌∙◌, sym, ap, subst, append-nil, nat_lt, false, ◌*◌, arith, length}
 use Rattle.std.proofs.lemmas.List.{drop_all}
 use Rattle.std.proofs.lemmas.Result.{IfOk-weaker, on_ok_weaker}

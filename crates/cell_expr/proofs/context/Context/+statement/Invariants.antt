@@ -2,15 +2,15 @@ use Rattle.cell_expr.proofs.Sizes.{exp_size, stm_size, items_size}
 use Rattle.cell_expr.specs.Bodies.{IsSegment, AreSegmentItems, CanWait}
 use Rattle.cell_expr.specs.Contexts.{names_of, scope_of, body_of}
 use Rattle.cell_expr.specs.Counts.{items_count, stm_count}
-use Rattle.vl_stored.specs.Stored.{stored_words, items_stored}
-use Rattle.cell_form.specs.Data.{ListData}
-use Rattle.cell_form.specs.Views.{list_of}
-use Rattle.cell_later.specs.Delays.{Leaves, LeavesItems}
-use Rattle.cell_later.specs.Pendings.{PendingSlots, slots_of, memories_of, ArePending}
-use Rattle.cell_paths.specs.Cases.{Tries}
-use Rattle.cell_paths.specs.Envs.{Env, env_of, Fits, IsSlot}
-use Rattle.cell_paths.specs.Paths.{Does}
-use Rattle.cell_steps.specs.Slots.{Grows}
+use Rattle.cell_emit.specs.vl_sites.specs.Stored.{stored_words, items_stored}
+use Rattle.cell_emit.specs.cell_form.specs.Data.{ListData}
+use Rattle.cell_emit.specs.cell_form.specs.Views.{list_of}
+use Rattle.cell_emit.specs.Delays.{Leaves, LeavesItems}
+use Rattle.cell_emit.specs.Pendings.{PendingSlots, slots_of, memories_of, ArePending}
+use Rattle.cell_emit.specs.Cases.{Tries}
+use Rattle.cell_emit.specs.Envs.{Env, env_of, Fits, IsSlot}
+use Rattle.cell_emit.specs.Paths.{Does}
+use Rattle.cell_emit.specs.Slots.{Grows}
 use Rattle.std.proofs.Common.{◌≡◌, ℕ, List, [], drop, false, nat_lt, ◌+◌, ◌*◌, ◌++◌, length}
 use Rattle.vl_base.specs.declared.files.File.{File}
 use Rattle.vl_design.specs.Exec.{exec}

@@ -4,13 +4,13 @@ use Rattle.vl_base.specs.declared.files.File.{File}
 use Rattle.vl_design.specs.Exec.{exec}
 use Rattle.vl_design.specs.Syntax.{Set}
 use Rattle.vl_design.specs.Trees.{exp_of, target_of}
-use Rattle.cell_form.specs.Views.{list_of}
-use Rattle.cell_paths.specs.Envs.{env_of}
-use Rattle.cell_paths.specs.Paths.{Does}
-use Rattle.cell_later.specs.Pendings.{slots_of, memories_of}
+use Rattle.cell_emit.specs.cell_form.specs.Views.{list_of}
+use Rattle.cell_emit.specs.Envs.{env_of}
+use Rattle.cell_emit.specs.Paths.{Does}
+use Rattle.cell_emit.specs.Pendings.{slots_of, memories_of}
 use Rattle.cell_expr.specs.Contexts.{names_of, scope_of, body_of}
 use Rattle.cell_expr.specs.Counts.{stm_count}
-use Rattle.cell_later.proofs.Leaving.{leaves-set}
+use Rattle.cell_emit.proofs.Leaving.{leaves-set}
 use Rattle.cell_expr.proofs.context.Context.assignment_in.Goals as goal
 
 pub returns-then-later-clause-does : goal.returns-then-later-clause-does

@@ -1,9 +1,9 @@
-use Rattle.cell_steps.proofs.Frames.{grows-same}
+use Rattle.cell_emit.proofs.Frames.{grows-same}
 use Rattle.std.proofs.Common.{ap}
 use Rattle.vl_design.specs.declared.design.Form.{Form}
 use Rattle.vl_design.specs.Trees.{exp_of}
-use Rattle.cell_form.specs.Views.{list_of}
-use Rattle.cell_paths.specs.Envs.{env_of}
+use Rattle.cell_emit.specs.cell_form.specs.Views.{list_of}
+use Rattle.cell_emit.specs.Envs.{env_of}
 use Rattle.cell_expr.specs.Contexts.{scope_of, body_of}
 use Rattle.cell_expr.specs.Counts.{own_count}
 use Rattle.cell_expr.proofs.Adding.{whole-of, word-of, based-signal, based-word}

@@ -2,12 +2,12 @@ use Rattle.std.proofs.Common.{◌∙◌, ◌+◌, ◌≤◌, [], drop, subst, sy
 use Rattle.std.proofs.lemmas.List.{drop_all}
 use Rattle.vl_design.specs.Trees.{exp_of, exps_of}
 use Rattle.vl_eval.proofs.Rows.{exps-more}
-use Rattle.cell_form.specs.Views.{list_of}
-use Rattle.cell_steps.specs.Slots.{Nothing, width_at}
-use Rattle.cell_steps.proofs.Frames.{grows-then, in-stays}
-use Rattle.cell_paths.specs.Envs.{env_of}
-use Rattle.cell_paths.proofs.Casing.{compares-none}
-use Rattle.cell_paths.proofs.Staying.{fits-stays, is-slot-stays, gives-slot}
+use Rattle.cell_emit.specs.cell_form.specs.Views.{list_of}
+use Rattle.cell_emit.specs.Slots.{Nothing, width_at}
+use Rattle.cell_emit.proofs.Frames.{grows-then, in-stays}
+use Rattle.cell_emit.specs.Envs.{env_of}
+use Rattle.cell_emit.proofs.Casing.{compares-none}
+use Rattle.cell_emit.proofs.Staying.{fits-stays, is-slot-stays, gives-slot}
 use Rattle.cell_expr.specs.Contexts.{names_of, scope_of, body_of}
 use Rattle.cell_expr.specs.Counts.{exp_count, labels_count, in_count}
 use Rattle.cell_expr.proofs.Labelling.{label-compares}

@@ -3,11 +3,11 @@ use Rattle.vl_base.specs.declared.files.File.{File}
 use Rattle.vl_design.specs.Sound.{AreSound}
 use Rattle.vl_design.specs.Trees.{exps_of}
 use Rattle.vl_run.specs.Cases.{AreWithin}
-use Rattle.cell_form.specs.Data.{ListData}
-use Rattle.cell_form.specs.Views.{list_of}
-use Rattle.cell_steps.specs.Slots.{Grows}
-use Rattle.cell_paths.specs.Cases.{Compares}
-use Rattle.cell_paths.specs.Envs.{env_of, Fits, IsSlot}
+use Rattle.cell_emit.specs.cell_form.specs.Data.{ListData}
+use Rattle.cell_emit.specs.cell_form.specs.Views.{list_of}
+use Rattle.cell_emit.specs.Slots.{Grows}
+use Rattle.cell_emit.specs.Cases.{Compares}
+use Rattle.cell_emit.specs.Envs.{env_of, Fits, IsSlot}
 use Rattle.cell_expr.specs.Contexts.{names_of, scope_of, body_of}
 use Rattle.cell_expr.specs.Counts.{labels_count}
 use Rattle.cell_expr.proofs.context.Context.labels_in.Given as goal

@@ -1,15 +1,15 @@
-use Rattle.cell_steps.proofs.Frames.{grows-then}
+use Rattle.cell_emit.proofs.Frames.{grows-then}
 use Rattle.std.proofs.Common.{◌≡◌, ◌+◌, ◌++◌, ◌∙◌, [], map, ap, true}
 use Rattle.std.proofs.lemmas.Result.{on_ok_weaker}
 use Rattle.vl_design.specs.Targets.{updates_at}
 use Rattle.vl_design.specs.Trees.{exp_of, target_of}
-use Rattle.cell_form.specs.Views.{list_of}
-use Rattle.cell_steps.specs.Slots.{held}
-use Rattle.cell_paths.specs.Envs.{env_of}
-use Rattle.cell_later.specs.Delays.{Delays}
-use Rattle.cell_later.specs.Pendings.{slots_of, memories_of}
-use Rattle.cell_later.proofs.Keeping.{pending-stays}
-use Rattle.cell_paths.proofs.Staying.{fits-stays}
+use Rattle.cell_emit.specs.cell_form.specs.Views.{list_of}
+use Rattle.cell_emit.specs.Slots.{held}
+use Rattle.cell_emit.specs.Envs.{env_of}
+use Rattle.cell_emit.specs.Delays.{Delays}
+use Rattle.cell_emit.specs.Pendings.{slots_of, memories_of}
+use Rattle.cell_emit.proofs.Keeping.{pending-stays}
+use Rattle.cell_emit.proofs.Staying.{fits-stays}
 use Rattle.cell_expr.specs.Contexts.{names_of, scope_of, body_of}
 use Rattle.cell_expr.specs.Counts.{exp_count, indices_count}
 use Rattle.cell_expr.specs.Spots.{cells_of, spot_in, stored_by}

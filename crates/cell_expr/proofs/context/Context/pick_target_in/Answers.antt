@@ -1,11 +1,11 @@
-use Rattle.cell_steps.proofs.Frames.{grows-then}
+use Rattle.cell_emit.proofs.Frames.{grows-then}
 use Rattle.std.proofs.Common.{◌≡◌, ◌++◌, [], ◌∷◌, refl}
 use Rattle.std.proofs.lemmas.Result.{on_ok_weaker}
 use Rattle.vl_design.specs.Trees.{exp_of, target_of}
-use Rattle.cell_form.specs.Views.{list_of}
-use Rattle.cell_paths.specs.declared.place.Place.TheVariants as place
-use Rattle.cell_paths.specs.Envs.{env_of}
-use Rattle.cell_paths.proofs.Staying.{fits-stays}
+use Rattle.cell_emit.specs.cell_form.specs.Views.{list_of}
+use Rattle.cell_emit.specs.declared.place.Place.TheVariants as place
+use Rattle.cell_emit.specs.Envs.{env_of}
+use Rattle.cell_emit.proofs.Staying.{fits-stays}
 use Rattle.cell_expr.specs.declared.spot.Spot.{Spot}
 use Rattle.cell_expr.specs.Contexts.{names_of, scope_of, body_of}
 use Rattle.cell_expr.specs.Counts.{own_count, indices_count}

@@ -2,10 +2,10 @@ use Rattle.std.proofs.Common.{◌≡◌, ◌++◌, [], ◌∷◌, ◌∙◌, ref
 use Rattle.std.proofs.lemmas.Int.{to_z-of_z}
 use Rattle.std.proofs.lemmas.Result.{on_ok_weaker}
 use Rattle.vl_design.specs.Trees.{target_of}
-use Rattle.cell_form.specs.Views.{list_of}
-use Rattle.cell_paths.specs.declared.place.Place.{Place}
-use Rattle.cell_paths.specs.declared.place.Place.TheVariants as place
-use Rattle.cell_paths.specs.Envs.{env_of}
+use Rattle.cell_emit.specs.cell_form.specs.Views.{list_of}
+use Rattle.cell_emit.specs.declared.place.Place.{Place}
+use Rattle.cell_emit.specs.declared.place.Place.TheVariants as place
+use Rattle.cell_emit.specs.Envs.{env_of}
 use Rattle.cell_expr.specs.declared.spot.Spot.{Spot}
 use Rattle.cell_expr.specs.Contexts.{scope_of, body_of}
 use Rattle.cell_expr.specs.Counts.{indices_count}

@@ -1,17 +1,17 @@
-use Rattle.cell_steps.proofs.Frames.{grows-then}
+use Rattle.cell_emit.proofs.Frames.{grows-then}
 use Rattle.std.proofs.Common.{subst}
 use Rattle.vl_design.specs.declared.design.Form.{Form}
 use Rattle.vl_design.specs.Targets.{target_width}
 use Rattle.vl_design.specs.Trees.{exp_of, target_of}
 use Rattle.vl_design.specs.Width.{form}
 use Rattle.vl_eval.proofs.Widths.{form-width}
-use Rattle.cell_form.specs.Views.{list_of}
-use Rattle.cell_paths.specs.Envs.{env_of}
-use Rattle.cell_paths.proofs.Staying.{fits-stays}
+use Rattle.cell_emit.specs.cell_form.specs.Views.{list_of}
+use Rattle.cell_emit.specs.Envs.{env_of}
+use Rattle.cell_emit.proofs.Staying.{fits-stays}
 use Rattle.cell_expr.specs.Contexts.{names_of, scope_of, body_of}
 use Rattle.cell_expr.specs.Counts.{exp_count, indices_count, parts_count, in_count}
 use Rattle.cell_expr.specs.Compiled.{Compiles}
-use Rattle.vl_stored.specs.Stored.{target_stored}
+use Rattle.cell_emit.specs.vl_sites.specs.Stored.{target_stored}
 use Rattle.cell_expr.proofs.Adding.{spotted-first, assigned-narrow}
 use Rattle.cell_expr.proofs.Setting.{are-assigned}
 use Rattle.cell_expr.proofs.Spotting.{target-width}

@@ -2,9 +2,9 @@ use Rattle.std.proofs.Common.{ap, sym, ◌∙◌, subst}
 use Rattle.vl_design.specs.Laws.{IsUnrolled}
 use Rattle.vl_design.specs.Plainly.{flat}
 use Rattle.vl_design.specs.Seen.{placed}
-use Rattle.vl_turns.proofs.Bare.{all_bare}
-use Rattle.vl_turns.proofs.Placing.{flat_plain}
-use Rattle.cell_accept.proofs.Fitting.{unrolls}
+use Rattle.vl_accept.specs.vl_loops.proofs.Bare.{all_bare}
+use Rattle.vl_accept.specs.vl_loops.proofs.Placing.{flat_plain}
+use Rattle.vl_accept.proofs.Fitting.{unrolls}
 use Rattle.check_rows.proofs.checking.judge.answer_to_design.Goals as goal
 
 -- an accepted design has its loops unrolled

@@ -1,6 +1,6 @@
 use Rattle.std.proofs.Common.{sym, subst}
-use Rattle.ten_parcel.specs.Parcels.{number_of, origin_in}
-use Rattle.fab_notes.specs.Origins.{StartsFrom}
+use Rattle.fab_core.specs.ten_parcel.specs.Parcels.{number_of, origin_in}
+use Rattle.fab_core.specs.fab_model.specs.Origins.{StartsFrom}
 use Rattle.fab_bay.specs.declared.noted.NotedCore.{NotedCore}
 use Rattle.fab_bay.specs.declared.leaving.Receipt.{Receipt}
 use Rattle.fab_bay.specs.declared.leaving.Refused.{Refused}

@@ -1,5 +1,5 @@
 use Rattle.std.proofs.Common.{refl}
-use Rattle.fab_points.specs.Fabrics.{held}
+use Rattle.fab_core.specs.fab_model.specs.Fabrics.{held}
 use Rattle.fab_bay.proofs.Events.{goes-hold, keeps-noted}
 use Rattle.fab_bay.proofs.Near.{near-hold}
 use Rattle.fab_bay.proofs.noted.NotedCore.hold.Goals as goal

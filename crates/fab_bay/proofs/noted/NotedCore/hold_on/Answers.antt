@@ -1,5 +1,5 @@
 use Rattle.std.proofs.Common.{[], ap, sym, ◌∙◌, subst}
-use Rattle.fab_points.specs.Fabrics.{Fabric}
+use Rattle.fab_core.specs.fab_model.specs.Fabrics.{Fabric}
 use Rattle.fab_bay.specs.Standing.{IsNoted}
 use Rattle.fab_bay.proofs.Acts.{held-by}
 use Rattle.fab_bay.proofs.Going.{none}

@@ -1,5 +1,5 @@
 use Rattle.std.proofs.Common.{◌≡◌, ◌≤◌}
-use Rattle.fab_points.specs.Fabrics.{joining, Fabric}
+use Rattle.fab_core.specs.fab_model.specs.Fabrics.{joining, Fabric}
 use Rattle.fab_bay.specs.Standing.{IsNoted}
 use Rattle.fab_bay.proofs.Coming.{IsComing}
 use Rattle.fab_bay.proofs.noted.NotedCore.join.Given as goal

@@ -2,7 +2,7 @@ use Rattle.std.proofs.Common.{List, [], ◌∷◌, ◌+◌, ◌≤◌, All, sym,
 use Rattle.std.specs.Prelude.{vec_len, vec_capacity}
 use Rattle.std.proofs.lemmas.List.{map_push}
 use Rattle.std.proofs.lemmas.List.Elements.{All-push}
-use Rattle.fab_notes.specs.declared.transit.Transit.{Transit}
+use Rattle.fab_core.specs.fab_model.specs.declared.transit.Transit.{Transit}
 use Rattle.fab_bay.specs.declared.leaving.Leaving.{Leaving}
 use Rattle.fab_bay.specs.Ways.{transits, Goes, LeftFor}
 use Rattle.fab_bay.proofs.Events.{on-ok}

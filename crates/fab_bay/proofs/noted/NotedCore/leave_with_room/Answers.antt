@@ -1,9 +1,9 @@
 use Rattle.std.proofs.Common.{Some, refl, ◌≡◌, false, ◌++◌, ◌∷◌, [], ◌+◌, suc, length, List, ap, sym, ◌∙◌, subst, arith, get_or}
 use Rattle.std.specs.Prelude.{◌==◌, position}
-use Rattle.fab_points.specs.Points.{departed, due, Point}
-use Rattle.fab_points.specs.Fabrics.{left}
-use Rattle.ten_parcel.specs.declared.parcel.Parcel.{Parcel}
-use Rattle.ten_parcel.specs.Parcels.{ticks_of}
+use Rattle.fab_core.specs.fab_model.specs.Points.{departed, due, Point}
+use Rattle.fab_core.specs.fab_model.specs.Fabrics.{left}
+use Rattle.fab_core.specs.ten_parcel.specs.declared.parcel.Parcel.{Parcel}
+use Rattle.fab_core.specs.ten_parcel.specs.Parcels.{ticks_of}
 use Rattle.fab_core.specs.declared.cores.FabCore.{FabCore}
 use Rattle.fab_core.specs.Standing.{IsFabric, IsPointOf}
 use Rattle.fab_bay.specs.declared.berth.Berth.{Berth}

@@ -1,11 +1,11 @@
 use Rattle.std.proofs.Common.{◌≢◌, ◌<◌, ℕ, ◌++◌, ◌∷◌, [], List, length, arith, refl, ap, sym, ◌∙◌, subst}
 use Rattle.std.specs.Prelude.{vec_len, vec_capacity}
-use Rattle.vl_cost.specs.declared.capacity.Cost.{Cost}
-use Rattle.fab_points.specs.Fabrics.{within}
+use Rattle.vl_design.specs.declared.capacity.Cost.{Cost}
+use Rattle.fab_core.specs.fab_model.specs.Fabrics.{within}
 use Rattle.fab_core.specs.declared.cores.FabCore.{FabCore}
 use Rattle.fab_core.specs.Standing.{IsFabric}
-use Rattle.fab_notes.specs.declared.note.Note.{Note}
-use Rattle.fab_notes.specs.Histories.{place_of, replay, Away}
+use Rattle.fab_core.specs.fab_model.specs.declared.note.Note.{Note}
+use Rattle.fab_core.specs.fab_model.specs.Histories.{place_of, replay, Away}
 use Rattle.fab_bay.specs.declared.berth.Berth.{Berth}
 use Rattle.fab_bay.specs.declared.noted.NotedCore.{NotedCore}
 use Rattle.fab_bay.specs.Refusals.{IsAway}

@@ -1,5 +1,5 @@
 use Rattle.std.proofs.Common.{◌+◌, List, ◌++◌, length, ap, sym, ◌∙◌, arith}
-use Rattle.fab_notes.specs.declared.note.Note.{Note}
+use Rattle.fab_core.specs.fab_model.specs.declared.note.Note.{Note}
 use Rattle.fab_bay.proofs.Gone.{room_same}
 use Rattle.fab_bay.proofs.Kept.{still_back, still_goes, still_noted, still_of, still_then}
 use Rattle.fab_bay.proofs.Near.{near-by, short-none}

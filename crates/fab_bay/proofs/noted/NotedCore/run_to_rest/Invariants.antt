@@ -1,5 +1,5 @@
 use Rattle.std.proofs.Common.{ℕ, List}
-use Rattle.fab_notes.specs.declared.transit.Transit.{Transit}
+use Rattle.fab_core.specs.fab_model.specs.declared.transit.Transit.{Transit}
 use Rattle.fab_bay.specs.Acts.{acts_to_come}
 use Rattle.fab_bay.specs.Rounds.{IsNearOn, IsReady}
 use Rattle.fab_bay.specs.Ways.{Goes}

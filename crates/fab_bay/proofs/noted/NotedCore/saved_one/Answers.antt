@@ -3,10 +3,10 @@ use Rattle.std.specs.Prelude.{slice_get, ◌==◌, position}
 use Rattle.std.specs.declared.alloc.Global.{Global}
 use Rattle.std.specs.declared.vec.Vec.{Vec}
 use Rattle.std.proofs.lemmas.Option.{slice_get-get_or, slice_get_read}
-use Rattle.fab_points.specs.Points.{tick_of}
-use Rattle.fab_lock.specs.declared.entry.Entry.{Entry}
-use Rattle.fab_lock.specs.declared.entry.Kind.TheVariants.{Saved}
-use Rattle.fab_notes.specs.Tokens.{out_at, put_at}
+use Rattle.fab_core.specs.fab_model.specs.Points.{tick_of}
+use Rattle.fab_core.specs.fab_lock.specs.declared.entry.Entry.{Entry}
+use Rattle.fab_core.specs.fab_lock.specs.declared.entry.Kind.TheVariants.{Saved}
+use Rattle.fab_core.specs.fab_model.specs.Tokens.{out_at, put_at}
 use Rattle.fab_bay.specs.declared.berth.Berth.{Berth}
 use Rattle.fab_bay.proofs.Events.{berthed, has-place}
 use Rattle.fab_bay.proofs.Near.{near-by, ran-near-short, short-one, short-then}

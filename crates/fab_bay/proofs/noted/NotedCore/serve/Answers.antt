@@ -1,11 +1,11 @@
 use Rattle.std.proofs.Common.{◌+◌, ◌++◌, ◌<◌, length, refl, sym, ap, ◌∙◌, subst}
 use Rattle.std.specs.declared.alloc.Global.{Global}
 use Rattle.std.specs.declared.vec.Vec.{Vec}
-use Rattle.sub_nodes.specs.Code.{table_of}
-use Rattle.sub_nodes.specs.Stands.{at_trap}
-use Rattle.fab_points.specs.Points.{run_in}
+use Rattle.ten_core.specs.sub_nodes.specs.Code.{table_of}
+use Rattle.ten_core.specs.sub_nodes.specs.Stands.{at_trap}
+use Rattle.fab_core.specs.fab_model.specs.Points.{run_in}
 use Rattle.fab_core.specs.declared.cores.FabCore.{FabCore}
-use Rattle.fab_points.specs.Fabrics.{all_served}
+use Rattle.fab_core.specs.fab_model.specs.Fabrics.{all_served}
 use Rattle.fab_bay.specs.declared.berth.Berth.{Berth}
 use Rattle.fab_bay.specs.Acts.{acts_in, saves_in}
 use Rattle.fab_bay.specs.Standing.{HasRoomFor}

@@ -1,6 +1,6 @@
 use Rattle.std.proofs.Common.{◌<◌, ◌≤◌, ◌-◌, suc, length, [], refl, sym, ap, ◌∙◌, subst, arith}
 use Rattle.std.specs.Prelude.{slice_get}
-use Rattle.fab_points.specs.Points.{tick_of}
+use Rattle.fab_core.specs.fab_model.specs.Points.{tick_of}
 use Rattle.fab_core.specs.declared.cores.FabCore.{FabCore}
 use Rattle.fab_core.specs.Standing.{IsFabric}
 use Rattle.fab_bay.proofs.Events.{room-by}

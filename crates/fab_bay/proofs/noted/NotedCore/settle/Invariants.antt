@@ -1,8 +1,8 @@
 use Rattle.std.proofs.Common.{◌≡◌, ◌+◌, ◌++◌, ℕ, List, length}
-use Rattle.fab_points.specs.Fabrics.{Fabric}
+use Rattle.fab_core.specs.fab_model.specs.Fabrics.{Fabric}
 use Rattle.fab_core.specs.Standing.{IsFabric}
-use Rattle.fab_notes.specs.declared.note.Note.{Note}
-use Rattle.fab_notes.specs.declared.transit.Transit.{Transit}
+use Rattle.fab_core.specs.fab_model.specs.declared.note.Note.{Note}
+use Rattle.fab_core.specs.fab_model.specs.declared.transit.Transit.{Transit}
 use Rattle.fab_bay.specs.Standing.{HasRoomFor, IsNoted}
 use Rattle.fab_bay.specs.Nearness.{IsNear}
 use Rattle.fab_bay.specs.Ways.{AreShort, Settles}

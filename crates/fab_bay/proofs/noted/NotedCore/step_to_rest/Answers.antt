@@ -1,5 +1,5 @@
 use Rattle.std.proofs.Common.{◌≡◌, true, false, [], sym, ap, ◌∙◌, arith}
-use Rattle.fab_points.specs.Fabrics.{held}
+use Rattle.fab_core.specs.fab_model.specs.Fabrics.{held}
 use Rattle.fab_bay.proofs.Acts.{acts-by, cycle-nearer}
 use Rattle.fab_bay.proofs.Nears.{nears-kept, nears-then}
 use Rattle.fab_bay.proofs.Rounds.{both, ready-on}

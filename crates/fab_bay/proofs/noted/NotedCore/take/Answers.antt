@@ -1,6 +1,6 @@
 use Rattle.std.proofs.Common.{List, [], refl, sym, ap, ◌∙◌}
-use Rattle.fab_notes.specs.declared.note.Note.{Note}
-use Rattle.fab_notes.specs.Histories.{place_of, replay}
+use Rattle.fab_core.specs.fab_model.specs.declared.note.Note.{Note}
+use Rattle.fab_core.specs.fab_model.specs.Histories.{place_of, replay}
 use Rattle.fab_bay.specs.declared.leaving.Taken.{Taken}
 use Rattle.fab_bay.specs.declared.noted.NotedCore.{NotedCore}
 use Rattle.fab_bay.specs.Refusals.{IsAway}

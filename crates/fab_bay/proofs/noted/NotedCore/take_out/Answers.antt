@@ -1,5 +1,5 @@
 use Rattle.std.proofs.Common.{List, ◌++◌, sym, ap, ◌∙◌}
-use Rattle.fab_notes.specs.declared.note.Note.{Note}
+use Rattle.fab_core.specs.fab_model.specs.declared.note.Note.{Note}
 use Rattle.fab_bay.proofs.Flags.{keeps-same}
 use Rattle.fab_bay.proofs.Gone.{room_kept, room_same}
 use Rattle.fab_bay.proofs.Kept.{still_back, still_goes, still_noted, still_of, still_then}

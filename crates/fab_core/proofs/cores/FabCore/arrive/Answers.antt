@@ -1,10 +1,10 @@
 use Rattle.std.proofs.Common.{◌≡◌, ℕ, List, ◌++◌, ◌∷◌, [], refl, ap, sym, ◌∙◌}
 use Rattle.std.proofs.lemmas.Bool.{iff_false}
-use Rattle.vl_cost.specs.declared.capacity.Cost.{Cost}
-use Rattle.vl_cost.specs.Costs.{Fits}
-use Rattle.ten_parcel.specs.declared.tenant.Tenant.{Tenant}
-use Rattle.fab_points.specs.Points.{cost_of}
-use Rattle.fab_points.specs.Fabrics.{has, nothing, within}
+use Rattle.vl_design.specs.declared.capacity.Cost.{Cost}
+use Rattle.vl_design.specs.Costs.{Fits}
+use Rattle.fab_model.specs.ten_parcel.specs.declared.tenant.Tenant.{Tenant}
+use Rattle.fab_model.specs.Points.{cost_of}
+use Rattle.fab_model.specs.Fabrics.{has, nothing, within}
 use Rattle.fab_core.specs.declared.cores.FabCore.{FabCore}
 use Rattle.fab_core.proofs.Arriving.{arrived_fabric, parcel_cost, parcel_is, parcel_number, parcel_rests, within_alone, without_room}
 use Rattle.fab_core.proofs.cores.FabCore.arrive.Goals as goal

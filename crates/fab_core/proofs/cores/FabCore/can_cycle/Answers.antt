@@ -1,7 +1,7 @@
 use Rattle.std.proofs.Common.{◌≡◌, ◌+◌, suc, true, false, drop, refl, sym, ap, ◌∙◌, arith}
 use Rattle.std.specs.Prelude.{if◌then◌else◌}
 use Rattle.std.proofs.lemmas.List.{at_drop_all}
-use Rattle.fab_points.specs.Fabrics.{can_step, steppers}
+use Rattle.fab_model.specs.Fabrics.{can_step, steppers}
 use Rattle.fab_core.proofs.Looks.{looked-all, looked-at, step-more}
 use Rattle.fab_core.proofs.cores.FabCore.can_cycle.Goals as goal
 

@@ -1,6 +1,6 @@
 use Rattle.std.proofs.Common.{List, map, sym, ap, ◌∙◌, subst}
 use Rattle.std.proofs.lemmas.List.{with_items_is}
-use Rattle.fab_points.specs.Fabrics.{stepped, steppers, within}
+use Rattle.fab_model.specs.Fabrics.{stepped, steppers, within}
 use Rattle.fab_core.specs.declared.resident.Resident.{Resident}
 use Rattle.fab_core.specs.Standing.{ArePartsApart, AreStanding}
 use Rattle.fab_core.proofs.Steps.{total-stepped}

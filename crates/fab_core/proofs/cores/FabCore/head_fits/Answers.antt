@@ -1,10 +1,10 @@
 use Rattle.std.proofs.Common.{◌≡◌, List, sym, ap, ◌∙◌}
 use Rattle.std.specs.Prelude.{slice_get}
-use Rattle.cell_form.specs.Views.{bank_of}
+use Rattle.ten_core.specs.cell_form.specs.Views.{bank_of}
 use Rattle.ten_core.specs.declared.origin.Origin.{Origin}
-use Rattle.ten_parcel.specs.declared.tenant.Tenant.{Tenant}
-use Rattle.fab_points.specs.Points.{cost_of}
-use Rattle.fab_points.specs.Fabrics.{plus, total, within}
+use Rattle.fab_model.specs.ten_parcel.specs.declared.tenant.Tenant.{Tenant}
+use Rattle.fab_model.specs.Points.{cost_of}
+use Rattle.fab_model.specs.Fabrics.{plus, total, within}
 use Rattle.fab_core.proofs.Points.{cost-is}
 use Rattle.fab_core.proofs.Looks.{head-at, head-is}
 use Rattle.fab_core.proofs.Tests.{within-is}

@@ -1,9 +1,9 @@
 use Rattle.std.proofs.Common.{get_or, sym, ◌∙◌, subst}
 use Rattle.std.proofs.lemmas.Option.{none-some, slice_get-get_or}
-use Rattle.cell_form.specs.Views.{bank_of}
-use Rattle.fab_points.specs.Points.{departed, Point}
-use Rattle.fab_points.specs.Fabrics.{Fabric}
-use Rattle.ten_parcel.specs.declared.parcel.Parcel.{Parcel}
+use Rattle.ten_core.specs.cell_form.specs.Views.{bank_of}
+use Rattle.fab_model.specs.Points.{departed, Point}
+use Rattle.fab_model.specs.Fabrics.{Fabric}
+use Rattle.fab_model.specs.ten_parcel.specs.declared.parcel.Parcel.{Parcel}
 use Rattle.fab_core.specs.Standing.{IsAtRest, IsFabric, IsPointOf}
 use Rattle.fab_core.proofs.Found.{departed_rests, first_point, first_rests, left_here}
 use Rattle.fab_core.proofs.Lists.{point_in}

@@ -2,8 +2,8 @@ use Rattle.std.proofs.Common.{◌≡◌, ◌+◌, true, false, Some, drop, sym, 
 use Rattle.std.specs.Prelude.{if◌then◌else◌, is_some}
 use Rattle.std.proofs.lemmas.List.{at_drop_all}
 use Rattle.fab_join.specs.Parts.{part_at}
-use Rattle.fab_points.specs.Points.{due}
-use Rattle.fab_points.specs.Fabrics.{first_leaving}
+use Rattle.fab_model.specs.Points.{due}
+use Rattle.fab_model.specs.Fabrics.{first_leaving}
 use Rattle.fab_core.proofs.Points.{due-is}
 use Rattle.fab_core.proofs.Looks.{leave-more, looked-all, looked-at}
 use Rattle.fab_core.proofs.cores.FabCore.next_leaving.Goals as goal

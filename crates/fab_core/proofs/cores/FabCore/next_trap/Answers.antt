@@ -2,8 +2,8 @@ use Rattle.std.proofs.Common.{◌≡◌, ◌+◌, true, false, Some, drop, sym, 
 use Rattle.std.specs.Prelude.{if◌then◌else◌}
 use Rattle.std.proofs.lemmas.List.{at_drop_all}
 use Rattle.fab_join.specs.Parts.{part_at}
-use Rattle.fab_points.specs.Points.{waits}
-use Rattle.fab_points.specs.Fabrics.{first_waiting}
+use Rattle.fab_model.specs.Points.{waits}
+use Rattle.fab_model.specs.Fabrics.{first_waiting}
 use Rattle.fab_core.proofs.Points.{waits-is}
 use Rattle.fab_core.proofs.Looks.{looked-all, looked-at, wait-more}
 use Rattle.fab_core.proofs.cores.FabCore.next_trap.Goals as goal

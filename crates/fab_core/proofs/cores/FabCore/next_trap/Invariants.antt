@@ -1,6 +1,6 @@
 use Rattle.std.proofs.Common.{◌≡◌, drop}
-use Rattle.fab_points.specs.Fabrics.{Fabric}
-use Rattle.fab_points.specs.Fabrics.{first_waiting}
+use Rattle.fab_model.specs.Fabrics.{Fabric}
+use Rattle.fab_model.specs.Fabrics.{first_waiting}
 use Rattle.fab_core.specs.Standing.{IsFabric}
 use Rattle.fab_core.proofs.cores.FabCore.next_trap.Given as goal
 

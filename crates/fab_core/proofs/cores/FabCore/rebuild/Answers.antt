@@ -1,7 +1,7 @@
 use Rattle.std.proofs.Common.{◌≡◌, ◌++◌, List, false, map, take, refl, ap, sym, ◌∙◌, subst}
 use Rattle.std.specs.List.{All}
 use Rattle.std.proofs.lemmas.List.{with_items_is}
-use Rattle.ten_parcel.specs.declared.tenant.Tenant.{Tenant}
+use Rattle.fab_model.specs.ten_parcel.specs.declared.tenant.Tenant.{Tenant}
 use Rattle.fab_core.specs.declared.cores.FabCore.{FabCore}
 use Rattle.fab_core.specs.declared.resident.Resident.{Resident}
 use Rattle.fab_core.specs.Alone.{part_for, tenants_of, HasPoint}

@@ -1,10 +1,10 @@
 use Rattle.std.proofs.Common.{◌≡◌, true, false, Some, List, sym, ap, ◌∙◌}
 use Rattle.std.specs.Prelude.{◌==◌, is_some, not, position}
 use Rattle.std.proofs.lemmas.Result.{IfOk-weaker, on_err_weaker, on_ok_weaker}
-use Rattle.sub_nodes.specs.Code.{table_of}
-use Rattle.sub_nodes.specs.Stands.{at_trap}
-use Rattle.fab_points.specs.Points.{Point, served, run_in}
-use Rattle.fab_points.specs.Fabrics.{first_of, within, Fabric}
+use Rattle.ten_core.specs.sub_nodes.specs.Code.{table_of}
+use Rattle.ten_core.specs.sub_nodes.specs.Stands.{at_trap}
+use Rattle.fab_model.specs.Points.{Point, served, run_in}
+use Rattle.fab_model.specs.Fabrics.{first_of, within, Fabric}
 use Rattle.fab_core.specs.declared.resident.Resident.{Resident}
 use Rattle.fab_core.specs.Standing.{IsFabric, Stands}
 use Rattle.fab_core.proofs.Firsts.{changed-apart, changed-stands, first-some, found-at, found-stands, resident-place, same-stands}

@@ -2,7 +2,7 @@ use Rattle.std.proofs.Common.{◌≡◌, ◌+◌, true, false, drop, sym, ap, �
 use Rattle.std.specs.Prelude.{◌&&◌}
 use Rattle.std.proofs.lemmas.List.{at_drop_all}
 use Rattle.fab_join.specs.Parts.{part_at}
-use Rattle.fab_points.specs.Points.{rests}
+use Rattle.fab_model.specs.Points.{rests}
 use Rattle.fab_core.proofs.Points.{rests-is}
 use Rattle.fab_core.proofs.Looks.{all_rest, looked-all, looked-at, rest-more, still-is}
 use Rattle.fab_core.proofs.cores.FabCore.still.Goals as goal

@@ -1,5 +1,5 @@
 use Rattle.std.proofs.Common.{◌≡◌, drop}
-use Rattle.fab_points.specs.Fabrics.{Fabric}
+use Rattle.fab_model.specs.Fabrics.{Fabric}
 use Rattle.fab_core.proofs.Looks.{all_rest}
 use Rattle.fab_core.specs.Standing.{IsFabric}
 use Rattle.fab_core.proofs.cores.FabCore.still.Given as goal

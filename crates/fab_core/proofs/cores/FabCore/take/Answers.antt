@@ -1,11 +1,11 @@
 use Rattle.std.proofs.Common.{List, get_or, arith, sym, subst}
 use Rattle.std.specs.List.{remove}
 use Rattle.std.proofs.lemmas.Option.{slice_get-get_or}
-use Rattle.cell_form.specs.Views.{bank_of}
-use Rattle.ten_parcel.specs.declared.parcel.Parcel.{Parcel}
-use Rattle.ten_parcel.specs.declared.tenant.Tenant.{Tenant}
-use Rattle.fab_points.specs.Points.{Point}
-use Rattle.fab_points.specs.Fabrics.{Fabric}
+use Rattle.ten_core.specs.cell_form.specs.Views.{bank_of}
+use Rattle.fab_model.specs.ten_parcel.specs.declared.parcel.Parcel.{Parcel}
+use Rattle.fab_model.specs.ten_parcel.specs.declared.tenant.Tenant.{Tenant}
+use Rattle.fab_model.specs.Points.{Point}
+use Rattle.fab_model.specs.Fabrics.{Fabric}
 use Rattle.fab_core.specs.declared.cores.FabCore.{FabCore}
 use Rattle.fab_core.specs.Standing.{AreWaiting, IsAtRest, IsFabric, IsPointOf}
 use Rattle.fab_core.proofs.Found.{found_here, found_line, has_none, still_other, taken_here, taken_line, taken_none}

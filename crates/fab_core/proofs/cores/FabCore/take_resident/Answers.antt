@@ -1,8 +1,8 @@
 use Rattle.std.proofs.Common.{◌≡◌, ◌-◌, ◌<◌, length, get_or, arith, refl, ap, sym, ◌∙◌, subst}
 use Rattle.std.proofs.lemmas.Option.{get_or_from_slice_get}
-use Rattle.vl_cost.specs.declared.capacity.Cost.{Cost}
+use Rattle.vl_design.specs.declared.capacity.Cost.{Cost}
 use Rattle.ten_core.specs.declared.origin.Origin.{Origin}
-use Rattle.fab_points.specs.Points.{Point}
+use Rattle.fab_model.specs.Points.{Point}
 use Rattle.fab_core.specs.declared.cores.FabCore.{FabCore}
 use Rattle.fab_core.specs.declared.resident.Resident.{Resident}
 use Rattle.fab_core.specs.Standing.{HasPart, Stands}

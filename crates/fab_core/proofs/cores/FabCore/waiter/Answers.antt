@@ -1,8 +1,8 @@
 use Rattle.std.proofs.Common.{List, length, refl, sym, ap, ◌∙◌, arith}
 use Rattle.std.specs.Prelude.{slice_get}
 use Rattle.std.proofs.lemmas.Option.{slice_get_read}
-use Rattle.cell_form.specs.Views.{bank_of}
-use Rattle.ten_parcel.specs.declared.tenant.Tenant.{Tenant}
+use Rattle.ten_core.specs.cell_form.specs.Views.{bank_of}
+use Rattle.fab_model.specs.ten_parcel.specs.declared.tenant.Tenant.{Tenant}
 use Rattle.fab_core.proofs.Points.{tick-is}
 use Rattle.fab_core.proofs.Residents.{waiter-got, waiting-long}
 use Rattle.fab_core.proofs.cores.FabCore.waiter.Goals as goal

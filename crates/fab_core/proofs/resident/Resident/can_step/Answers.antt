@@ -1,6 +1,6 @@
 use Rattle.std.proofs.Common.{◌≡◌, true, false, sym, ap, ◌∙◌}
 use Rattle.std.specs.Prelude.{is_some, not, ◌&&◌}
-use Rattle.fab_points.specs.Points.{due, rests, waits}
+use Rattle.fab_model.specs.Points.{due, rests, waits}
 use Rattle.fab_join.specs.Parts.{part_at}
 use Rattle.fab_core.proofs.Points.{waits-is, due-is, rests-is}
 use Rattle.fab_core.proofs.Tests.{no-step-waits, no-step-due, steps-free, steps-held}

@@ -1,16 +1,16 @@
 use Rattle.std.proofs.Common.{◌≡◌, ℕ, suc, true, false, List, ◌∷◌, sym, ap, ◌∙◌, subst}
 use Rattle.std.specs.Prelude.{not}
 use Rattle.std.proofs.lemmas.Result.{IfOk-weaker, on_err_weaker}
-use Rattle.cell_form.specs.Data.{BankData}
-use Rattle.cell_form.specs.Sound.{shape_of}
-use Rattle.cell_form.specs.Views.{bank_of}
-use Rattle.sub_nodes.specs.Code.{table_of}
-use Rattle.sub_nodes.specs.Cycles.{Stage}
-use Rattle.sub_nodes.specs.Stands.{at_trap}
+use Rattle.ten_core.specs.cell_form.specs.Data.{BankData}
+use Rattle.ten_core.specs.cell_form.specs.Sound.{shape_of}
+use Rattle.ten_core.specs.cell_form.specs.Views.{bank_of}
+use Rattle.ten_core.specs.sub_nodes.specs.Code.{table_of}
+use Rattle.ten_core.specs.sub_nodes.specs.Cycles.{Stage}
+use Rattle.ten_core.specs.sub_nodes.specs.Stands.{at_trap}
 use Rattle.ten_core.specs.Runs.{after_call}
 use Rattle.ten_shell.specs.Shells.{flat_in, is_at_boundary, left_at, left_in, run_of, IsUnchanged, StandsFor}
 use Rattle.fab_join.specs.Parts.{part_at}
-use Rattle.fab_points.specs.Points.{Point, served, waits, run_in}
+use Rattle.fab_model.specs.Points.{Point, served, waits, run_in}
 use Rattle.fab_core.specs.Standing.{IsPoint, Stands}
 use Rattle.fab_core.proofs.Points.{trap-is, waits-alike}
 use Rattle.fab_core.proofs.Standing.{kept-point, others-kept, put-stands, served-point}

@@ -1,5 +1,5 @@
 use Rattle.std.proofs.Common.{◌≡◌, true, false, sym, ◌∙◌}
-use Rattle.fab_points.specs.Fabrics.{can_step}
+use Rattle.fab_model.specs.Fabrics.{can_step}
 use Rattle.fab_core.proofs.Standing.{stepped-stands, stays-stands}
 use Rattle.fab_core.proofs.resident.Resident.step.Goals as goal
 

@@ -1,8 +1,8 @@
 use Rattle.std.proofs.Common.{rules, ℕ, ◌≡◌, ◌<◌, ap, ap₂, sym, ◌∙◌, ◌++◌, List, get_or, refl, subst, max}
 use Rattle.std.proofs.lemmas.List.{take_all}
-use Rattle.fab_lock.specs.declared.entry.Entry.{Entry}
-use Rattle.fab_lock.specs.Facts.{LockFacts}
-use Rattle.fab_lock.specs.Histories.{Reaches}
+use Rattle.fab_bay.specs.fab_lock.specs.declared.entry.Entry.{Entry}
+use Rattle.fab_bay.specs.fab_lock.specs.Facts.{LockFacts}
+use Rattle.fab_bay.specs.fab_lock.specs.Histories.{Reaches}
 use Rattle.fab_bay.specs.declared.noted.Label.{Label}
 use Rattle.fab_desk.specs.Desks.{itself}
 use Rattle.fab_desk.proofs.Histories.{reaches_next}

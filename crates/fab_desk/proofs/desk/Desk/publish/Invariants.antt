@@ -1,7 +1,7 @@
-use Rattle.fab_lock.specs.Facts.{IsSeatOf}
+use Rattle.fab_bay.specs.fab_lock.specs.Facts.{IsSeatOf}
 use Rattle.std.proofs.Common.{◌≡◌, ◌++◌, List, take}
-use Rattle.fab_lock.specs.declared.entry.Entry.{Entry}
-use Rattle.fab_lock.specs.Histories.{Reaches}
+use Rattle.fab_bay.specs.fab_lock.specs.declared.entry.Entry.{Entry}
+use Rattle.fab_bay.specs.fab_lock.specs.Histories.{Reaches}
 use Rattle.fab_desk.specs.Desks.{itself}
 use Rattle.fab_desk.proofs.desk.Desk.publish.Given as goal
 

@@ -1,7 +1,7 @@
 use Rattle.std.proofs.Common.{ℕ, sym, ap, ◌∙◌, subst}
-use Rattle.fab_lock.specs.Facts.{SeatFacts}
-use Rattle.fab_lock.specs.Views.{after_grab}
-use Rattle.fab_notes.specs.declared.note.Note.{Note}
+use Rattle.fab_bay.specs.fab_lock.specs.Facts.{SeatFacts}
+use Rattle.fab_bay.specs.fab_lock.specs.Views.{after_grab}
+use Rattle.fab_bay.specs.fab_model.specs.declared.note.Note.{Note}
 use Rattle.fab_bay.specs.declared.noted.Label.{Label}
 use Rattle.fab_bay.specs.Taking.{IsTaken}
 use Rattle.fab_desk.specs.Desks.{IsFound}

@@ -1,6 +1,6 @@
 use Rattle.std.proofs.Common.{List, ◌++◌, ◌∷◌, [], map, ap, ◌∙◌, sym, subst}
-use Rattle.cell_form.specs.Data.{BankData}
-use Rattle.cell_form.specs.Views.{table_of, bank_of}
+use Rattle.trap_runtime.specs.cell_form.specs.Data.{BankData}
+use Rattle.trap_runtime.specs.cell_form.specs.Views.{table_of, bank_of}
 use Rattle.fab_join.specs.Laid.{part_data, IsLaid}
 use Rattle.fab_join.specs.Parts.{PartData}
 use Rattle.fab_join.specs.declared.joined.Part.{Part}

@@ -1,8 +1,8 @@
 use Rattle.std.proofs.Common.{◌<◌, List, length, ap, ◌∙◌, sym, arith, set, subst}
 use Rattle.std.specs.Prelude.{IfSome}
 use Rattle.std.proofs.lemmas.List.{length-map}
-use Rattle.cell_form.specs.Views.{bank_of}
-use Rattle.ten_files.specs.Tables.{open_files}
+use Rattle.trap_runtime.specs.cell_form.specs.Views.{bank_of}
+use Rattle.trap_runtime.specs.ten_files.specs.Tables.{open_files}
 use Rattle.trap_runtime.specs.Served.{Works}
 use Rattle.trap_runtime.specs.Traps.{IsTrap}
 use Rattle.fab_join.specs.Laid.{part_data}

@@ -1,9 +1,9 @@
 use Rattle.std.proofs.Common.{◌<◌, ◌%◌, ◌^◌, List, length, map, ap, ◌∙◌, sym, arith, set, subst}
 use Rattle.std.proofs.lemmas.List.{length-map}
 use Rattle.std.specs.Prelude.{slice_index}
-use Rattle.cell_form.specs.Data.{BankData}
-use Rattle.cell_form.specs.Sound.{Shape, shape_of}
-use Rattle.cell_form.specs.Views.{table_of, bank_of}
+use Rattle.trap_runtime.specs.cell_form.specs.Data.{BankData}
+use Rattle.trap_runtime.specs.cell_form.specs.Sound.{Shape, shape_of}
+use Rattle.trap_runtime.specs.cell_form.specs.Views.{table_of, bank_of}
 use Rattle.fab_join.specs.Laid.{part_data, IsLaid}
 use Rattle.fab_join.specs.Parts.{PartData, part_at, stepped, state_in}
 use Rattle.fab_join.proofs.Laid.{is_part, part_may_run, laid_stepped, laid_after_step, state_after_step}

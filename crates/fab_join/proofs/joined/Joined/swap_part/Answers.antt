@@ -1,8 +1,8 @@
 use Rattle.std.proofs.Common.{◌<◌, List, length, map, ap, ◌∙◌, sym, arith, set, subst}
 use Rattle.std.proofs.lemmas.List.{length-map}
-use Rattle.cell_form.specs.Data.{BankData}
-use Rattle.cell_form.specs.Sound.{Shape, shape_of}
-use Rattle.cell_form.specs.Views.{bank_of}
+use Rattle.trap_runtime.specs.cell_form.specs.Data.{BankData}
+use Rattle.trap_runtime.specs.cell_form.specs.Sound.{Shape, shape_of}
+use Rattle.trap_runtime.specs.cell_form.specs.Views.{bank_of}
 use Rattle.fab_join.specs.Banks.{part}
 use Rattle.fab_join.specs.Laid.{shape_of_span, part_data, IsLaid}
 use Rattle.fab_join.specs.Parts.{PartData, part_at, with_bank}

@@ -1,6 +1,6 @@
 use Rattle.std.proofs.Common.{Bool, ap, ◌∙◌, subst, arith}
-use Rattle.fab_notes.specs.declared.transit.Transit.{Transit}
-use Rattle.ten_parcel.specs.Parcels.{ticks_of}
+use Rattle.fab_core.specs.fab_model.specs.declared.transit.Transit.{Transit}
+use Rattle.fab_core.specs.ten_parcel.specs.Parcels.{ticks_of}
 use Rattle.std.specs.Prelude.{length}
 use Rattle.fab_rounds.specs.Tries.{IsNext}
 use Rattle.fab_rounds.proofs.Answered.{may_tell_ended}

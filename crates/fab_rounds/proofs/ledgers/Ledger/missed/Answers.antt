@@ -1,6 +1,6 @@
 use Rattle.std.proofs.Common.{rules, ◌≡◌, ◌<◌, List, subst}
-use Rattle.fab_notes.specs.declared.transit.Transit.{Transit}
-use Rattle.fab_rounds.specs.Totals.{total}
+use Rattle.fab_core.specs.fab_model.specs.declared.transit.Transit.{Transit}
+use Rattle.fab_orders.specs.Totals.{total}
 use Rattle.fab_rounds.specs.Ledgers.{ended_at}
 use Rattle.fab_rounds.proofs.Answered.{may_tell_ended}
 use Rattle.fab_rounds.proofs.ledgers.Ledger.missed.Goals as goal

@@ -1,7 +1,7 @@
 use Rattle.std.proofs.Common.{rules, ◌≡◌, [], ◌∷◌, ◌++◌, Some}
-use Rattle.fab_notes.specs.Tokens.{token_of}
-use Rattle.fab_rounds.specs.declared.outcomes.Answer.{Answer}
-use Rattle.fab_rounds.specs.declared.outcomes.Reached.TheVariants as reached
+use Rattle.fab_core.specs.fab_model.specs.Tokens.{token_of}
+use Rattle.fab_orders.specs.declared.outcomes.Answer.{Answer}
+use Rattle.fab_orders.specs.declared.outcomes.Reached.TheVariants as reached
 use Rattle.fab_rounds.proofs.Answered.{moves_so, own_held}
 use Rattle.fab_rounds.proofs.Held.{after_firsts, after_outs, after_puts, after_reach, first_here, fits_here, own_here, place_first, place_of_order, place_there, tenant_here}
 use Rattle.fab_rounds.proofs.Taken.{on_ok}

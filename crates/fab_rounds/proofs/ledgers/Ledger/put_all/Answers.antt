@@ -2,12 +2,12 @@ use Rattle.std.proofs.Common.{rules, ◌≤◌, List, [], ◌∷◌, ◌++◌, a
 use Rattle.std.specs.Prelude.{Vec}
 use Rattle.std.specs.declared.alloc.Global.{Global}
 use Rattle.std.proofs.lemmas.List.Elements.{All-cons, All-nil, All-weaker}
-use Rattle.ten_parcel.specs.Parcels.{number_of, ticks_of}
-use Rattle.fab_notes.specs.declared.transit.Transit.{Transit}
-use Rattle.fab_notes.specs.Tokens.{token_of}
+use Rattle.fab_core.specs.ten_parcel.specs.Parcels.{number_of, ticks_of}
+use Rattle.fab_core.specs.fab_model.specs.declared.transit.Transit.{Transit}
+use Rattle.fab_core.specs.fab_model.specs.Tokens.{token_of}
 use Rattle.fab_rounds.specs.declared.ledgers.Moving.{Moving}
 use Rattle.fab_rounds.specs.Ledgers.{moving_sum, reach_in, transit_sum}
-use Rattle.fab_rounds.proofs.Totals.{total_pop}
+use Rattle.fab_orders.proofs.Totals.{total_pop}
 use Rattle.fab_rounds.proofs.ledgers.Ledger.put_all.Goals as goal
 
 pub loop-next-init : goal.loop-next-init

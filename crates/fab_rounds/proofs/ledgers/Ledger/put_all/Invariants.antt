@@ -1,6 +1,6 @@
 use Rattle.std.proofs.Common.{◌≡◌, ◌≤◌, ◌++◌, List, length}
 use Rattle.std.specs.Prelude.{All}
-use Rattle.ten_parcel.specs.Parcels.{number_of, ticks_of}
+use Rattle.fab_core.specs.ten_parcel.specs.Parcels.{number_of, ticks_of}
 use Rattle.fab_rounds.specs.declared.ledgers.Moving.{Moving}
 use Rattle.fab_rounds.specs.Ledgers.{reach_in, IsLedger, IsSameAnswers, IsSameRun, KeepsReach, KeepsSums}
 use Rattle.fab_rounds.proofs.ledgers.Ledger.put_all.Given as goal

@@ -1,5 +1,5 @@
 use Rattle.std.proofs.Common.{rules, ◌≡◌, [], ◌∷◌, ◌++◌, refl}
-use Rattle.fab_rounds.specs.declared.outcomes.Cause.{Cause}
+use Rattle.fab_orders.specs.declared.outcomes.Cause.{Cause}
 use Rattle.fab_rounds.proofs.Puts.{moving_own, moving_place, moving_tenant, puts_one}
 use Rattle.fab_rounds.proofs.Taken.{both_ok}
 use Rattle.fab_rounds.proofs.ledgers.Ledger.put_one.Goals as goal

@@ -1,12 +1,12 @@
 use Rattle.std.proofs.Common.{rules, ◌≡◌, ◌<◌, ℕ, [], ◌∷◌, ◌++◌, Some, true, subst, sym, ap}
-use Rattle.vl_cost.specs.Costs.{saturated_cost}
-use Rattle.vl_design.specs.Cost.{cost}
-use Rattle.ten_core.specs.Tenants.{origin_of}
-use Rattle.fab_points.specs.Fabrics.{within}
-use Rattle.fab_notes.specs.Origins.{StartsFrom}
-use Rattle.fab_notes.specs.Tokens.{token_of, Token}
-use Rattle.fab_rounds.specs.declared.outcomes.Answer.{Answer}
-use Rattle.fab_rounds.specs.declared.outcomes.Reached.TheVariants as reached
+use Rattle.fab_core.specs.vl_design.specs.Costs.{saturated_cost}
+use Rattle.fab_core.specs.vl_design.specs.Cost.{cost}
+use Rattle.fab_core.specs.ten_core.specs.Tenants.{origin_of}
+use Rattle.fab_core.specs.fab_model.specs.Fabrics.{within}
+use Rattle.fab_core.specs.fab_model.specs.Origins.{StartsFrom}
+use Rattle.fab_core.specs.fab_model.specs.Tokens.{token_of, Token}
+use Rattle.fab_orders.specs.declared.outcomes.Answer.{Answer}
+use Rattle.fab_orders.specs.declared.outcomes.Reached.TheVariants as reached
 use Rattle.fab_rounds.proofs.Answered.{own_held, saves_so}
 use Rattle.fab_rounds.proofs.Held.{after_firsts, after_outs, after_puts, after_reach, fits_here, own_here, tenant_here}
 use Rattle.fab_rounds.proofs.Taken.{on_ok}

@@ -1,5 +1,5 @@
 use Rattle.std.proofs.Common.{Option, subst}
-use Rattle.fab_notes.specs.declared.transit.Transit.{Transit}
+use Rattle.fab_core.specs.fab_model.specs.declared.transit.Transit.{Transit}
 use Rattle.fab_rounds.specs.Tries.{DidSeek, Seeks}
 use Rattle.fab_rounds.proofs.Ordered.{seeks_on, seeks_same, sought_ledger}
 use Rattle.fab_rounds.proofs.ledgers.Ledger.sought.Goals as goal

@@ -1,6 +1,6 @@
 use Rattle.std.proofs.Common.{rules, ◌≡◌, [], ◌∷◌, ◌++◌, Some}
-use Rattle.fab_rounds.specs.declared.outcomes.Answer.{Answer}
-use Rattle.fab_rounds.specs.declared.outcomes.Reached.TheVariants as reached
+use Rattle.fab_orders.specs.declared.outcomes.Answer.{Answer}
+use Rattle.fab_orders.specs.declared.outcomes.Reached.TheVariants as reached
 use Rattle.fab_rounds.proofs.Answered.{stop_answers}
 use Rattle.fab_rounds.proofs.Taken.{on_ok}
 use Rattle.fab_rounds.proofs.ledgers.Ledger.stopped.Goals as goal

@@ -6,11 +6,11 @@ use Rattle.std.specs.declared.alloc.Global.{Global}
 use Rattle.std.specs.declared.snapshot.Snapshot.{Snapshot}
 use Rattle.std.proofs.lemmas.List.{get_or_default}
 use Rattle.std.proofs.lemmas.List.Elements.{All-nil, All-set}
-use Rattle.fab_bay.specs.declared.leaving.Leaving.{Leaving}
-use Rattle.fab_rounds.specs.declared.outcomes.Start.{Start}
+use Rattle.fab_desk.specs.fab_bay.specs.declared.leaving.Leaving.{Leaving}
+use Rattle.fab_orders.specs.declared.outcomes.Start.{Start}
 use Rattle.fab_rounds.specs.declared.workers.Worker.{Worker}
 use Rattle.fab_rounds.specs.Ledgers.{pile_sum, AreLeft}
-use Rattle.fab_rounds.proofs.Totals.{total-set, total_all}
+use Rattle.fab_orders.proofs.Totals.{total-set, total_all}
 use Rattle.fab_rounds.proofs.ledgers.Ledger.take_all.Goals as goal
 
 pub take_piles-requires-clause-left : goal.take_piles-requires-clause-left

@@ -1,6 +1,6 @@
 use Rattle.std.proofs.Common.{◌≡◌, ℕ, ◌+◌, ◌<◌, [], length, get_or}
 use Rattle.std.specs.Prelude.{All}
-use Rattle.fab_notes.specs.Tokens.{Token}
+use Rattle.fab_core.specs.fab_model.specs.Tokens.{Token}
 use Rattle.fab_rounds.specs.declared.workers.Worker.{Worker}
 use Rattle.fab_rounds.specs.Ledgers.{in_hand, worker_piles, AreLeft, IsKept, IsSameAnswers, IsSameRun}
 use Rattle.fab_rounds.proofs.ledgers.Ledger.take_all.Given as goal

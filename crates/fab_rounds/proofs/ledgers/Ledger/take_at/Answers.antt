@@ -1,5 +1,5 @@
 use Rattle.std.proofs.Common.{◌≡◌, refl}
-use Rattle.fab_bay.specs.declared.leaving.Found.TheVariants.{Here, Absent}
+use Rattle.fab_desk.specs.fab_bay.specs.declared.leaving.Found.TheVariants.{Here, Absent}
 use Rattle.fab_rounds.proofs.Looks.{seeks_one, takes_one}
 use Rattle.fab_rounds.proofs.ledgers.Ledger.take_at.Goals as goal
 

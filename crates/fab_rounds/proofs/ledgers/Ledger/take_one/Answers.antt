@@ -1,5 +1,5 @@
 use Rattle.std.proofs.Common.{subst, sym, ◌∙◌}
-use Rattle.ten_shell.specs.declared.shell.Why.{Why}
+use Rattle.fab_core.specs.ten_shell.specs.declared.shell.Why.{Why}
 use Rattle.fab_rounds.specs.Ledgers.{IsLeft}
 use Rattle.fab_rounds.proofs.Taken.{left_ended, left_moves, on_ok, takes_done, takes_moving}
 use Rattle.fab_rounds.proofs.ledgers.Ledger.take_one.Goals as goal

@@ -1,6 +1,6 @@
 use Rattle.std.proofs.Common.{◌≡◌, ℕ, ◌+◌, length}
 use Rattle.std.specs.Prelude.{All}
-use Rattle.fab_notes.specs.Tokens.{Token}
+use Rattle.fab_core.specs.fab_model.specs.Tokens.{Token}
 use Rattle.fab_rounds.specs.Ledgers.{in_hand, leaving_sum, IsKept, IsLeft, IsSameAnswers, IsSameRun}
 use Rattle.fab_rounds.proofs.ledgers.Ledger.take_pile.Given as goal
 

@@ -2,11 +2,11 @@ use Rattle.std.proofs.Common.{subst, sym, ◌∙◌, arith}
 use Rattle.std.specs.Prelude.{All, Vec}
 use Rattle.std.specs.declared.alloc.Global.{Global}
 use Rattle.std.specs.declared.snapshot.Snapshot.{Snapshot}
-use Rattle.fab_bay.specs.declared.leaving.Leaving.{Leaving}
-use Rattle.fab_rounds.specs.declared.outcomes.Start.{Start}
+use Rattle.fab_desk.specs.fab_bay.specs.declared.leaving.Leaving.{Leaving}
+use Rattle.fab_orders.specs.declared.outcomes.Start.{Start}
 use Rattle.fab_rounds.specs.Ledgers.{leaving_sum, AreLeft, IsLeft}
 use Rattle.fab_rounds.proofs.Taken.{all_pop}
-use Rattle.fab_rounds.proofs.Totals.{total_pop}
+use Rattle.fab_orders.proofs.Totals.{total_pop}
 use Rattle.fab_rounds.proofs.ledgers.Ledger.take_piles.Goals as goal
 
 pub take_pile-requires-clause-left : goal.take_pile-requires-clause-left

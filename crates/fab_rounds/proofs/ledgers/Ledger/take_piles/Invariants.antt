@@ -1,5 +1,5 @@
 use Rattle.std.proofs.Common.{◌≡◌, ℕ, ◌+◌, length}
-use Rattle.fab_notes.specs.Tokens.{Token}
+use Rattle.fab_core.specs.fab_model.specs.Tokens.{Token}
 use Rattle.fab_rounds.specs.Ledgers.{in_hand, pile_sum, AreLeft, IsKept, IsSameAnswers, IsSameRun}
 use Rattle.fab_rounds.proofs.ledgers.Ledger.take_piles.Given as goal
 

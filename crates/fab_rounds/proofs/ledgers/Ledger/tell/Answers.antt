@@ -1,5 +1,5 @@
 use Rattle.std.proofs.Common.{rules, ◌≡◌, [], ◌∷◌, ◌++◌, None}
-use Rattle.fab_rounds.specs.declared.outcomes.Answer.{Answer}
+use Rattle.fab_orders.specs.declared.outcomes.Answer.{Answer}
 use Rattle.fab_rounds.proofs.Answered.{tells_so}
 use Rattle.fab_rounds.proofs.ledgers.Ledger.tell.Goals as goal
 

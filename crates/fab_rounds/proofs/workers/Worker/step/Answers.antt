@@ -1,6 +1,6 @@
 use Rattle.std.proofs.Common.{refl, ap, ◌∙◌, List, [], ◌∷◌, ◌++◌, Vec}
 use Rattle.std.specs.declared.alloc.Global.{Global}
-use Rattle.fab_bay.specs.declared.leaving.Leaving.{Leaving}
+use Rattle.fab_desk.specs.fab_bay.specs.declared.leaving.Leaving.{Leaving}
 use Rattle.fab_rounds.proofs.Steps.{nothing_low, nothing_outs, steps_idle, steps_out, turn_low, turn_out, turn_outs}
 use Rattle.fab_rounds.proofs.workers.Worker.step.Goals as goal
 

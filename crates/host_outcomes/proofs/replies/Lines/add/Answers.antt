@@ -1,7 +1,7 @@
 use Rattle.std.proofs.Common.{◌+◌, ◌++◌, [], ◌∷◌, map, sym, ap, ◌∙◌}
-use Rattle.report_text.specs.declared.block.Reply.{Reply}
-use Rattle.host_form.specs.Orders.{free_line}
-use Rattle.host_blocks.specs.Ends.{is_refused}
+use Rattle.host_judge.specs.host_text.specs.declared.block.Reply.{Reply}
+use Rattle.host_judge.specs.host_form.specs.Orders.{free_line}
+use Rattle.host_report.specs.Ends.{is_refused}
 use Rattle.host_outcomes.specs.declared.replies.Lines.{Lines}
 use Rattle.host_outcomes.specs.Given.{costs_of, with_reply}
 use Rattle.host_outcomes.proofs.Making.{as-made, made-given, made-said}

@@ -1,9 +1,9 @@
 use Rattle.std.proofs.Common.{◌<◌, length, sym, ap, arith, ◌∙◌, subst}
 use Rattle.std.specs.Prelude.{slice_index}
 use Rattle.std.proofs.lemmas.List.{get_or_read}
-use Rattle.cell_form.specs.States.{present}
-use Rattle.cell_form.specs.Views.{bank_of}
-use Rattle.cell_form.specs.Views as cells
+use Rattle.trap_runtime.specs.cell_form.specs.States.{present}
+use Rattle.trap_runtime.specs.cell_form.specs.Views.{bank_of}
+use Rattle.trap_runtime.specs.cell_form.specs.Views as cells
 use Rattle.ten_core.proofs.Cycling.{driven-to, list-there, register-there}
 use Rattle.ten_core.specs.Tenants.{tenant_of}
 use Rattle.ten_core.specs.declared.origin.Origin.{Origin}

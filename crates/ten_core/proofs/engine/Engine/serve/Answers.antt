@@ -1,12 +1,12 @@
 use Rattle.std.proofs.Common.{subst, ◌≡◌, ℕ, ◌∙◌, ap, sym}
 use Rattle.std.specs.Prelude.{IsTrue, ◌↔◌, ◌++◌, slice_set}
-use Rattle.cell_form.specs.Views.{bank_of}
-use Rattle.cell_form.specs.Views as cells
-use Rattle.cell_form.specs.declared.table.Trap.{Trap}
+use Rattle.trap_runtime.specs.cell_form.specs.Views.{bank_of}
+use Rattle.trap_runtime.specs.cell_form.specs.Views as cells
+use Rattle.trap_runtime.specs.cell_form.specs.declared.table.Trap.{Trap}
 use Rattle.ten_files.specs.Tables.{open_files, IsTableOf}
 use Rattle.trap_runtime.specs.Served as s
 use Rattle.trap_runtime.specs.declared.served.Served.TheVariants as way
-use Rattle.ten_calls.specs.Works.{saved}
+use Rattle.ten_form.specs.Works.{saved}
 use Rattle.ten_core.proofs.Serving.{some-call, can-be-served, served-behind, shape-behind}
 use Rattle.ten_core.specs.Tenants.{tenant_of}
 use Rattle.ten_core.specs.Traps.{IsAtCall}

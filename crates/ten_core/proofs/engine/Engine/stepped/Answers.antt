@@ -1,7 +1,7 @@
 use Rattle.std.proofs.Common.{◌≡◌, ◌+◌, true, false, sym, ap, ◌∙◌, refl, subst}
 use Rattle.std.specs.Prelude.{slice_get}
 use Rattle.std.specs.Arc.{arc_value}
-use Rattle.cell_form.specs.States.{table_cycled}
+use Rattle.trap_runtime.specs.cell_form.specs.States.{table_cycled}
 use Rattle.ten_core.proofs.Cycling.{counted-more, counted-same, counted_by, stepped-at}
 use Rattle.ten_core.specs.Runs.{after_cycle, IsAt}
 use Rattle.ten_core.specs.Tenants.{states_of, table_in, tenant_of}

@@ -1,5 +1,5 @@
 use Rattle.std.proofs.Common.{sym, subst}
-use Rattle.cell_form.specs.Views.{bank_of}
+use Rattle.ten_core.specs.cell_form.specs.Views.{bank_of}
 use Rattle.ten_shell.specs.Shells.{run_of}
 use Rattle.ten_parcel.specs.declared.parcel.Parcel.{Parcel}
 use Rattle.ten_parcel.specs.Parcels.{IsParcel}

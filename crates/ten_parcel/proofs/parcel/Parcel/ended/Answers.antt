@@ -1,6 +1,6 @@
 use Rattle.std.proofs.Common.{Some, sym, subst}
-use Rattle.vl_design.specs.declared.design.End.TheVariants.{Finished}
-use Rattle.cell_form.specs.Views.{bank_of}
+use Rattle.vl_eval.specs.vl_design.specs.declared.design.End.TheVariants.{Finished}
+use Rattle.ten_core.specs.cell_form.specs.Views.{bank_of}
 use Rattle.ten_parcel.specs.declared.parcel.Parcel.{Parcel}
 use Rattle.ten_parcel.specs.Parcels.{IsParcel}
 use Rattle.ten_parcel.proofs.Resting.{HasReason, HasEnded, reason-there, ended-there, reason-over, ended-over}

@@ -1,6 +1,6 @@
 use Rattle.std.proofs.Common.{sym, subst}
-use Rattle.cell_form.specs.Views.{bank_of}
-use Rattle.ten_plan.specs.Written.{HasRows}
+use Rattle.ten_core.specs.cell_form.specs.Views.{bank_of}
+use Rattle.ten_core.specs.ten_plan.specs.Written.{HasRows}
 use Rattle.ten_shell.specs.Shells as shell
 use Rattle.ten_shell.specs.Shells.{flat_in, free_in, saved_in}
 use Rattle.ten_parcel.specs.declared.parcel.Parcel.{Parcel}

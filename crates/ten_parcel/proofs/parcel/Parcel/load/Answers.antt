@@ -1,4 +1,4 @@
-use Rattle.cell_form.specs.Views.{bank_of}
+use Rattle.ten_core.specs.cell_form.specs.Views.{bank_of}
 use Rattle.ten_parcel.proofs.Loading.{begins-there, can-there, loaded, runs-on}
 use Rattle.ten_parcel.proofs.parcel.Parcel.load.Goals as goal
 

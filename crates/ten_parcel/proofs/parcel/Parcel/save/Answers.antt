@@ -1,7 +1,7 @@
 use Rattle.std.proofs.Common.{◌≡◌, false, subst}
-use Rattle.vl_design.specs.Alone.{Boundary}
-use Rattle.vl_design.specs.Queue.{Queue}
-use Rattle.cell_form.specs.Views.{bank_of}
+use Rattle.vl_eval.specs.vl_design.specs.Alone.{Boundary}
+use Rattle.vl_eval.specs.vl_design.specs.Queue.{Queue}
+use Rattle.ten_core.specs.cell_form.specs.Views.{bank_of}
 use Rattle.ten_parcel.specs.declared.parcel.Parcel.{Parcel}
 use Rattle.ten_parcel.specs.Parcels.{run_of, ticks_of, IsParcel}
 use Rattle.ten_parcel.proofs.Resting.{alive-there, never-alive}

@@ -1,6 +1,6 @@
 use Rattle.std.proofs.Common.{suc, sym, ap, ◌∙◌, subst}
 use Rattle.std.specs.Prelude.{if◌then◌else◌, slice_index}
-use Rattle.cell_form.specs.Views.{bank_of}
+use Rattle.ten_core.specs.cell_form.specs.Views.{bank_of}
 use Rattle.ten_form.specs.Registers.{state_register}
 use Rattle.ten_core.specs.Runs.{after_cycle}
 use Rattle.ten_shell.specs.Shells.{run_of, StandsFor}

@@ -1,9 +1,9 @@
 use Rattle.std.proofs.Common.{sym, ◌∙◌}
 use Rattle.std.specs.Prelude.{slice_get}
-use Rattle.cell_form.specs.Views.{bank_of}
+use Rattle.ten_core.specs.cell_form.specs.Views.{bank_of}
 use Rattle.sub_nodes.specs.Code.{table_of}
 use Rattle.sub_nodes.specs.Cycles.{rises}
-use Rattle.ten_run.specs.Running.{ends_at}
+use Rattle.ten_core.specs.Running.{ends_at}
 use Rattle.ten_shell.specs.Shells.{flat_in, run_of}
 use Rattle.ten_parcel.proofs.Running.{told-done, told-between, told-boundary, rising-rests, ready-all, ready-rests, turned}
 use Rattle.ten_parcel.proofs.tenant.Tenant.goes_on.Goals as goal

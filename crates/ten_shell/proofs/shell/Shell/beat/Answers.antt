@@ -1,8 +1,8 @@
 use Rattle.std.proofs.Common.{◌∙◌, sym}
 use Rattle.std.specs.Prelude.{slice_get}
-use Rattle.sub_nodes.specs.Code.{table_of}
-use Rattle.sub_nodes.specs.Cycles.{rises}
-use Rattle.sub_nodes.specs.Stands.{at_trap}
+use Rattle.ten_core.specs.sub_nodes.specs.Code.{table_of}
+use Rattle.ten_core.specs.sub_nodes.specs.Cycles.{rises}
+use Rattle.ten_core.specs.sub_nodes.specs.Stands.{at_trap}
 use Rattle.ten_shell.specs.Shells.{flat_in, run_of}
 use Rattle.ten_shell.proofs.Tests.{trap-beat, end-beat, ran-beat}
 use Rattle.ten_shell.proofs.shell.Shell.beat.Goals as goal

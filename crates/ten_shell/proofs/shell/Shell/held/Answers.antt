@@ -1,11 +1,11 @@
 use Rattle.std.proofs.Common.{◌≡◌, ◌∙◌, refl, sym, ap, subst}
 use Rattle.vl_design.specs.Snapshots.{snapshot_of}
-use Rattle.cell_form.specs.Views.{bank_of}
-use Rattle.reg_ports.specs.Ports.{captured, IsMap}
+use Rattle.ten_core.specs.cell_form.specs.Views.{bank_of}
+use Rattle.ten_core.specs.reg_ports.specs.Ports.{captured, IsMap}
 use Rattle.ten_files.specs.Tables.{open_files}
 use Rattle.ten_plan.specs.declared.held.Held.{Held}
 use Rattle.ten_plan.specs.Held.{snapshot_of as snapshot_in}
-use Rattle.sub_nodes.specs.Cycles.{Stage}
+use Rattle.ten_core.specs.sub_nodes.specs.Cycles.{Stage}
 use Rattle.std.specs.Prelude.{ℕ}
 use Rattle.ten_shell.specs.Shells.{flat_in, StandsFor}
 use Rattle.ten_shell.proofs.Tests.{ok-3}

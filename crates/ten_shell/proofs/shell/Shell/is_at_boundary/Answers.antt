@@ -1,6 +1,6 @@
 use Rattle.std.specs.Prelude.{slice_get}
-use Rattle.sub_nodes.specs.Code.{table_of}
-use Rattle.sub_nodes.specs.Cycles.{rises}
+use Rattle.ten_core.specs.sub_nodes.specs.Code.{table_of}
+use Rattle.ten_core.specs.sub_nodes.specs.Cycles.{rises}
 use Rattle.ten_shell.specs.Shells.{flat_in}
 use Rattle.ten_shell.proofs.Tests.{bound-then, bound-else}
 use Rattle.ten_shell.proofs.shell.Shell.is_at_boundary.Goals as goal

@@ -1,7 +1,7 @@
 use Rattle.std.proofs.Common.{◌∙◌, ◌-◌, ap, cond, sym}
 use Rattle.std.specs.Prelude.{slice_get}
-use Rattle.sub_nodes.specs.Code.{table_of}
-use Rattle.sub_nodes.specs.Cycles.{rises}
+use Rattle.ten_core.specs.sub_nodes.specs.Code.{table_of}
+use Rattle.ten_core.specs.sub_nodes.specs.Cycles.{rises}
 use Rattle.ten_shell.specs.Shells.{flat_in}
 use Rattle.ten_shell.proofs.Tests.{last-there, last-before, or-left, or-right}
 use Rattle.ten_shell.proofs.shell.Shell.last_tick.Goals as goal

@@ -1,6 +1,6 @@
 use Rattle.std.proofs.Common.{◌≡◌, ℕ, length}
-use Rattle.cell_form.specs.Views.{bank_of}
-use Rattle.sub_nodes.specs.Cycles.{Stage}
+use Rattle.ten_core.specs.cell_form.specs.Views.{bank_of}
+use Rattle.ten_core.specs.sub_nodes.specs.Cycles.{Stage}
 use Rattle.ten_shell.specs.Shells.{left_in, IsSameTenant, StandsFor}
 use Rattle.ten_shell.proofs.shell.Shell.make_saves.Given as goal
 

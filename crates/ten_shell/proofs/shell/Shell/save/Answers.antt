@@ -1,6 +1,6 @@
 use Rattle.std.proofs.Common.{◌∙◌, ap, map, ◌++◌, ◌∷◌, []}
 use Rattle.vl_design.specs.Snapshots.{saved_over}
-use Rattle.cell_form.specs.Views.{bank_of}
+use Rattle.ten_core.specs.cell_form.specs.Views.{bank_of}
 use Rattle.ten_plan.specs.declared.held.FreeSave.{FreeSave}
 use Rattle.ten_plan.specs.Held.{free_of, snapshot_of as snapshot_in}
 use Rattle.ten_shell.specs.Shells.{flat_in, saved_in}

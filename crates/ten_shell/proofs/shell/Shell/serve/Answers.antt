@@ -1,5 +1,5 @@
 use Rattle.std.proofs.Common.{◌∙◌, ap, sym, not, ◌&&◌}
-use Rattle.cell_form.specs.Views.{bank_of}
+use Rattle.ten_core.specs.cell_form.specs.Views.{bank_of}
 use Rattle.ten_shell.specs.Shells.{flat_in, is_at_boundary, is_left, left_in, run_of}
 use Rattle.ten_shell.proofs.Tests.{and-left, and-right, clash, other}
 use Rattle.ten_shell.proofs.shell.Shell.serve.Goals as goal

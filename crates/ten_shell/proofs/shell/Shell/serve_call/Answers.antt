@@ -1,6 +1,6 @@
 use Rattle.std.proofs.Common.{◌∙◌, ◌+◌, ◌<◌, ◌^◌, sym, subst}
 use Rattle.std.proofs.lemmas.Result.{on_ok_weaker}
-use Rattle.cell_form.specs.Views.{bank_of}
+use Rattle.ten_core.specs.cell_form.specs.Views.{bank_of}
 use Rattle.ten_shell.specs.Shells.{run_of}
 use Rattle.ten_shell.proofs.Standing.{called, called-left}
 use Rattle.ten_shell.proofs.shell.Shell.serve_call.Goals as goal

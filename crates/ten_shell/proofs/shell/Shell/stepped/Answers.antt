@@ -1,8 +1,8 @@
 use Rattle.std.proofs.Common.{◌∙◌, ◌+◌, ◌<◌, ◌^◌, suc, cond, sym, subst}
-use Rattle.cell_form.specs.States.{table_cycled}
+use Rattle.ten_core.specs.cell_form.specs.States.{table_cycled}
 use Rattle.ten_core.specs.Runs.{after_cycle}
 use Rattle.ten_core.specs.Tenants.{table_in}
-use Rattle.ten_run.specs.Running.{IsRunning}
+use Rattle.ten_core.specs.Running.{IsRunning}
 use Rattle.ten_shell.specs.Shells.{run_of}
 use Rattle.ten_shell.proofs.Standing.{cycled, cycled-left}
 use Rattle.ten_shell.proofs.shell.Shell.stepped.Goals as goal

@@ -1,9 +1,9 @@
 use Rattle.std.proofs.Common.{sym, ap}
 use Rattle.vl_design.specs.Alone.{blocks}
 use Rattle.vl_design.specs.Queue.{is_init}
-use Rattle.plain_run.proofs.Bodies.{procs-are, sound-at}
-use Rattle.sub_nodes.specs.Cycles.{execs}
-use Rattle.sub_nodes.specs.Implements.{bodies}
+use Rattle.sub_runs.specs.vl_runs.proofs.Bodies.{procs-are, sound-at}
+use Rattle.sub_runs.specs.sub_nodes.specs.Cycles.{execs}
+use Rattle.sub_runs.specs.sub_nodes.specs.Implements.{bodies}
 use Rattle.ten_zero.specs.Early.{flat_in, scope_in, state_in}
 use Rattle.ten_zero.proofs.Walking.{unrolled-at}
 use Rattle.ten_zero.proofs.setting.Setting.do_blocks.Goals as goal

@@ -4,8 +4,8 @@ use Rattle.vl_design.specs.Queue.{is_init}
 use Rattle.vl_design.specs.Trees.{proc_of}
 use Rattle.vl_design.specs.Width.{names_of}
 use Rattle.vl_run.specs.Machines.{IsMachine}
-use Rattle.sub_nodes.specs.Cycles.{execs}
-use Rattle.sub_nodes.specs.Implements.{bodies}
+use Rattle.sub_runs.specs.sub_nodes.specs.Cycles.{execs}
+use Rattle.sub_runs.specs.sub_nodes.specs.Implements.{bodies}
 use Rattle.ten_zero.specs.Early.{blocks_done, flat_in, scope_in, state_in}
 use Rattle.ten_zero.proofs.setting.Setting.do_blocks.Given as goal
 

@@ -4,8 +4,8 @@ use Rattle.vl_design.specs.Queue.{with_updates}
 use Rattle.vl_design.specs.State.{State, counted}
 use Rattle.vl_run.specs.Machines.{state_of}
 use Rattle.plain_run.specs.Runs.{Passes}
-use Rattle.sub_nodes.specs.Cycles.{settled}
-use Rattle.sub_nets.specs.Nets.{nets_of}
+use Rattle.sub_runs.specs.sub_nodes.specs.Cycles.{settled}
+use Rattle.sub_runs.specs.Nets.{nets_of}
 use Rattle.ten_zero.specs.Early.{flat_in, state_in, wave_done}
 use Rattle.ten_zero.proofs.setting.Setting.end_wave.Goals as goal
 

@@ -4,9 +4,9 @@ use Rattle.vl_design.specs.Queue.{is_comb}
 use Rattle.vl_design.specs.Functions.{scope_of}
 use Rattle.vl_design.specs.Trees.{flat_of, proc_of, stm_of}
 use Rattle.vl_run.specs.Machines.{Does}
-use Rattle.vl_settle.specs.Nets.{comb_at}
+use Rattle.sub_runs.specs.vl_runs.specs.NetsOfSettle.{comb_at}
 use Rattle.plain_run.specs.Runs.{Passes}
-use Rattle.plain_run.proofs.Bodies.{procs-are, procs-long, proc-is, sound-at}
+use Rattle.sub_runs.specs.vl_runs.proofs.Bodies.{procs-are, procs-long, proc-is, sound-at}
 use Rattle.plain_run.proofs.Passing.{evaluated, skipped}
 use Rattle.ten_zero.proofs.setting.Setting.evaluate.Goals as goal
 

@@ -1,10 +1,10 @@
 use Rattle.std.proofs.Common.{arith, refl}
-use Rattle.vl_grammar.specs.Expressions as spec
-use Rattle.vl_grammar.specs.Expressions.{links}
-use Rattle.vl_grammar.specs.Marks.{binary_operator}
-use Rattle.vl_grammar.specs.Reading.{◌>>=◌, pure}
-use Rattle.vl_grammar.specs.Grammar.{link_of}
-use Rattle.vl_grammar.proofs.Passing.{passed, fails_on, with_front_none, many_turn, many_end, many_fails}
+use Rattle.vl_tree.specs.Expressions as spec
+use Rattle.vl_tree.specs.Expressions.{links}
+use Rattle.vl_tree.specs.MarksOfGrammar.{binary_operator}
+use Rattle.vl_tree.specs.Reading.{◌>>=◌, pure}
+use Rattle.vl_tree.specs.Grammar.{link_of}
+use Rattle.vl_tree.proofs.Passing.{passed, fails_on, with_front_none, many_turn, many_end, many_fails}
 use Rattle.vl_pexpr.proofs.grammar.Grammar.links.Goals as goal
 
 pub each-init : goal.each-init

@@ -1,9 +1,9 @@
 use Rattle.std.proofs.Common.{◌≤◌, length}
-use Rattle.vl_grammar.specs.Expressions as spec
-use Rattle.vl_grammar.specs.Marks.{binary_operator}
-use Rattle.vl_grammar.specs.Reading.{◌>>=◌, pure}
-use Rattle.vl_grammar.specs.Grammar.{link_of}
-use Rattle.vl_grammar.proofs.Passing.{GoesOn}
+use Rattle.vl_tree.specs.Expressions as spec
+use Rattle.vl_tree.specs.MarksOfGrammar.{binary_operator}
+use Rattle.vl_tree.specs.Reading.{◌>>=◌, pure}
+use Rattle.vl_tree.specs.Grammar.{link_of}
+use Rattle.vl_tree.proofs.Passing.{GoesOn}
 use Rattle.vl_pexpr.proofs.grammar.Grammar.links.Given as goal
 
 abbrev pub invariant-each : goal.invariant-each

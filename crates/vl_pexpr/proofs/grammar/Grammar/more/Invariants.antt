@@ -1,7 +1,7 @@
 use Rattle.std.proofs.Common.{◌≤◌, length, [], ◌∷◌, codes}
-use Rattle.vl_grammar.specs.Expressions as spec
-use Rattle.vl_grammar.specs.Reading.{mark, with_front}
-use Rattle.vl_grammar.proofs.Passing.{GoesOn}
+use Rattle.vl_tree.specs.Expressions as spec
+use Rattle.vl_tree.specs.Reading.{mark, with_front}
+use Rattle.vl_tree.proofs.Passing.{GoesOn}
 use Rattle.vl_pexpr.proofs.grammar.Grammar.more.Given as goal
 
 abbrev pub invariant-each : goal.invariant-each

@@ -1,7 +1,7 @@
 use Rattle.std.proofs.Common.{codes, arith}
-use Rattle.vl_grammar.specs.Expressions as spec
-use Rattle.vl_grammar.specs.Reading.{mark}
-use Rattle.vl_grammar.proofs.Passing.{passed, many_turn, many_end, many_fails}
+use Rattle.vl_tree.specs.Expressions as spec
+use Rattle.vl_tree.specs.Reading.{mark}
+use Rattle.vl_tree.proofs.Passing.{passed, many_turn, many_end, many_fails}
 use Rattle.vl_pexpr.proofs.grammar.Grammar.more_arguments.Goals as goal
 
 pub returns-in_err-argument-clause-reads : goal.returns-in_err-argument-clause-reads

@@ -1,8 +1,8 @@
 use Rattle.std.proofs.Common.{◌≤◌, length, [], ◌∷◌, codes}
-use Rattle.vl_grammar.specs.Expressions as spec
-use Rattle.vl_grammar.specs.Reading.{mark, with_front}
-use Rattle.vl_grammar.proofs.Passing.{GoesOn}
-use Rattle.vl_grammar.specs.Reading.{many}
+use Rattle.vl_tree.specs.Expressions as spec
+use Rattle.vl_tree.specs.Reading.{mark, with_front}
+use Rattle.vl_tree.proofs.Passing.{GoesOn}
+use Rattle.vl_tree.specs.Reading.{many}
 use Rattle.vl_pexpr.proofs.grammar.Grammar.more_arguments.Given as goal
 
 abbrev pub invariant-each : goal.invariant-each

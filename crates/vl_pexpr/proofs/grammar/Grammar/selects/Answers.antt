@@ -1,8 +1,8 @@
 use Rattle.std.proofs.Common.{codes, arith}
-use Rattle.vl_grammar.specs.Expressions as spec
-use Rattle.vl_grammar.specs.Expressions.{selects}
-use Rattle.vl_grammar.specs.Reading.{mark}
-use Rattle.vl_grammar.proofs.Passing.{passed, with_front_none, many_turn, many_end, many_fails}
+use Rattle.vl_tree.specs.Expressions as spec
+use Rattle.vl_tree.specs.Expressions.{selects}
+use Rattle.vl_tree.specs.Reading.{mark}
+use Rattle.vl_tree.proofs.Passing.{passed, with_front_none, many_turn, many_end, many_fails}
 use Rattle.vl_pexpr.proofs.grammar.Grammar.selects.Goals as goal
 
 pub each-init : goal.each-init

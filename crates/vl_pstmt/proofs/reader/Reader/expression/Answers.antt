@@ -1,7 +1,7 @@
 use Rattle.std.proofs.Common.{◌+◌, arith, ap, length, length-take}
-use Rattle.vl_grammar.specs.Expressions.{expr}
-use Rattle.vl_grammar.proofs.Sound.{follows_expr}
-use Rattle.vl_source.specs.Bounds.{most_tokens}
+use Rattle.vl_tree.specs.Expressions.{expr}
+use Rattle.vl_tree.proofs.Sound.{follows_expr}
+use Rattle.vl_tree.specs.Bounds.{most_tokens}
 use Rattle.vl_pstmt.proofs.Windows.{narrows, leaves}
 use Rattle.vl_pstmt.proofs.reader.Reader.expression.Goals as goal
 

@@ -1,6 +1,6 @@
 use Rattle.std.proofs.Common.{codes, arith}
-use Rattle.vl_grammar.specs.Reading.{mark}
-use Rattle.vl_source.specs.Parsing.{index, indices}
+use Rattle.vl_tree.specs.Reading.{mark}
+use Rattle.vl_tree.specs.Parsing.{index, indices}
 use Rattle.vl_pstmt.proofs.Passing.{passed, with_counted_none, counted_turn, counted_end, counted_fails, counted_full}
 use Rattle.vl_pstmt.proofs.reader.Reader.indices.Goals as goal
 

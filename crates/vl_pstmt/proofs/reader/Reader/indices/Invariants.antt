@@ -1,6 +1,6 @@
 use Rattle.std.proofs.Common.{◌≤◌, length, codes}
-use Rattle.vl_grammar.specs.Reading.{mark}
-use Rattle.vl_source.specs.Parsing.{index, indices}
+use Rattle.vl_tree.specs.Reading.{mark}
+use Rattle.vl_tree.specs.Parsing.{index, indices}
 use Rattle.vl_pstmt.proofs.Passing.{GoesOnCounted}
 use Rattle.vl_pstmt.proofs.reader.Reader.indices.Given as goal
 

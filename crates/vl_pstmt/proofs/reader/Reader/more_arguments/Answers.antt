@@ -1,5 +1,5 @@
 use Rattle.std.proofs.Common.{codes, arith}
-use Rattle.vl_grammar.specs.Reading.{mark}
+use Rattle.vl_tree.specs.Reading.{mark}
 use Rattle.vl_pstmt.specs.Parts.{sarg}
 use Rattle.vl_pstmt.proofs.Passing.{passed, many_turn, many_end, many_fails}
 use Rattle.vl_pstmt.proofs.reader.Reader.more_arguments.Goals as goal

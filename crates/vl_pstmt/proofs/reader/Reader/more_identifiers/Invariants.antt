@@ -1,6 +1,6 @@
 use Rattle.std.proofs.Common.{◌≤◌, length, [], ◌∷◌, codes}
-use Rattle.vl_grammar.specs.Reading.{mark}
-use Rattle.vl_source.specs.Parsers.{many, with_front, identifier}
+use Rattle.vl_tree.specs.Reading.{mark}
+use Rattle.vl_tree.specs.Parsers.{many, with_front, identifier}
 use Rattle.vl_pstmt.proofs.Passing.{GoesOn}
 use Rattle.vl_pstmt.proofs.reader.Reader.more_identifiers.Given as goal
 

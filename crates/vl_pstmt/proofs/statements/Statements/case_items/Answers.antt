@@ -1,5 +1,5 @@
 use Rattle.std.proofs.Common.{arith}
-use Rattle.vl_source.specs.Parsing.{whole, target}
+use Rattle.vl_tree.specs.Parsing.{whole, target}
 use Rattle.vl_pstmt.specs.Nests.{nested}
 use Rattle.vl_pstmt.proofs.CaseItems.{items_turn, items_end, items_fail}
 use Rattle.vl_pstmt.proofs.Passing.{passed}

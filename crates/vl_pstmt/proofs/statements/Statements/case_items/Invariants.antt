@@ -1,6 +1,6 @@
 use Rattle.std.proofs.Common.{◌≤◌, length, [], ◌∷◌}
-use Rattle.vl_source.specs.Parsers.{with_front}
-use Rattle.vl_source.specs.Parsing.{whole, target, case_items}
+use Rattle.vl_tree.specs.Parsers.{with_front}
+use Rattle.vl_tree.specs.Parsing.{whole, target, case_items}
 use Rattle.vl_pstmt.specs.Nests.{nested}
 use Rattle.vl_pstmt.proofs.CaseItems.{GoesOn}
 use Rattle.vl_pstmt.proofs.statements.Statements.case_items.Given as goal

@@ -1,5 +1,5 @@
 use Rattle.std.proofs.Common.{arith, codes}
-use Rattle.vl_source.specs.Parsers.{is_word}
+use Rattle.vl_tree.specs.Parsers.{is_word}
 use Rattle.vl_pstmt.specs.Nests.{nested}
 use Rattle.vl_pstmt.proofs.Passing.{passed, with_front_none, before_turn, before_end, before_fails}
 use Rattle.vl_pstmt.proofs.statements.Statements.statements.Goals as goal

@@ -1,5 +1,5 @@
 use Rattle.std.proofs.Common.{◌≤◌, length, codes}
-use Rattle.vl_source.specs.Parsers.{before, is_word}
+use Rattle.vl_tree.specs.Parsers.{before, is_word}
 use Rattle.vl_pstmt.specs.Nests.{nested}
 use Rattle.vl_pstmt.proofs.Passing.{GoesBefore}
 use Rattle.vl_pstmt.proofs.statements.Statements.statements.Given as goal

@@ -1,6 +1,6 @@
 use Rattle.std.proofs.Common.{codes, arith, refl}
-use Rattle.vl_grammar.specs.Reading.{mark}
-use Rattle.vl_source.specs.Parsing.{lvalue, more_targets}
+use Rattle.vl_tree.specs.Reading.{mark}
+use Rattle.vl_tree.specs.Parsing.{lvalue, more_targets}
 use Rattle.vl_pstmt.proofs.Passing.{passed, counted_turn, counted_end, counted_fails, counted_full}
 use Rattle.vl_pstmt.proofs.targets.Targets.more.Goals as goal
 

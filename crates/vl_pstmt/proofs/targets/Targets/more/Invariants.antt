@@ -1,7 +1,7 @@
 use Rattle.std.proofs.Common.{◌≤◌, length, [], ◌∷◌, codes}
-use Rattle.vl_grammar.specs.Reading.{mark}
-use Rattle.vl_source.specs.Parsers.{with_counted_front}
-use Rattle.vl_source.specs.Parsing.{lvalue, more_targets}
+use Rattle.vl_tree.specs.Reading.{mark}
+use Rattle.vl_tree.specs.Parsers.{with_counted_front}
+use Rattle.vl_tree.specs.Parsing.{lvalue, more_targets}
 use Rattle.vl_pstmt.proofs.Passing.{GoesOnCounted}
 use Rattle.vl_pstmt.proofs.targets.Targets.more.Given as goal
 

@@ -3,7 +3,7 @@ use Rattle.vl_design.specs.Sound.{AreSoundTargets}
 use Rattle.vl_design.specs.Targets.{spots, all_spots, target_width, targets_width}
 use Rattle.vl_design.specs.Trees.{target_of}
 use Rattle.vl_eval.specs.Rooms.{names_of, sample_of}
-use Rattle.vl_assign.specs.declared.spot.Spot.{Spot}
+use Rattle.vl_eval.specs.declared.spot.Spot.{Spot}
 use Rattle.vl_run.specs.Lists.{targets_of, Spotted}
 use Rattle.vl_run.specs.Scopes.{scope_of}
 use Rattle.vl_run.proofs.scope.Scope.+push_spots.Given as goal

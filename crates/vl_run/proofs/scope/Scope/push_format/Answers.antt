@@ -2,7 +2,7 @@ use Rattle.std.proofs.Common.{◌≡◌, refl, ap, sym, ◌∙◌, map, drop, ge
 use Rattle.std.proofs.lemmas.List.{drop-map}
 use Rattle.vl_design.specs.Trees.{arg_of}
 use Rattle.vl_eval.specs.Rooms.{sample_of}
-use Rattle.vl_show.specs.Modes.{reading_of}
+use Rattle.fmt_text.specs.Modes.{reading_of}
 use Rattle.vl_run.specs.Scopes.{scope_of}
 use Rattle.vl_run.proofs.Pieces.{formatted-none, byte-sound, formatted-on, formatted-all}
 use Rattle.vl_run.proofs.scope.Scope.push_format.Goals as goal

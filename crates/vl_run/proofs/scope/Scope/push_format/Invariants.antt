@@ -1,7 +1,7 @@
 use Rattle.std.proofs.Common.{map}
 use Rattle.vl_design.specs.Trees.{arg_of}
 use Rattle.vl_eval.specs.Rooms.{sample_of}
-use Rattle.vl_show.specs.Modes.{reading_of}
+use Rattle.fmt_text.specs.Modes.{reading_of}
 use Rattle.vl_run.specs.Scopes.{scope_of}
 use Rattle.vl_run.proofs.Pieces.{Formatted}
 use Rattle.vl_run.proofs.scope.Scope.push_format.Given as goal

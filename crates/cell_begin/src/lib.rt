@@ -1,4 +1,0 @@
-//! The cells that a state begins with.
-#![tactic(auto)]
-
-pub mod begin;

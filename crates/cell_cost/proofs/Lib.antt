@@ -1,5 +1,0 @@
-pub mod Weights
-pub mod Lights
-pub mod Waves
-pub mod Sums
-pub mod Bits

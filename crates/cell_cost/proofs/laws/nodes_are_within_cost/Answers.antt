@@ -1,5 +1,0 @@
-use Rattle.cell_cost.proofs.Sums.{node-within}
-use Rattle.cell_cost.proofs.laws.nodes_are_within_cost.Goals as goal
-
-pub returns : goal.returns
-returns c = λ d order sound variables below once paired n x h. node-within d order sound variables below once paired n x h

@@ -1,5 +1,0 @@
-use Rattle.cell_cost.proofs.Bits.{registers-within}
-use Rattle.cell_cost.proofs.laws.registers_are_within_cost.Goals as goal
-
-pub returns : goal.returns
-returns c = λ d variables. registers-within d variables

@@ -1,4 +1,0 @@
-//! States are within the cost of their design.
-#![tactic(auto)]
-
-pub mod laws;

@@ -1,3 +1,0 @@
-mod Sites
-mod Nets
-mod Whole

@@ -1,5 +1,0 @@
-use Rattle.cell_functions.proofs.Whole.{all-cell-funs}
-use Rattle.cell_functions.proofs.laws.functions_of_accepted_designs_can_be_compiled_to_cells.Goals as goal
-
-pub returns : goal.returns
-returns c = all-cell-funs

@@ -1,4 +1,0 @@
-//! Combinational processes of a design as cells.
-#![tactic(auto)]
-
-pub mod pass;

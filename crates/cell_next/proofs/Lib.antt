@@ -1,2 +1,0 @@
-pub mod Nexting
-mod Ways

@@ -1,4 +1,0 @@
-//! Which state is next, as cells.
-#![tactic(auto)]
-
-pub mod next;

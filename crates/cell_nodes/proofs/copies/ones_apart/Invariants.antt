@@ -1,6 +1,0 @@
-use Rattle.std.proofs.Common.{◌≡◌}
-use Rattle.vl_design.specs.Value.{repeated}
-use Rattle.cell_nodes.proofs.copies.ones_apart.Given as goal
-
-abbrev pub invariant-loop-copy : goal.invariant-loop-copy
-invariant-loop-copy l = l.ones ≡ repeated l.copy l.width 1

@@ -1,6 +1,0 @@
-pub mod Marking
-pub mod Ways
-pub mod Search
-pub mod Walk
-pub mod Users
-pub mod Edges

@@ -1,7 +1,0 @@
-use Rattle.std.proofs.Common.{ℕ, ◌<◌}
-use Rattle.cell_order.specs.Cycles.{IsOnCycle}
-use Rattle.cell_order.specs.Nets as spec
-use Rattle.cell_order.proofs.cycles.lowest.Given as goal
-
-abbrev pub invariant-loop-net : goal.invariant-loop-net
-invariant-loop-net l = (p : ℕ) → p < l.net → IsOnCycle (spec.Edge l.nets) p → ⊥

@@ -1,4 +1,0 @@
-pub mod Cycles
-pub mod Nets
-pub mod Tables
-pub mod Walks

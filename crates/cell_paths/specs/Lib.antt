@@ -1,4 +1,0 @@
-pub mod Cases
-pub mod Differs
-pub mod Envs
-pub mod Paths

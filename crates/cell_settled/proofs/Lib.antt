@@ -1,4 +1,0 @@
-pub mod Finding
-pub mod Constants
-pub mod Written
-pub mod Rules

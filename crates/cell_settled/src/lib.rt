@@ -1,4 +1,0 @@
-//! Accepted designs with their loops unrolled are ones whose combinational processes settle.
-#![tactic(auto)]
-
-pub mod laws;

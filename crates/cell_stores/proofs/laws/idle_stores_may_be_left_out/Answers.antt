@@ -1,5 +1,0 @@
-use Rattle.cell_stores.proofs.Leaving.{holds-fewer}
-use Rattle.cell_stores.proofs.laws.idle_stores_may_be_left_out.Goals as goal
-
-pub returns : goal.returns
-returns c = holds-fewer

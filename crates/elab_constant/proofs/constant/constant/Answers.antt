@@ -1,0 +1,18 @@
+use Rattle.std.proofs.Common.{ap, ◌∙◌, sym}
+use Rattle.elab_plain.specs.Seen.{seen}
+use Rattle.elab_constant.specs.Seen.{seen_scope}
+use Rattle.elab_constant.specs.Folded.{folded}
+use Rattle.elab_constant.proofs.Folding.{own-form, own-value}
+use Rattle.elab_constant.proofs.constant.constant.Goals as goal
+
+pub returns-then-is_constant-clause-value : goal.returns-then-is_constant-clause-value
+returns-then-is_constant-clause-value c =
+    let s = seen_scope c.args.scope.now in
+    c.evaluate.ensures.value
+    ∙ (ap (folded s.names (seen c.args.e.now)) c.constant_form-form.ensures.same ∙ own-value s (seen c.args.e.now) (sym c.if-is_constant.ensures))
+
+pub returns-then-is_constant-clause-width : goal.returns-then-is_constant-clause-width
+returns-then-is_constant-clause-width c =
+    let s = seen_scope c.args.scope.now in
+    c.evaluate.ensures.width
+    ∙ ap (λ f. f.width) (c.constant_form-form.ensures.same ∙ own-form s (seen c.args.e.now) (sym c.if-is_constant.ensures))

@@ -1,0 +1,13 @@
+use Rattle.std.proofs.Common.{sym, ◌∙◌}
+use Rattle.elab_expr.proofs.Bodies.{first-none, first-some}
+use Rattle.elab_expr.proofs.statements.+first_name.Goals as goal
+
+pub returns-in-empty : goal.returns-in-empty
+returns-in-empty t c =
+    c.as_slice-in-empty.ensures
+    ∙ sym (first-none c.args.l.now c.in-List.field-0 c.in-List.parts c.as_slice-in-List.result.now c.in-List.is c.as_slice-in-List.ensures.value c.in-empty.len_below)
+
+pub returns-in-len1-up : goal.returns-in-len1-up
+returns-in-len1-up t c =
+    c.first_name.ensures
+    ∙ sym (first-some c.args.l.now c.in-List.field-0 c.in-List.parts c.as_slice-in-List.result.now c.first-item.result c.in-List.is c.as_slice-in-List.ensures.value c.in-len1-up.len_at_least c.first-item.is)

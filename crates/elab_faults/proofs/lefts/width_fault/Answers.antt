@@ -1,0 +1,15 @@
+use Rattle.std.proofs.Common.{not, ap, ◌∙◌}
+use Rattle.vl_design.specs.Rows.{has_width}
+use Rattle.vl_design.specs.Stops.{earliest, construct_if}
+use Rattle.elab_plain.specs.vl_flat.specs.Targets.{left_width}
+use Rattle.elab_plain.specs.SeenStatements.{seen_left}
+use Rattle.elab_constant.specs.Seen.{seen_scope}
+use Rattle.elab_faults.proofs.lefts.width_fault.Goals as goal
+
+pub returns : goal.returns
+returns c =
+    let s = seen_scope c.args.scope.now in
+    let l = seen_left c.args.l.now in
+    c.construct_if.ensures
+    ∙ (ap (λ b. earliest c.args.best (construct_if (not b) c.left_place.result 10)) c.is_fitting.ensures
+    ∙ ap (λ q. earliest c.args.best (construct_if (not (has_width (left_width s l))) q 10)) c.left_place.ensures)

@@ -1,0 +1,7 @@
+use Rattle.std.proofs.Common.{◌≡◌, ◌++◌, map, take}
+use Rattle.elab_plain.specs.vl_flat.specs.Declarations.{item}
+use Rattle.elab_plain.specs.SeenItems.{seen_item}
+use Rattle.elab_items.proofs.modules.add_items.Given as goal
+
+abbrev pub invariant-loop-a : goal.invariant-loop-a
+invariant-loop-a l = map seen_item l.all.items ≡ map seen_item l.initial.all.items ++ map item (take l.a-index l.items)

@@ -1,0 +1,8 @@
+use Rattle.std.proofs.Common.{◌≡◌, map, take}
+use Rattle.elab_plain.specs.vl_flat.specs.Items as x
+use Rattle.elab_plain.specs.vl_flat.specs.Declarations as f
+use Rattle.elab_plain.specs.SeenItems.{seen_declared}
+use Rattle.elab_items.proofs.signals.assigned_nets.Given as goal
+
+abbrev pub invariant-loop-a : goal.invariant-loop-a
+invariant-loop-a l = (type : x.DataType) → map (seen_declared type) l.all.items ≡ map (f.assigned_net type) (take l.a-index l.declared)

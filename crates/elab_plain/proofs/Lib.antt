@@ -1,0 +1,5 @@
+pub mod Opens
+pub mod Walks
+pub mod LeftSides
+pub mod StatementTrees
+pub mod Shared

@@ -1,0 +1,13 @@
+pub mod Weights
+pub mod Places
+pub mod Fitting
+pub mod Going
+pub mod Fronts
+pub mod Finding
+pub mod Once
+pub mod Firsts
+pub mod Legality
+pub mod Owns
+pub mod Passing
+pub mod Seats
+pub mod Shared

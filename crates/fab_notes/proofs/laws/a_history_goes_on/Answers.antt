@@ -1,9 +1,0 @@
-use Rattle.std.proofs.Common.{[]}
-use Rattle.fab_notes.proofs.Legality.{goes_on, replay-snoc}
-use Rattle.fab_notes.proofs.laws.a_history_goes_on.Goals as goal
-
-pub returns-clause-legal : goal.returns-clause-legal
-returns-clause-legal c = goes_on
-
-pub returns-clause-replay : goal.returns-clause-replay
-returns-clause-replay c = replay-snoc []

@@ -1,4 +1,0 @@
-pub mod Closing
-pub mod Onward
-pub mod Placing
-pub mod Saying

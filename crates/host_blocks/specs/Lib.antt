@@ -1,4 +1,0 @@
-pub mod Ends
-pub mod Endings
-pub mod Orders
-pub mod Telling

@@ -1,0 +1,9 @@
+pub mod Lists
+pub mod Ascii
+pub mod Causes
+pub mod Within
+pub mod Filing
+pub mod Tenants
+pub mod Saving
+pub mod Taking
+pub mod Writing

@@ -1,0 +1,9 @@
+use Rattle.std.proofs.lemmas.Result.{err_from_is_err_and}
+use Rattle.host_files.proofs.Causes.{handed, asked-for}
+use Rattle.host_files.proofs.load.Reader.read_file.Goals as goal
+
+pub returns-in_err-bytes-clause-missed : goal.returns-in_err-bytes-clause-missed
+returns-in_err-bytes-clause-missed g c = λ asked why e.
+    let came = handed _ _ _ _ c.in_err-bytes.was (err_from_is_err_and c.from_residual.result c.from_residual.ensures.1) e in
+    let m = c.read_at.ensures.missed asked why came in
+    (m.0, asked-for _ _ _ _ _ _ _ why c.min.ensures m)

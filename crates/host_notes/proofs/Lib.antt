@@ -1,3 +1,0 @@
-pub mod Visits
-pub mod Lines
-pub mod Moved

@@ -1,5 +1,0 @@
-use Rattle.host_notes.proofs.Moved.{moves_once}
-use Rattle.host_notes.proofs.laws.moves_put_once.Goals as goal
-
-pub returns : goal.returns
-returns c = moves_once

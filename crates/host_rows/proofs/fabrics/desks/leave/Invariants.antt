@@ -1,7 +1,0 @@
-use Rattle.std.specs.Prelude.{All}
-use Rattle.ten_parcel.specs.Parcels.{IsParcel}
-use Rattle.host_rows.specs.Desks.{IsAt}
-use Rattle.host_rows.proofs.fabrics.desks.leave.Given as goal
-
-abbrev pub invariant-left : goal.invariant-left
-invariant-left g l = IsAt l.wanted l.desk l.seat × All (λ x. IsParcel x.transit.parcel) l.leaving.items

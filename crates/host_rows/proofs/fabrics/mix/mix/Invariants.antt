@@ -1,5 +1,0 @@
-use Rattle.host_rows.specs.Cores.{IsCore}
-use Rattle.host_rows.proofs.fabrics.mix.mix.Given as goal
-
-abbrev pub invariant-events : goal.invariant-events
-invariant-events l = IsCore l.core

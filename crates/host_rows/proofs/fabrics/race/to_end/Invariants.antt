@@ -1,5 +1,0 @@
-use Rattle.host_rows.specs.Desks.{IsAt}
-use Rattle.host_rows.proofs.fabrics.race.to_end.Given as goal
-
-abbrev pub invariant-turns : goal.invariant-turns
-invariant-turns g l = IsAt l.wanted l.desk l.seat

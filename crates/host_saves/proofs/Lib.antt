@@ -1,3 +1,0 @@
-pub mod Saving
-pub mod Taking
-pub mod Writing

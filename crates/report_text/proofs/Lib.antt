@@ -1,4 +1,0 @@
-pub mod Cutting
-pub mod Reading
-pub mod Pieces
-pub mod Replying

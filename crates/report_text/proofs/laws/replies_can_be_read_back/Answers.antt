@@ -1,5 +1,0 @@
-use Rattle.report_text.proofs.Replying.{replies-back}
-use Rattle.report_text.proofs.laws.replies_can_be_read_back.Goals as goal
-
-pub returns : goal.returns
-returns c = replies-back

@@ -1,7 +1,0 @@
-use Rattle.std.proofs.Common.{◌≡◌, ◌++◌, take, drop}
-use Rattle.script_line.specs.Words.{uncommented}
-use Rattle.script_line.proofs.words.uncommented.Given as goal
-
--- the front, and what is left of the rest
-abbrev pub invariant-loop-i : goal.invariant-loop-i
-invariant-loop-i l = uncommented l.text ≡ take l.i l.text ++ uncommented (drop l.i l.text)

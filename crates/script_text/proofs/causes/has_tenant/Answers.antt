@@ -1,5 +1,0 @@
-use Rattle.std.proofs.Common.{ap, ◌∙◌, is_some}
-use Rattle.script_text.proofs.causes.has_tenant.Goals as goal
-
-pub returns : goal.returns
-returns c = c.is_some.ensures ∙ ap is_some (c.number.ensures ∙ c.requires.tenants c.args.name.now)

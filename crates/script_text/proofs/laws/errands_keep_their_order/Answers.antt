@@ -1,5 +1,0 @@
-use Rattle.script_text.proofs.Ordered.{like-with}
-use Rattle.script_text.proofs.laws.errands_keep_their_order.Goals as goal
-
-pub returns : goal.returns
-returns c = λ es e d h. like-with d e es h

@@ -1,5 +1,0 @@
-use Rattle.settling.proofs.Settle.{settles_once}
-use Rattle.settling.proofs.laws.a_queue_settles_in_one_state.Goals as goal
-
-pub returns : goal.returns
-returns g c = λ run wakes q a b r s. settles_once run wakes r s

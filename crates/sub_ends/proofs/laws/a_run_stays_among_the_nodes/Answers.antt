@@ -1,5 +1,0 @@
-use Rattle.sub_ends.proofs.Bounding.{comes_few}
-use Rattle.sub_ends.proofs.laws.a_run_stays_among_the_nodes.Goals as goal
-
-pub returns : goal.returns
-returns c = λ o nets n i x. (comes_few o nets x).within

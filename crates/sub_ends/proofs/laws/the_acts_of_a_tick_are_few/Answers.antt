@@ -1,5 +1,0 @@
-use Rattle.sub_ends.proofs.Bounding.{acts_few}
-use Rattle.sub_ends.proofs.laws.the_acts_of_a_tick_are_few.Goals as goal
-
-pub returns : goal.returns
-returns c = λ o nets n i x. acts_few o nets x

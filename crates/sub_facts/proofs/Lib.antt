@@ -1,5 +1,0 @@
-pub mod Making
-pub mod Pairing
-pub mod Leading
-pub mod Passing
-pub mod Calling

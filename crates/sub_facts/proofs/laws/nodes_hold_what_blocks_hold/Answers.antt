@@ -1,5 +1,0 @@
-use Rattle.sub_facts.proofs.Passing.{table_fits}
-use Rattle.sub_facts.proofs.laws.nodes_hold_what_blocks_hold.Goals as goal
-
-pub returns : goal.returns
-returns c = λ d p e l r u passes h. table_fits _ _ _ _ d u passes h

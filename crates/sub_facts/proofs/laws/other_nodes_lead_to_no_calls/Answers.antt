@@ -1,5 +1,0 @@
-use Rattle.sub_facts.proofs.Calling.{no_call_next}
-use Rattle.sub_facts.proofs.laws.other_nodes_lead_to_no_calls.Goals as goal
-
-pub returns : goal.returns
-returns c d n x h other = no_call_next d n x h other

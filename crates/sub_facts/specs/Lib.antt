@@ -1,4 +1,0 @@
-pub mod Pairs
-pub mod Early
-pub mod Passing
-pub mod Size

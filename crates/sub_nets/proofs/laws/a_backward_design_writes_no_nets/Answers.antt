@@ -1,5 +1,0 @@
-use Rattle.sub_nets.proofs.Sample.{nets, narrow, memories}
-use Rattle.sub_nets.proofs.laws.a_backward_design_writes_no_nets.Goals as goal
-
-pub returns : goal.returns
-returns c = record { nets = nets; narrow = narrow; memories = memories }

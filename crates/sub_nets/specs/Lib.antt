@@ -1,3 +1,0 @@
-pub mod Nets
-pub mod Tidy
-pub mod Memories

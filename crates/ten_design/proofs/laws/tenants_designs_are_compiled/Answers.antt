@@ -1,5 +1,0 @@
-use Rattle.ten_design.proofs.Nodes.{compiled}
-use Rattle.ten_design.proofs.laws.tenants_designs_are_compiled.Goals as goal
-
-pub returns : goal.returns
-returns c d order is = compiled d order is

@@ -1,4 +1,0 @@
-//! Accepted designs as tenants run them.
-#![tactic(auto)]
-
-pub mod laws;

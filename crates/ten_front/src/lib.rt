@@ -1,4 +1,0 @@
-//! What runs have printed on their way to their ends.
-#![tactic(auto)]
-
-pub mod laws;

@@ -1,7 +1,0 @@
-mod Listing
-mod Taking
-mod Restoring
-mod Fitting
-mod Settling
-mod Adding
-mod Keeping

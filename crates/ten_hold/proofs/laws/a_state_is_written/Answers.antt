@@ -1,5 +1,0 @@
-use Rattle.ten_hold.proofs.Keeping.{state-written}
-use Rattle.ten_hold.proofs.laws.a_state_is_written.Goals as goal
-
-pub returns : goal.returns
-returns c = λ d files s can rows set fine table. state-written d files s can rows set fine table

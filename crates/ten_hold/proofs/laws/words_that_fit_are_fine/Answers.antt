@@ -1,5 +1,0 @@
-use Rattle.ten_hold.proofs.Fitting.{fit-fine}
-use Rattle.ten_hold.proofs.laws.words_that_fit_are_fine.Goals as goal
-
-pub returns : goal.returns
-returns c = λ d words can h. fit-fine d can words h

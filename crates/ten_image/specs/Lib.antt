@@ -1,3 +1,0 @@
-pub mod Delays
-pub mod States
-pub mod Paired

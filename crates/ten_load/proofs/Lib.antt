@@ -1,4 +1,0 @@
-pub mod Banking
-pub mod Opening
-pub mod Resuming
-pub mod Loading

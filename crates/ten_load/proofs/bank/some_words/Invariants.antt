@@ -1,6 +1,0 @@
-use Rattle.std.proofs.Common.{◌≡◌}
-use Rattle.ten_load.specs.Lists as b
-use Rattle.ten_load.proofs.bank.some_words.Given as goal
-
-abbrev pub invariant-loop-number : goal.invariant-loop-number
-invariant-loop-number l = l.all.items ≡ b.some_words l.number l.words

@@ -1,8 +1,0 @@
-use Rattle.ten_stores.proofs.Keeping.{stores-memories, first-memories}
-use Rattle.ten_stores.proofs.laws.stores_are_of_memories.Goals as goal
-
-pub returns-clause-all : goal.returns-clause-all
-returns-clause-all c = λ d r s u. stores-memories d s u r
-
-pub returns-clause-first : goal.returns-clause-first
-returns-clause-first c = λ d r k s u. first-memories d s u r k

@@ -1,0 +1,15 @@
+pub mod Clean
+pub mod Looped
+pub mod Designs
+pub mod Ends
+pub mod Fitting
+pub mod Loops
+pub mod Once
+pub mod Telling
+pub mod Silent
+pub mod Pure
+pub mod Faults
+pub mod Finding
+pub mod Constants
+pub mod Written
+pub mod Rules

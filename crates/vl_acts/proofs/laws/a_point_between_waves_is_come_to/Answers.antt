@@ -1,5 +1,0 @@
-use Rattle.vl_acts.proofs.Standing.{between}
-use Rattle.vl_acts.proofs.laws.a_point_between_waves_is_come_to.Goals as goal
-
-pub returns : goal.returns
-returns c = λ o n q u h a. between o u h q a

@@ -1,5 +1,0 @@
-use Rattle.vl_acts.proofs.Onward.{checked_quiet}
-use Rattle.vl_acts.proofs.laws.checked_processes_are_quiet.Goals as goal
-
-pub returns : goal.returns
-returns c = λ d h. checked_quiet d h

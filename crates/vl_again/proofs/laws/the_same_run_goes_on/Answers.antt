@@ -1,5 +1,0 @@
-use Rattle.vl_again.proofs.Transport.{same_goes_on}
-use Rattle.vl_again.proofs.laws.the_same_run_goes_on.Goals as goal
-
-pub returns : goal.returns
-returns c = λ o d k q r rows same x y on. same_goes_on o d k q r rows same x y on

@@ -1,5 +1,0 @@
-use Rattle.vl_agree.proofs.Instances.{clocks-are-inputs, instance-of}
-use Rattle.vl_agree.proofs.laws.an_instance_is_of_a_module_of_the_source.Goals as goal
-
-pub returns : goal.returns
-returns c = record { «module» = instance-of; clocks = clocks-are-inputs }

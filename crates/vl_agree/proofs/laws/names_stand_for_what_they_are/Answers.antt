@@ -1,5 +1,0 @@
-use Rattle.vl_agree.proofs.Agree.{agrees}
-use Rattle.vl_agree.proofs.laws.names_stand_for_what_they_are.Goals as goal
-
-pub returns : goal.returns
-returns c = agrees

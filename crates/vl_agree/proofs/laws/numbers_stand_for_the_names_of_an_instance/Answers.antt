@@ -1,5 +1,0 @@
-use Rattle.vl_agree.proofs.Stands.{stands}
-use Rattle.vl_agree.proofs.laws.numbers_stand_for_the_names_of_an_instance.Goals as goal
-
-pub returns : goal.returns
-returns c = stands

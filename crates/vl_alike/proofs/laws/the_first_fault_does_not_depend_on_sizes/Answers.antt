@@ -1,5 +1,0 @@
-use Rattle.vl_alike.proofs.Parts.{first-fault-same}
-use Rattle.vl_alike.proofs.laws.the_first_fault_does_not_depend_on_sizes.Goals as goal
-
-pub returns : goal.returns
-returns c = first-fault-same

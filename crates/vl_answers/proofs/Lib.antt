@@ -1,3 +1,0 @@
-mod Reading
-mod Calling
-pub mod Doing

@@ -1,5 +1,0 @@
-//! Spots and updates of signals.
-#![tactic(auto)]
-
-pub mod spot;
-pub mod update;

@@ -1,4 +1,0 @@
-pub mod Opens
-pub mod Walks
-pub mod LeftSides
-pub mod StatementTrees

@@ -1,0 +1,16 @@
+pub mod WidthsOfIndex
+pub mod Places
+pub mod Rows
+pub mod Masking
+pub mod Lists
+pub mod RowsOfMasks
+pub mod Ranges
+pub mod Looking
+pub mod Targets
+pub mod Steps
+pub mod Casing
+pub mod Statements
+pub mod Whole
+pub mod Testing
+pub mod Sounds
+pub mod Following

@@ -1,0 +1,11 @@
+use Rattle.std.proofs.Common.{◌≡◌, length, drop}
+use Rattle.std.specs.Prelude.{◌||◌, ◌&&◌, not}
+use Rattle.vl_paths.specs.Bits.{Bit}
+use Rattle.vl_bits.specs.Masks.{in_masks, in_parts, AreOf}
+use Rattle.vl_bits.proofs.parts.hide.Given as goal
+
+abbrev pub invariant-loop-part : goal.invariant-loop-part
+invariant-loop-part l = record {
+  long : length l.known.items ≡ length l.fn.known.items;
+  bits : (b : Bit) → (in_masks l.known.items b && not (in_parts (drop l.part-index l.parts) b)) ≡ (in_masks l.fn.known.items b && not (in_parts l.parts b));
+}

@@ -1,6 +1,0 @@
-use Rattle.vl_stops.specs.First.{IsFirst}
-use Rattle.vl_calls.specs.Tables.{rows_of, IsBefore}
-use Rattle.vl_calls.proofs.recursion.search_all.Given as goal
-
-abbrev pub invariant-loop-f : goal.invariant-loop-f
-invariant-loop-f l = IsFirst (IsBefore (rows_of l.table) l.f) l.best

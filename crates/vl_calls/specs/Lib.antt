@@ -1,4 +1,0 @@
-pub mod Recursion
-pub mod Tables
-pub mod Searches
-pub mod Nets

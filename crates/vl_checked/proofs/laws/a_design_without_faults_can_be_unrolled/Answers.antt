@@ -1,5 +1,0 @@
-use Rattle.vl_checked.proofs.Designs.{can-unroll}
-use Rattle.vl_checked.proofs.laws.a_design_without_faults_can_be_unrolled.Goals as goal
-
-pub returns : goal.returns
-returns c = can-unroll

@@ -1,5 +1,0 @@
-use Rattle.vl_checked.proofs.Looped.{body-looped}
-use Rattle.vl_checked.proofs.laws.the_loops_of_a_body_without_faults_can_be_unrolled.Goals as goal
-
-pub returns : goal.returns
-returns c = body-looped

@@ -1,4 +1,0 @@
-//! What a design without faults of what stands where is fit for.
-#![tactic(auto)]
-
-pub mod laws;

@@ -1,8 +1,0 @@
-pub mod Bytes
-pub mod Folding
-pub mod Kept
-pub mod Named
-pub mod WideRanges
-pub mod Tables
-pub mod Wholes
-pub mod Widths

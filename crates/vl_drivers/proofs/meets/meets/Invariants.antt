@@ -1,6 +1,0 @@
-use Rattle.std.proofs.Common.{drop}
-use Rattle.vl_drivers.specs.Seen.{HasBit, Met}
-use Rattle.vl_drivers.proofs.meets.meets.Given as goal
-
-abbrev pub invariant-loop-part : goal.invariant-loop-part
-invariant-loop-part l = HasBit l.parts (Met l.signals l.known.items) → HasBit (drop l.part-index l.parts) (Met l.signals l.known.items)

@@ -1,8 +1,0 @@
-use Rattle.std.proofs.Common.{◌≡◌, map, take}
-use Rattle.vl_design.specs.Seen.{exp_of}
-use Rattle.vl_constant.specs.Seen.{seen_scope}
-use Rattle.vl_expression.specs.Walked as n
-use Rattle.vl_expression.proofs.labels.labels.Given as goal
-
-abbrev pub invariant-loop-e : goal.invariant-loop-e
-invariant-loop-e l = map exp_of l.all.items ≡ map (n.seen_label (seen_scope l.scope) l.wild) (take l.e-index l.es)

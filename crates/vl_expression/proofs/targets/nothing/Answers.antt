@@ -1,7 +1,0 @@
-use Rattle.std.proofs.Common.{ap}
-use Rattle.vl_design.specs.Placed as p
-use Rattle.vl_expression.proofs.Sides.{row-nothing}
-use Rattle.vl_expression.proofs.targets.nothing.Goals as goal
-
-pub returns : goal.returns
-returns c = ap (p.Several c.args.at) (row-nothing c.new.result c.new.ensures.items)

@@ -1,4 +1,0 @@
-use Rattle.vl_flatten.proofs.items.add_function.Goals as goal
-
-pub returns : goal.returns
-returns c = c.add_framed.ensures c.in_ok-frame.ensures

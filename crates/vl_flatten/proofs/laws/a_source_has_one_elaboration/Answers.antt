@@ -1,5 +1,0 @@
-use Rattle.vl_flatten.proofs.Once.{elaborated_once}
-use Rattle.vl_flatten.proofs.laws.a_source_has_one_elaboration.Goals as goal
-
-pub returns : goal.returns
-returns c = elaborated_once

@@ -1,9 +1,0 @@
-use Rattle.std.proofs.Common.{◌≡◌, ◌++◌, map, take}
-use Rattle.vl_flat.specs.Processes as p
-use Rattle.vl_design.specs.Seen.{process_of}
-use Rattle.vl_items.specs.SeenItems.{seen_setting}
-use Rattle.vl_flatten.specs.Standing.{seen_here}
-use Rattle.vl_flatten.proofs.processes.add_assignments.Given as goal
-
-abbrev pub invariant-loop-a : goal.invariant-loop-a
-invariant-loop-a l = map process_of l.all.items ≡ map process_of l.initial.all.items ++ map (p.assignment (seen_here l.here)) (map seen_setting (take l.a-index l.list))

@@ -1,7 +1,0 @@
-use Rattle.std.proofs.Common.{◌≡◌, map, take}
-use Rattle.vl_flat.specs.Processes as p
-use Rattle.vl_constant.specs.Seen.{look}
-use Rattle.vl_flatten.proofs.processes.listed_events.Given as goal
-
-abbrev pub invariant-loop-e : goal.invariant-loop-e
-invariant-loop-e l = l.all.items ≡ map (p.event (look l.names)) (take l.e-index l.es)

@@ -1,4 +1,0 @@
-mod Bodies
-mod Functions
-mod Whole
-mod Elaborated

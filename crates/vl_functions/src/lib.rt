@@ -1,4 +1,0 @@
-//! What elaboration makes of functions.
-#![tactic(auto)]
-
-pub mod laws;

@@ -1,7 +1,0 @@
-use Rattle.vl_grammar.specs.Binding.{operand}
-use Rattle.vl_grammar.specs.declared.tree.Binary.{out-Binary}
-use Rattle.vl_grammar.proofs.Bindings.{bound_from_bound}
-use Rattle.vl_grammar.proofs.laws.binding_follows_the_table.Goals as goal
-
-pub returns : goal.returns
-returns c e = bound_from_bound (out-Binary e).links (operand (out-Binary e).first) tt

@@ -1,4 +1,0 @@
-pub mod Rooms
-pub mod Near
-pub mod Heads
-pub mod Loops

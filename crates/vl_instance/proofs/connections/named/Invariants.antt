@@ -1,8 +1,0 @@
-use Rattle.std.proofs.Common.{◌≡◌, map, take}
-use Rattle.std.specs.Prelude.{fold}
-use Rattle.vl_items.specs.SeenItems.{seen_connection}
-use Rattle.vl_instance.specs.Tables as spec
-use Rattle.vl_instance.proofs.connections.named.Given as goal
-
-abbrev pub invariant-loop-connection : goal.invariant-loop-connection
-invariant-loop-connection l = spec.joined l.table ≡ fold spec.connect_named spec.none (map seen_connection (take l.connection-index l.list))

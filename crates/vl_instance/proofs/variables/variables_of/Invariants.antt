@@ -1,7 +1,0 @@
-use Rattle.std.proofs.Common.{◌≡◌, ◌∷◌, false, map, flat_map, take}
-use Rattle.vl_items.specs.SeenItems.{seen_local, seen_locals, seen_type}
-use Rattle.vl_instance.specs.Variables.{seen_variable}
-use Rattle.vl_instance.proofs.variables.variables_of.Given as goal
-
-abbrev pub invariant-loop-group : goal.invariant-loop-group
-invariant-loop-group l = map seen_variable l.all.items ≡ seen_local (seen_type l.function.kind) false false l.function.name ∷ flat_map seen_locals (take l.group-index l.group-items)

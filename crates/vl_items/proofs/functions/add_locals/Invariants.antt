@@ -1,8 +1,0 @@
-use Rattle.std.proofs.Common.{◌≡◌, ◌++◌, take}
-use Rattle.std.specs.Prelude.{flat_map}
-use Rattle.vl_flat.specs.Declarations.{locals_in}
-use Rattle.vl_items.specs.SeenItems.{seen_locals}
-use Rattle.vl_items.proofs.functions.add_locals.Given as goal
-
-abbrev pub invariant-loop-a : goal.invariant-loop-a
-invariant-loop-a l = flat_map seen_locals l.all.items ≡ flat_map seen_locals l.initial.all.items ++ flat_map locals_in (take l.a-index l.declarations)

@@ -1,7 +1,0 @@
-use Rattle.std.proofs.Common.{◌≡◌, take}
-use Rattle.std.specs.Prelude.{flat_map}
-use Rattle.vl_source.specs.Hierarchy.{declared_names}
-use Rattle.vl_items.proofs.headers.declared_ports.Given as goal
-
-abbrev pub invariant-loop-a : goal.invariant-loop-a
-invariant-loop-a l = l.all.items ≡ flat_map declared_names (take l.a-index l.ports)

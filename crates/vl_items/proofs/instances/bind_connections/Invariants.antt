@@ -1,7 +1,0 @@
-use Rattle.std.proofs.Common.{◌≡◌, map, take}
-use Rattle.vl_flat.specs.Declarations.{connection}
-use Rattle.vl_items.specs.SeenItems.{seen_connection}
-use Rattle.vl_items.proofs.instances.bind_connections.Given as goal
-
-abbrev pub invariant-loop-a : goal.invariant-loop-a
-invariant-loop-a l = map seen_connection l.all.items ≡ map connection (take l.a-index l.connections)

@@ -1,7 +1,0 @@
-use Rattle.std.proofs.Common.{◌≡◌, map, take}
-use Rattle.vl_flat.specs.Declarations.{module'}
-use Rattle.vl_items.specs.SeenItems.{seen_module}
-use Rattle.vl_items.proofs.modules.bind_modules.Given as goal
-
-abbrev pub invariant-loop-m : goal.invariant-loop-m
-invariant-loop-m l = map seen_module l.all.items ≡ map module' (take l.m-index l.modules)

@@ -1,6 +1,0 @@
-use Rattle.std.proofs.Common.{◌≡◌, map, take}
-use Rattle.vl_items.specs.SeenItems.{setting, seen_setting}
-use Rattle.vl_items.proofs.parameters.bind_settings.Given as goal
-
-abbrev pub invariant-loop-a : goal.invariant-loop-a
-invariant-loop-a l = map seen_setting l.all.items ≡ map setting (take l.a-index l.assignments)

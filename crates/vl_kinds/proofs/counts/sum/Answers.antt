@@ -1,6 +1,0 @@
-use Rattle.vl_flat.specs.Environments.{plus}
-use Rattle.vl_kinds.specs.Sized.{counts_of}
-use Rattle.vl_kinds.proofs.counts.sum.Goals as goal
-
-pub returns : goal.returns
-returns c = c.in_ok-exactly.ensures (plus (counts_of c.args.a) (counts_of c.args.b)) c.plus.ensures

@@ -1,7 +1,0 @@
-use Rattle.std.proofs.Common.{◌≡◌, ℕ, List, map, take}
-use Rattle.vl_items.specs.SeenItems.{seen_module}
-use Rattle.vl_kinds.specs.Places.{place_named, place_in}
-use Rattle.vl_kinds.proofs.index.add_places.Given as goal
-
-abbrev pub invariant-loop-i : goal.invariant-loop-i
-invariant-loop-i l = (t : List ℕ) → place_in l.places t ≡ place_named (map seen_module (take l.i l.modules)) t

@@ -1,9 +1,0 @@
-use Rattle.std.proofs.Common.{take}
-use Rattle.std.specs.List.{list_any}
-use Rattle.vl_flat.specs.Kinds.{item_controls}
-use Rattle.vl_items.specs.SeenItems.{seen_item}
-use Rattle.vl_kinds.specs.Names.{nothing, Adds}
-use Rattle.vl_kinds.proofs.items.add_controls_of.Given as goal
-
-abbrev pub invariant-loop-item : goal.invariant-loop-item
-invariant-loop-item l = Adds l.initial.names l.names nothing (λ t. list_any (λ a. item_controls t (seen_item a)) (take l.item-index l.items))

@@ -1,8 +1,0 @@
-use Rattle.std.proofs.Common.{take}
-use Rattle.std.specs.List.{list_any}
-use Rattle.vl_kinds.specs.Names.{has, Adds}
-use Rattle.vl_kinds.specs.Parts.{optional_ex_uses}
-use Rattle.vl_kinds.proofs.items.add_units.Given as goal
-
-abbrev pub invariant-loop-u : goal.invariant-loop-u
-invariant-loop-u l = Adds l.initial.names l.names (has l.hidden) (λ t. list_any (λ u. list_any (λ q. optional_ex_uses t q.value) u.connections.items) (take l.u-index l.units))

@@ -1,7 +1,0 @@
-use Rattle.std.proofs.Common.{◌≡◌, false, is_some, take}
-use Rattle.std.specs.List.{list_any}
-use Rattle.vl_source.specs.declared.tree.Event.{Event}
-use Rattle.vl_kinds.proofs.items.has_edges.Given as goal
-
-abbrev pub invariant-loop-e : goal.invariant-loop-e
-invariant-loop-e l = list_any (λ (e : Event). is_some e.edge) (take l.e-index l.events) ≡ false

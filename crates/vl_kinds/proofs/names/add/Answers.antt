@@ -1,5 +1,0 @@
-use Rattle.vl_kinds.proofs.Adding.{has-insert}
-use Rattle.vl_kinds.proofs.names.add.Goals as goal
-
-pub returns : goal.returns
-returns c = record { added = λ t. has-insert c.args.names.now c.insert.new.self c.args.name c.in_ok-insert.ensures.updates.0 t }

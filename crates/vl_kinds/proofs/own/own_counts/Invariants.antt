@@ -1,7 +1,0 @@
-use Rattle.std.proofs.Common.{◌≡◌, map, take}
-use Rattle.vl_items.specs.SeenItems.{seen_module}
-use Rattle.vl_kinds.specs.Sized.{own_signals}
-use Rattle.vl_kinds.proofs.own.own_counts.Given as goal
-
-abbrev pub invariant-loop-m : goal.invariant-loop-m
-invariant-loop-m l = l.all.items ≡ map own_signals (map seen_module (take l.m-index l.modules))

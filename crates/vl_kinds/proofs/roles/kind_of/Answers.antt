@@ -1,6 +1,0 @@
-use Rattle.std.proofs.Common.{ap, ◌∙◌, ℕ, List}
-use Rattle.vl_kinds.specs.Facts.{Facts, kind_by}
-use Rattle.vl_kinds.proofs.roles.kind_of.Goals as goal
-
-pub returns-clause-module : goal.returns-clause-module
-returns-clause-module c = λ m e. c.kind_known.ensures ∙ ap (λ (f : List ℕ → Facts). kind_by (f c.args.name.now) c.args.clock c.args.wired) e

@@ -1,7 +1,0 @@
-use Rattle.std.proofs.Common.{◌≡◌, map, take}
-use Rattle.vl_items.specs.SeenItems.{seen_module}
-use Rattle.vl_kinds.specs.Sized.{counts_of, next_counts}
-use Rattle.vl_kinds.proofs.sizes.next_round.Given as goal
-
-abbrev pub invariant-loop-i : goal.invariant-loop-i
-invariant-loop-i l = map counts_of l.all.items ≡ next_counts l.index (map seen_module (take l.i l.modules)) l.round

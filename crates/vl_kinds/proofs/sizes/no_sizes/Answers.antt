@@ -1,7 +1,0 @@
-use Rattle.std.proofs.Common.{ap, ◌∙◌}
-use Rattle.vl_kinds.specs.Sized.{told, round_at}
-use Rattle.vl_kinds.proofs.Sizing.{untold}
-use Rattle.vl_kinds.proofs.sizes.no_sizes.Goals as goal
-
-pub returns : goal.returns
-returns c = λ n below. ap (λ z. told c.in_ok-index.index (round_at z n)) c.new-rounds.ensures.items ∙ untold c.in_ok-index.index n

@@ -1,0 +1,3 @@
+pub mod Partly
+pub mod Faults
+pub use Rattle.vl_base as vl_base

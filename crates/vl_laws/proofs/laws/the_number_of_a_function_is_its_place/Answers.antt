@@ -1,5 +1,0 @@
-use Rattle.vl_laws.proofs.Sources.{source-functions}
-use Rattle.vl_laws.proofs.laws.the_number_of_a_function_is_its_place.Goals as goal
-
-pub returns : goal.returns
-returns c = source-functions

@@ -1,5 +1,0 @@
-use Rattle.vl_laws.proofs.Sources.{source-places}
-use Rattle.vl_laws.proofs.laws.the_number_of_a_name_is_the_place_of_its_signal.Goals as goal
-
-pub returns : goal.returns
-returns c = source-places

@@ -1,4 +1,0 @@
-//! Laws of the definitions of flat designs.
-#![tactic(auto)]
-
-pub mod laws;

@@ -1,4 +1,0 @@
-mod Counted
-mod Limits
-mod Elaborated
-mod Rows

@@ -1,5 +1,0 @@
-use Rattle.vl_masks.proofs.Masking.{has_and}
-use Rattle.vl_masks.proofs.parts.common.Goals as goal
-
-pub returns : goal.returns
-returns c i = has_and c.args.bits c.args.mask i

@@ -1,5 +1,0 @@
-use Rattle.vl_masks.proofs.Masking.{has_or}
-use Rattle.vl_masks.proofs.parts.either.Goals as goal
-
-pub returns : goal.returns
-returns c i = has_or c.args.bits c.args.mask i

@@ -1,5 +1,0 @@
-use Rattle.vl_named.proofs.Modules.{source-used}
-use Rattle.vl_named.proofs.laws.names_are_used_as_what_they_are.Goals as goal
-
-pub returns : goal.returns
-returns c = source-used

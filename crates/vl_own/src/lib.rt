@@ -1,2 +1,0 @@
-//! Functions that keep to what is their own: definitions alone.
-#![tactic(auto)]

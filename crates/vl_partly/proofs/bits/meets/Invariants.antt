@@ -1,7 +1,0 @@
-use Rattle.std.proofs.Common.{◌≡◌, true, drop}
-use Rattle.vl_masks.specs.Masks.{in_masks}
-use Rattle.vl_partly.specs.Partly.{HasBit}
-use Rattle.vl_partly.proofs.bits.meets.Given as goal
-
-abbrev pub invariant-loop-part : goal.invariant-loop-part
-invariant-loop-part l = HasBit l.parts (λ b. in_masks l.known.items b ≡ true) → HasBit (drop l.part-index l.parts) (λ b. in_masks l.known.items b ≡ true)

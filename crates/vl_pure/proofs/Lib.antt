@@ -1,3 +1,0 @@
-pub mod Silent
-pub mod Pure
-pub mod Faults

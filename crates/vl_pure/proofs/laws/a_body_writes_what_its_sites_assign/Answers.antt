@@ -1,5 +1,0 @@
-use Rattle.vl_pure.proofs.Silent.{silent}
-use Rattle.vl_pure.proofs.laws.a_body_writes_what_its_sites_assign.Goals as goal
-
-pub returns : goal.returns
-returns c = λ p scope path a e h. silent p scope path a h e

@@ -1,2 +1,0 @@
-pub mod Saves
-pub mod Seen

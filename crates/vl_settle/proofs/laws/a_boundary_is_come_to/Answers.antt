@@ -1,5 +1,0 @@
-use Rattle.vl_settle.proofs.Boundaries.{boundary_comes}
-use Rattle.vl_settle.proofs.laws.a_boundary_is_come_to.Goals as goal
-
-pub returns : goal.returns
-returns c = λ o k q b. boundary_comes o b

@@ -1,5 +1,0 @@
-use Rattle.vl_settle.proofs.Orders.{ordered}
-use Rattle.vl_settle.proofs.laws.a_levelled_list_of_all_processes_is_an_order.Goals as goal
-
-pub returns : goal.returns
-returns c = λ d order each levelled. ordered d order each levelled

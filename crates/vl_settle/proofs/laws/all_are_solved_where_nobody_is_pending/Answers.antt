@@ -1,6 +1,0 @@
-use Rattle.vl_settle.proofs.Checks.{accepted}
-use Rattle.vl_settle.proofs.Reaching.{comes_steady, calm_solved}
-use Rattle.vl_settle.proofs.laws.all_are_solved_where_nobody_is_pending.Goals as goal
-
-pub returns : goal.returns
-returns c = λ o order q k ord fine y f h. calm_solved o.flat o.files (accepted o.flat k) order ord q (comes_steady o (accepted o.flat k) order ord fine y f).ready h

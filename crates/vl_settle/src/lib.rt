@@ -1,4 +1,0 @@
-//! The combinational processes of a design settle.
-#![tactic(auto)]
-
-pub mod laws;

@@ -1,6 +1,0 @@
-use Rattle.std.proofs.Common.{◌≡◌, ◌++◌}
-use Rattle.std.specs.Prelude.{replicate}
-use Rattle.vl_show.proofs.item.push_spaces.Given as goal
-
-abbrev pub invariant-loop-time : goal.invariant-loop-time
-invariant-loop-time l = l.printed.items ≡ l.initial.printed.items ++ replicate l.time 32

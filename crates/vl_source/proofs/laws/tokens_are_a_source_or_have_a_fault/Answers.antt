@@ -1,5 +1,0 @@
-use Rattle.vl_source.proofs.OneOutcome.{judged}
-use Rattle.vl_source.proofs.laws.tokens_are_a_source_or_have_a_fault.Goals as goal
-
-pub returns : goal.returns
-returns c ts = judged ts

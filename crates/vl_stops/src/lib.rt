@@ -1,4 +1,0 @@
-//! Faults of a design, and which comes first.
-#![tactic(auto)]
-
-pub mod stops;

@@ -1,5 +1,0 @@
-use Rattle.vl_turns.proofs.Costing.{cost_same}
-use Rattle.vl_turns.proofs.laws.costs_the_same.Goals as goal
-
-pub returns : goal.returns
-returns c = λ d. cost_same d

@@ -1,5 +1,0 @@
-use Rattle.vl_turns.proofs.Waking.{run_same}
-use Rattle.vl_turns.proofs.laws.runs_the_same.Goals as goal
-
-pub returns : goal.returns
-returns c = λ o can. run_same o can

@@ -1,4 +1,0 @@
-pub mod Steps
-pub mod Casing
-pub mod Statements
-pub mod Whole

@@ -1,4 +1,0 @@
-//! Who writes what in the elaboration of a source.
-#![tactic(auto)]
-
-pub mod laws;

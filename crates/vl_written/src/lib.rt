@@ -1,2 +1,0 @@
-//! Who writes what in an elaborated design: definitions alone.
-#![tactic(auto)]

@@ -1,4 +1,4 @@
-"""Prints the section `cells` of the rows of crates/host_rows: sources with combinational blocks, what their registers hold, and the
+"""Prints the section `cells` of the rows of crates/machine_rows: sources with combinational blocks, what their registers hold, and the
 value that is wanted of a signal. It stands first there; tools/host_rows.py puts it in.
 
 The rows of tools/cell_rows.txt were worked out by hand. The others are the expressions of tools/width_rows.py, whose values it

@@ -1,10 +1,13 @@
-"""Makes the rows of crates/file_rows: calls on tables of open files and on real files, and what they answer."""
+"""Makes the rows of the section `files` of crates/value_rows: calls on tables of open files and on real files, and what they answer."""
 
-import pathlib
 import random
+import sys
+
+sys.dont_write_bytecode = True
+
+from sections import write_values
 
 FIRST = 0x80000003
-FOLDER = pathlib.Path(__file__).resolve().parent.parent / "crates" / "file_rows"
 
 random.seed(20051364)
 rows = []
@@ -219,5 +222,4 @@ def real_files():
 
 for part in [descriptors, short_reads, ends, some_calls, full_set, real_files]:
     part()
-(FOLDER / "stdin").write_text("\n".join(rows) + "\n")
-(FOLDER / "stdout").write_text("\n".join(answers) + "\n")
+write_values("files", rows, answers)

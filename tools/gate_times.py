@@ -2,9 +2,9 @@
 """gate_times.py [--page FILE] COMMAND..: runs COMMAND (say `rt ci`), looks once a second at the checks and builds of `rattle` on
 this machine, and then prints what each crate took, in seconds of processor: the proof of its own contracts (of a library, with
 what others check against), its test functions, its must-fail edits, and of a program its builds by both compilers. The dearest
-stand first, and the sums last. What other `rt` commands on the machine do meanwhile is counted too, and what a run finds kept on
-the machine costs nothing: the table of a whole gate is made where nothing is kept.
-With --page the table stands in FILE as a table of Markdown, in place of the one between the two marks there.
+stand first; behind the sums stand how long COMMAND ran before the first check, and in all. What other `rt` commands on the machine
+do meanwhile is counted too, and what a run finds kept on the machine costs nothing: the table of a whole gate is made where
+nothing is kept. With --page the table stands in FILE as a table of Markdown, in place of the one between the two marks there.
 Ends with COMMAND's status."""
 
 import collections
@@ -97,15 +97,18 @@ def main():
     if not words:
         print(__doc__)
         return 2
-    seen, begun = {}, time.time()
+    seen, begun, first = {}, time.time(), None
     child = subprocess.Popen(words)
     while child.poll() is None:
         look(seen)
+        if first is None and seen:
+            first = time.time() - begun
         time.sleep(1)
     minutes, table = (time.time() - begun) / 60, sums(seen)
     print(f'{"crate":20}' + "".join(f"{kind:>8}" for kind in KINDS))
     for name, took in table + [("all", sum((row for _, row in table), collections.Counter()))]:
         print(f"{name:20}" + "".join(f"{took[kind]:8.0f}" for kind in KINDS))
+    print(f"the first check began after {first or 0:.0f} seconds")
     print(f"{minutes:.0f} minutes on {len(os.sched_getaffinity(0))} processors")
     if page is not None:
         put(page, markdown(table, minutes))

@@ -1,8 +1,9 @@
-"""Makes the input and the wanted output of crates/host_rows, which has four sections: `cells` by tools/cell_rows.py; `splits` and
-`fabrics`, whose rows stand in the tables tools/split_rows.txt and tools/fabric_rows.txt as the program reads them, with a line `---`
-between two; and last `host`, from the tables tools/host_rows.txt, tools/run_rows.txt, tools/width_rows.txt and tools/host_scripts.txt.
+"""Makes the input and the wanted output of two programs of rows. crates/machine_rows has three sections: `cells` by tools/cell_rows.py;
+`splits` and `fabrics`, whose rows stand in the tables tools/split_rows.txt and tools/fabric_rows.txt as the program reads them, with a line
+`---` between two. crates/host_rows has rows from the tables tools/host_rows.txt, tools/run_rows.txt, tools/width_rows.txt and
+tools/host_scripts.txt.
 
-`host_rows.py SECTION` only prints the rows of that section.
+`host_rows.py SECTION` only prints the rows of that section, `host_rows.py host` those of the host.
 """
 
 import sys
@@ -14,7 +15,8 @@ from flat_rows import MARK, TOOLS, TOP, expanded, marked, numbered, parted, text
 from items import item
 from values import corners
 
-FOLDER = TOP / "crates" / "host_rows"
+MACHINE = TOP / "crates" / "machine_rows"
+HOST = TOP / "crates" / "host_rows"
 USAGE = "usage: fabhost run SCRIPT | check SOURCE | demo N"
 ROOM = "fabric F 1000000000 1000000000 1000000000"
 LETTERS = "begin " + " ".join(f"msg[{i}] = {ord(c)};" for i, c in enumerate("Hello\n")) + " end"
@@ -142,16 +144,23 @@ def named_rows(table):
 
 
 def sections():
-    """The sections: the name, the rows, and the lines that are wanted of each."""
+    """The sections of crates/machine_rows: the name, the rows, and the lines that are wanted of each."""
     yield "cells", *cell_rows()
     yield "splits", *named_rows("split_rows.txt")
     yield "fabrics", *named_rows("fabric_rows.txt")
-    yield "host", *host_rows()
 
 
-if len(sys.argv) > 1:
+def write(folder, rows, wanted):
+    """Writes the input and the wanted output of a program."""
+    (folder / "stdin").write_text(rows)
+    (folder / "stdout").write_text(wanted)
+
+
+if sys.argv[1:] == ["host"]:
+    print(host_rows()[0], end="")
+elif len(sys.argv) > 1:
     print("".join(f"### {name}\n{rows}" for name, rows, _ in sections() if name == sys.argv[1]), end="")
 else:
     made = list(sections())
-    (FOLDER / "stdin").write_text("".join(f"### {name}\n{rows}" for name, rows, _ in made))
-    (FOLDER / "stdout").write_text("".join(wanted for _, _, wanted in made))
+    write(MACHINE, "".join(f"### {name}\n{rows}" for name, rows, _ in made), "".join(wanted for _, _, wanted in made))
+    write(HOST, *host_rows())

@@ -1,15 +1,14 @@
-"""Makes the rows of crates/operator_rows: operands, and what whole numbers of unlimited size give."""
+"""Makes the rows of the section `operators` of crates/value_rows: operands, and what whole numbers of unlimited size give."""
 
-import pathlib
 import random
 import sys
 
 sys.dont_write_bytecode = True
 
+from sections import write_values
 from values import corners, ones, signed, some
 
 WIDTHS = [1, 2, 7, 8, 31, 32, 33, 63, 64, 65, 127, 128]
-FOLDER = pathlib.Path(__file__).resolve().parent.parent / "crates" / "operator_rows"
 
 random.seed(20051364)
 rows = []
@@ -118,5 +117,4 @@ def resized(width):
 for table in [both, shift, one, select, pair, resized]:
     for width in WIDTHS:
         table(width)
-(FOLDER / "stdin").write_text("\n".join(rows) + "\n")
-(FOLDER / "stdout").write_text("\n".join(answers) + "\n")
+write_values("operators", rows, answers)

@@ -1,16 +1,15 @@
-"""Makes the rows of crates/text_rows: letters of items and a value, and what Python prints of it."""
+"""Makes the rows of the section `texts` of crates/value_rows: letters of items and a value, and what Python prints of it."""
 
-import pathlib
 import random
 import sys
 
 sys.dont_write_bytecode = True
 
 from items import item
+from sections import write_values
 from values import corners, some
 
 WIDTHS = [1, 7, 8, 31, 32, 33, 64, 127, 128]
-FOLDER = pathlib.Path(__file__).resolve().parent.parent / "crates" / "text_rows"
 
 random.seed(20051364)
 rows = []
@@ -50,5 +49,4 @@ for width in WIDTHS:
 for row in ["dh 0 0", "dh 81 0", "dh 8 100"]:
     rows.append(row)
     answers.append(row + " = ")
-(FOLDER / "stdin").write_text("\n".join(rows) + "\n")
-(FOLDER / "stdout").write_text("\n".join(answers) + "\n")
+write_values("texts", rows, answers)

@@ -119,6 +119,11 @@ def large():
         f"module a(input k); b {numbered('u', 16, '{}(k)')}; endmodule",
         f"module m(input k); a {numbered('u', 15, '{}(k)')}; b {numbered('v', 15, '{}(k)')}; c w(k); «c z(k); endmodule",
     ])
+    # 18 tokens stand before the block's assignments and 2 behind them; one of 500 ones has 1,002, one of 290 has 582
+    ones = "\n".join(["a=" + "+".join(["1"] * 500) + ";"] * 199 + ["a=" + "+".join(["1"] * 290) + ";"])
+    tokens = f"module m(input wire k);\nreg [15:0] a;\ninitial begin\n{ones}MORE\nend\nMARKendmodule"
+    yield "run 1 budget", "\n" + tokens.replace("MARK", "").replace("MORE", "")
+    yield "refused limit 2", tokens.replace("MARK", MARK).replace("MORE", ";")
     # a leaf's 100 statements have 99,900 nodes, and 10 leaves with the top's two 1,000,000
     sum_of = "a = " + "+".join(["1"] * 500) + ";"
     leaf = "module leaf(input wire k);\n  reg [15:0] a;\n  initial begin\n" + "\n".join([sum_of] * 100) + "\n  end\nendmodule\n"
@@ -127,12 +132,82 @@ def large():
     yield "refused limit 9", leaf + top.replace("MARK", MARK).replace("MORE", "a = 7;")
 
 
+# ---- cut input, single failures, full lines: the counter for three ticks with a snapshot at tick 2
+
+SAVING = f"{ROOM}\ntenant A m.v F 3\nat A 2 save s"
+REPORT = "tenant A budget 3 11 6\n0\n1\n2\n\nstay A F 0 3\n"
+SAVED = "464142534e41500a0000000100000000000000020000000100036d2e6308000000000200"
+# the first bytes of the counter that are refused so; of the others only the last two fronts are accepted
+CUTS = {0: "1 1 parse", 76: "4 5 lex 1", 79: "4 9 parse", 85: "4 14 lex 3", 98: "5 4 parse", 102: "5 7 parse", 125: "7 9 parse"}
+
+
+def case(words, wanted, files, *more):
+    """A row of these words: the status and the lines that are wanted, further lines, and the files."""
+    return "\n".join([f"@ {words}", *more, *[f"= {line}" for line in wanted]] + [f"+ {path}\n{text}" if text else f"+ {path}" for path, text in files])
+
+
+def digits(data):
+    """A file's bytes as lines of a row."""
+    return "^ " + " ".join(f"{byte:02x}" for byte in data) if data else ""
+
+
+def cut_rows():
+    """The counter cut behind each number of its bytes, and a snapshot of no byte."""
+    source = (TOP / "examples" / "counter.v").read_bytes()
+    for n in range(len(source) + 1):
+        files = [("s", f"{ROOM}\ntenant A m.v F 3"), ("m.v", digits(source[:n]))]
+        if n >= len(source) - 1:
+            yield case("run s", ["status 0", *REPORT.splitlines()], files)
+        elif n in CUTS:
+            yield case("run s", ["status 3", f"refused A {CUTS[n]}"], files)
+        else:
+            yield case("run s", ["status 3", "..."], files, "- tenant", "- stay")
+    yield case("run s", ["status 3", "refused A 0 0 snapshot 3"], [("s", f"{ROOM}\ntenant A m.v F 3\nresume A A.s"), ("A.s", ""), ("m.v", COUNTER)])
+
+
+def failing_rows():
+    """Each call of the store that fails, and each of the sink, which takes 4 bytes in a call."""
+    files = [("s", SAVING), ("m.v", COUNTER)]
+    for call, path in [(1, "s"), (2, "m.v")]:
+        yield case("run s", ["status 5", f"read {path} failed"], files, f"! 4096 {call} 0 0", "> A.s -")
+    yield case("run s", ["status 6", *REPORT.splitlines()], files, "! 4096 3 0 0", "> A.s -")
+    calls = -(-len(REPORT) // 4)
+    for call in range(1, calls + 1):
+        *whole, part = REPORT[: 4 * (call - 1)].split("\n")
+        row = case("run s", ["status 6", *whole], [], f"! 4 0 {call} 0", "> A.s -")
+        yield "\n".join([row, *[f"% {part}"] * (part != ""), *[f"+ {path}\n{text}" for path, text in files]])
+    yield case("run s", ["status 0", *REPORT.splitlines()], files, f"! 4 0 {calls + 1} 0", f"> A.s {SAVED}")
+
+
+def crowded_rows():
+    """Three tenants on two fabrics with room for one each, which move past each other; and the demonstration at its largest."""
+    lines = [str(n) for n in range(200)]
+    stays = {"A": ["F1 0 100", "F2 100 200"], "B": ["F2 0 100", "F1 100 200"], "C": ["F1 0 200"]}
+    wanted = ["status 0"]
+    for name in stays:
+        wanted += [f"tenant {name} budget 200 602 690", *lines, "", *[f"stay {name} {stay}" for stay in stays[name]]]
+    moves = "tenant A m.v F1 200\nat A 100 move F2\ntenant B m.v F2 200\nat B 100 move F1\ntenant C m.v F1 200"
+    yield case("run s", wanted, [("s", f"fabric F1 128 48 0\nfabric F2 128 48 0\n{moves}"), ("m.v", COUNTER)])
+    yield case("demo 32", ["status 0", *[demonstrated(number) for number in range(1, 33)]], [])
+
+
+def demonstrated(number):
+    """What the demonstration tells of the tenant of a number, by what its source does."""
+    value, place, printed = number, 0, b""
+    for _ in range(4096):
+        if place == 255:
+            printed += b"%08x\n" % value
+        value, place = (value * 1664525 + 1013904223) % 2**32, (place + 1) % 256
+    # time zero has two cycles; a tick has one for the choice that holds the display, one for the wave's end and one for its update, and the display its own
+    return f"demo T{number} budget 4096 {2 + 3 * 4096 + len(printed) // 9} {len(printed)} {sum(printed)}"
+
+
 def host_rows():
     """The rows of the host, and the lines that are wanted."""
     tables = [case for name in ("host_rows.txt", "run_rows.txt", "width_rows.txt") for case in parted((TOOLS / name).read_text())]
     rows = [row for case in [*tables, *run(), *formats(), *large()] for row in rows_of(*case)]
     shown = ["\n".join(head + [f"= {line}" for line in wanted]) + "\n" + files for head, wanted, files in rows]
-    shown += scripts()
+    shown += [*scripts(), *cut_rows(), *failing_rows(), *crowded_rows()]
     return "\n".join(shown) + "\n", "ok\n" * len(shown)
 
 

@@ -3,8 +3,9 @@
 //! for any, and a line `...` for any lines up to the next that is as wanted; a line `% ` is a part of a last line, and with what stands in a
 //! line `- ` no printed line begins. A line `! ` has
 //! four numbers where the sink takes less than all in a call, a call fails, or blanks stand before the first file; a line `> ` is a file
-//! that is wanted behind the call, with its bytes in hexadecimal, `*` for any, or `-` where no such file is wanted. A line `+ ` begins a file;
-//! its lines, joined by newlines, and lines `^ ` of bytes in hexadecimal follow.
+//! that is wanted behind the call, with its bytes in hexadecimal, `*` for any, or `-` where no such file is wanted. A line `? ` names a tenant
+//! that is to have run `examples/counter.v` up to the tick at which a free order has stopped it, whichever that is. A line `+ ` begins a file; its lines, joined by
+//! newlines, and lines `^ ` of bytes in hexadecimal follow. The words `()` stand for no words at all.
 //!
 //! A line `& F T G U` is of the gate: whoever comes there with the numbers F and T is held until someone has come with G and U. A worker
 //! comes before each turn with the number of its fabric, from 0, and that of the turn, from 1; the operator before each try of an order with
@@ -12,6 +13,7 @@
 //! `refused` has none. The rounds of fab_rounds end when their workers and the operator have ended, so neither is held until a later one.
 //! Where someone is held too long, a line `held N` stands behind what is printed.
 
+mod counting;
 mod gates;
 mod judge;
 mod lines;
@@ -51,6 +53,8 @@ fn extend(alloc: Global, row: &mut Row, line: &str) -> Result<(), AllocError> {
         row.refuse(text)
     } else if let Some(numbers) = line.strip_prefix("& ") {
         row.hold(numbers)
+    } else if let Some(tenant) = line.strip_prefix("? ") {
+        row.count(tenant)
     } else if let Some(path) = line.strip_prefix("+ ") {
         row.begin(alloc, path)
     } else if let Some(saved) = line.strip_prefix("> ") {

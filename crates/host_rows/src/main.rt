@@ -5,12 +5,13 @@
 //!
 //! Proved: safe, and ends.
 //!
-//! Tested: 913 rows of words, files and failing calls with what `host` answers to each worked by hand: sources of one tenant
+//! Tested: 1,063 rows of words, files and failing calls with what `host` answers to each worked by hand: sources of one tenant
 //! (`tools/host_rows.txt`, `tools/run_rows.txt`; for expressions of mixed widths and signs `tools/width_rows.txt`, and for values at the
 //! ends of 9 widths by the items of a format, computed by Python's whole numbers), scripts of several tenants that share fabrics, move,
 //! save, resume and are refused, free orders that gates hold between turns of workers, and sources that are checked
-//! (`tools/host_scripts.txt`); and by `tools/try_random.py`, outside the gate, random scripts of a seeded generator in two runs, on one
-//! processor, without threads, and each tenant by itself.
+//! (`tools/host_scripts.txt`); a source cut behind each of its bytes, each call of the store and of the sink failing in turn, three tenants on
+//! full fabrics, and the demonstration at its largest, against Python's summary (`tools/host_rows.py`); and by `tools/try_random.py`, outside
+//! the gate, random scripts of a seeded generator in two runs, on one processor, without threads, and each tenant by itself.
 #![tactic(auto)]
 
 mod hosts;

@@ -1,5 +1,6 @@
 //! What the host answers to a row.
 
+use crate::hosts::counting::is_counted;
 use crate::hosts::gates::RowGate;
 use crate::hosts::lines::{are_wanted, has_unwanted};
 use crate::hosts::row::Row;
@@ -13,9 +14,12 @@ use std::sync::Wait;
 use std::thread::Threads;
 use std::time::Clock;
 
-/// The words of a line: a blank stands between two.
+/// The words of a line: a blank stands between two. None where the line is `()`.
 fn words_of(alloc: Global, line: &str) -> Result<Vec<String>, AllocError> {
     let mut words = Vec::new(alloc);
+    if line == "()" {
+        return Ok(words);
+    }
     for word in line.split(' ') {
         words.push(String::from_str(alloc, word)?)?;
     }
@@ -119,7 +123,17 @@ fn answer<R: Threads + Wait + Clock + Sync>(
     format!(in alloc; "status {status}\n{text}{others}{held}")
 }
 
-/// `ok` where the answer is the wanted one and has no unwanted line, else all of these.
+/// Whether an answer is what a row wants: its lines, none that it doesn't want, and the counter's where a tenant is to have run that.
+fn is_right(alloc: Global, row: &Row, answer: &str) -> Result<bool, AllocError> {
+    if !are_wanted(alloc, row.wanted.as_str(), answer)?
+        || has_unwanted(row.unwanted.as_str(), answer)
+    {
+        return Ok(false);
+    }
+    is_counted(alloc, row.counted.as_str(), answer)
+}
+
+/// `ok` where the answer is the wanted one, else both.
 pub fn compared<R: Threads + Wait + Clock + Sync>(
     rt: &R,
     alloc: Global,
@@ -131,7 +145,7 @@ pub fn compared<R: Threads + Wait + Clock + Sync>(
         row.unwanted.as_str(),
         row.words.as_str(),
     );
-    if are_wanted(alloc, wanted, answer.as_str())? && !has_unwanted(unwanted, answer.as_str()) {
+    if is_right(alloc, row, answer.as_str())? {
         return String::from_str(alloc, "ok");
     }
     format!(in alloc; "{wanted}is wanted,\n{unwanted}is not,\n{answer}came: {words}")

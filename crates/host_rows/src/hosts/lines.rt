@@ -41,7 +41,7 @@ fn place_behind(wanted: &str, lines: &[&str], from: usize, passes: bool) -> Opti
 }
 
 /// The lines of a text.
-fn lines_of<'a>(alloc: Global, text: &'a str) -> Result<Vec<&'a str>, AllocError> {
+pub fn lines_of<'a>(alloc: Global, text: &'a str) -> Result<Vec<&'a str>, AllocError> {
     let mut lines = Vec::new(alloc);
     for line in text.split('\n') {
         lines.push(line)?;

@@ -29,6 +29,8 @@ pub struct Row {
     pub wanted: String,
     /// Lines with which no line of what is printed begins.
     pub unwanted: String,
+    /// The tenant that is to have run the counter up to where a free order has stopped it; nothing where none is.
+    pub counted: String,
     /// Who is held at the gate, and until when.
     pub holds: Vec<Hold>,
     /// How many blanks stand before the bytes of the first file.
@@ -51,6 +53,7 @@ impl Row {
             failing_write: 0,
             wanted: String::new(alloc),
             unwanted: String::new(alloc),
+            counted: String::new(alloc),
             holds: Vec::new(alloc),
             blanks: 0,
             files: Vec::new(alloc),
@@ -79,6 +82,11 @@ impl Row {
     pub fn refuse(&mut self, line: &str) -> Result<(), AllocError> {
         self.unwanted.push_str(line)?;
         self.unwanted.push('\n')
+    }
+
+    /// Names the tenant that is to have run the counter.
+    pub fn count(&mut self, tenant: &str) -> Result<(), AllocError> {
+        self.counted.push_str(tenant)
     }
 
     /// Adds a hold to the gate, by its four numbers.

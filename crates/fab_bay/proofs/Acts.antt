@@ -96,7 +96,7 @@ goes-step false false true false true b s e = let z : ⊥ = cc in absurd z
 goes-step false false true false false b s e = let z : ⊥ = cc in absurd z
 goes-step false false false lf d b s e = (refl, refl)
 
-may-step : (w r : Bool) (o : Option Why) → w ≡ false → r ≡ false → (not w && (not (is_some (if r then o else None)) && not (true && r))) ≡ true
+pub may-step : (w r : Bool) (o : Option Why) → w ≡ false → r ≡ false → (not w && (not (is_some (if r then o else None)) && not (true && r))) ≡ true
 may-step true r o e f = let z : ⊥ = cc in absurd z
 may-step false true o e f = let z : ⊥ = cc in absurd z
 may-step false false o e f = refl
@@ -129,7 +129,7 @@ all-most law j (r ∷ rs) (p ∷ ps) h =
     let b = all-most law j rs ps h.1 in
     omega (arith, a, b)
 
-none-waits : (w : Bool) (n : ℕ) (o : Option ℕ) → (if w then Some n else o) ≡ None → (w ≡ false) × (o ≡ None)
+pub none-waits : (w : Bool) (n : ℕ) (o : Option ℕ) → (if w then Some n else o) ≡ None → (w ≡ false) × (o ≡ None)
 none-waits true n o e = let z : ⊥ = cc in absurd z
 none-waits false n o e = (refl, e)
 

@@ -26,10 +26,9 @@ use Rattle.fab_bay.specs.declared.noted.NotedCore.{NotedCore}
 use Rattle.fab_bay.specs.Berths.{seat, seats, AreBerths, AreWaiters}
 use Rattle.fab_bay.specs.Marks.{is_run, mark_at, mark_of, AreClosed, Mark}
 use Rattle.fab_bay.specs.Standing.{CanSettle, HasRoomFor, IsNoted}
-use Rattle.fab_bay.specs.Ways.{tokens, AreOut, AreShort, Goes, IsWritten}
+use Rattle.fab_bay.specs.Ways.{tokens, AreOut, Goes, IsWritten}
 use Rattle.fab_bay.proofs.Going.{closed-append, closed-by, closed-none, closed-one}
 use Rattle.fab_bay.proofs.Kept.{goes_by, noted_by, told_next, told_of, written_none, written_one, written_then, IsTold}
-use Rattle.fab_bay.proofs.Near.{short-none, short-one, short-then}
 use Rattle.fab_bay.proofs.Places.{berths_many, waiters_at, waiters_berths}
 use Rattle.fab_bay.proofs.Ran.{room_less}
 use Rattle.fab_core.specs.fab_model.proofs.Seats.{apart_legal, came_map, changed_mid, head_map, place_mid, used_before, AreApart}
@@ -178,8 +177,6 @@ pub record IsComing (k i : ℕ) (x z : NotedCore) : Type 0 where
   pub room : (m : ℕ) → m + i ≤ length x.berths.items + length x.waiting.items + length x.waiting.items → HasRoomFor m z
   pub free : vec_len z.berths + length x.waiting.items ≤ vec_capacity z.berths + i
   pub closed : (added : List Note) → z.notes.items ≡ x.notes.items ++ added → AreClosed added
-  -- nobody runs
-  pub short : (added : List Note) → z.notes.items ≡ x.notes.items ++ added → AreShort added
 
 -- the fabric for which a core stood before
 pub record IsStart (x : NotedCore) (f : Fabric) : Type 0 where
@@ -301,15 +298,12 @@ module _ (k i : ℕ) (x y z : NotedCore) (f : Fabric) (b : Berth) (n : Note) (s 
         closed = λ added e.
             closed-by x.notes.items y.notes.items z.notes.items h.written.added (n ∷ []) added h.written.notes c.notes e
             (closed-append h.written.added (n ∷ []) (h.closed h.written.added h.written.notes) (closed-one n (ap (λ (a : Entry). is_run a.kind) c.entry)));
-        short = λ added e.
-            short-then x.notes.items y.notes.items z.notes.items h.written.added (n ∷ []) added h.written.notes c.notes e (h.short h.written.added h.written.notes)
-            (short-one n Came (ap (λ (a : Entry). a.kind) c.entry) tt);
       }
 
 -- ---- all that join have come
 
 module _ (k : ℕ) (w x z : NotedCore) (i : ℕ) (r : IsRebuilt w x) (h : IsComing k i x z) where
-  noted_rebuilt : (f : Fabric) → IsNoted w f → i ≡ joining f → IsNoted z (rebuilt f)
+  pub noted_rebuilt : (f : Fabric) → IsNoted w f → i ≡ joining f → IsNoted z (rebuilt f)
   noted_rebuilt f n e =
       let s = start_of w x f r n in
       let ws = x.waiting.items in
@@ -347,7 +341,6 @@ coming_start k w x f r n room free = record {
   room = λ m e. room_less m (length x.berths.items + length x.waiting.items + length x.waiting.items) x (omega (arith, e)) room;
   free = omega (arith, free);
   closed = λ added e. closed-none x.notes.items x.notes.items added refl e;
-  short = λ added e. short-none x.notes.items x.notes.items added refl e;
 }
 
 pub coming_there : (k i : ℕ) (x y : NotedCore) (f : Fabric) → IsStart x f → i < joining f → IsComing k i x y → length y.waiting.items + i ≡ length x.waiting.items

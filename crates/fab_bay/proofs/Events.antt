@@ -12,7 +12,7 @@ use Rattle.std.specs.declared.vec.Vec.{Vec}
 use Rattle.ten_core.specs.sub_nodes.specs.Code.{table_of}
 use Rattle.ten_core.specs.sub_nodes.specs.Stands.{at_trap}
 use Rattle.fab_core.specs.fab_model.specs.Points.{Point, called, run_in, saved, served, waits}
-use Rattle.fab_core.specs.fab_model.specs.Fabrics.{all_served, all_stepped, changed, first_leaving, first_of, head_fits, held, is_of, Fabric}
+use Rattle.fab_core.specs.fab_model.specs.Fabrics.{all_served, all_stepped, changed, first_leaving, first_of, head_fits, held, is_of, may_cycle, Fabric}
 use Rattle.fab_core.specs.fab_model.specs.Worlds.{serves, World, Cycle, Hold, Serve}
 use Rattle.fab_core.specs.declared.cores.FabCore.{FabCore}
 use Rattle.fab_core.specs.Standing.{IsFabric}
@@ -66,13 +66,14 @@ goes-core k x y out c go = goes-none k x y out (changes x y c) (λ f h. keeps-no
 -- ---- a cycle
 
 pub goes-cycle : RisesLaw → TicksLaw → BoundaryLaw → OneStateLaw → (k : ℕ) (x y : NotedCore) (out : List Transit) → Core x y → ((f : Fabric) → IsFabric x.core f → IsFabric y.core (all_stepped f))
-    → ((f : Fabric) → IsNoted x f → f.holding ≡ false → (first_leaving f.residents ≡ None) × (head_fits f ≡ false)) → Goes k 1 x y out out
-goes-cycle rise same boundary one k x y out c go order = goes-event k 1 x y out Cycle (changes x y c) refl
-    (λ f ps h. (
-      keeps-noted x y f (all_stepped f) c h (go f h.core) refl (all-stepped rise same boundary one f.holding x.label.tenants x.core.joined x.core.residents.items x.berths.items f.residents h.core.residents h.residents) h.line,
-      refl,
-    ))
-    (λ f ps h. (order f h, tt))
+    → ((f : Fabric) → IsNoted x f → may_cycle f ≡ true) → ((f : Fabric) → IsNoted x f → f.holding ≡ false → (first_leaving f.residents ≡ None) × (head_fits f ≡ false)) → Goes k 1 x y out out
+goes-cycle rise same boundary one k x y out c go steps order = goes-event k 1 x y out Cycle (changes x y c) refl
+    (λ f ps h.
+    let w : World = record { fabric = f; transit = ps } in
+    let v : World = record { fabric = all_stepped f; transit = ps } in
+    subst (λ (u : World). IsNoted y u.fabric × (u.transit ≡ ps)) (ap (λ b. if b then v else w) (sym (steps f h)))
+    (keeps-noted x y f (all_stepped f) c h (go f h.core) refl (all-stepped rise same boundary one f.holding x.label.tenants x.core.joined x.core.residents.items x.berths.items f.residents h.core.residents h.residents) h.line, refl))
+    (λ f ps h. ((steps f h, order f h), tt))
     (λ f ps h. refl)
 
 -- ---- a hold

@@ -6,7 +6,7 @@ use Rattle.fab_core.specs.fab_lock.specs.declared.entry.Kind.{Kind}
 use Rattle.fab_core.specs.fab_lock.specs.declared.entry.Kind.TheVariants as kind
 use Rattle.fab_core.specs.fab_model.specs.Points.{Point}
 use Rattle.fab_core.specs.fab_model.specs.Fabrics.{Fabric}
-use Rattle.fab_core.specs.fab_model.specs.Worlds.{happens, run, Event, World, Load, Arrive, Cycle, Serve, Hold, Rebuild, Take, Leave}
+use Rattle.fab_core.specs.fab_model.specs.Worlds.{happens, run, Event, World, Arrive, Cycle, Serve, Hold, Rebuild, Take, Leave}
 use Rattle.fab_core.specs.declared.cores.FabCore.{FabCore}
 use Rattle.fab_core.specs.Standing.{IsFabric}
 use Rattle.fab_core.specs.fab_model.specs.declared.note.Note.{Note}
@@ -14,7 +14,7 @@ use Rattle.fab_core.specs.fab_model.specs.declared.transit.Transit.{Transit}
 use Rattle.fab_core.specs.fab_model.specs.Deeds.{Deed, deed_in}
 use Rattle.fab_core.specs.fab_model.specs.Histories.{after, in_line, replay, AreLinesByFirst, IsLegal, Seat}
 use Rattle.fab_core.specs.fab_model.specs.Tokens as tokens_of
-use Rattle.fab_core.specs.fab_model.specs.Tokens.{outs, out_at, puts, put_at, AllBear, Token}
+use Rattle.fab_core.specs.fab_model.specs.Tokens.{outs, puts, put_at, AllBear, Token}
 use Rattle.std.specs.Prelude.{◌==◌, if◌then◌else◌, not, Option, None, Some}
 use Rattle.fab_bay.specs.declared.berth.Berth.{Berth}
 use Rattle.fab_bay.specs.declared.noted.Label.{Label}
@@ -24,7 +24,6 @@ use Rattle.fab_bay.specs.Marks.{all_called_for, called_for, is_run, runs_next, s
 use Rattle.fab_bay.specs.Standing.{IsNoted, IsSame}
 use Rattle.fab_bay.specs.Ways.{cycles_in, tokens, AreBelow, AreInOrder, AreOut, Goes, IsEmpty, Path}
 use Rattle.vl_design.specs.vl_base.proofs.Booleans.{not_true_false as no-run}
-pub use Rattle.fab_core.specs.fab_model.proofs.Places.{run-append}
 pub use Rattle.fab_core.specs.fab_model.proofs.Shared.{outs-append, puts-append}
 
 -- ---- notes
@@ -116,10 +115,13 @@ still-nobody (n ∷ ns) h =
 
 -- ---- events
 
+run-append : (es fs : List Event) (w : World) → run (es ++ fs) w ≡ run fs (run es w)
+run-append [] fs w = refl
+run-append (e ∷ es) fs w = run-append es fs (happens w e)
+
 pub cycles-append : (es fs : List Event) → cycles_in (es ++ fs) ≡ cycles_in es + cycles_in fs
 cycles-append [] fs = omega arith
 cycles-append (Cycle ∷ es) fs = let i = cycles-append es fs in omega (arith, i)
-cycles-append (Load p ∷ es) fs = cycles-append es fs
 cycles-append (Arrive t ∷ es) fs = cycles-append es fs
 cycles-append (Serve t ∷ es) fs = cycles-append es fs
 cycles-append (Hold ∷ es) fs = cycles-append es fs

@@ -11,9 +11,9 @@ pub mod Flags
 pub mod Going
 pub mod Rounds
 pub mod Calls
-pub mod Nears
-pub mod Gaps
 pub mod Acts
+pub mod Rises
+pub mod Wanted
 pub mod Staying
 pub mod Taking
 pub mod Bays

@@ -1,59 +1,32 @@
--- How far residents are ahead of their last notes, call by call.
-use Rattle.std.proofs.Common.{◌≡◌, ◌≢◌, ℕ, zero, suc, ◌+◌, ◌-◌, ◌<◌, ◌≤◌, ◌⊎◌, inl, inr, Bool, true, false, List, [], ◌∷◌, ◌++◌, Some, length, map, refl, sym, ap, ◌∙◌, subst, arith, eqb, append_assoc}
-use Rattle.std.specs.Prelude.{◌&&◌, ◌||◌, not, is_some, if◌then◌else◌, slice_get}
-use Rattle.std.specs.declared.alloc.Global.{Global}
-use Rattle.std.specs.declared.vec.Vec.{Vec}
-use Rattle.std.proofs.lemmas.Bool.Decides.{eqb_tells}
-use Rattle.std.proofs.lemmas.List.{append-nil, length-map}
-use Rattle.std.proofs.lemmas.Option.{slice_get_within}
+-- How many ticks tenants have begun, call by call.
+use Rattle.std.proofs.Common.{◌≡◌, ℕ, ◌+◌, ◌-◌, ◌≤◌, Bool, true, false, List, [], ◌∷◌, ◌++◌, Some, map, take, drop, refl, sym, ap, ◌∙◌, subst, arith, append_assoc}
+use Rattle.std.specs.Prelude.{◌&&◌, ◌||◌, not, is_some, if◌then◌else◌}
+use Rattle.std.specs.List.{AllByRecursion}
+use Rattle.std.proofs.lemmas.List.{take-append-drop}
 use Rattle.ten_core.specs.sub_nodes.specs.Code.{table_of}
 use Rattle.ten_core.specs.sub_nodes.specs.Stands.{at_trap}
+use Rattle.ten_core.specs.cell_form.specs.Data.{BankData}
+use Rattle.ten_core.specs.Running.{IsRunning}
+use Rattle.fab_core.specs.ten_shell.specs.declared.shell.Shell.{Shell}
 use Rattle.fab_core.specs.ten_shell.specs.Shells.{is_left}
+use Rattle.fab_core.specs.ten_parcel.specs.declared.parcel.Parcel.{Parcel}
+use Rattle.fab_core.specs.ten_parcel.specs.declared.parcel.Parcel.TheVariants as parcel
+use Rattle.fab_core.specs.ten_parcel.specs.declared.tenant.Tenant.{Tenant}
+use Rattle.fab_core.specs.ten_parcel.specs.Parcels.{number_of, ticks_of}
 use Rattle.fab_core.specs.fab_join.specs.Parts.{PartData}
 use Rattle.fab_core.specs.fab_model.specs.Points.{Point, called, cycled, due, is_there, order_in, run_in, saved, served, tick_of}
-use Rattle.fab_core.specs.fab_model.specs.Fabrics.{all_served, all_stepped, can_step, changed, held, is_of, stepped, Fabric}
-use Rattle.ten_core.specs.Running.{IsRunning}
-use Rattle.fab_core.specs.fab_lock.specs.declared.entry.Kind.{Kind}
+use Rattle.fab_core.specs.fab_model.specs.Fabrics.{all_served, all_stepped, can_step, changed, first_of, found, held, is_of, joining, rebuilt, stepped, taken, without, Fabric}
 use Rattle.fab_core.specs.declared.cores.FabCore.{FabCore}
 use Rattle.fab_core.specs.declared.resident.Resident.{Resident}
-use Rattle.fab_core.specs.Standing.{AreStanding, IsFabric}
-use Rattle.fab_core.specs.fab_model.specs.declared.note.Note.{Note}
-use Rattle.fab_bay.specs.declared.berth.Berth.{Berth}
+use Rattle.fab_core.specs.Alone.{tenants_of}
+use Rattle.fab_core.specs.Standing.{AreStanding, AreWaiting, IsFabric, IsPoint, IsPointOf}
 use Rattle.fab_bay.specs.declared.noted.NotedCore.{NotedCore}
-use Rattle.fab_bay.specs.Berths.{begun, AreSettled}
-use Rattle.fab_bay.specs.Nearness.{IsNear}
-use Rattle.fab_bay.specs.Standing.{IsNoted}
-use Rattle.fab_bay.specs.Ways.{is_short, AreShort}
-use Rattle.fab_bay.proofs.Nears.{short-append}
-use Rattle.fab_bay.proofs.Places.{berths_many, some-equal}
-use Rattle.fab_bay.proofs.Ran.{behind, cancel, get-set-other, get-set-same, noted_at, there, tick-begun, RanClause}
+use Rattle.fab_bay.specs.Berths.{begun}
+use Rattle.fab_bay.specs.Nearness.{BeginsNone, IsWithin}
+use Rattle.fab_bay.proofs.Places.{some-equal}
 use Rattle.fab_bay.proofs.Steps.{rising, running, CallTicksLaw, TicksLaw}
 
--- ---- the same core has begun the same ticks
-
-same-begun : (j : List PartData) (rs : List Resident) (ps qs : List Point) (i : ℕ) (p q : Point) → AreStanding j rs ps → AreStanding j rs qs → slice_get ps i ≡ Some p → slice_get qs i ≡ Some q → begun p ≡ begun q
-same-begun j [] [] qs i p q h k e g = let z : ⊥ = cc in absurd z
-same-begun j [] (x ∷ ps) qs i p q h k e g = absurd h
-same-begun j (r ∷ rs) [] qs i p q h k e g = absurd h
-same-begun j (r ∷ rs) (x ∷ ps) [] i p q h k e g = absurd k
-same-begun j (r ∷ rs) (x ∷ ps) (y ∷ qs) zero p q h k e g =
-    ap (λ (z : Point). z.stage.state.ticks) (sym (some-equal x p e)) ∙ sym h.0.point.stands.at.ticks ∙ k.0.point.stands.at.ticks ∙ ap (λ (z : Point). z.stage.state.ticks) (some-equal y q g)
-same-begun j (r ∷ rs) (x ∷ ps) (y ∷ qs) (suc i) p q h k e g = same-begun j rs ps qs i p q h.1 k.1 e g
-
-pub any-fabric : (y : NotedCore) (f : Fabric) → IsFabric y.core f → length y.berths.items ≡ length f.residents → ((place : ℕ) (b : Berth) (p : Point) → slice_get y.berths.items place ≡ Some b → slice_get f.residents place ≡ Some p → begun p ≤ b.noted + 1) → IsNear y
-any-fabric y f core long near g place b q other at stands =
-    let lt : place < length f.residents = subst (λ n. place < n) long (slice_get_within y.berths.items place b at) in
-    let p = get-there f.residents place lt in
-    let le = near place b p.0 at p.1 in
-    let same : begun p.0 ≡ begun q = same-begun y.core.joined y.core.residents.items f.residents g.residents place p.0 q core.residents other.residents p.1 stands in
-    omega (arith, le, same)
-  where
-    get-there : (ps : List Point) (i : ℕ) → i < length ps → (p : Point) × (slice_get ps i ≡ Some p)
-    get-there [] i lt = let z : ⊥ = omega (arith, lt) in absurd z
-    get-there (p ∷ ps) zero lt = (p, refl)
-    get-there (p ∷ ps) (suc i) lt = get-there ps i (omega (arith, lt))
-
--- ---- where each tick is noted
+-- ---- a tick begun behind its last boundary
 
 tick-near : (x : Bool) (k : ℕ) → k ≤ (if x then k else k - 1) + 1
 tick-near true k = omega arith
@@ -62,20 +35,7 @@ tick-near false k = omega arith
 pub tick-begins : (p : Point) → begun p ≤ tick_of p + 1
 tick-begins p = tick-near (p.stage.state.finished || is_there p) p.stage.state.ticks
 
-settled-near : (bs : List Berth) (ps : List Point) (i : ℕ) (b : Berth) (p : Point) → AreSettled bs ps → slice_get bs i ≡ Some b → slice_get ps i ≡ Some p → begun p ≤ b.noted + 1
-settled-near [] ps i b p s e g = let z : ⊥ = cc in absurd z
-settled-near (x ∷ bs) [] i b p s e g = absurd s
-settled-near (x ∷ bs) (y ∷ ps) zero b p s e g =
-    let n : x.noted ≡ tick_of y = s.0 in
-    let le = tick-begins y in
-    let first : begun y ≤ x.noted + 1 = omega (arith, n, le) in
-    subst (λ (w : Berth). begun p ≤ w.noted + 1) (some-equal x b e) (subst (λ (w : Point). begun w ≤ x.noted + 1) (some-equal y p g) first)
-settled-near (x ∷ bs) (y ∷ ps) (suc i) b p s e g = settled-near bs ps i b p s.1 e g
-
-pub near-settled : (x : NotedCore) (f : Fabric) → IsNoted x f → AreSettled x.berths.items f.residents → IsNear x
-near-settled x f h s = any-fabric x f h.core (berths_many x.label.tenants x.berths.items f.residents h.residents) (λ place b p at stands. settled-near x.berths.items f.residents place b p s at stands)
-
--- ---- a cycle while the fabric holds
+-- ---- steps of a point
 
 hold-step : (tr fin ri lf d : Bool) → (not (tr || ((not fin && ri) && lf)) && (not d && not (true && (fin || (ri && not lf))))) ≡ true → ri ≡ false
 hold-step true fin ri lf d e = let z : ⊥ = cc in absurd z
@@ -86,6 +46,7 @@ hold-step false false true false true e = let z : ⊥ = cc in absurd z
 hold-step false false true false false e = let z : ⊥ = cc in absurd z
 hold-step false false false lf d e = refl
 
+-- a cycle while the fabric holds begins no tick
 begun-stepped : TicksLaw → (p : Point) → IsRunning (run_in p) (order_in p) p.acts p.stage → begun (stepped true p) ≡ begun p
 begun-stepped same p run = by (can_step true p) refl
   where
@@ -93,32 +54,12 @@ begun-stepped same p run = by (can_step true p) refl
     by true e = same (run_in p) (order_in p) p.acts p.stage run (hold-step (at_trap (table_of (run_in p).flat) p.stage) p.stage.state.finished (rising p) (is_left p.left) (is_some (due p)) e)
     by false e = refl
 
-stepped-near : TicksLaw → (j : List PartData) (rs : List Resident) (bs : List Berth) (ps : List Point) (i : ℕ) (b : Berth) (q : Point) → AreStanding j rs ps
-    → ((place : ℕ) (c : Berth) (p : Point) → slice_get bs place ≡ Some c → slice_get ps place ≡ Some p → begun p ≤ c.noted + 1) → slice_get bs i ≡ Some b → slice_get (map (stepped true) ps) i ≡ Some q → begun q ≤ b.noted + 1
-stepped-near same j rs [] ps i b q s near e g = let z : ⊥ = cc in absurd z
-stepped-near same j rs (c ∷ bs) [] i b q s near e g = let z : ⊥ = cc in absurd z
-stepped-near same j [] (c ∷ bs) (p ∷ ps) i b q s near e g = absurd s
-stepped-near same j (r ∷ rs) (c ∷ bs) (p ∷ ps) zero b q s near e g =
-    let le = near 0 c p refl refl in
-    let eq = begun-stepped same p (running r.tenant.shell _ p s.0.point) in
-    let first : begun (stepped true p) ≤ c.noted + 1 = omega (arith, le, eq) in
-    subst (λ (w : Berth). begun q ≤ w.noted + 1) (some-equal c b e) (subst (λ (w : Point). begun w ≤ c.noted + 1) (some-equal (stepped true p) q g) first)
-stepped-near same j (r ∷ rs) (c ∷ bs) (p ∷ ps) (suc i) b q s near e g = stepped-near same j rs bs ps i b q s.1 (λ place d x at stands. near (suc place) d x at stands) e g
-
-pub near-cycle : TicksLaw → (x : NotedCore) (k : FabCore) (f : Fabric) → IsNoted x f → x.core.holding ≡ true → IsFabric k (all_stepped f) → IsNear x → IsNear (record x { core = k })
-near-cycle same x k f h hold core near =
-    let on : f.holding ≡ true = sym h.core.holding ∙ hold in
-    let long = berths_many x.label.tenants x.berths.items f.residents h.residents in
-    any-fabric (record x { core = k }) (all_stepped f) core (long ∙ sym (length-map f.residents (stepped f.holding))) (λ place b q at stands.
-    stepped-near same x.core.joined x.core.residents.items x.berths.items f.residents place b q h.core.residents (λ i c p e g. near f i c p h.core e g) at
-    (subst (λ v. slice_get (map (stepped v) f.residents) place ≡ Some q) on stands))
-
--- ---- a hold
-
-pub near-hold : (x : NotedCore) (k : FabCore) (f : Fabric) → IsNoted x f → IsFabric k (held f) → IsNear x → IsNear (record x { core = k })
-near-hold x k f h core near = any-fabric (record x { core = k }) (held f) core (berths_many x.label.tenants x.berths.items f.residents h.residents) (λ place b p at stands. near f place b p h.core at stands)
-
--- ---- what is served
+number-stepped : (p : Point) → (stepped true p).number ≡ p.number
+number-stepped p = by (can_step true p)
+  where
+    by : (v : Bool) → (if v then cycled p else p).number ≡ p.number
+    by true = refl
+    by false = refl
 
 begun-served : CallTicksLaw → (p : Point) → IsRunning (run_in p) (order_in p) p.acts p.stage → begun (served p) ≡ begun p
 begun-served same p run = by (at_trap (table_of (run_in p).flat) p.stage)
@@ -127,94 +68,176 @@ begun-served same p run = by (at_trap (table_of (run_in p).flat) p.stage)
     by true = same (run_in p) (order_in p) p.acts p.stage run
     by false = refl
 
-served-near : CallTicksLaw → (t : ℕ) (j : List PartData) (rs : List Resident) (bs : List Berth) (ps : List Point) (i : ℕ) (b : Berth) (q : Point) → AreStanding j rs ps
-    → ((place : ℕ) (c : Berth) (p : Point) → slice_get bs place ≡ Some c → slice_get ps place ≡ Some p → begun p ≤ c.noted + 1) → slice_get bs i ≡ Some b → slice_get (changed t served ps) i ≡ Some q → begun q ≤ b.noted + 1
-served-near same t j rs [] ps i b q s near e g = let z : ⊥ = cc in absurd z
-served-near same t j rs (c ∷ bs) [] i b q s near e g = let z : ⊥ = cc in absurd z
-served-near same t j [] (c ∷ bs) (p ∷ ps) i b q s near e g = absurd s
-served-near same t j (r ∷ rs) (c ∷ bs) (p ∷ ps) i b q s near e g =
-    by (is_of t p) i e g (λ k at stands. served-near same t j rs bs ps k b q s.1 (λ place d x at stands. near (suc place) d x at stands) at stands)
+number-served : (p : Point) → (served p).number ≡ p.number
+number-served p = by (at_trap (table_of (run_in p).flat) p.stage)
   where
-    here : begun (served p) ≤ c.noted + 1
-    here =
-        let le = near 0 c p refl refl in
-        let eq = begun-served same p (running r.tenant.shell _ p s.0.point) in
-        omega (arith, le, eq)
+    by : (v : Bool) → (if v then called p else saved p).number ≡ p.number
+    by true = refl
+    by false = refl
 
-    put-in : (x : Point) → begun x ≤ c.noted + 1 → Some c ≡ Some b → Some x ≡ Some q → begun q ≤ b.noted + 1
-    put-in x le e g = subst (λ (w : Berth). begun q ≤ w.noted + 1) (some-equal c b e) (subst (λ (w : Point). begun w ≤ c.noted + 1) (some-equal x q g) le)
+-- ---- by points
 
-    by : (v : Bool) (k : ℕ) → slice_get (c ∷ bs) k ≡ Some b → slice_get (if v then served p ∷ ps else p ∷ changed t served ps) k ≡ Some q
-        → ((m : ℕ) → slice_get bs m ≡ Some b → slice_get (changed t served ps) m ≡ Some q → begun q ≤ b.noted + 1) → begun q ≤ b.noted + 1
-    by true zero e g more = put-in (served p) here e g
-    by true (suc k) e g more = near (suc k) b q e g
-    by false zero e g more = put-in p (near 0 c p refl refl) e g
-    by false (suc k) e g more = more k e g
+module _ (most : ℕ → ℕ) where
+  abbrev HasFew : Tenant → Type 0
+  HasFew t = t.shell.engine.ticks ≤ most t.shell.number
 
-served-long : (t : ℕ) (ps : List Point) → length (changed t served ps) ≡ length ps
-served-long t [] = refl
-served-long t (p ∷ ps) = by (is_of t p) (served-long t ps)
-  where
-    by : (v : Bool) → length (changed t served ps) ≡ length ps → length (if v then served p ∷ ps else p ∷ changed t served ps) ≡ length (p ∷ ps)
-    by true e = refl
-    by false e = ap suc e
+  abbrev AreFew : List Tenant → Type 0
+  AreFew ts = AllByRecursion HasFew ts
 
-pub near-served : CallTicksLaw → (t : ℕ) (x : NotedCore) (k : FabCore) (f : Fabric) → IsNoted x f → IsFabric k (all_served t f) → IsNear x → IsNear (record x { core = k })
-near-served same t x k f h core near =
-    any-fabric (record x { core = k }) (all_served t f) core (berths_many x.label.tenants x.berths.items f.residents h.residents ∙ sym (served-long t f.residents)) (λ place b q at stands.
-    served-near same t x.core.joined x.core.residents.items x.berths.items f.residents place b q h.core.residents (λ i c p e g. near f i c p h.core e g) at stands)
+  -- no point has begun more ticks than these for its number
+  abbrev pub AreBegun : List Point → Type 0
+  AreBegun ps = AllByRecursion (λ p. begun p ≤ most p.number) ps
 
--- ---- notes
+  few-point : (s : Shell) (b : BankData) (p : Point) → IsPoint s b p → s.engine.ticks ≤ most s.number → begun p ≤ most p.number
+  few-point s b p h le = subst (λ (k : ℕ). k ≤ most p.number) h.stands.at.ticks (subst (λ (n : ℕ). s.engine.ticks ≤ most n) h.number le)
 
--- the core and the berths are the same
-pub near-by : (x y : NotedCore) → y.core ≡ x.core → y.berths ≡ x.berths → IsNear x → IsNear y
-near-by x y core berths near f place b p is at stands =
-    near f place b p (subst (λ (k : FabCore). IsFabric k f) core is) (subst (λ (v : Vec Berth Global). slice_get v.items place ≡ Some b) berths at) stands
+  point-few : (s : Shell) (b : BankData) (p : Point) → IsPoint s b p → begun p ≤ most p.number → s.engine.ticks ≤ most s.number
+  point-few s b p h le = subst (λ (k : ℕ). k ≤ most s.number) (sym h.stands.at.ticks) (subst (λ (n : ℕ). begun p ≤ most n) (sym h.number) le)
 
-pub near-ran : (x y : NotedCore) (f : Fabric) (place : ℕ) → IsNoted x f → place < length x.berths.items → RanClause x y place → y.core ≡ x.core → IsNear x → IsNear y
-near-ran x y f place h lt ran core near g i c p is at stands = step (eqb_tells i place)
-  where
-    step : ((eqb i place ≡ true) × (i ≡ place)) ⊎ ((eqb i place ≡ false) × (i ≢ place)) → begun p ≤ c.noted + 1
-    step (inl e) =
-        let d = behind x y f place h lt ran in
-        let isx : IsFabric x.core g = subst (λ (k : FabCore). IsFabric k g) core is in
-        let set = ran g p d.old isx (subst (λ k. slice_get g.residents k ≡ Some p) e.1 stands) d.at in
-        let here : slice_get y.berths.items place ≡ Some (noted_at (tick_of p) d.old) = ap (λ bs. slice_get bs place) set ∙ get-set-same x.berths.items place (noted_at (tick_of p) d.old) lt in
-        let same : c.noted ≡ tick_of p = ap (λ (w : Berth). w.noted) (some-equal c (noted_at (tick_of p) d.old) (sym (subst (λ k. slice_get y.berths.items k ≡ Some c) e.1 at) ∙ here)) in
-        let le = tick-begins p in
-        omega (arith, le, same)
-    step (inr e) =
-        let d = behind x y f place h lt ran in
-        let was : slice_get y.berths.items i ≡ slice_get x.berths.items i = ap (λ bs. slice_get bs i) d.set ∙ get-set-other x.berths.items place i (noted_at (tick_of d.point) d.old) e.1 in
-        near g i c p (subst (λ (k : FabCore). IsFabric k g) core is) (sym was ∙ at) stands
+  line-points : (ts : List Tenant) (ps : List Point) → AreWaiting ts ps → AreFew ts → AreBegun ps
+  line-points [] [] h w = tt
+  line-points [] (p ∷ ps) h w = absurd h
+  line-points (t ∷ ts) [] h w = absurd h
+  line-points (t ∷ ts) (p ∷ ps) h w = (few-point t.shell _ p h.0.point w.0, line-points ts ps h.1 w.1)
 
--- ---- short runs
+  points-line : (ts : List Tenant) (ps : List Point) → AreWaiting ts ps → AreBegun ps → AreFew ts
+  points-line [] [] h w = tt
+  points-line [] (p ∷ ps) h w = absurd h
+  points-line (t ∷ ts) [] h w = absurd h
+  points-line (t ∷ ts) (p ∷ ps) h w = (point-few t.shell _ p h.0.point w.0, points-line ts ps h.1 w.1)
 
--- of two parts each is short
-pub short-then : (x y z a b added : List Note) → y ≡ x ++ a → z ≡ y ++ b → z ≡ x ++ added → AreShort a → AreShort b → AreShort added
-short-then x y z a b added e g h s t =
-    subst AreShort (cancel x (a ++ b) added (sym (append_assoc x a b) ∙ ap (λ l. l ++ b) (sym e) ∙ sym g ∙ h)) (short-append a b s t)
+  all-points : (j : List PartData) (rs : List Resident) (ps : List Point) (ts : List Tenant) (qs : List Point) → AreStanding j rs ps → AreWaiting ts qs → AreFew (tenants_of rs ++ ts) → AreBegun (ps ++ qs)
+  all-points j [] [] ts qs h l w = line-points ts qs l w
+  all-points j [] (p ∷ ps) ts qs h l w = absurd h
+  all-points j (r ∷ rs) [] ts qs h l w = absurd h
+  all-points j (r ∷ rs) (p ∷ ps) ts qs h l w = (few-point r.tenant.shell _ p h.0.point w.0, all-points j rs ps ts qs h.1 l w.1)
 
-pub short-none : (x y added : List Note) → y ≡ x → y ≡ x ++ added → AreShort added
-short-none x y added e h = subst AreShort (cancel x [] added (append-nil x ∙ sym e ∙ h)) tt
+  points-all : (j : List PartData) (rs : List Resident) (ps : List Point) (ts : List Tenant) (qs : List Point) → AreStanding j rs ps → AreWaiting ts qs → AreBegun (ps ++ qs) → AreFew (tenants_of rs ++ ts)
+  points-all j [] [] ts qs h l w = points-line ts qs l w
+  points-all j [] (p ∷ ps) ts qs h l w = absurd h
+  points-all j (r ∷ rs) [] ts qs h l w = absurd h
+  points-all j (r ∷ rs) (p ∷ ps) ts qs h l w = (point-few r.tenant.shell _ p h.0.point w.0, points-all j rs ps ts qs h.1 l w.1)
 
--- of a kind that isn't a run, or a run of no more than a tick
-pub short-one : (n : Note) (k : Kind) → n.entry.kind ≡ k → is_short k n.entry → AreShort (n ∷ [])
-short-one n k e h = (subst (λ (j : Kind). is_short j n.entry) (sym e) h, tt)
+  pub within-points : (x : NotedCore) (f : Fabric) → IsFabric x.core f → IsWithin most x → AreBegun (f.residents ++ f.line)
+  within-points x f h w = all-points x.core.joined x.core.residents.items f.residents x.core.line.items f.line h.residents h.line w
 
--- ---- the core alone changes, and stands for the same fabrics
+  pub points-within : (x : NotedCore) (f : Fabric) → IsFabric x.core f → AreBegun (f.residents ++ f.line) → IsWithin most x
+  points-within x f h w = points-all x.core.joined x.core.residents.items f.residents x.core.line.items f.line h.residents h.line w
 
-pub near-core : (x : NotedCore) (k : FabCore) (f : Fabric) → IsNoted x f → IsFabric k f → IsNear x → IsNear (record x { core = k })
-near-core x k f h core near = any-fabric (record x { core = k }) f core (berths_many x.label.tenants x.berths.items f.residents h.residents) (λ place b p at stands. near f place b p h.core at stands)
+  -- ---- lists
 
--- what `ran_one` promises of its note
-abbrev pub ShortClause : (x y : NotedCore) → ℕ → Type 0
-ShortClause x y place = (f : Fabric) (p : Point) (b : Berth) (added : List Note) → IsFabric x.core f → slice_get f.residents place ≡ Some p → slice_get x.berths.items place ≡ Some b → tick_of p ≤ b.noted + 1
-    → y.notes.items ≡ x.notes.items ++ added → AreShort added
+  begun-without : (t : ℕ) (ps qs : List Point) → AreBegun (ps ++ qs) → AreBegun (without t ps ++ qs)
+  begun-without t [] qs h = h
+  begun-without t (p ∷ ps) qs h = by (is_of t p) (begun-without t ps qs h.1)
+    where
+      by : (v : Bool) → AreBegun (without t ps ++ qs) → AreBegun ((if v then ps else p ∷ without t ps) ++ qs)
+      by true r = h.1
+      by false r = (h.0, r)
 
-pub ran-near-short : (x y : NotedCore) (f : Fabric) (place : ℕ) (added : List Note) → IsNoted x f → place < length x.berths.items → ShortClause x y place → IsNear x → y.notes.items ≡ x.notes.items ++ added → AreShort added
-ran-near-short x y f place added h lt short near e =
-    let t = there x.label.tenants x.berths.items f.residents place h.residents lt in
-    let le = near f place t.berth t.point h.core t.at t.stands in
-    let high = tick-begun t.point in
-    short f t.point t.berth added h.core t.stands t.at (omega (arith, le, high)) e
+  begun-behind : (t : ℕ) (ps qs : List Point) → AreBegun (ps ++ qs) → AreBegun (ps ++ without t qs)
+  begun-behind t [] [] h = h
+  begun-behind t [] (q ∷ qs) h = by (is_of t q) (begun-behind t [] qs h.1)
+    where
+      by : (v : Bool) → AreBegun (without t qs) → AreBegun (if v then qs else q ∷ without t qs)
+      by true r = h.1
+      by false r = (h.0, r)
+  begun-behind t (p ∷ ps) qs h = (h.0, begun-behind t ps qs h.1)
+
+  begun-first : (t : ℕ) (ps qs : List Point) (p : Point) → AreBegun (ps ++ qs) → first_of t ps ≡ Some p → begun p ≤ most p.number
+  begun-first t [] qs p h e = let z : ⊥ = cc in absurd z
+  begun-first t (q ∷ ps) qs p h e = by (is_of t q) e (begun-first t ps qs p h.1)
+    where
+      by : (v : Bool) → (if v then Some q else first_of t ps) ≡ Some p → (first_of t ps ≡ Some p → begun p ≤ most p.number) → begun p ≤ most p.number
+      by true i r = subst (λ (x : Point). begun x ≤ most x.number) (some-equal q p i) h.0
+      by false i r = r i
+
+  begun-second : (t : ℕ) (ps qs : List Point) (p : Point) → AreBegun (ps ++ qs) → first_of t qs ≡ Some p → begun p ≤ most p.number
+  begun-second t [] [] p h e = let z : ⊥ = cc in absurd z
+  begun-second t [] (q ∷ qs) p h e = by (is_of t q) e (begun-second t [] qs p h.1)
+    where
+      by : (v : Bool) → (if v then Some q else first_of t qs) ≡ Some p → (first_of t qs ≡ Some p → begun p ≤ most p.number) → begun p ≤ most p.number
+      by true i r = subst (λ (x : Point). begun x ≤ most x.number) (some-equal q p i) h.0
+      by false i r = r i
+  begun-second t (r ∷ ps) qs p h e = begun-second t ps qs p h.1 e
+
+  -- the tenant that is taken
+  pub begun-found : (t : ℕ) (f : Fabric) (p : Point) → AreBegun (f.residents ++ f.line) → found t f ≡ Some p → begun p ≤ most p.number
+  begun-found t f p h e = by (is_some (first_of t f.residents)) e
+    where
+      by : (v : Bool) → (if v then first_of t f.residents else first_of t f.line) ≡ Some p → begun p ≤ most p.number
+      by true i = begun-first t f.residents f.line p h i
+      by false i = begun-second t f.residents f.line p h i
+
+  -- ---- what happens
+
+  pub begun-taken : (t : ℕ) (f : Fabric) → AreBegun (f.residents ++ f.line) → AreBegun ((taken t f).residents ++ (taken t f).line)
+  begun-taken t f h = by (is_some (first_of t f.residents))
+    where
+      by : (v : Bool) → AreBegun ((if v then record f { residents = without t f.residents } else record f { line = without t f.line }).residents ++ (if v then record f { residents = without t f.residents } else record f { line = without t f.line }).line)
+      by true = begun-without t f.residents f.line h
+      by false = begun-behind t f.residents f.line h
+
+  pub begun-rebuilt : (f : Fabric) → AreBegun (f.residents ++ f.line) → AreBegun ((rebuilt f).residents ++ (rebuilt f).line)
+  begun-rebuilt f h =
+      let n = joining f in
+      subst (λ (ps : List Point). AreBegun ps) (ap (λ (ps : List Point). f.residents ++ ps) (sym (take-append-drop n f.line)) ∙ sym (append_assoc f.residents (take n f.line) (drop n f.line))) h
+
+  same-begun : (p q : Point) → begun q ≡ begun p → q.number ≡ p.number → begun p ≤ most p.number → begun q ≤ most q.number
+  same-begun p q e n le = subst (λ (k : ℕ). k ≤ most q.number) (sym e) (subst (λ (k : ℕ). begun p ≤ most k) (sym n) le)
+
+  begun-map : TicksLaw → (j : List PartData) (rs : List Resident) (ps qs : List Point) → AreStanding j rs ps → AreBegun (ps ++ qs) → AreBegun (map (stepped true) ps ++ qs)
+  begun-map same j rs [] qs s h = h
+  begun-map same j [] (p ∷ ps) qs s h = absurd s
+  begun-map same j (r ∷ rs) (p ∷ ps) qs s h =
+      (same-begun p (stepped true p) (begun-stepped same p (running r.tenant.shell _ p s.0.point)) (number-stepped p) h.0, begun-map same j rs ps qs s.1 h.1)
+
+  begun-changed : CallTicksLaw → (t : ℕ) (j : List PartData) (rs : List Resident) (ps qs : List Point) → AreStanding j rs ps → AreBegun (ps ++ qs) → AreBegun (changed t served ps ++ qs)
+  begun-changed same t j rs [] qs s h = h
+  begun-changed same t j [] (p ∷ ps) qs s h = absurd s
+  begun-changed same t j (r ∷ rs) (p ∷ ps) qs s h = by (is_of t p) (begun-changed same t j rs ps qs s.1 h.1)
+    where
+      by : (v : Bool) → AreBegun (changed t served ps ++ qs) → AreBegun ((if v then served p ∷ ps else p ∷ changed t served ps) ++ qs)
+      by true more = (same-begun p (served p) (begun-served same p (running r.tenant.shell _ p s.0.point)) (number-served p) h.0, h.1)
+      by false more = (h.0, more)
+
+-- ---- calls
+
+-- by what happens to a fabric for which the core stands
+none-by : (x y : NotedCore) (f g : Fabric) → IsFabric x.core f → IsFabric y.core g
+    → ((most : ℕ → ℕ) → AreBegun most (f.residents ++ f.line) → AreBegun most (g.residents ++ g.line)) → BeginsNone x y
+none-by x y f g h k step = λ most w. points-within most y g k (step most (within-points most x f h w))
+
+pub none-same : (x y : NotedCore) → y.core ≡ x.core → BeginsNone x y
+none-same x y e = λ most w. subst (λ (k : FabCore). AllByRecursion (λ (t : Tenant). t.shell.engine.ticks ≤ most t.shell.number) (tenants_of k.residents.items ++ k.line.items)) (sym e) w
+
+pub none-then : (x y z : NotedCore) → BeginsNone x y → BeginsNone y z → BeginsNone x z
+none-then x y z g h = λ most w. h most (g most w)
+
+pub none-still : (x y : NotedCore) (f : Fabric) → IsFabric x.core f → IsFabric y.core f → BeginsNone x y
+none-still x y f h k = none-by x y f f h k (λ most w. w)
+
+pub none-held : (x y : NotedCore) (f : Fabric) → IsFabric x.core f → IsFabric y.core (held f) → BeginsNone x y
+none-held x y f h k = none-by x y f (held f) h k (λ most w. w)
+
+-- a cycle while the fabric holds
+pub none-stepped : TicksLaw → (x y : NotedCore) (f : Fabric) → IsFabric x.core f → x.core.holding ≡ true → IsFabric y.core (all_stepped f) → BeginsNone x y
+none-stepped same x y f h hold k = none-by x y f (all_stepped f) h k (λ most w.
+    subst (λ v. AreBegun most (map (stepped v) f.residents ++ f.line)) (sym hold ∙ h.holding)
+    (begun-map most same x.core.joined x.core.residents.items f.residents f.line h.residents w))
+
+pub none-served : CallTicksLaw → (t : ℕ) (x y : NotedCore) (f : Fabric) → IsFabric x.core f → IsFabric y.core (all_served t f) → BeginsNone x y
+none-served same t x y f h k = none-by x y f (all_served t f) h k (λ most w. begun-changed most same t x.core.joined x.core.residents.items f.residents f.line h.residents w)
+
+pub none-rebuilt : (x y : NotedCore) (f : Fabric) → IsFabric x.core f → IsFabric y.core (rebuilt f) → BeginsNone x y
+none-rebuilt x y f h k = none-by x y f (rebuilt f) h k (λ most w. begun-rebuilt most f w)
+
+pub none-taken : (t : ℕ) (x y : NotedCore) (f : Fabric) → IsFabric x.core f → IsFabric y.core (taken t f) → BeginsNone x y
+none-taken t x y f h k = none-by x y f (taken t f) h k (λ most w. begun-taken most t f w)
+
+-- who is taken
+few-parcel : (most : ℕ → ℕ) (q : Parcel) (p : Point) → IsPointOf q p → begun p ≤ most p.number → ticks_of q ≤ most (number_of q)
+few-parcel most (parcel.Rests t) p h le = point-few most t.shell _ p h.point le
+few-parcel most (parcel.Over x) p h le = absurd h
+
+pub came-within : (t : ℕ) (x : NotedCore) (f : Fabric) (q : Parcel) (p : Point) → IsFabric x.core f → found t f ≡ Some p → IsPointOf q p → (most : ℕ → ℕ) → IsWithin most x → ticks_of q ≤ most (number_of q)
+came-within t x f q p h e at most w = few-parcel most q p at (begun-found most t f p (within-points most x f h w) e)

@@ -27,7 +27,7 @@ use Rattle.fab_bay.specs.declared.noted.NotedCore.{NotedCore}
 use Rattle.fab_bay.specs.Berths.{begun, deed_at, seat, seats, AreBerths, AreSettled, AreWaiters, IsBerth}
 use Rattle.fab_bay.specs.Marks.{is_run, mark_at, marks, IsRunOf}
 use Rattle.fab_bay.specs.Standing.{HasRoomFor, IsNoted}
-use Rattle.fab_bay.specs.Ways.{is_short, AreShort, Settles}
+use Rattle.fab_bay.specs.Ways.{Settles}
 use Rattle.fab_bay.proofs.Kept.{noted_by, told_next, told_of}
 use Rattle.fab_bay.proofs.Onward.{goes-note}
 use Rattle.fab_bay.proofs.Places.{some-equal}
@@ -302,16 +302,6 @@ module _ (number : ℕ) (x y : NotedCore) (place : ℕ) (old : Berth) (who tick 
   ran-one f h t added who e =
       let s = there x.label.tenants x.berths.items f.residents place h.residents r.inside in
       subst (λ ns. IsRunOf t ns) (cancel x.notes.items (n ∷ []) added (sym w.writes.notes ∙ e)) (ap is_run kind-is, tenant-of f s.point h s.stands ∙ who old r.here)
-
-  pub ran-short : (f : Fabric) (p : Point) (b : Berth) (added : List Note) → IsFabric x.core f → slice_get f.residents place ≡ Some p → slice_get x.berths.items place ≡ Some b → tick_of p ≤ b.noted + 1
-      → y.notes.items ≡ x.notes.items ++ added → AreShort added
-  ran-short f p b added core stands at le e =
-      let same : n ∷ [] ≡ added = cancel x.notes.items (n ∷ []) added (sym w.writes.notes ∙ e) in
-      let k = (r.resident f p core stands).1 in
-      let noted : old.noted ≡ b.noted = ap (λ (z : Berth). z.noted) (some-equal old b (sym r.here ∙ at)) in
-      let from : n.entry.from ≡ old.noted = ap (λ (z : Entry). z.from) w.entry in
-      let to : n.entry.to ≡ tick = ap (λ (z : Entry). z.to) w.entry in
-      subst AreShort same (subst (λ z. is_short z n.entry) (sym kind-is) (omega (arith, le, k, noted, from, to)), tt)
 
 -- nothing is told where nothing is written
 pub none-runs : (x : NotedCore) (added : List Note) → x.notes.items ≡ x.notes.items ++ added → marks added ≡ []

@@ -30,3 +30,13 @@ acts_to_come x = acts_in x.core.residents.items
 
 abbrev pub saves_to_come : NotedCore → ℕ
 saves_to_come x = saves_in x.core.residents.items
+
+-- ---- who may still come and go
+
+-- so often may tenants still join or leave at most: a resident once, one in line twice
+abbrev pub moves_to_come : NotedCore → ℕ
+moves_to_come x = length x.berths.items + 2 * length x.waiting.items
+
+-- before a cycle the fabric comes to rest so often at most: where it doesn't hold, it does so only for somebody who joins or leaves
+abbrev pub rests_to_come : NotedCore → ℕ
+rests_to_come x = 2 * moves_to_come x + (if x.core.holding then 1 else 0)

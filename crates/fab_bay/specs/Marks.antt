@@ -7,7 +7,7 @@ use Rattle.fab_core.specs.fab_lock.specs.declared.entry.Kind.{Kind}
 use Rattle.fab_core.specs.fab_lock.specs.declared.entry.Kind.TheVariants as kind
 use Rattle.fab_core.specs.fab_model.specs.Points.{cost_of, due, ended, run_in, tick_of, waits, Point}
 use Rattle.fab_core.specs.fab_model.specs.Fabrics.{first_of, found, has, joining, within, Fabric}
-use Rattle.fab_core.specs.fab_model.specs.Worlds.{happens, is_at_rest, Event, World, Load, Arrive, Cycle, Serve, Hold, Rebuild, Take, Leave}
+use Rattle.fab_core.specs.fab_model.specs.Worlds.{happens, is_at_rest, Event, World, Arrive, Cycle, Serve, Hold, Rebuild, Take, Leave}
 use Rattle.fab_core.specs.fab_model.specs.declared.note.Note.{Note}
 
 -- ---- what notes tell
@@ -85,9 +85,8 @@ abbrev pub leave_for : Fabric → Option Point → List Mark
 leave_for f None = []
 leave_for f (Some p) = if is_some (due p) then take_for f (Some p) else []
 
--- the note of whoever is put in line, is saved, joins or comes out; nothing for what is loaded, a cycle, a call and a hold, nor where an event may not come
+-- the note of whoever is put in line, is saved, joins or comes out; nothing for a cycle, a call and a hold, nor where an event may not come
 abbrev pub called_for : Event → World → List Mark
-called_for (Load p) w = []
 called_for (Arrive t) w = line_for w.fabric t (first_of t w.transit)
 called_for Cycle w = []
 called_for (Serve t) w = save_for (first_of t w.fabric.residents)

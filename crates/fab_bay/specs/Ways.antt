@@ -1,13 +1,12 @@
 -- What a call does with a core and its history (own).
-use Rattle.std.specs.Prelude.{◌≡◌, ℕ, suc, ◌<◌, ◌≤◌, ◌+◌, ◌⊎◌, Bool, true, false, List, [], ◌∷◌, ◌++◌, map, length, Some, None, All, ⊤}
+use Rattle.std.specs.Prelude.{◌≡◌, ℕ, suc, ◌<◌, ◌≤◌, ◌⊎◌, Bool, true, false, List, [], ◌∷◌, ◌++◌, map, length, Some, None, All, ⊤}
 use Rattle.fab_core.specs.fab_lock.specs.declared.entry.Entry.{Entry}
-use Rattle.fab_core.specs.fab_lock.specs.declared.entry.Kind.{Kind}
 use Rattle.fab_core.specs.fab_lock.specs.declared.entry.Kind.TheVariants as kind
 use Rattle.fab_core.specs.ten_shell.specs.declared.shell.Why.{Why}
 use Rattle.fab_core.specs.ten_shell.specs.declared.shell.Why.TheVariants.{Move, Ended}
 use Rattle.fab_core.specs.fab_model.specs.Points.{departed, due, Point}
-use Rattle.fab_core.specs.fab_model.specs.Fabrics.{first_leaving, head_fits, Fabric}
-use Rattle.fab_core.specs.fab_model.specs.Worlds.{happens, run, Event, World, Load, Arrive, Cycle, Serve, Hold, Rebuild, Take, Leave}
+use Rattle.fab_core.specs.fab_model.specs.Fabrics.{first_leaving, head_fits, may_cycle, Fabric}
+use Rattle.fab_core.specs.fab_model.specs.Worlds.{happens, run, Event, World, Arrive, Cycle, Serve, Hold, Rebuild, Take, Leave}
 use Rattle.fab_core.specs.Standing.{IsPointOf}
 use Rattle.fab_core.specs.fab_model.specs.declared.note.Note.{Note}
 use Rattle.fab_core.specs.fab_model.specs.declared.transit.Stay.{Stay}
@@ -22,6 +21,7 @@ use Rattle.fab_bay.specs.declared.leaving.Receipt.{Receipt}
 use Rattle.fab_bay.specs.declared.leaving.Turn.{Turn}
 use Rattle.fab_bay.specs.declared.noted.NotedCore.{NotedCore}
 use Rattle.fab_bay.specs.Marks.{all_called_for, marks, AreClosed, AreWhole, Mark}
+use Rattle.fab_bay.specs.Nearness.{AreNear}
 use Rattle.fab_bay.specs.Standing.{IsNoted}
 
 -- ---- tenants that came out
@@ -63,7 +63,6 @@ LeftFor l = (p : Point) × IsPointOf l.transit.parcel (departed l.why p) × (due
 abbrev pub cycles_in : List Event → ℕ
 cycles_in [] = 0
 cycles_in (Cycle ∷ es) = suc (cycles_in es)
-cycles_in (Load p ∷ es) = cycles_in es
 cycles_in (Arrive t ∷ es) = cycles_in es
 cycles_in (Serve t ∷ es) = cycles_in es
 cycles_in (Hold ∷ es) = cycles_in es
@@ -71,9 +70,9 @@ cycles_in (Rebuild ∷ es) = cycles_in es
 cycles_in (Take t ∷ es) = cycles_in es
 cycles_in (Leave t ∷ es) = cycles_in es
 
--- a cycle comes only where the fabric holds, or no resident is due to leave and the head of the line doesn't fit
+-- a cycle comes only where some resident may do one; and where the fabric doesn't hold, no resident is due to leave and the head of the line doesn't fit
 abbrev pub MayBe : Event → Fabric → Type 0
-MayBe Cycle f = f.holding ≡ false → (first_leaving f.residents ≡ None) × (head_fits f ≡ false)
+MayBe Cycle f = (may_cycle f ≡ true) × (f.holding ≡ false → (first_leaving f.residents ≡ None) × (head_fits f ≡ false))
 MayBe e f = ⊤
 
 abbrev pub AreInOrder : List Event → World → Type 0
@@ -148,21 +147,12 @@ pub record Turned (number most : ℕ) (x y : NotedCore) (t : Turn) : Type 0 wher
   pub whys : All LeftFor t.leaving.items
   pub whole : AreWhole goes.added
 
--- no run that is told of is longer than a tick
-abbrev pub is_short : Kind → Entry → Type 0
-is_short kind.Ran e = e.to ≤ e.from + 1
-is_short k e = ⊤
-
-abbrev pub AreShort : List Note → Type 0
-AreShort [] = ⊤
-AreShort (n ∷ ns) = is_short n.entry.kind n.entry × AreShort ns
-
--- a tenant was taken out, if it came out; nobody ran for more than a tick
+-- a tenant was taken out, if it came out; nobody's tick rose by more than one over the whole call
 pub record Took (number : ℕ) (x y : NotedCore) (entries : List Entry) (out : List Transit) : Type 0 where
   pub cycles : ℕ
   pub goes : Way number cycles x y [] entries [] out
   pub told : entries ≡ map (λ n. n.entry) goes.added
-  pub short : AreShort goes.added
+  pub near : AreNear x.notes.items y.notes.items out
   pub whole : AreWhole goes.added
 
 -- a tenant was put in line by the seat of this number: one note is added, and the receipt says so

@@ -95,8 +95,8 @@ impl Bay {
         self.noted.put(number, transit)
     }
 
-    /// At most so many cycles, and what comes between them. Unless memory ends it, it does just so many cycles or leaves nobody. An `Err` is
-    /// want of memory before anything was done.
+    /// At most so many cycles, in each of which some resident steps, and what comes between them. Unless memory ends it, it does just so many
+    /// cycles or leaves nobody. An `Err` is want of memory before anything was done.
     pub fn turn(&mut self, alloc: Global, number: u32, most: u64) -> Result<Turn, AllocError>
         requires some { 1 ≤ most }
         ensures turned { IfOk result (λ t. Turned number most self.old self.new t) }
@@ -107,7 +107,7 @@ impl Bay {
         self.noted.turn(alloc, number, most)
     }
 
-    /// Takes a tenant out. No tick rises by more than one. An `Err` is want of memory before anything was done.
+    /// Takes a tenant out. No tenant's tick rises by more than one over the whole call. An `Err` is want of memory before anything was done.
     pub fn take(&mut self, alloc: Global, number: u32, tenant: u32) -> Result<Taken, AllocError>
         ensures taken { IfOk result (λ t. IsTaken number tenant self.old self.new t) }
         ensures label { self.new.label ≡ self.old.label }

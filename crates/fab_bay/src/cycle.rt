@@ -1,10 +1,12 @@
 //! Cycles of a fabric.
 
-ghost use Rattle.std.specs.Prelude.{◌≡◌, false, true, List, None};
-ghost use Rattle.fab_core.specs.fab_model.specs.Fabrics.{all_stepped, first_leaving, head_fits, held, Fabric};
+ghost use Rattle.std.specs.Prelude.{◌≡◌, false, true, List};
+ghost use Rattle.fab_core.specs.fab_model.specs.Fabrics.{all_stepped, held, Fabric};
 ghost use Rattle.fab_core.specs.Standing.{IsFabric};
 ghost use Rattle.fab_core.specs.fab_model.specs.declared.transit.Transit.{Transit as Out};
-ghost use Rattle.fab_bay.specs.Nearness.{IsNear};
+ghost use Rattle.fab_bay.specs.Acts.{moves_to_come};
+ghost use Rattle.fab_bay.specs.Nearness.{BeginsNone};
+ghost use Rattle.fab_bay.specs.Rounds.{HasStepper, IsSettled};
 ghost use Rattle.fab_bay.specs.Standing.{CanSettle, IsNoted};
 ghost use Rattle.fab_bay.specs.Ways.{Goes};
 
@@ -13,13 +15,15 @@ use ten_core::run_laws::{a_run_at_rest_is_at_a_boundary, each_act_comes_nearer};
 use vl_design::laws::has_one_state_at_a_boundary;
 
 impl NotedCore {
-    /// Each resident that may does one cycle. Where the fabric doesn't hold, nobody is due to leave and the head of the line doesn't fit.
+    /// Each resident that may does one cycle, and some resident may. Where the fabric doesn't hold, nobody is due to leave and the head of
+    /// the line doesn't fit.
     pub(crate) fn cycle(&mut self)
         requires fabric { (f : Fabric) × IsNoted self.old f }
-        requires order { (f : Fabric) → IsNoted self.old f → f.holding ≡ false → (first_leaving f.residents ≡ None) × (head_fits f ≡ false) }
+        requires steps { HasStepper self.old }
+        requires order { IsSettled self.old }
         ensures goes { (number : _) (out : List Out) → Goes number 1 self.old self.new out out }
         ensures core { (f : Fabric) → IsNoted self.old f → IsFabric self.new.core (all_stepped f) }
-        ensures near { self.old.core.holding ≡ true → IsNear self.old → IsNear self.new }
+        ensures near { self.old.core.holding ≡ true → BeginsNone self.old self.new }
         ensures holding { self.new.core.holding ≡ self.old.core.holding }
         ensures notes { self.new.notes ≡ self.old.notes }
         ensures room { CanSettle self.old → CanSettle self.new }
@@ -39,7 +43,8 @@ impl NotedCore {
         ensures held { (f : Fabric) → IsNoted self.old f → IsNoted self.new (held f) }
         ensures holds { self.new.core.holding ≡ true }
         ensures notes { self.new.notes ≡ self.old.notes }
-        ensures near { IsNear self.old → IsNear self.new }
+        ensures near { BeginsNone self.old self.new }
+        ensures moves { moves_to_come self.new ≡ moves_to_come self.old }
     {
         self.core.hold();
     }

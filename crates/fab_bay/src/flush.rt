@@ -1,6 +1,6 @@
 //! Notes, and room for them.
 
-ghost use Rattle.std.specs.Prelude.{◌≡◌, ◌≤◌, ◌<◌, ◌+◌, ◌++◌, ◌∷◌, [], suc, ℕ, List, Some, length, slice_get, slice_set, OnOk, OnErr};
+ghost use Rattle.std.specs.Prelude.{◌≡◌, ◌<◌, ◌+◌, ◌++◌, ◌∷◌, [], suc, ℕ, List, Some, length, slice_get, slice_set, OnOk};
 ghost use Rattle.fab_core.specs.fab_model.specs.Points.{tick_of, Point};
 ghost use Rattle.fab_core.specs.fab_model.specs.Fabrics.{Fabric};
 ghost use Rattle.fab_core.specs.Standing.{IsFabric};
@@ -9,9 +9,8 @@ ghost use Rattle.fab_core.specs.fab_model.specs.declared.transit.Transit.{Transi
 ghost use Rattle.fab_bay.specs.declared.berth.Berth.{Berth as OneBerth};
 ghost use Rattle.fab_bay.specs.Berths.{AreSettled};
 ghost use Rattle.fab_bay.specs.Marks.{marks, AreWhole, IsRunOf};
-ghost use Rattle.fab_bay.specs.Nearness.{IsNear};
 ghost use Rattle.fab_bay.specs.Standing.{CanSettle, HasRoomFor, IsNoted, IsSame};
-ghost use Rattle.fab_bay.specs.Ways.{AreShort, Settles};
+ghost use Rattle.fab_bay.specs.Ways.{Settles};
 
 use crate::noted::NotedCore;
 use fab_core::note::Note;
@@ -62,11 +61,8 @@ impl NotedCore {
             self.new.berths.items ≡ slice_set self.old.berths.items place (record b { noted = tick_of p }) }
         ensures core { self.new.core ≡ self.old.core }
         ensures waiting { self.new.waiting ≡ self.old.waiting }
-        ensures short { (f : Fabric) (p : Point) (b : OneBerth) (added : List OneNote) → IsFabric self.old.core f → slice_get f.residents place ≡ Some p → slice_get self.old.berths.items place ≡ Some b →
-            tick_of p ≤ b.noted + 1 → self.new.notes.items ≡ self.old.notes.items ++ added → AreShort added }
         ensures runs { (added : List OneNote) → self.new.notes.items ≡ self.old.notes.items ++ added → marks added ≡ [] }
         ensures one { (t : ℕ) (added : List OneNote) → ((b : OneBerth) → slice_get self.old.berths.items place ≡ Some b → b.tenant ≡ t) → self.new.notes.items ≡ self.old.notes.items ++ added → IsRunOf t added }
-        ensures near { IsNear self.old → IsNear self.new }
         ensures room { (n : ℕ) → HasRoomFor (suc n) self.old → HasRoomFor n self.new }
     {
         let (tenant, tick) = self.core.resident(place);
@@ -82,8 +78,7 @@ impl NotedCore {
         requires fabric { (f : Fabric) × IsNoted self.old f }
         requires room { CanSettle self.old }
         ensures goes { (out : List Out) → Settles number self.old self.new out }
-        ensures near { IsNear self.old → IsNear self.new }
-        ensures short { IsNear self.old → (added : List OneNote) → self.new.notes.items ≡ self.old.notes.items ++ added → AreShort added }
+        ensures core { self.new.core ≡ self.old.core }
         ensures whole { (added : List OneNote) → self.new.notes.items ≡ self.old.notes.items ++ added → AreWhole added }
         ensures settled { (f : Fabric) → IsNoted self.new f → AreSettled self.new.berths.items f.residents }
     {

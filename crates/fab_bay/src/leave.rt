@@ -1,20 +1,20 @@
 //! Tenants that come out.
 
-ghost use Rattle.std.specs.Prelude.{◌≡◌, ◌++◌, ◌∷◌, ◌<◌, ◌≤◌, ◌+◌, ◌==◌, [], position, length, None, false, true, List, Some, IfOk, OnErr, IfSome, IsNone, vec_len, vec_capacity};
+ghost use Rattle.std.specs.Prelude.{◌≡◌, ◌++◌, ◌∷◌, ◌<◌, ◌≤◌, ◌+◌, ◌==◌, [], position, length, None, false, true, List, Some, IfOk, OnOk, OnErr, IfSome, IsNone, vec_len, vec_capacity};
 ghost use Rattle.vl_design.specs.Alone.{first_tick};
 ghost use Rattle.fab_core.specs.ten_parcel.specs.Parcels.{number_of, run_of, ticks_of};
 ghost use Rattle.fab_core.specs.ten_shell.specs.declared.shell.Why.{Why as Reason};
 ghost use Rattle.fab_core.specs.fab_model.specs.Points.{due, Point};
 ghost use Rattle.fab_core.specs.fab_model.specs.Fabrics.{first_of, has, Fabric};
 ghost use Rattle.fab_core.specs.fab_model.specs.Worlds.{is_at_rest};
-ghost use Rattle.fab_core.specs.fab_model.specs.declared.note.Note.{Note as OneNote};
 ghost use Rattle.fab_core.specs.fab_model.specs.declared.transit.Transit.{Transit as Out};
 ghost use Rattle.fab_core.specs.fab_model.specs.Ends.{EndsNotBefore};
 ghost use Rattle.fab_core.specs.fab_model.specs.Stays.{chains};
-ghost use Rattle.fab_bay.specs.Nearness.{IsNear};
+ghost use Rattle.fab_bay.specs.Acts.{moves_to_come};
+ghost use Rattle.fab_bay.specs.Nearness.{BeginsNone, CameWithin};
 ghost use Rattle.fab_bay.specs.Standing.{CanSettle, HasRoomFor, IsNoted};
 ghost use Rattle.fab_bay.specs.Taking.{IsWithdrawn, KeepsFlag};
-ghost use Rattle.fab_bay.specs.Ways.{AreShort, Goes, LeftFor};
+ghost use Rattle.fab_bay.specs.Ways.{Goes, LeftFor};
 
 use crate::berth::Berth;
 use crate::leaving::Leaving;
@@ -77,6 +77,7 @@ impl NotedCore {
         ensures goes { (out : List Out) → Goes number 0 self.old self.new out (out ++ result.transit ∷ []) }
         ensures why { (f : Fabric) (p : Point) → IsNoted self.old f → first_of tenant f.residents ≡ Some p → due p ≡ Some result.why }
         ensures left { LeftFor result }
+        ensures moves { moves_to_come self.new < moves_to_come self.old }
         ensures room { CanSettle self.new }
     {
         let Some(place) = berth_of(&self.berths, tenant) else {
@@ -106,6 +107,7 @@ impl NotedCore {
         ensures err { OnErr result ((out : List Out) → Goes number 0 self.old self.new out out) }
         ensures why { IfOk result (λ l. (f : Fabric) (p : Point) → IsNoted self.old f → first_of tenant f.residents ≡ Some p → due p ≡ Some l.why) }
         ensures left { IfOk result (λ l. LeftFor l) }
+        ensures moves { OnOk result (moves_to_come self.new < moves_to_come self.old) }
         ensures room { CanSettle self.new }
     {
         match self.prepare(2) {
@@ -124,8 +126,8 @@ impl NotedCore {
         ensures number { number_of result.parcel ≡ tenant }
         ensures flag { KeepsFlag self.old result }
         ensures withdrawn { IsWithdrawn result }
-        ensures near { IsNear self.old → IsNear self.new }
-        ensures short { IsNear self.old → (added : List OneNote) → self.new.notes.items ≡ self.old.notes.items ++ added → AreShort added }
+        ensures within { CameWithin self.old result }
+        ensures near { BeginsNone self.old self.new }
         ensures room { CanSettle self.new }
     {
         self.ran_one(place, number);
@@ -151,8 +153,8 @@ impl NotedCore {
         ensures number { number_of result.parcel ≡ tenant }
         ensures flag { KeepsFlag self.old result }
         ensures withdrawn { IsWithdrawn result }
-        ensures near { IsNear self.old → IsNear self.new }
-        ensures short { IsNear self.old → (added : List OneNote) → self.new.notes.items ≡ self.old.notes.items ++ added → AreShort added }
+        ensures within { CameWithin self.old result }
+        ensures near { BeginsNone self.old self.new }
         ensures room { CanSettle self.new }
     {
         let Some(parcel) = self.core.take(tenant) else {
@@ -175,8 +177,8 @@ impl NotedCore {
         ensures number { number_of result.parcel ≡ tenant }
         ensures flag { KeepsFlag self.old result }
         ensures withdrawn { IsWithdrawn result }
-        ensures near { IsNear self.old → IsNear self.new }
-        ensures short { IsNear self.old → (added : List OneNote) → self.new.notes.items ≡ self.old.notes.items ++ added → AreShort added }
+        ensures within { CameWithin self.old result }
+        ensures near { BeginsNone self.old self.new }
         ensures room { CanSettle self.new }
     {
         if let Some(place) = berth_of(&self.berths, tenant) {
@@ -198,9 +200,9 @@ impl NotedCore {
         ensures number { IfOk result (λ t. number_of t.parcel ≡ tenant) }
         ensures flag { IfOk result (λ t. KeepsFlag self.old t) }
         ensures withdrawn { IfOk result (λ t. IsWithdrawn t) }
+        ensures within { IfOk result (λ t. CameWithin self.old t) }
         ensures err { OnErr result ((out : List Out) → Goes number 0 self.old self.new out out) }
-        ensures near { IsNear self.old → IsNear self.new }
-        ensures short { IsNear self.old → (added : List OneNote) → self.new.notes.items ≡ self.old.notes.items ++ added → AreShort added }
+        ensures near { BeginsNone self.old self.new }
         ensures room { CanSettle self.new }
     {
         match self.prepare(2) {

@@ -1,13 +1,12 @@
 //! The joined bank made anew.
 
-ghost use Rattle.std.specs.Prelude.{◌≡◌, ◌≤◌, ◌+◌, ◌++◌, true, length, vec_len, vec_capacity, List};
-ghost use Rattle.fab_core.specs.fab_model.specs.Fabrics.{Fabric};
+ghost use Rattle.std.specs.Prelude.{◌≡◌, ◌≤◌, ◌+◌, true, length, vec_len, vec_capacity, List, OnOk};
+ghost use Rattle.fab_core.specs.fab_model.specs.Fabrics.{rebuilt, Fabric};
 ghost use Rattle.fab_core.specs.fab_model.specs.Worlds.{is_at_rest};
-ghost use Rattle.fab_core.specs.fab_model.specs.declared.note.Note.{Note as OneNote};
 ghost use Rattle.fab_core.specs.fab_model.specs.declared.transit.Transit.{Transit as Out};
-ghost use Rattle.fab_bay.specs.Nearness.{IsNear};
+ghost use Rattle.fab_bay.specs.Nearness.{BeginsNone};
 ghost use Rattle.fab_bay.specs.Standing.{CanSettle, HasRoomFor, IsNoted};
-ghost use Rattle.fab_bay.specs.Ways.{AreShort, Goes};
+ghost use Rattle.fab_bay.specs.Ways.{Goes};
 
 use crate::noted::NotedCore;
 use fab_core::note::Note;
@@ -21,8 +20,8 @@ impl NotedCore {
         requires room { HasRoomFor (length self.old.berths.items + length self.old.waiting.items + length self.old.waiting.items) self.old }
         requires free { vec_len self.old.berths + length self.old.waiting.items ≤ vec_capacity self.old.berths }
         ensures goes { (out : List Out) → Goes number 0 self.old self.new out out }
-        ensures near { IsNear self.old → IsNear self.new }
-        ensures short { IsNear self.old → (added : List OneNote) → self.new.notes.items ≡ self.old.notes.items ++ added → AreShort added }
+        ensures near { BeginsNone self.old self.new }
+        ensures rebuilt { OnOk result ((f : Fabric) → IsNoted self.old f → IsNoted self.new (rebuilt f)) }
         ensures room { CanSettle self.new }
     {
         match self.core.rebuild(alloc) {
@@ -48,8 +47,8 @@ impl NotedCore {
         requires rest { (f : Fabric) → IsNoted self.old f → is_at_rest f ≡ true }
         requires room { HasRoomFor (length self.old.berths.items + length self.old.waiting.items + length self.old.waiting.items) self.old }
         ensures goes { (out : List Out) → Goes number 0 self.old self.new out out }
-        ensures near { IsNear self.old → IsNear self.new }
-        ensures short { IsNear self.old → (added : List OneNote) → self.new.notes.items ≡ self.old.notes.items ++ added → AreShort added }
+        ensures near { BeginsNone self.old self.new }
+        ensures rebuilt { OnOk result ((f : Fabric) → IsNoted self.old f → IsNoted self.new (rebuilt f)) }
         ensures room { CanSettle self.new }
     {
         let most = self.waiting.len();
@@ -66,8 +65,8 @@ impl NotedCore {
         requires rest { (f : Fabric) → IsNoted self.old f → is_at_rest f ≡ true }
         requires room { CanSettle self.old }
         ensures goes { (out : List Out) → Goes number 0 self.old self.new out out }
-        ensures near { IsNear self.old → IsNear self.new }
-        ensures short { IsNear self.old → (added : List OneNote) → self.new.notes.items ≡ self.old.notes.items ++ added → AreShort added }
+        ensures near { BeginsNone self.old self.new }
+        ensures rebuilt { OnOk result ((f : Fabric) → IsNoted self.old f → IsNoted self.new (rebuilt f)) }
         ensures room { CanSettle self.new }
     {
         let most = self.waiting.len();

@@ -1,13 +1,12 @@
 //! Tenants that are taken out.
 
-ghost use Rattle.std.specs.Prelude.{◌≡◌, ◌<◌, ℕ, [], List, ◌∷◌, false, true, None, IfOk, OnErr};
-ghost use Rattle.fab_core.specs.ten_parcel.specs.Parcels.{number_of};
-ghost use Rattle.fab_core.specs.fab_model.specs.Fabrics.{first_waiting, held, Fabric};
-ghost use Rattle.fab_core.specs.fab_model.specs.Worlds.{is_at_rest};
+ghost use Rattle.std.specs.Prelude.{◌≡◌, ◌<◌, ℕ, List, false, true, IfOk, OnErr};
+ghost use Rattle.fab_core.specs.fab_model.specs.Fabrics.{held, Fabric};
 ghost use Rattle.fab_core.specs.fab_model.specs.declared.transit.Transit.{Transit as Out};
 ghost use Rattle.fab_bay.specs.Acts.{acts_to_come};
 ghost use Rattle.fab_bay.specs.Refusals.{IsAway};
-ghost use Rattle.fab_bay.specs.Rounds.{IsFoundReady, IsNearOn, IsReady};
+ghost use Rattle.fab_bay.specs.Nearness.{BeginsNone};
+ghost use Rattle.fab_bay.specs.Rounds.{IsAtRest, IsFoundReady, IsReady};
 ghost use Rattle.fab_bay.specs.Standing.{IsBay, IsNoted};
 ghost use Rattle.fab_bay.specs.Taking.{IsTaken};
 ghost use Rattle.fab_bay.specs.Ways.{Goes};
@@ -25,33 +24,12 @@ impl NotedCore {
         ensures goes { (out : List Out) → Goes number 0 self.old self.new out out }
         ensures held { (f : Fabric) → IsNoted self.old f → IsNoted self.new (held f) }
         ensures holds { self.new.core.holding ≡ true }
-        ensures near { IsNearOn self.old self.new }
+        ensures near { BeginsNone self.old self.new }
     {
         if self.core.holding {
             return;
         }
         self.hold();
-    }
-
-    /// Makes the snapshots that residents wait for, up to the first call, which is served. The answer is whether a call was: if none was,
-    /// nobody waits any longer.
-    fn serve_to_call(&mut self, alloc: Global, number: u32) -> Result<bool, AllocError>
-        requires ready { IsReady self.old }
-        ensures ready { IsReady self.new }
-        ensures goes { (out : List Out) → Goes number 0 self.old self.new out out }
-        ensures near { IsNearOn self.old self.new }
-        ensures call { IfOk result (λ called. called ≡ true → acts_to_come self.new < acts_to_come self.old) }
-        ensures still { IfOk result (λ called. called ≡ false → acts_to_come self.new ≡ acts_to_come self.old) }
-        ensures quiet { IfOk result (λ called. called ≡ false → (f : Fabric) → IsNoted self.new f → first_waiting f.residents ≡ None) }
-    {
-        'saves: while let Some(tenant) = self.core.next_trap() {
-            match self.serve(alloc, number, tenant) {
-                Ok(true) => {}
-                Ok(false) => return Ok(true),
-                Err(_) => return Err(AllocError),
-            }
-        }
-        Ok(false)
     }
 
     /// The next act on the way to rest: a call is served, or else the fabric holds, and residents that don't rest do a cycle. True where all
@@ -60,8 +38,8 @@ impl NotedCore {
         requires ready { IsReady self.old }
         ensures ready { IsReady self.new }
         ensures goes { (cycles : ℕ) × ((out : List Out) → Goes number cycles self.old self.new out out) }
-        ensures near { IsNearOn self.old self.new }
-        ensures rest { IfOk result (λ rested. rested ≡ true → (f : Fabric) → IsNoted self.new f → is_at_rest f ≡ true) }
+        ensures near { BeginsNone self.old self.new }
+        ensures rest { IfOk result (λ rested. rested ≡ true → IsAtRest self.new) }
         ensures nearer { IfOk result (λ rested. rested ≡ false → acts_to_come self.new < acts_to_come self.old) }
     {
         each_act_comes_nearer();
@@ -83,8 +61,8 @@ impl NotedCore {
         requires ready { IsReady self.old }
         ensures ready { IsReady self.new }
         ensures goes { (cycles : ℕ) × ((out : List Out) → Goes number cycles self.old self.new out out) }
-        ensures near { IsNearOn self.old self.new }
-        ensures rest { result ≡ true → (f : Fabric) → IsNoted self.new f → is_at_rest f ≡ true }
+        ensures near { BeginsNone self.old self.new }
+        ensures rest { result ≡ true → IsAtRest self.new }
     {
         'acts: loop {
             match self.step_to_rest(alloc, number) {
@@ -95,14 +73,27 @@ impl NotedCore {
         }
     }
 
+    /// Where all rest, the joined bank is made anew.
+    fn rebuild_at_rest(&mut self, alloc: Global, number: u32) -> Result<(), AllocError>
+        requires ready { IsReady self.old }
+        ensures ready { IsReady self.new }
+        ensures goes { (out : List Out) → Goes number 0 self.old self.new out out }
+        ensures near { BeginsNone self.old self.new }
+    {
+        if !self.is_at_rest() {
+            return Ok(());
+        }
+        self.rebuild(alloc, number)
+    }
+
     /// Takes a tenant out where all rest; then the joined bank is made anew, if there is memory for it.
     fn take_at_rest(&mut self, alloc: Global, number: u32, tenant: u32) -> Found
         requires ready { IsReady self.old }
-        requires rest { (f : Fabric) → IsNoted self.old f → is_at_rest f ≡ true }
+        requires rest { IsAtRest self.old }
         requires there { IsAway self.old.notes.items tenant → ⊥ }
         ensures ready { IsReady self.new }
         ensures found { IsFoundReady number tenant self.old self.new result }
-        ensures near { IsNearOn self.old self.new }
+        ensures near { BeginsNone self.old self.new }
     {
         match self.take_out(number, tenant) {
             Ok(out) => {
@@ -119,7 +110,7 @@ impl NotedCore {
         requires there { IsAway self.old.notes.items tenant → ⊥ }
         ensures ready { IsReady self.new }
         ensures found { IsFoundReady number tenant self.old self.new result }
-        ensures near { IsNearOn self.old self.new }
+        ensures near { BeginsNone self.old self.new }
     {
         if !self.run_to_rest(alloc, number) {
             return Found::Short;
@@ -127,9 +118,9 @@ impl NotedCore {
         self.take_at_rest(alloc, number, tenant)
     }
 
-    /// Takes a tenant out: it holds, runs the residents to a boundary, takes the tenant, and makes the joined bank anew. No tick rises by more
-    /// than one. An `Err` is want of memory before anything was done. Where memory fails to make the joined bank anew, the tenant is out all
-    /// the same, and the fabric goes on to hold.
+    /// Takes a tenant out: it holds, runs the residents to a boundary, takes the tenant, and makes the joined bank anew. No tenant's tick rises
+    /// by more than one over the whole call. An `Err` is want of memory before anything was done. Where memory fails to make the joined bank
+    /// anew, the tenant is out all the same, and the fabric goes on to hold.
     pub(crate) fn take(
         &mut self,
         alloc: Global,

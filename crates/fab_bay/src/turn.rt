@@ -1,12 +1,13 @@
 //! Turns.
 
-ghost use Rattle.std.specs.Prelude.{◌≡◌, ◌≤◌, ◌<◌, [], All, List, IfOk, OnOk, OnErr, false, true};
+ghost use Rattle.std.specs.Prelude.{◌≡◌, ◌≤◌, ◌<◌, ◌+◌, ◌⊎◌, All, List, None, IfOk, OnOk, OnErr, false, true};
 ghost use Rattle.std.specs.Bool.{Decides};
-ghost use Rattle.fab_core.specs.fab_model.specs.Fabrics.{Fabric};
+ghost use Rattle.fab_core.specs.fab_model.specs.Fabrics.{first_waiting, Fabric};
 ghost use Rattle.fab_core.specs.fab_model.specs.Worlds.{is_at_rest};
 ghost use Rattle.fab_core.specs.fab_model.specs.declared.transit.Transit.{Transit as Out};
+ghost use Rattle.fab_bay.specs.Acts.{moves_to_come, rests_to_come};
 ghost use Rattle.fab_bay.specs.Standing.{IsBay, IsNoted};
-ghost use Rattle.fab_bay.specs.Rounds.{IsDue, IsNearOn, IsReady, IsVacant, MayCycle, Rounds};
+ghost use Rattle.fab_bay.specs.Rounds.{is_wanted, HasHeld, HasStepper, IsAtRest, IsDue, IsReady, IsSettled, IsVacant, Rounds};
 ghost use Rattle.fab_bay.specs.Ways.{transits, Goes, IsEmpty, LeftFor, Turned};
 
 use crate::leaving::{Leaving, Turn};
@@ -32,23 +33,32 @@ impl NotedCore {
         self.core.still()
     }
 
-    /// Residents that wait are served, as often as there are residents at most.
-    pub(crate) fn serve_all(&mut self, alloc: Global, number: u32) -> Result<(), AllocError>
+    /// A resident is due to leave, or the head of the line fits.
+    fn is_wanted(&self) -> bool
+        requires { (f : Fabric) × IsNoted self.now f }
+        ensures { (f : Fabric) → IsNoted self.now f → is_wanted f ≡ result }
+    {
+        if self.core.next_leaving().is_some() {
+            return true;
+        }
+        self.core.head_fits()
+    }
+
+    /// Residents that wait are served, until none waits any longer.
+    fn serve_all(&mut self, alloc: Global, number: u32) -> Result<(), AllocError>
         requires ready { IsReady self.old }
         ensures ready { IsReady self.new }
         ensures goes { (out : List Out) → Goes number 0 self.old self.new out out }
-        ensures near { IsNearOn self.old self.new }
+        ensures quiet { OnOk result ((f : Fabric) → IsNoted self.new f → first_waiting f.residents ≡ None) }
+        ensures rests { rests_to_come self.new ≡ rests_to_come self.old }
     {
-        let count = self.berths.len();
-        for _ in 0..count {
-            let Some(tenant) = self.core.next_trap() else {
-                return Ok(());
-            };
-            if self.serve(alloc, number, tenant).is_err() {
-                return Err(AllocError);
+        'calls: loop {
+            match self.serve_to_call(alloc, number) {
+                Ok(true) => {}
+                Ok(false) => return Ok(()),
+                Err(_) => return Err(AllocError),
             }
         }
-        Ok(())
     }
 
     /// It holds where a resident is due to leave, or where the head of the line fits.
@@ -56,12 +66,13 @@ impl NotedCore {
         requires ready { IsReady self.old }
         ensures ready { IsReady self.new }
         ensures goes { (out : List Out) → Goes number 0 self.old self.new out out }
-        ensures cycle { MayCycle self.new }
+        ensures settled { IsSettled self.new }
+        ensures held { (f : Fabric) → IsNoted self.old f → HasHeld self.old self.new f }
     {
         if self.core.holding {
             return;
         }
-        if self.core.next_leaving().is_none() && !self.core.head_fits() {
+        if !self.is_wanted() {
             return;
         }
         self.hold();
@@ -75,11 +86,12 @@ impl NotedCore {
         leaving: &mut Vec<Leaving>,
     ) -> Result<(), AllocError>
         requires ready { IsReady self.old }
-        requires rest { (f : Fabric) → IsNoted self.old f → is_at_rest f ≡ true }
+        requires rest { IsAtRest self.old }
         requires due { IsDue tenant self.old }
         requires whys { All LeftFor leaving.old.items }
         ensures ready { IsReady self.new }
         ensures goes { Goes number 0 self.old self.new (transits leaving.old.items) (transits leaving.new.items) }
+        ensures moves { OnOk result (moves_to_come self.new < moves_to_come self.old) }
         ensures whys { All LeftFor leaving.new.items }
     {
         if leaving.reserve(1).is_err() {
@@ -94,43 +106,60 @@ impl NotedCore {
         }
     }
 
-    /// Where all rest, the residents that are due to leave come out.
-    fn leave_all(&mut self, number: u32, leaving: &mut Vec<Leaving>) -> Result<(), AllocError>
+    /// At rest, the first resident that is due to leave comes out; where none is, the joined bank is made anew, with those at the head of the
+    /// line as far as they fit. So the fabric comes to rest less often before a cycle: if somebody was wanted, by two.
+    fn exchange(
+        &mut self,
+        alloc: Global,
+        number: u32,
+        leaving: &mut Vec<Leaving>,
+    ) -> Result<(), AllocError>
+        requires ready { IsReady self.old }
+        requires rest { IsAtRest self.old }
+        requires whys { All LeftFor leaving.old.items }
+        ensures ready { IsReady self.new }
+        ensures goes { Goes number 0 self.old self.new (transits leaving.old.items) (transits leaving.new.items) }
+        ensures rests { OnOk result (rests_to_come self.new < rests_to_come self.old) }
+        ensures wanted { OnOk result ((f : Fabric) → IsNoted self.old f → is_wanted f ≡ true → rests_to_come self.new + 1 < rests_to_come self.old) }
+        ensures whys { All LeftFor leaving.new.items }
+    {
+        match self.core.next_leaving() {
+            Some(tenant) => self.leave_one(number, tenant, leaving),
+            None => self.rebuild(alloc, number),
+        }
+    }
+
+    /// The next step on the way to a cycle: it serves, and holds where somebody is to come or to leave; at rest those come or leave. True
+    /// where it didn't come to rest: then some resident may do a cycle, or nobody is left.
+    fn step_to_cycle(
+        &mut self,
+        alloc: Global,
+        number: u32,
+        leaving: &mut Vec<Leaving>,
+    ) -> Result<bool, AllocError>
         requires ready { IsReady self.old }
         requires whys { All LeftFor leaving.old.items }
         ensures ready { IsReady self.new }
         ensures goes { Goes number 0 self.old self.new (transits leaving.old.items) (transits leaving.new.items) }
+        ensures settled { IfOk result (λ done. done ≡ true → IsSettled self.new) }
+        ensures steps { IfOk result (λ done. done ≡ true → IsVacant self.new ⊎ HasStepper self.new) }
+        ensures rests { IfOk result (λ done. done ≡ false → rests_to_come self.new < rests_to_come self.old) }
         ensures whys { All LeftFor leaving.new.items }
     {
-        let count = self.berths.len();
-        for _ in 0..count {
-            if !self.is_at_rest() {
-                return Ok(());
-            }
-            let Some(tenant) = self.core.next_leaving() else {
-                return Ok(());
-            };
-            if self.leave_one(number, tenant, leaving).is_err() {
-                return Err(AllocError);
-            }
+        if self.serve_all(alloc, number).is_err() {
+            return Err(AllocError);
         }
-        Ok(())
-    }
-
-    /// Where all rest, the joined bank is made anew.
-    pub(crate) fn rebuild_at_rest(&mut self, alloc: Global, number: u32) -> Result<(), AllocError>
-        requires ready { IsReady self.old }
-        ensures ready { IsReady self.new }
-        ensures goes { (out : List Out) → Goes number 0 self.old self.new out out }
-        ensures near { IsNearOn self.old self.new }
-    {
+        self.hold_where_due(number);
         if !self.is_at_rest() {
-            return Ok(());
+            return Ok(true);
         }
-        self.rebuild(alloc, number)
+        match self.exchange(alloc, number, leaving) {
+            Ok(()) => Ok(false),
+            Err(_) => Err(AllocError),
+        }
     }
 
-    /// What comes before a cycle: it serves, and holds where somebody is to come or to leave; at rest those come and leave.
+    /// What comes before a cycle, until some resident may do one or nobody is left.
     fn before_cycle(
         &mut self,
         alloc: Global,
@@ -141,21 +170,17 @@ impl NotedCore {
         requires whys { All LeftFor leaving.old.items }
         ensures ready { IsReady self.new }
         ensures goes { Goes number 0 self.old self.new (transits leaving.old.items) (transits leaving.new.items) }
-        ensures cycle { OnOk result (MayCycle self.new) }
+        ensures settled { OnOk result (IsSettled self.new) }
+        ensures steps { OnOk result (IsVacant self.new ⊎ HasStepper self.new) }
         ensures whys { All LeftFor leaving.new.items }
     {
-        if self.serve_all(alloc, number).is_err() {
-            return Err(AllocError);
+        'rests: loop {
+            match self.step_to_cycle(alloc, number, leaving) {
+                Ok(true) => return Ok(()),
+                Ok(false) => {}
+                Err(_) => return Err(AllocError),
+            }
         }
-        self.hold_where_due(number);
-        if self.leave_all(number, leaving).is_err() {
-            return Err(AllocError);
-        }
-        if self.rebuild_at_rest(alloc, number).is_err() {
-            return Err(AllocError);
-        }
-        self.hold_where_due(number);
-        Ok(())
     }
 
     /// What comes before a cycle, and then the cycle. False where nobody is left, and no cycle was done.
@@ -202,9 +227,9 @@ impl NotedCore {
         false
     }
 
-    /// At most so many cycles, and what comes between them: it serves, holds, takes out who is due to leave, and makes the joined bank anew;
-    /// then it writes how far the residents have run. Unless memory ends it, it does just so many cycles or leaves nobody. An `Err` is want
-    /// of memory before anything was done.
+    /// At most so many cycles, in each of which some resident steps, and what comes between them: it serves, holds, takes out who is due to
+    /// leave, and makes the joined bank anew; then it writes how far the residents have run. Unless memory ends it, it does just so many
+    /// cycles or leaves nobody. An `Err` is want of memory before anything was done.
     pub(crate) fn turn(&mut self, alloc: Global, number: u32, most: u64) -> Result<Turn, AllocError>
         requires bay { IsBay self.old }
         requires some { 1 ≤ most }

@@ -10,6 +10,7 @@ use Rattle.ten_core.specs.sub_nodes.specs.Code.{table_of}
 use Rattle.ten_core.specs.sub_nodes.specs.Cycles.{rises}
 use Rattle.ten_core.specs.sub_nodes.specs.Stands.{at_trap}
 use Rattle.ten_core.specs.declared.origin.Origin.{Origin as From}
+use Rattle.ten_core.specs.Memory.{serving_takes_memory}
 use Rattle.ten_core.specs.Tenants.{origin_of}
 use Rattle.ten_core.specs.ten_plan.specs.Plans.{move_at}
 use Rattle.ten_core.specs.Running.{ends_at, goes_on}
@@ -18,8 +19,9 @@ use Rattle.ten_shell.specs.Leaving.{end_in, why_in}
 use Rattle.ten_shell.specs.Shells.{flat_in, is_at_boundary, is_left, left_in, rests_in, run_of, waits_in, MayCycle}
 use Rattle.fab_model.specs.Points.{Point, cost_of, due, is_there, rests, tick_of, waits, run_in, order_in}
 use Rattle.fab_model.specs.Fabrics.{can_step}
+use Rattle.fab_core.specs.Memory.{takes_memory}
 use Rattle.fab_core.specs.Standing.{IsPoint}
-use Rattle.fab_core.proofs.Tests.{due-none, end-none, going, left-same, never-both, none-left, or-left-false, or-right-false, rest-same, step-due, step-waits, why-none, Goes}
+use Rattle.fab_core.proofs.Tests.{due-none, end-none, going, left-same, never-both, none-left, or-left-false, or-right-false, rest-same, step-due, step-waits, true-where, why-none, Goes}
 
 -- its run is the point's, and so is the order in which nets settle
 pub run-by : {s : Shell} {b : BankData} {p : Point} → IsPoint s b p → run_of s ≡ run_in p
@@ -34,6 +36,12 @@ module _ (s : Shell) (b : BankData) (p : Point) (h : IsPoint s b p) where
 
   pub trap-is : s.engine.waits ≡ at_trap (table_of (run_in p).flat) p.stage
   trap-is = h.stands.at.waits ∙ ap (λ (o : Origin). at_trap (table_of o.flat) p.stage) (run-by h)
+
+  -- what it waits for takes memory, where serving its call does if one waits
+  pub memory-is : (s.engine.waits ≡ true → serving_takes_memory (flat_in s) p.stage ≡ true) → takes_memory p ≡ true
+  memory-is k =
+      true-where (at_trap (table_of (run_in p).flat) p.stage) (serving_takes_memory (run_in p).flat p.stage)
+      (λ e. ap (λ (o : Origin). serving_takes_memory o.flat p.stage) (sym (run-by h)) ∙ k (trap-is ∙ e))
 
   pub waits-is : waits_in s p.stage ≡ waits p
   waits-is =

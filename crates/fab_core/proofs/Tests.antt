@@ -21,6 +21,10 @@ pub never-both : (x : Bool) → (x ≡ true → x ≡ false) → x ≡ false
 never-both true h = h refl
 never-both false h = refl
 
+pub true-where : (b x : Bool) → (b ≡ true → x ≡ true) → (if b then x else true) ≡ true
+true-where true x h = h refl
+true-where false x h = refl
+
 -- ---- what is left
 
 pub left-same : (b : Bool) (x y : List (List ℕ)) → (b ≡ true → x ≡ y) → (b && is_left x) ≡ (b && is_left y)

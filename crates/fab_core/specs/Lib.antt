@@ -1,4 +1,5 @@
 pub mod Alone
+pub mod Memory
 pub mod Refusals
 pub mod Standing
 pub use Rattle.vl_design.specs.vl_base as vl_base

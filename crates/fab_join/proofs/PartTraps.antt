@@ -14,7 +14,7 @@ use Rattle.fab_join.specs.Banks.{part, IsWithin}
 use Rattle.fab_join.specs.Laid.{shape_of_span, part_data, IsPart, IsLaid}
 use Rattle.fab_join.specs.Numbers.{behind, numbered_state, numbered_trap}
 use Rattle.fab_join.specs.Parts.{PartData, part_at, with_bank}
-use Rattle.fab_join.specs.Traps.{trap_at, trap_in, trap_served, part_served, way_of_trap}
+use Rattle.fab_join.specs.Traps.{trap_at, trap_in, trap_served, part_served, trap_takes_memory, way_of_trap}
 use Rattle.fab_join.proofs.Laid.{is_part, own_table, part_of_read, with_new, with_other, view_changed, laid_shape}
 use Rattle.fab_join.proofs.PartCycles.{get_in_part}
 use Rattle.fab_join.proofs.MovedTraps.{DoesAlone, trap-moved, is-trap-moved}
@@ -38,6 +38,10 @@ trap-there a s b within (Some t) h = is-trap-moved a s b within t h
 same-way : (a : Shape) (t : Option Trap) → way_of_trap (option_map (numbered_trap (behind a)) t) ≡ way_of_trap t
 same-way a None = refl
 same-way a (Some t) = refl
+
+same-memory : (a : Shape) (t : Option Trap) → trap_takes_memory (option_map (numbered_trap (behind a)) t) ≡ trap_takes_memory t
+same-memory a None = refl
+same-memory a (Some t) = refl
 
 module _ (b : BankData) (x : Part) (h : IsPart (shape_of b) x) where
   abbrev place : Shape
@@ -103,3 +107,8 @@ module _ (b : BankData) (ps : List Part) (i : ℕ) (x : Part) (lt : i < length p
 
   pub way-served : way_of_trap (trap_at (table_of x.table) b) ≡ way_of_trap (trap_in (part_at (map (part_data b) ps) i))
   way-served = ap way_of_trap (part-trap b x mine) ∙ same-way (shape_of_span x.place) (trap_in (part_data b x)) ∙ ap (λ (p : PartData). way_of_trap (trap_in p)) at
+
+  pub memory-served : trap_takes_memory (trap_at (table_of x.table) b) ≡ trap_takes_memory (trap_in (part_at (map (part_data b) ps) i))
+  memory-served =
+      ap trap_takes_memory (part-trap b x mine)
+      ∙ same-memory (shape_of_span x.place) (trap_in (part_data b x)) ∙ ap (λ (p : PartData). trap_takes_memory (trap_in p)) at

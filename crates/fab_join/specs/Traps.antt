@@ -1,5 +1,5 @@
 -- The trap of the state that a part stands in, and what serving it does (own).
-use Rattle.std.specs.Prelude.{ℕ, List, Option, Some, None, option_and_then}
+use Rattle.std.specs.Prelude.{ℕ, Bool, false, List, Option, Some, None, option_and_then}
 use Rattle.cell_eval.specs.vl_base.specs.declared.files.File.{File}
 use Rattle.cell_eval.specs.vl_base.specs.declared.files.OpenFile.{OpenFile}
 use Rattle.trap_runtime.specs.cell_form.specs.declared.table.Trap.{Trap}
@@ -7,7 +7,7 @@ use Rattle.trap_runtime.specs.cell_form.specs.Data.{BankData, TableData}
 use Rattle.trap_runtime.specs.cell_form.specs.States.{present}
 use Rattle.trap_runtime.specs.declared.served.Served.{Served}
 use Rattle.trap_runtime.specs.declared.served.Served.TheVariants as way
-use Rattle.trap_runtime.specs.Served.{Works, served, way_of}
+use Rattle.trap_runtime.specs.Served.{Works, served, takes_memory, way_of}
 use Rattle.fab_join.specs.Parts.{PartData}
 
 -- the trap of the state that the state register names
@@ -34,3 +34,8 @@ part_served files p rows printed = trap_served files (trap_in p) (works_of p row
 abbrev pub way_of_trap : Option Trap → Served
 way_of_trap None = way.Went
 way_of_trap (Some t) = way_of t.call
+
+-- serving it takes memory: where there is no trap, it takes none
+abbrev pub trap_takes_memory : Option Trap → Bool
+trap_takes_memory None = false
+trap_takes_memory (Some t) = takes_memory t.call

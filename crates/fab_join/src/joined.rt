@@ -1,11 +1,11 @@
 //! One bank of several parts.
 
-ghost use Rattle.std.specs.Prelude.{◌≡◌, ◌+◌, ◌<◌, ◌%◌, ◌^◌, ◌++◌, ◌∷◌, [], length, slice_set, IfOk, IfSome, OnOk, OnErr};
+ghost use Rattle.std.specs.Prelude.{◌≡◌, ◌+◌, ◌<◌, ◌%◌, ◌^◌, ◌++◌, ◌∷◌, [], true, length, slice_set, IfOk, IfSome, OnOk, OnErr};
 ghost use Rattle.trap_runtime.specs.cell_form.specs.Views.{table_of, bank_of};
 ghost use Rattle.trap_runtime.specs.cell_form.specs.Sound.{shape_of};
 ghost use Rattle.trap_runtime.specs.ten_files.specs.Tables.{open_files, IsTableOf};
 ghost use Rattle.trap_runtime.specs.Traps.{IsTrap};
-ghost use Rattle.fab_join.specs.Traps.{trap_in, part_served, way_of_trap};
+ghost use Rattle.fab_join.specs.Traps.{trap_in, part_served, trap_takes_memory, way_of_trap};
 
 use crate::bank::{copy_of, exchange, grow};
 use crate::numbers::{ports_at, table_at};
@@ -145,7 +145,7 @@ impl Joined {
 
     /// Serves the trap of the state that a part stands in, on the joined bank itself, so that nothing is copied: its effect on the part
     /// is that of the trap on the part's own bank, and the others stay. It says how, and does nothing where there is no trap. The
-    /// state register is the caller's. Want of memory leaves all as it was.
+    /// state register is the caller's. Want of memory leaves all as it was, and is the answer only of a call that takes memory.
     pub fn serve(
         &mut self,
         alloc: Global,
@@ -164,6 +164,7 @@ impl Joined {
         ensures unchanged { OnErr result (self.new ≡ self.old) }
         ensures files { OnErr result (table.new ≡ table.old) }
         ensures printed { OnErr result (out.new.items ≡ out.old.items) }
+        ensures memory { OnErr result (trap_takes_memory (trap_in (part_at self.old part)) ≡ true) }
         ensures fits { IsTableOf files.now table.new }
     {
         let states = &self.parts[part as usize].table;

@@ -1,10 +1,10 @@
 //! The trap of the state that a table stands in.
 
-ghost use Rattle.std.specs.Prelude.{◌≡◌, ◌<◌, length, IfSome, IfOk, OnOk, OnErr, option_copied};
+ghost use Rattle.std.specs.Prelude.{◌≡◌, ◌<◌, true, length, IfSome, IfOk, OnOk, OnErr, option_copied};
 ghost use Rattle.trap_runtime.specs.cell_form.specs.Views.{bank_of, table_of};
 ghost use Rattle.trap_runtime.specs.ten_files.specs.Tables.{open_files, IsTableOf};
 ghost use Rattle.trap_runtime.specs.Traps.{IsTrap};
-ghost use Rattle.fab_join.specs.Traps.{trap_at, trap_served, way_of_trap};
+ghost use Rattle.fab_join.specs.Traps.{trap_at, trap_served, trap_takes_memory, way_of_trap};
 
 use cell_eval::files::FileSet;
 use std::alloc::{AllocError, Global};
@@ -29,7 +29,7 @@ fn present_trap<'a>(states: &'a StateTable, bank: &Bank) -> Option<&'a Trap>
 }
 
 /// Serves the trap of the state that the state register names: just its effect, and how. Nothing where there is none. Want of memory
-/// leaves all as it was.
+/// leaves all as it was, and is the answer only of a call that takes memory.
 pub(crate) fn serve_present(
     alloc: Global,
     states: &StateTable,
@@ -47,6 +47,7 @@ pub(crate) fn serve_present(
     ensures bank { OnErr result (bank_of bank.new ≡ bank_of bank.old) }
     ensures files { OnErr result (table.new ≡ table.old) }
     ensures printed { OnErr result (out.new.items ≡ out.old.items) }
+    ensures memory { OnErr result (trap_takes_memory (trap_at (table_of states.now) (bank_of bank.old)) ≡ true) }
     ensures fits { IsTableOf files.now table.new }
 {
     match present_trap(states, &*bank) {

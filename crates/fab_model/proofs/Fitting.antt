@@ -1,14 +1,14 @@
 -- The residents fit together.
-use Rattle.std.proofs.Common.{◌≡◌, ℕ, suc, ◌≤◌, List, [], ◌∷◌, ◌++◌, map, take, arith, refl, ap, sym, ◌∙◌, subst, Bool, true, false, cond, Option, Some, None}
+use Rattle.std.proofs.Common.{◌≡◌, ℕ, zero, suc, ◌≤◌, List, [], ◌∷◌, ◌++◌, map, take, arith, refl, ap, sym, ◌∙◌, subst, Bool, true, false, cond, Option, Some, None}
 use Rattle.std.specs.Prelude.{◌&&◌, not, nat_le, is_some}
-use Rattle.std.proofs.lemmas.Bool.Decides.{nat_tests}
 use Rattle.ten_core.specs.vl_design.specs.declared.capacity.Cost.{Cost}
 use Rattle.ten_core.specs.sub_nodes.specs.Code.{table_of}
 use Rattle.ten_core.specs.sub_nodes.specs.Stands.{at_trap}
 use Rattle.ten_parcel.specs.ten_shell.specs.declared.shell.Why.{Why}
-use Rattle.fab_model.specs.Points.{Point, called, cost_of, cycled, departed, due, ended, saved, served, waits, run_in}
-use Rattle.fab_model.specs.Fabrics.{Fabric, all_served, arrived, can_step, changed, first_of, found, has, held, is_of, joiners, joining, left, plus, rebuilt, stepped, taken, total, within, without}
-use Rattle.fab_model.specs.Worlds.{World, Event, Load, Arrive, Cycle, Serve, Hold, Rebuild, Take, Leave, comes, empty, everyone, goes, happens, is_at_rest, leaves, run, serves, takes}
+use Rattle.fab_model.specs.Points.{Point, called, cost_of, cycled, departed, due, ended, kept, saved, served, stopped, waits, run_in}
+use Rattle.fab_model.specs.Fabrics.{Fabric, all_served, all_stepped, arrived, can_step, changed, first_of, found, has, held, is_of, joiners, joining, left, may_cycle, plus, rebuilt, stepped, taken, total, within, without}
+use Rattle.fab_model.specs.Worlds.{World, Event, Arrive, Cycle, Serve, Hold, Rebuild, Take, Leave, comes, goes, happens, is_at_rest, leaves, serves, takes}
+use Rattle.fab_model.specs.Several.{Several, Step, Load, At, Save, Stop, Fit, changes, empty, empty_of, everyone_in, happens_at, run, step}
 use Rattle.ten_core.specs.vl_base.proofs.Numbers.{le_true, le_from as true_le}
 
 -- each number of a cost is within the other's
@@ -72,17 +72,17 @@ total_served t (p ∷ ps) =
 
 -- ---- who joins
 
-fit_step : (c used : Cost) (p : Point) (ps : List Point) (b : Bool) → within (plus used (cost_of p)) c ≡ b → IsWithin used c →
+join_step : (c used : Cost) (p : Point) (ps : List Point) (b : Bool) → within (plus used (cost_of p)) c ≡ b → IsWithin used c →
     (IsWithin (plus used (cost_of p)) c → IsWithin (plus (plus used (cost_of p)) (total (take (joiners c (plus used (cost_of p)) ps) ps))) c) →
     IsWithin (plus used (total (take (cond b (suc (joiners c (plus used (cost_of p)) ps)) 0) (p ∷ ps)))) c
-fit_step c used p ps true e le h =
+join_step c used p ps true e le h =
     let i = h (is_within (plus used (cost_of p)) c e) in
     record { regs = omega (arith, i.regs); cells = omega (arith, i.cells); mem = omega (arith, i.mem) }
-fit_step c used p ps false e le h = record { regs = omega (arith, le.regs); cells = omega (arith, le.cells); mem = omega (arith, le.mem) }
+join_step c used p ps false e le h = record { regs = omega (arith, le.regs); cells = omega (arith, le.cells); mem = omega (arith, le.mem) }
 
 joiners_fit : (c used : Cost) (ps : List Point) → IsWithin used c → IsWithin (plus used (total (take (joiners c used ps) ps))) c
 joiners_fit c used [] le = record { regs = omega (arith, le.regs); cells = omega (arith, le.cells); mem = omega (arith, le.mem) }
-joiners_fit c used (p ∷ ps) le = fit_step c used p ps (within (plus used (cost_of p)) c) refl le (joiners_fit c (plus used (cost_of p)) ps)
+joiners_fit c used (p ∷ ps) le = join_step c used p ps (within (plus used (cost_of p)) c) refl le (joiners_fit c (plus used (cost_of p)) ps)
 
 -- ---- events
 
@@ -142,21 +142,48 @@ joined_fits c w h =
     record { same = h.same; fits = within_by (total (f.residents ++ more)) (plus (total f.residents) (total more)) c (total-append f.residents more) j }
 
 fits_behind : (c : Cost) (w : World) (e : Event) → FitsIn c w → FitsIn c (happens w e)
-fits_behind c w (Load p) h =
-    elim (is_some (first_of p.number (everyone w))) as (λ k. FitsIn c (cond k w (record w { transit = w.transit ++ p ∷ [] }))) [ true ↦ h | false ↦ record { same = h.same; fits = h.fits } ]
 fits_behind c w (Arrive t) h = came_fits c w t (first_of t w.transit) h
-fits_behind c w Cycle h = record { same = h.same; fits = subst (λ x. IsWithin x c) (sym (total_stepped w.fabric.holding w.fabric.residents)) h.fits }
+fits_behind c w Cycle h =
+    let new : World = record w { fabric = all_stepped w.fabric } in
+    elim (may_cycle w.fabric) as (λ k. FitsIn c (cond k new w)) [
+      | true ↦ record { same = h.same; fits = subst (λ x. IsWithin x c) (sym (total_stepped w.fabric.holding w.fabric.residents)) h.fits }
+      | false ↦ h
+    ]
 fits_behind c w (Serve t) h = serve_fits c w t (first_of t w.fabric.residents) h
 fits_behind c w Hold h = elim w.fabric.holding as (λ k. FitsIn c (cond k w (record w { fabric = held w.fabric }))) [ true ↦ h | false ↦ record { same = h.same; fits = h.fits } ]
 fits_behind c w Rebuild h = elim (is_at_rest w.fabric) as (λ k. FitsIn c (cond k (record w { fabric = rebuilt w.fabric }) w)) [ true ↦ joined_fits c w h | false ↦ h ]
 fits_behind c w (Take t) h = take_fits c w t (found t w.fabric) h
 fits_behind c w (Leave t) h = leave_fits c w t (first_of t w.fabric.residents) h
 
-fits_on : (c : Cost) (es : List Event) (w : World) → FitsIn c w → FitsIn c (run es w)
-fits_on c [] w h = h
-fits_on c (e ∷ es) w h = fits_on c es (happens w e) (fits_behind c w e h)
+-- ---- several fabrics
 
-pub always_fit : (c : Cost) (events : List Event) → within (total (run events (empty c)).fabric.residents) c ≡ true
-always_fit c events =
-    within_true (total (run events (empty c)).fabric.residents) c
-    (fits_on c events (empty c) (record { same = refl; fits = record { regs = omega arith; cells = omega arith; mem = omega arith } })).fits
+fit_at : (g : ℕ) (e : Event) (transit : List Point) (cs : List Cost) (fs : List Fabric) → Fit cs fs → Fit cs (happens_at g e transit fs).fabrics
+fit_at g e transit [] [] h = h
+fit_at g e transit [] (f ∷ fs) h = absurd h
+fit_at g e transit (c ∷ cs) [] h = absurd h
+fit_at zero e transit (c ∷ cs) (f ∷ fs) h =
+    let w : World = record { fabric = f; transit = transit } in
+    let i = fits_behind c w e (record { same = h.0; fits = is_within (total f.residents) c h.1 }) in
+    (i.same, within_true (total (happens w e).fabric.residents) c i.fits, h.2)
+fit_at (suc g) e transit (c ∷ cs) (f ∷ fs) h = (h.0, h.1, fit_at g e transit cs fs h.2)
+
+fit_changes : (cs : List Cost) (t : ℕ) (f : Point → Point) (w : Several) (q : Option Point) → Fit cs w.fabrics → Fit cs (changes t f w q).fabrics
+fit_changes cs t f w None h = h
+fit_changes cs t f w (Some p) h = elim (not (is_some (ended p))) as (λ k. Fit cs (cond k (record w { transit = changed t f w.transit }) w).fabrics) [ true ↦ h | false ↦ h ]
+
+fit_step : (cs : List Cost) (w : Several) (x : Step) → Fit cs w.fabrics → Fit cs (step w x).fabrics
+fit_step cs w (Load p) h = elim (is_some (first_of p.number (everyone_in w))) as (λ k. Fit cs (cond k w (record w { transit = w.transit ++ p ∷ [] })).fabrics) [ true ↦ h | false ↦ h ]
+fit_step cs w (At g e) h = fit_at g e w.transit cs w.fabrics h
+fit_step cs w (Save t name) h = fit_changes cs t (kept name) w (first_of t w.transit) h
+fit_step cs w (Stop t) h = fit_changes cs t stopped w (first_of t w.transit) h
+
+fit_on : (cs : List Cost) (xs : List Step) (w : Several) → Fit cs w.fabrics → Fit cs (run xs w).fabrics
+fit_on cs [] w h = h
+fit_on cs (x ∷ xs) w h = fit_on cs xs (step w x) (fit_step cs w x h)
+
+fit_first : (cs : List Cost) → Fit cs (map empty_of cs)
+fit_first [] = tt
+fit_first (c ∷ cs) = (refl, within_true (total []) c (record { regs = omega arith; cells = omega arith; mem = omega arith }), fit_first cs)
+
+pub always_fit : (cs : List Cost) (steps : List Step) → Fit cs (run steps (empty cs)).fabrics
+always_fit cs steps = fit_on cs steps (empty cs) (fit_first cs)

@@ -5,7 +5,7 @@ use Rattle.ten_core.specs.sub_nodes.specs.Cycles.{Stage}
 use Rattle.ten_core.specs.Fronts.{IsFront}
 use Rattle.ten_core.specs.Running.{IsRunning}
 use Rattle.fab_model.specs.Points.{Point, run_in, order_in}
-use Rattle.fab_model.specs.Worlds.{AreFronts, AreRuns}
+use Rattle.fab_model.specs.Several.{AreFronts, AreRuns}
 
 pub fronts : ((o : Origin) (order : List ℕ) (c : ℕ) (i : Stage) → IsRunning o order c i → IsFront o i) → (ps : List Point) → AreRuns ps → AreFronts ps
 fronts law [] h = tt

@@ -5,7 +5,7 @@ use Rattle.std.proofs.lemmas.Bool.Decides.{nat_tests}
 use Rattle.std.proofs.lemmas.List.{take-append-drop}
 use Rattle.fab_model.specs.Points.{Point, served}
 use Rattle.fab_model.specs.Fabrics.{all_served, all_stepped, arrived, changed, first_of, has, is_of, joining, left, rebuilt, stepped, taken, without, AreOnce, Fabric}
-use Rattle.fab_model.specs.Worlds.{places_of}
+use Rattle.fab_model.specs.Several.{places_of}
 use Rattle.fab_model.proofs.Places.{keeps}
 use Rattle.fab_model.proofs.Weights.{equal, weight-append, weight_served, weight_stepped}
 

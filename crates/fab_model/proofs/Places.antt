@@ -1,5 +1,5 @@
 -- Each tenant is in one place, and its acts never become fewer.
-use Rattle.std.proofs.Common.{◌≡◌, ℕ, suc, ◌+◌, ◌≤◌, List, [], ◌∷◌, ◌++◌, arith, refl, ap, sym, ◌∙◌, subst, Bool, true, false, cond, Some, None}
+use Rattle.std.proofs.Common.{◌≡◌, ℕ, suc, ◌+◌, ◌≤◌, List, [], ◌∷◌, ◌++◌, map, arith, refl, ap, sym, ◌∙◌, subst, Bool, true, false, cond, Some, None}
 use Rattle.std.specs.Prelude.{if◌then◌else◌, ◌||◌, is_some, nat_lt, ◌==◌}
 use Rattle.std.proofs.lemmas.Bool.Decides.{nat_tests}
 use Rattle.ten_core.specs.vl_design.specs.declared.capacity.Cost.{Cost}
@@ -11,8 +11,9 @@ use Rattle.ten_parcel.specs.ten_shell.specs.declared.shell.Why.{Why}
 use Rattle.ten_parcel.specs.ten_shell.specs.declared.shell.Why.TheVariants.{Ended, Move}
 use Rattle.fab_model.specs.Points.{Point, called, cycled, departed, saved, run_in, order_in}
 use Rattle.fab_model.specs.Fabrics.{first_of, is_of}
-use Rattle.fab_model.specs.Worlds.{World, Event, Load, acts_of, empty, everyone, happens, loaded, loaded_after, loads, places_of, run, weight}
-use Rattle.fab_model.proofs.Weights.{Steps, at_most, equal, is_load, weight-append, weight-loaded, weight_behind}
+use Rattle.fab_model.specs.Worlds.{weight}
+use Rattle.fab_model.specs.Several.{Several, Step, Load, acts_of, among, empty, empty_of, everyone_in, loaded, loaded_after, loads, places_of, run, step}
+use Rattle.fab_model.proofs.Weights.{Steps, at_most, equal, is_load, weight-append, weight-loaded, weight_step}
 
 -- ---- the acts
 
@@ -31,27 +32,29 @@ acts_grow t = record {
     | false ↦ omega arith
   ];
   departs = acts_departed t;
+  keeps = λ name p. omega arith;
+  stops = λ p. omega arith;
 }
 
-grows : (t : ℕ) (w : World) (e : Event) → acts_of t w ≤ acts_of t (happens w e)
+grows : (t : ℕ) (w : Several) (x : Step) → acts_of t w ≤ acts_of t (step w x)
 grows t w (Load p) =
-    let new : World = record w { transit = w.transit ++ p ∷ [] } in
+    let new : Several = record w { transit = w.transit ++ p ∷ [] } in
     let l = weight-loaded (λ q. if is_of t q then q.acts else 0) w p in
-    elim (is_some (first_of p.number (everyone w))) as (λ k. acts_of t w ≤ acts_of t (cond k w new)) [ true ↦ omega arith | false ↦ omega (arith, l) ]
-grows t w e = weight_behind (λ a b. a ≤ b) at_most (λ p. if is_of t p then p.acts else 0) (acts_grow t) w e refl
+    elim (is_some (first_of p.number (everyone_in w))) as (λ k. acts_of t w ≤ acts_of t (cond k w new)) [ true ↦ omega arith | false ↦ omega (arith, l) ]
+grows t w x = weight_step (λ a b. a ≤ b) at_most (λ p. if is_of t p then p.acts else 0) (acts_grow t) w x refl
 
-grows_on : (t : ℕ) (es : List Event) (w : World) → acts_of t w ≤ acts_of t (run es w)
+grows_on : (t : ℕ) (xs : List Step) (w : Several) → acts_of t w ≤ acts_of t (run xs w)
 grows_on t [] w = omega arith
-grows_on t (e ∷ es) w = let a = grows t w e in let b = grows_on t es (happens w e) in omega (arith, a, b)
+grows_on t (x ∷ xs) w = let a = grows t w x in let b = grows_on t xs (step w x) in omega (arith, a, b)
 
-pub run-append : (xs ys : List Event) (w : World) → run (xs ++ ys) w ≡ run ys (run xs w)
+run-append : (xs ys : List Step) (w : Several) → run (xs ++ ys) w ≡ run ys (run xs w)
 run-append [] ys w = refl
-run-append (e ∷ xs) ys w = run-append xs ys (happens w e)
+run-append (x ∷ xs) ys w = run-append xs ys (step w x)
 
-pub never_fewer : (c : Cost) (t : ℕ) (early late : List Event) → acts_of t (run early (empty c)) ≤ acts_of t (run (early ++ late) (empty c))
-never_fewer c t early late =
-    let a = grows_on t late (run early (empty c)) in
-    let b = ap (acts_of t) (run-append early late (empty c)) in
+pub never_fewer : (cs : List Cost) (t : ℕ) (early late : List Step) → acts_of t (run early (empty cs)) ≤ acts_of t (run (early ++ late) (empty cs))
+never_fewer cs t early late =
+    let a = grows_on t late (run early (empty cs)) in
+    let b = ap (acts_of t) (run-append early late (empty cs)) in
     omega (arith, a, b)
 
 -- ---- the same numbers and runs
@@ -69,6 +72,8 @@ keeps m = record {
   cycles = λ p. refl;
   serves = λ p. elim (at_trap (table_of (run_in p).flat) p.stage) as (λ k. m p.number p.origin ≡ m (cond k (called p) (saved p)).number (cond k (called p) (saved p)).origin) [ true ↦ refl | false ↦ refl ];
   departs = keeps_departed m;
+  keeps = λ name p. refl;
+  stops = λ p. refl;
 }
 
 -- one is there where it has a place
@@ -87,12 +92,12 @@ places_alike t ps qs h = h.weights (λ n o. if n == t then 1 else 0)
 pub there_alike : (t : ℕ) (ps qs : List Point) → Alike ps qs → is_some (first_of t ps) ≡ is_some (first_of t qs)
 there_alike t ps qs h = some_there t ps ∙ ap (nat_lt 0) (places_alike t ps qs h) ∙ sym (some_there t qs)
 
-pub alike_loaded : (w : World) (p : Point) (ps : List Point) → Alike (everyone w) ps → Alike (everyone (loads w p)) (if is_some (first_of p.number ps) then ps else ps ++ p ∷ [])
+pub alike_loaded : (w : Several) (p : Point) (ps : List Point) → Alike (everyone_in w) ps → Alike (everyone_in (loads w p)) (if is_some (first_of p.number ps) then ps else ps ++ p ∷ [])
 alike_loaded w p ps h =
-    let new : World = record w { transit = w.transit ++ p ∷ [] } in
-    let there = is_some (first_of p.number (everyone w)) in
-    subst (λ b. Alike (everyone (cond there w new)) (cond b ps (ps ++ p ∷ []))) (there_alike p.number (everyone w) ps h)
-    (elim there as (λ b. Alike (everyone (cond b w new)) (cond b ps (ps ++ p ∷ []))) [
+    let new : Several = record w { transit = w.transit ++ p ∷ [] } in
+    let there = is_some (first_of p.number (everyone_in w)) in
+    subst (λ b. Alike (everyone_in (cond there w new)) (cond b ps (ps ++ p ∷ []))) (there_alike p.number (everyone_in w) ps h)
+    (elim there as (λ b. Alike (everyone_in (cond b w new)) (cond b ps (ps ++ p ∷ []))) [
       | true ↦ h
       | false ↦ record {
         weights = λ m.
@@ -103,19 +108,23 @@ alike_loaded w p ps h =
       }
     ])
 
-pub alike_behind : (w : World) (e : Event) (ps : List Point) → is_load e ≡ false → Alike (everyone w) ps → Alike (everyone (happens w e)) ps
-alike_behind w e ps no_load h = record { weights = λ m. sym (weight_behind (λ a b. a ≡ b) equal (λ p. m p.number p.origin) (keeps m) w e no_load) ∙ h.weights m }
+pub alike_behind : (w : Several) (x : Step) (ps : List Point) → is_load x ≡ false → Alike (everyone_in w) ps → Alike (everyone_in (step w x)) ps
+alike_behind w x ps no_load h = record { weights = λ m. sym (weight_step (λ a b. a ≡ b) equal (λ p. m p.number p.origin) (keeps m) w x no_load) ∙ h.weights m }
 
-alike_on : (es : List Event) (w : World) (ps : List Point) → Alike (everyone w) ps → Alike (everyone (run es w)) (loaded_after ps es)
+alike_on : (xs : List Step) (w : Several) (ps : List Point) → Alike (everyone_in w) ps → Alike (everyone_in (run xs w)) (loaded_after ps xs)
 alike_on [] w ps h = h
-alike_on (Load p ∷ es) w ps h = alike_on es (loads w p) (if is_some (first_of p.number ps) then ps else ps ++ p ∷ []) (alike_loaded w p ps h)
-alike_on (e ∷ es) w ps h = alike_on es (happens w e) ps (alike_behind w e ps refl h)
+alike_on (Load p ∷ xs) w ps h = alike_on xs (loads w p) (if is_some (first_of p.number ps) then ps else ps ++ p ∷ []) (alike_loaded w p ps h)
+alike_on (x ∷ xs) w ps h = alike_on xs (step w x) ps (alike_behind w x ps refl h)
 
-pub alike_first : (c : Cost) → Alike (everyone (empty c)) []
-alike_first c = record { weights = λ m. refl }
+nobody : (m : Point → ℕ) (cs : List Cost) → weight m (among (map empty_of cs)) ≡ 0
+nobody m [] = refl
+nobody m (c ∷ cs) = nobody m cs
 
-pub same_loaded : (c : Cost) (m : ℕ → Origin → ℕ) (events : List Event) → weight (λ p. m p.number p.origin) (everyone (run events (empty c))) ≡ weight (λ p. m p.number p.origin) (loaded events)
-same_loaded c m events = (alike_on events (empty c) [] (alike_first c)).weights m
+pub alike_first : (cs : List Cost) → Alike (everyone_in (empty cs)) []
+alike_first cs = record { weights = λ m. nobody (λ p. m p.number p.origin) cs }
+
+pub same_loaded : (cs : List Cost) (m : ℕ → Origin → ℕ) (steps : List Step) → weight (λ p. m p.number p.origin) (everyone_in (run steps (empty cs))) ≡ weight (λ p. m p.number p.origin) (loaded steps)
+same_loaded cs m steps = (alike_on steps (empty cs) [] (alike_first cs)).weights m
 
 -- ---- one place
 
@@ -146,12 +155,12 @@ distinct_loaded : (p : Point) (ps : List Point) (b : Bool) → is_some (first_of
 distinct_loaded p ps true e d = d
 distinct_loaded p ps false e d = distinct_more p ps d e
 
-distinct_after : (es : List Event) (ps : List Point) → Distinct ps → Distinct (loaded_after ps es)
+distinct_after : (es : List Step) (ps : List Point) → Distinct ps → Distinct (loaded_after ps es)
 distinct_after [] ps d = d
 distinct_after (Load p ∷ es) ps d = distinct_after es (if is_some (first_of p.number ps) then ps else ps ++ p ∷ []) (distinct_loaded p ps (is_some (first_of p.number ps)) refl d)
 distinct_after (e ∷ es) ps d = distinct_after es ps d
 
-pub one_place : (c : Cost) (t : ℕ) (events : List Event) → places_of t (everyone (run events (empty c))) ≡ (if is_some (first_of t (loaded events)) then 1 else 0)
-one_place c t events =
-    places_alike t (everyone (run events (empty c))) (loaded events) (alike_on events (empty c) [] (alike_first c))
-    ∙ (distinct_after events [] (record { once = λ k. refl })).once t
+pub one_place : (cs : List Cost) (t : ℕ) (steps : List Step) → places_of t (everyone_in (run steps (empty cs))) ≡ (if is_some (first_of t (loaded steps)) then 1 else 0)
+one_place cs t steps =
+    places_alike t (everyone_in (run steps (empty cs))) (loaded steps) (alike_on steps (empty cs) [] (alike_first cs))
+    ∙ (distinct_after steps [] (record { once = λ k. refl })).once t

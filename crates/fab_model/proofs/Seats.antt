@@ -1,5 +1,6 @@
 -- Seats apart, one of them in the midst, and what they take.
 use Rattle.std.proofs.Common.{◌≡◌, ℕ, eqb, Bool, true, false, List, [], ◌∷◌, ◌++◌, cond, refl, sym, ap, ◌∙◌, subst, eq-eqb, map, arith, Option, Some, None}
+use Rattle.std.specs.List.{AllByRecursion}
 use Rattle.std.specs.Prelude.{⊤}
 use Rattle.std.proofs.lemmas.Bool.{eqb-true, false≢true}
 use Rattle.ten_core.specs.vl_design.specs.declared.capacity.Cost.{Cost}
@@ -9,7 +10,7 @@ use Rattle.fab_lock.specs.declared.entry.Kind.TheVariants.{Line, Came, Ran, Save
 use Rattle.fab_model.specs.Fabrics.{nothing, plus, within}
 use Rattle.fab_model.specs.declared.note.Note.{Note}
 use Rattle.fab_model.specs.Deeds.{Deed, cost_of, deed_in}
-use Rattle.fab_model.specs.Histories.{Away, Inside, May, Seat, place_of, changed, without, in_line, seated, moved_to, after, is_head, used, HasRoom, replay, IsLegalFrom, IsLegal}
+use Rattle.fab_model.specs.Histories.{Away, Inside, May, Seat, place_of, changed, without, in_line, seated, moved_to, after, fits_alone, is_head, used, HasRoom, replay, IsLegalFrom, IsLegal}
 use Rattle.fab_model.proofs.Legality.{not_away, away_for_line, place_behind}
 use Rattle.ten_core.specs.vl_design.proofs.Shared.{cost_by}
 
@@ -193,3 +194,47 @@ used_line (s ∷ ss) a = ap (λ b. cond b (plus (cost_of s.deed) (used ss)) (use
 
 pub used_before : (xs ys : List Seat) → AllCame false ys → used (xs ++ ys) ≡ used xs
 used_before xs ys a = used-append xs ys ∙ ap (λ (c : Cost). plus (used xs) c) (used_line ys a) ∙ plus_nothing (used xs)
+
+-- ---- each fits alone
+
+abbrev pub FitAlone : Cost → List Seat → Type 0
+FitAlone c ss = AllByRecursion (λ s. within (cost_of s.deed) c ≡ true) ss
+
+fit-append : (c : Cost) (xs ys : List Seat) → FitAlone c xs → FitAlone c ys → FitAlone c (xs ++ ys)
+fit-append c [] ys h k = k
+fit-append c (x ∷ xs) ys h k = (h.0, fit-append c xs ys h.1 k)
+
+fit_line : (c : Cost) (e : Entry) (o : Option Deed) → fits_alone c o ≡ true → FitAlone c (in_line e o)
+fit_line c e None h = tt
+fit_line c e (Some d) h = (h, tt)
+
+fit_changed : (c : Cost) (t : ℕ) (f : Seat → Seat) (ss : List Seat) → ((s : Seat) → (f s).deed ≡ s.deed) → FitAlone c ss → FitAlone c (changed t f ss)
+fit_changed c t f [] same h = tt
+fit_changed c t f (x ∷ xs) same h = (step (eqb x.tenant t), fit_changed c t f xs same h.1)
+  where
+    step : (b : Bool) → within (cost_of (cond b (f x) x).deed) c ≡ true
+    step true = ap (λ (d : Deed). within (cost_of d) c) (same x) ∙ h.0
+    step false = h.0
+
+fit_without : (c : Cost) (t : ℕ) (ss : List Seat) → FitAlone c ss → FitAlone c (without t ss)
+fit_without c t [] h = tt
+fit_without c t (x ∷ xs) h = step (fit_without c t xs h.1) (eqb x.tenant t)
+  where
+    step : FitAlone c (without t xs) → (b : Bool) → FitAlone c (cond b (without t xs) (x ∷ without t xs))
+    step r true = r
+    step r false = (h.0, r)
+
+fit_after : (c : Cost) (k : Kind) (ss : List Seat) (n : Note) → FitAlone c ss → HasRoom c k ss n → FitAlone c (after k ss n)
+fit_after c Line ss n h r = fit-append c ss (in_line n.entry (deed_in n)) h (fit_line c n.entry (deed_in n) r)
+fit_after c Came ss n h r = fit_changed c n.entry.tenant seated ss (λ s. refl) h
+fit_after c Ran ss n h r = fit_changed c n.entry.tenant (moved_to n.entry.to) ss (λ s. refl) h
+fit_after c Saved ss n h r = h
+fit_after c Left ss n h r = fit_without c n.entry.tenant ss h
+
+fit_replay : (g : ℕ) (c : Cost) (ss : List Seat) (ns : List Note) → FitAlone c ss → IsLegalFrom g c ss ns → FitAlone c (replay ss ns)
+fit_replay g c ss [] h l = h
+fit_replay g c ss (n ∷ ns) h l = fit_replay g c (after n.entry.kind ss n) ns (fit_after c n.entry.kind ss n h l.1) l.2
+
+-- whoever is inside by a legal history fits alone
+pub fit_legal : (g : ℕ) (c : Cost) (notes : List Note) → IsLegal g c notes → FitAlone c (replay [] notes)
+fit_legal g c notes l = fit_replay g c [] notes tt l

@@ -1,11 +1,12 @@
 -- What all of a list weigh together, before and behind each event.
-use Rattle.std.proofs.Common.{◌≡◌, ℕ, ◌+◌, ◌≤◌, List, [], ◌∷◌, ◌++◌, map, take, drop, arith, refl, ap, sym, ◌∙◌, subst, Bool, true, false, cond, Option, Some, None}
+use Rattle.std.proofs.Common.{◌≡◌, ℕ, zero, suc, ◌+◌, ◌≤◌, List, [], ◌∷◌, ◌++◌, map, take, drop, arith, refl, ap, sym, ◌∙◌, subst, Bool, true, false, cond, Option, Some, None}
 use Rattle.std.specs.Prelude.{◌&&◌, not, is_some}
 use Rattle.std.proofs.lemmas.List.{take-append-drop}
 use Rattle.ten_parcel.specs.ten_shell.specs.declared.shell.Why.{Why}
-use Rattle.fab_model.specs.Points.{Point, cost_of, cycled, departed, due, ended, served, waits}
-use Rattle.fab_model.specs.Fabrics.{Fabric, all_served, all_stepped, arrived, can_step, changed, first_of, found, has, held, is_of, joining, left, rebuilt, stepped, taken, within, without}
-use Rattle.fab_model.specs.Worlds.{World, Event, Load, Arrive, Cycle, Serve, Hold, Rebuild, Take, Leave, comes, everyone, goes, happens, is_at_rest, leaves, serves, takes, weight}
+use Rattle.fab_model.specs.Points.{Point, cost_of, cycled, departed, due, ended, kept, served, stopped, waits}
+use Rattle.fab_model.specs.Fabrics.{Fabric, all_served, all_stepped, arrived, can_step, changed, first_of, found, has, held, is_of, joining, left, may_cycle, rebuilt, stepped, taken, within, without}
+use Rattle.fab_model.specs.Worlds.{World, Event, Arrive, Cycle, Serve, Hold, Rebuild, Take, Leave, comes, everyone, goes, happens, is_at_rest, leaves, serves, takes, weight}
+use Rattle.fab_model.specs.Several.{Several, Step, Load, At, Save, Stop, among, changes, everyone_in, happens_at, step}
 
 pub weight-append : (m : Point → ℕ) (xs ys : List Point) → weight m (xs ++ ys) ≡ weight m xs + weight m ys
 weight-append m [] ys = omega arith
@@ -24,12 +25,16 @@ weight-without m t (q ∷ ps) p e = at_head m t q ps p (is_of t q) e (weight-wit
 pub weight-everyone : (m : Point → ℕ) (w : World) → weight m (everyone w) ≡ weight m w.transit + (weight m w.fabric.residents + weight m w.fabric.line)
 weight-everyone m w = weight-append m w.transit (w.fabric.residents ++ w.fabric.line) ∙ ap (λ k. weight m w.transit + k) (weight-append m w.fabric.residents w.fabric.line)
 
+-- all of several fabrics and in transit
+pub weight-everyone-in : (m : Point → ℕ) (w : Several) → weight m (everyone_in w) ≡ weight m w.transit + weight m (among w.fabrics)
+weight-everyone-in m w = weight-append m w.transit (among w.fabrics)
+
 -- one is loaded
-pub weight-loaded : (m : Point → ℕ) (w : World) (p : Point) → weight m (everyone (record w { transit = w.transit ++ p ∷ [] })) ≡ weight m (everyone w) + m p
+pub weight-loaded : (m : Point → ℕ) (w : Several) (p : Point) → weight m (everyone_in (record w { transit = w.transit ++ p ∷ [] })) ≡ weight m (everyone_in w) + m p
 weight-loaded m w p =
-    let new : World = record w { transit = w.transit ++ p ∷ [] } in
-    let a = weight-everyone m w in
-    let b = weight-everyone m new in
+    let new : Several = record w { transit = w.transit ++ p ∷ [] } in
+    let a = weight-everyone-in m w in
+    let b = weight-everyone-in m new in
     let d = weight-append m w.transit (p ∷ []) in
     omega (arith, a, b, d)
 
@@ -49,10 +54,12 @@ pub record Steps (R : ℕ → ℕ → Type 0) (m : Point → ℕ) : Type 0 where
   pub cycles : (p : Point) → R (m p) (m (cycled p))
   pub serves : (p : Point) → R (m p) (m (served p))
   pub departs : (why : Why) (p : Point) → R (m p) (m (departed why p))
+  pub keeps : (name : List ℕ) (p : Point) → R (m p) (m (kept name p))
+  pub stops : (p : Point) → R (m p) (m (stopped p))
 
-abbrev pub is_load : Event → Bool
+abbrev pub is_load : Step → Bool
 is_load (Load p) = true
-is_load e = false
+is_load s = false
 
 module _ (R : ℕ → ℕ → Type 0) (o : OfSums R) (m : Point → ℕ) (s : Steps R m) where
   same_as : (a b : ℕ) → b ≡ a → R a b
@@ -66,13 +73,17 @@ module _ (R : ℕ → ℕ → Type 0) (o : OfSums R) (m : Point → ℕ) (s : St
   weight_stepped holding (p ∷ ps) =
       o.sum (m p) (weight m ps) (m (stepped holding p)) (weight m (map (stepped holding) ps)) (point_stepped holding p) (weight_stepped holding ps)
 
-  pub weight_served : (t : ℕ) (ps : List Point) → R (weight m ps) (weight m (changed t served ps))
-  weight_served t [] = o.same 0
-  weight_served t (p ∷ ps) =
-      elim (is_of t p) as (λ b. R (m p + weight m ps) (weight m (cond b (served p ∷ ps) (p ∷ changed t served ps)))) [
-        | true ↦ o.sum (m p) (weight m ps) (m (served p)) (weight m ps) (s.serves p) (o.same (weight m ps))
-        | false ↦ o.sum (m p) (weight m ps) (m p) (weight m (changed t served ps)) (o.same (m p)) (weight_served t ps)
+  -- one of a list changes
+  weight_changed : (f : Point → Point) → ((p : Point) → R (m p) (m (f p))) → (t : ℕ) (ps : List Point) → R (weight m ps) (weight m (changed t f ps))
+  weight_changed f h t [] = o.same 0
+  weight_changed f h t (p ∷ ps) =
+      elim (is_of t p) as (λ b. R (m p + weight m ps) (weight m (cond b (f p ∷ ps) (p ∷ changed t f ps)))) [
+        | true ↦ o.sum (m p) (weight m ps) (m (f p)) (weight m ps) (h p) (o.same (weight m ps))
+        | false ↦ o.sum (m p) (weight m ps) (m p) (weight m (changed t f ps)) (o.same (m p)) (weight_changed f h t ps)
       ]
+
+  pub weight_served : (t : ℕ) (ps : List Point) → R (weight m ps) (weight m (changed t served ps))
+  weight_served t ps = weight_changed served s.serves t ps
 
   -- the residents alone change
   weight_inside : (w new : World) → new.transit ≡ w.transit → new.fabric.line ≡ w.fabric.line → R (weight m w.fabric.residents) (weight m new.fabric.residents) → R (weight m (everyone w)) (weight m (everyone new))
@@ -159,18 +170,74 @@ module _ (R : ℕ → ℕ → Type 0) (o : OfSums R) (m : Point → ℕ) (s : St
       let e = ap (weight m) (take-append-drop n f.line) in
       omega (arith, a, b, c, d, e)
 
-  -- each event but a load
-  pub weight_behind : (w : World) (e : Event) → is_load e ≡ false → R (weight m (everyone w)) (weight m (everyone (happens w e)))
-  weight_behind w (Load p) no_load = cc
-  weight_behind w (Arrive t) no_load = same_as _ _ (came w t (first_of t w.transit) refl)
-  weight_behind w Cycle no_load = weight_inside w (record w { fabric = all_stepped w.fabric }) refl refl (weight_stepped w.fabric.holding w.fabric.residents)
-  weight_behind w (Serve t) no_load = serve w t (first_of t w.fabric.residents)
-  weight_behind w Hold no_load =
+  -- each event
+  pub weight_behind : (w : World) (e : Event) → R (weight m (everyone w)) (weight m (everyone (happens w e)))
+  weight_behind w (Arrive t) = same_as _ _ (came w t (first_of t w.transit) refl)
+  weight_behind w Cycle =
+      let new : World = record w { fabric = all_stepped w.fabric } in
+      elim (may_cycle w.fabric) as (λ k. R (weight m (everyone w)) (weight m (everyone (cond k new w)))) [
+        | true ↦ weight_inside w new refl refl (weight_stepped w.fabric.holding w.fabric.residents)
+        | false ↦ o.same (weight m (everyone w))
+      ]
+  weight_behind w (Serve t) = serve w t (first_of t w.fabric.residents)
+  weight_behind w Hold =
       elim w.fabric.holding as (λ k. R (weight m (everyone w)) (weight m (everyone (cond k w (record w { fabric = held w.fabric }))))) [ true ↦ o.same (weight m (everyone w)) | false ↦ o.same (weight m (everyone w)) ]
-  weight_behind w Rebuild no_load =
+  weight_behind w Rebuild =
       elim (is_at_rest w.fabric) as (λ k. R (weight m (everyone w)) (weight m (everyone (cond k (record w { fabric = rebuilt w.fabric }) w)))) [
         | true ↦ same_as _ _ (joined w)
         | false ↦ o.same (weight m (everyone w))
       ]
-  weight_behind w (Take t) no_load = same_as _ _ (takes_out w t (found t w.fabric) refl)
-  weight_behind w (Leave t) no_load = leave w t (first_of t w.fabric.residents) refl
+  weight_behind w (Take t) = same_as _ _ (takes_out w t (found t w.fabric) refl)
+  weight_behind w (Leave t) = leave w t (first_of t w.fabric.residents) refl
+
+  -- ---- several fabrics
+
+  -- an event at one of these fabrics
+  weight_at : (g : ℕ) (e : Event) (transit : List Point) (fs : List Fabric) →
+      R (weight m transit + weight m (among fs)) (weight m (happens_at g e transit fs).transit + weight m (among (happens_at g e transit fs).fabrics))
+  weight_at g e transit [] = o.same (weight m transit + 0)
+  weight_at zero e transit (f ∷ fs) =
+      let w : World = record { fabric = f; transit = transit } in
+      let new = happens w e in
+      let others = weight m (among fs) in
+      let i = o.sum (weight m (everyone w)) others (weight m (everyone new)) others (weight_behind w e) (o.same others) in
+      let a = weight-append m transit (f.residents ++ f.line) in
+      let b = weight-append m new.transit (new.fabric.residents ++ new.fabric.line) in
+      let c = weight-append m (f.residents ++ f.line) (among fs) in
+      let d = weight-append m (new.fabric.residents ++ new.fabric.line) (among fs) in
+      let before : weight m (everyone w) + others ≡ weight m transit + weight m ((f.residents ++ f.line) ++ among fs) = omega (arith, a, c) in
+      let behind : weight m (everyone new) + others ≡ weight m new.transit + weight m ((new.fabric.residents ++ new.fabric.line) ++ among fs) = omega (arith, b, d) in
+      subst (λ k. R k (weight m new.transit + weight m ((new.fabric.residents ++ new.fabric.line) ++ among fs))) before (subst (λ k. R (weight m (everyone w) + others) k) behind i)
+  weight_at (suc g) e transit (f ∷ fs) =
+      let w = happens_at g e transit fs in
+      let own = weight m (f.residents ++ f.line) in
+      let i = o.sum own (weight m transit + weight m (among fs)) own (weight m w.transit + weight m (among w.fabrics)) (o.same own) (weight_at g e transit fs) in
+      let c = weight-append m (f.residents ++ f.line) (among fs) in
+      let d = weight-append m (f.residents ++ f.line) (among w.fabrics) in
+      let before : own + (weight m transit + weight m (among fs)) ≡ weight m transit + weight m ((f.residents ++ f.line) ++ among fs) = omega (arith, c) in
+      let behind : own + (weight m w.transit + weight m (among w.fabrics)) ≡ weight m w.transit + weight m ((f.residents ++ f.line) ++ among w.fabrics) = omega (arith, d) in
+      subst (λ k. R k (weight m w.transit + weight m ((f.residents ++ f.line) ++ among w.fabrics))) before (subst (λ k. R (own + (weight m transit + weight m (among fs))) k) behind i)
+
+  -- the same of all who are somewhere
+  weight_among : (w new : Several) → R (weight m w.transit + weight m (among w.fabrics)) (weight m new.transit + weight m (among new.fabrics)) → R (weight m (everyone_in w)) (weight m (everyone_in new))
+  weight_among w new h =
+      subst (λ k. R k (weight m (everyone_in new))) (sym (weight-everyone-in m w))
+      (subst (λ k. R (weight m w.transit + weight m (among w.fabrics)) k) (sym (weight-everyone-in m new)) h)
+
+  -- one in transit changes
+  weight_changes : (f : Point → Point) → ((p : Point) → R (m p) (m (f p))) → (t : ℕ) (w : Several) (q : Option Point) → R (weight m (everyone_in w)) (weight m (everyone_in (changes t f w q)))
+  weight_changes f h t w None = o.same (weight m (everyone_in w))
+  weight_changes f h t w (Some p) =
+      let new : Several = record w { transit = changed t f w.transit } in
+      let others = weight m (among w.fabrics) in
+      elim (not (is_some (ended p))) as (λ k. R (weight m (everyone_in w)) (weight m (everyone_in (cond k new w)))) [
+        | true ↦ weight_among w new (o.sum (weight m w.transit) others (weight m (changed t f w.transit)) others (weight_changed f h t w.transit) (o.same others))
+        | false ↦ o.same (weight m (everyone_in w))
+      ]
+
+  -- each step but a load
+  pub weight_step : (w : Several) (x : Step) → is_load x ≡ false → R (weight m (everyone_in w)) (weight m (everyone_in (step w x)))
+  weight_step w (Load p) no_load = cc
+  weight_step w (At g e) no_load = weight_among w (happens_at g e w.transit w.fabrics) (weight_at g e w.transit w.fabrics)
+  weight_step w (Save t name) no_load = weight_changes (kept name) (s.keeps name) t w (first_of t w.transit)
+  weight_step w (Stop t) no_load = weight_changes stopped s.stops t w (first_of t w.transit)

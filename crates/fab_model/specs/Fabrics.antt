@@ -1,5 +1,5 @@
 -- Fabrics: residents and a line of waiting tenants, and their events (own).
-use Rattle.std.specs.Prelude.{◌≡◌, ℕ, suc, ◌+◌, nat_le, ◌==◌, not, ◌&&◌, ◌||◌, Bool, true, false, List, [], ◌∷◌, ◌++◌, map, take, drop, if◌then◌else◌, is_some, Option, Some, None, ⊤}
+use Rattle.std.specs.Prelude.{◌≡◌, ℕ, suc, ◌+◌, nat_le, nat_lt, ◌==◌, not, ◌&&◌, ◌||◌, Bool, true, false, List, [], ◌∷◌, ◌++◌, map, take, drop, if◌then◌else◌, is_some, Option, Some, None, ⊤}
 use Rattle.ten_core.specs.vl_design.specs.declared.capacity.Cost.{Cost}
 use Rattle.fab_model.specs.Points.{Point, cost_of, cycled, due, rests, served, waits}
 
@@ -95,6 +95,10 @@ head_fits f = fits f.line
 abbrev pub steppers : (holding : Bool) → List Point → ℕ
 steppers holding [] = 0
 steppers holding (p ∷ ps) = if can_step holding p then suc (steppers holding ps) else steppers holding ps
+
+-- some resident may do a cycle
+abbrev pub may_cycle : Fabric → Bool
+may_cycle f = nat_lt 0 (steppers f.holding f.residents)
 
 -- ---- events
 

@@ -1,6 +1,7 @@
 pub mod Points
 pub mod Fabrics
 pub mod Worlds
+pub mod Several
 pub mod Ends
 pub mod Stays
 pub mod Deeds

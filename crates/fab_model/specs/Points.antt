@@ -1,5 +1,5 @@
 -- Points: where tenants are in their runs (own).
-use Rattle.std.specs.Prelude.{ℕ, suc, ◌-◌, Bool, true, false, not, ◌&&◌, ◌||◌, List, [], ◌∷◌, if◌then◌else◌, Option, None, slice_get}
+use Rattle.std.specs.Prelude.{ℕ, suc, ◌-◌, Bool, true, false, not, ◌&&◌, ◌||◌, List, [], ◌∷◌, ◌++◌, if◌then◌else◌, Option, None, slice_get}
 use Rattle.ten_core.specs.vl_design.specs.declared.capacity.Cost.{Cost}
 use Rattle.ten_core.specs.vl_design.specs.Costs.{saturated_cost}
 use Rattle.ten_core.specs.vl_design.specs.declared.design.End.{End}
@@ -103,3 +103,13 @@ served p = if at_trap (table_of (run_in p).flat) p.stage then called p else save
 abbrev pub departed : Why → Point → Point
 departed (Move fabric) p = record p { moved = true }
 departed (Ended end) p = p
+
+-- ---- steps between fabrics
+
+-- a snapshot is made besides, under a name
+abbrev pub kept : List ℕ → Point → Point
+kept name p = record p { free = p.free ++ record { name = name; tick = tick_of p } ∷ [] }
+
+-- it is stopped besides
+abbrev pub stopped : Point → Point
+stopped p = record p { stopped = true }

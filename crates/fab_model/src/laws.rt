@@ -1,12 +1,13 @@
-//! What holds of a fabric and the tenants in transit, over all lists of events. Each function does nothing; its contract is the law.
+//! What holds of several fabrics and the tenants in transit, over all lists of steps. Each function does nothing; its contract is the law.
 
 ghost use Rattle.std.specs.Prelude.{◌≡◌, ◌≤◌, ℕ, true, false, List, ◌++◌, Some, is_some, if◌then◌else◌};
 ghost use Rattle.ten_core.specs.vl_design.specs.declared.capacity.Cost.{Cost as Capacity};
 ghost use Rattle.ten_core.specs.declared.origin.Origin.{Origin as From};
 ghost use Rattle.ten_parcel.specs.ten_shell.specs.declared.shell.Why.{Why as Reason};
 ghost use Rattle.fab_model.specs.Points.{due, waits, Point};
-ghost use Rattle.fab_model.specs.Fabrics.{all_served, all_stepped, arrived, first_leaving, first_of, first_waiting, has, left, rebuilt, taken, total, within, AreOnce, Fabric};
-ghost use Rattle.fab_model.specs.Worlds.{acts_of, empty, everyone, loaded, places_of, run, weight, AreFronts, AreRuns, Event};
+ghost use Rattle.fab_model.specs.Fabrics.{all_served, all_stepped, arrived, first_leaving, first_of, first_waiting, has, left, rebuilt, taken, AreOnce, Fabric};
+ghost use Rattle.fab_model.specs.Worlds.{weight};
+ghost use Rattle.fab_model.specs.Several.{acts_of, empty, everyone_in, loaded, places_of, run, AreFronts, AreRuns, Fit, Step};
 
 use ten_core::front_laws::what_a_run_has_printed_is_a_front;
 use ten_core::run_laws::each_act_comes_nearer;
@@ -14,24 +15,24 @@ use ten_core::run_laws::each_act_comes_nearer;
 /// Each tenant that was loaded is in exactly one place, and no other is anywhere; and whatever is somewhere has the number and the origin of
 /// what was loaded, however these are weighed.
 pub fn each_tenant_is_in_one_place()
-    ensures one { (c : Capacity) (t : ℕ) (events : List Event) → places_of t (everyone (run events (empty c))) ≡ (if is_some (first_of t (loaded events)) then 1 else 0) }
-    ensures same { (c : Capacity) (m : ℕ → From → ℕ) (events : List Event) →
-        weight (λ p. m p.number p.origin) (everyone (run events (empty c))) ≡ weight (λ p. m p.number p.origin) (loaded events) }
+    ensures one { (cs : List Capacity) (t : ℕ) (steps : List Step) → places_of t (everyone_in (run steps (empty cs))) ≡ (if is_some (first_of t (loaded steps)) then 1 else 0) }
+    ensures same { (cs : List Capacity) (m : ℕ → From → ℕ) (steps : List Step) →
+        weight (λ p. m p.number p.origin) (everyone_in (run steps (empty cs))) ≡ weight (λ p. m p.number p.origin) (loaded steps) }
 {}
 
 /// The acts of no tenant ever become fewer.
 pub fn acts_never_become_fewer()
-    ensures { (c : Capacity) (t : ℕ) (early late : List Event) → acts_of t (run early (empty c)) ≤ acts_of t (run (early ++ late) (empty c)) }
+    ensures { (cs : List Capacity) (t : ℕ) (early late : List Step) → acts_of t (run early (empty cs)) ≤ acts_of t (run (early ++ late) (empty cs)) }
 {}
 
-/// The residents fit together.
+/// The residents of each fabric fit it together.
 pub fn residents_fit()
-    ensures { (c : Capacity) (events : List Event) → within (total (run events (empty c)).fabric.residents) c ≡ true }
+    ensures { (cs : List Capacity) (steps : List Step) → Fit cs (run steps (empty cs)).fabrics }
 {}
 
 /// Where what is loaded is on the way of its run, what a tenant has printed is always a front of what its run alone prints up to its end.
 pub fn what_is_printed_is_a_front()
-    ensures { (c : Capacity) (events : List Event) → AreRuns (loaded events) → AreFronts (everyone (run events (empty c))) }
+    ensures { (cs : List Capacity) (steps : List Step) → AreRuns (loaded steps) → AreFronts (everyone_in (run steps (empty cs))) }
 {
     runs_go_on();
     what_a_run_has_printed_is_a_front();
@@ -39,7 +40,7 @@ pub fn what_is_printed_is_a_front()
 
 /// Where what is loaded is on the way of its run, each tenant is always on the way of its own.
 pub fn runs_go_on()
-    ensures { (c : Capacity) (events : List Event) → AreRuns (loaded events) → AreRuns (everyone (run events (empty c))) }
+    ensures { (cs : List Capacity) (steps : List Step) → AreRuns (loaded steps) → AreRuns (everyone_in (run steps (empty cs))) }
 {
     each_act_comes_nearer();
 }

@@ -10,7 +10,7 @@ use Rattle.vl_design.specs.Alone.{Origin}
 use Rattle.vl_design.specs.Functions.{scope_of}
 use Rattle.vl_design.specs.Snapshots.{Snapshot}
 use Rattle.vl_design.specs.State.{State, sample}
-use Rattle.vl_design.specs.Syntax.{Task, Flat}
+use Rattle.vl_design.specs.Syntax.{Task, Print, Finish, Save, Fopen, Fread, Fgetc, Feof, Fclose, ReadHex, Flat}
 use Rattle.vl_design.specs.Tasks.{called}
 use Rattle.trap_runtime.specs.cell_form.specs.Data.{BankData, StateData, TableData}
 use Rattle.trap_runtime.specs.cell_form.specs.Sound.{Shape, shape_of}
@@ -31,6 +31,7 @@ use Rattle.ten_form.specs.Holding.{IsIdle}
 use Rattle.ten_form.specs.Stores.{words_down}
 use Rattle.ten_form.proofs.Same.{all-from, idle-behind, stores-behind}
 use Rattle.ten_form.specs.Asked.{asked}
+use Rattle.ten_form.specs.Traps.{IsCallOf}
 use Rattle.ten_form.specs.Works.{saved, works_of, IsBefore, DoesCall}
 use Rattle.ten_form.proofs.Doing.{can, does}
 use Rattle.ten_form.proofs.Serving.{holds-altered}
@@ -38,6 +39,7 @@ use Rattle.trap_runtime.specs.Served as s
 use Rattle.trap_runtime.specs.Traps.{IsTrap}
 use Rattle.trap_runtime.specs.declared.served.Served.TheVariants as way
 use Rattle.ten_form.specs.States.{idle_before, Waits, IsStateOf, StandsAt}
+use Rattle.ten_core.specs.Memory.{takes_memory, has_call_for_memory, serving_takes_memory}
 use Rattle.ten_core.specs.Runs.{IsAt, IsTame}
 use Rattle.ten_core.specs.Tenants.{TenantData, states_of}
 use Rattle.ten_core.specs.Traps.{IsAtCall}
@@ -119,6 +121,20 @@ alike true true P f g = refl
 alike true false P f g = sym (g.0 (f.0 refl))
 alike false true P f g = f.1 (g.1 refl)
 alike false false P f g = refl
+
+-- ---- calls that take memory
+
+-- a trap takes memory to be served just where its call does
+takes-alike : (d : Flat) (task : Task) (t : TrapData) → IsCallOf d task t → s.takes_memory t.call ≡ takes_memory task
+takes-alike d (Print pieces newline) t h = ap s.takes_memory h.1
+takes-alike d (Finish es) t h = ap s.takes_memory h
+takes-alike d (Save name) t h = ap s.takes_memory h
+takes-alike d (Fopen name) t h = ap s.takes_memory h
+takes-alike d (Fread k fd) t h = ap s.takes_memory h.0
+takes-alike d (Fgetc fd) t h = ap s.takes_memory h
+takes-alike d (Feof fd) t h = ap s.takes_memory h
+takes-alike d (Fclose fd) t h = ap s.takes_memory h
+takes-alike d (ReadHex name m) t h = ap s.takes_memory h.4
 
 -- ---- the call that waits
 
@@ -217,6 +233,13 @@ module _ (o : Origin) (order : List ℕ) (t : TenantData) (c : ℕ) (here : Stag
 
   pub can-be-served : (other : TrapData) (to : ℕ) → IsAtCall table t.bank other to → IsTrap t.bank other
   can-be-served other to h = subst (IsTrap t.bank) (sym (one-call other to h).0) can-serve
+
+  -- serving the call takes memory where serving its trap does
+  pub takes-memory : (other : TrapData) (to : ℕ) → IsAtCall table t.bank other to → s.takes_memory other.call ≡ true → serving_takes_memory o.flat here ≡ true
+  takes-memory other to h e =
+      ap has_call_for_memory in-table
+      ∙ (sym (takes-alike o.flat task trap call-here.waits.call.call)
+      ∙ (ap (λ (z : TrapData). s.takes_memory z.call) (sym (one-call other to h).0) ∙ e))
 
   -- ---- behind the call
 

@@ -1,4 +1,5 @@
 pub mod Traps
+pub mod Memory
 pub mod Tenants
 pub mod Runs
 pub mod Begins

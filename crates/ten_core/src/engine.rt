@@ -7,11 +7,13 @@ ghost use Rattle.trap_runtime.specs.cell_form.specs.Data.{BankData};
 ghost use Rattle.trap_runtime.specs.cell_form.specs.Sound.{shape_of};
 ghost use Rattle.trap_runtime.specs.cell_form.specs.States.{table_cycled};
 ghost use Rattle.trap_runtime.specs.cell_form.specs.Views.{bank_of};
+ghost use Rattle.trap_runtime.specs.Served.{takes_memory, way_of};
 ghost use Rattle.ten_form.specs.sub_nodes.specs.Code.{table_of};
 ghost use Rattle.ten_form.specs.sub_nodes.specs.Cycles.{Stage, rises};
 ghost use Rattle.ten_form.specs.sub_nodes.specs.Stands.{at_trap};
 ghost use Rattle.ten_form.specs.Registers.{state_register};
 ghost use Rattle.ten_form.specs.Works.{saved};
+ghost use Rattle.ten_core.specs.Memory.{serving_takes_memory};
 ghost use Rattle.ten_core.specs.Tenants.{table_in, tenant_of};
 ghost use Rattle.ten_core.specs.Runs.{after_cycle, after_call, IsAt, IsTame, Runs};
 
@@ -25,6 +27,7 @@ use ten_form::image_laws::a_cycle_of_states_is_one_of_nodes;
 use trap_runtime::Bank;
 use trap_runtime::serve::serve;
 use trap_runtime::served::Served;
+use trap_runtime::table::TrapCall;
 use vl_design::Text;
 
 /// An engine: a run of a design on the states of its image, behind time zero's wave, without the bank that it runs on.
@@ -60,9 +63,21 @@ fn is_end(way: &Served) -> bool
     }
 }
 
+/// Makes room for the name of a snapshot, where the call asks for one. No other call needs room.
+fn make_room(asked: &mut Vec<Text>, call: &TrapCall) -> Result<(), AllocError>
+    ensures room { OnOk result ((name : List ℕ) → way_of call.now ≡ Served.Save name → vec_len asked.new < vec_capacity asked.new) }
+    ensures same { asked.new.items ≡ asked.old.items }
+    ensures memory { OnErr result (takes_memory call.now ≡ true) }
+{
+    match call {
+        TrapCall::Save(_) => asked.reserve(1),
+        _ => Ok(()),
+    }
+}
+
 /// Keeps the name of the snapshot that the call asked for. There is room for it.
 fn ask(asked: &mut Vec<Text>, way: Served)
-    requires { vec_len asked.old < vec_capacity asked.old }
+    requires { (name : List ℕ) → way ≡ Served.Save name → vec_len asked.old < vec_capacity asked.old }
     ensures { asked.new.items ≡ asked.old.items ++ saved way }
 {
     if let Served::Save(name) = way {
@@ -111,7 +126,8 @@ impl Engine {
         }
     }
 
-    /// Serves the call that waits, which is the next act of the run. Want of memory leaves all as it was.
+    /// Serves the call that waits, which is the next act of the run. Want of memory leaves all as it was, and is the answer only of a call
+    /// that takes memory.
     pub fn serve(&mut self, alloc: Global, bank: &mut Bank) -> Result<(), AllocError>
         requires runs { Runs (tenant_of self.old (bank_of bank.old)) }
         requires waits { self.old.waits ≡ true }
@@ -119,11 +135,13 @@ impl Engine {
         ensures ok { OnOk result ((o : Alone) (order : List ℕ) (c : ℕ) (i : Stage) → IsTame o order → IsAt o order (tenant_of self.old (bank_of bank.old)) c i →
             IsAt o order (tenant_of self.new (bank_of bank.new)) (suc c) (after_call o i)) }
         ensures err { OnErr result (tenant_of self.new (bank_of bank.new) ≡ tenant_of self.old (bank_of bank.old)) }
+        ensures memory { OnErr result ((o : Alone) (order : List ℕ) (c : ℕ) (i : Stage) → IsTame o order → IsAt o order (tenant_of self.old (bank_of bank.old)) c i →
+            serving_takes_memory o.flat i ≡ true) }
         ensures origin { self.new.origin ≡ self.old.origin }
         ensures shape { shape_of (bank_of bank.new) ≡ shape_of (bank_of bank.old) }
     {
-        self.asked.reserve(1)?;
         let (trap, next) = next_call(&self.origin.image.table, bank);
+        make_room(&mut self.asked, &trap.call)?;
         let way = serve(
             alloc,
             trap,

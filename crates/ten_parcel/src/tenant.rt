@@ -4,6 +4,7 @@ ghost use Rattle.std.specs.Prelude.{◌≡◌, ℕ, suc, true, false, not, List,
 ghost use Rattle.ten_core.specs.cell_form.specs.Sound.{shape_of};
 ghost use Rattle.ten_core.specs.cell_form.specs.Views.{bank_of};
 ghost use Rattle.sub_nodes.specs.Cycles.{Stage};
+ghost use Rattle.ten_core.specs.Memory.{serving_takes_memory};
 ghost use Rattle.ten_core.specs.Runs.{after_cycle, after_call};
 ghost use Rattle.ten_core.specs.Running.{goes_on};
 ghost use Rattle.ten_shell.specs.Shells.{beat_of, flat_in, is_at_boundary, left_at, left_in, run_of, waits_in, IsSameTenant, IsUnchanged, MayCycle, Rests};
@@ -52,7 +53,7 @@ impl Tenant {
     }
 
     /// Serves the call that waits, which is the next act, or else makes the snapshot that is to be made next at this boundary. The answer is
-    /// whether it was a snapshot. Want of memory leaves all as it was.
+    /// whether it was a snapshot. Want of memory leaves all as it was; of a call it is the answer only where serving it takes memory.
     pub fn serve(&mut self, alloc: Global) -> Result<bool, AllocError>
         requires { (c : ℕ) × (i : Stage) × IsOn self.old c i × (waits_in self.old.shell i ≡ true) }
         ensures call { OnOk result (self.old.shell.engine.waits ≡ true → (c : ℕ) (i : Stage) → IsOn self.old c i → IsOn self.new (suc c) (after_call (run_of self.old.shell) i)) }
@@ -66,6 +67,7 @@ impl Tenant {
         ensures moved { self.new.shell.moved ≡ self.old.shell.moved }
         ensures shape { shape_of (bank_of self.new.bank) ≡ shape_of (bank_of self.old.bank) }
         ensures err { OnErr result (IsUnchanged self.old.shell self.new.shell (bank_of self.old.bank) (bank_of self.new.bank)) }
+        ensures memory { OnErr result (self.old.shell.engine.waits ≡ true → (c : ℕ) (i : Stage) → IsOn self.old c i → serving_takes_memory (flat_in self.old.shell) i ≡ true) }
     {
         self.shell.serve(alloc, &mut self.bank)
     }

@@ -12,6 +12,7 @@ ghost use Rattle.ten_core.specs.cell_form.specs.Views.{bank_of};
 ghost use Rattle.ten_core.specs.sub_nodes.specs.Code.{table_of};
 ghost use Rattle.ten_core.specs.sub_nodes.specs.Cycles.{Stage, rises};
 ghost use Rattle.ten_core.specs.ten_form.specs.Registers.{state_register};
+ghost use Rattle.ten_core.specs.Memory.{serving_takes_memory};
 ghost use Rattle.ten_core.specs.Runs.{after_cycle, after_call};
 ghost use Rattle.ten_core.specs.Tenants.{table_in};
 ghost use Rattle.ten_plan.specs.Plans.{move_at, AreBefore};
@@ -149,7 +150,7 @@ impl Shell {
     }
 
     /// Serves the call that waits, which is the next act, or else makes the snapshot that is to be made next at this boundary. The answer is
-    /// whether it was a snapshot. Want of memory leaves all as it was.
+    /// whether it was a snapshot. Want of memory leaves all as it was; of a call it is the answer only where serving it takes memory.
     pub fn serve(&mut self, alloc: Global, bank: &mut Bank) -> Result<bool, AllocError>
         requires { (c : ℕ) × (i : Stage) × StandsFor self.old (bank_of bank.old) c i × (waits_in self.old i ≡ true) }
         ensures call { OnOk result (self.old.engine.waits ≡ true → (c : ℕ) (i : Stage) → StandsFor self.old (bank_of bank.old) c i →
@@ -165,6 +166,8 @@ impl Shell {
         ensures moved { self.new.moved ≡ self.old.moved }
         ensures shape { shape_of (bank_of bank.new) ≡ shape_of (bank_of bank.old) }
         ensures err { OnErr result (IsUnchanged self.old self.new (bank_of bank.old) (bank_of bank.new)) }
+        ensures memory { OnErr result (self.old.engine.waits ≡ true → (c : ℕ) (i : Stage) → StandsFor self.old (bank_of bank.old) c i →
+            serving_takes_memory (flat_in self.old) i ≡ true) }
     {
         if self.engine.at_trap() {
             self.serve_call(alloc, bank)?;
@@ -174,7 +177,8 @@ impl Shell {
         Ok(true)
     }
 
-    /// Serves the call that waits, which is the next act. Want of memory leaves all as it was.
+    /// Serves the call that waits, which is the next act. Want of memory leaves all as it was, and is the answer only of a call that takes
+    /// memory.
     fn serve_call(&mut self, alloc: Global, bank: &mut Bank) -> Result<(), AllocError>
         requires { (c : ℕ) × (i : Stage) × StandsFor self.old (bank_of bank.old) c i × (self.old.engine.waits ≡ true) }
         ensures point { OnOk result ((c : ℕ) (i : Stage) → StandsFor self.old (bank_of bank.old) c i →
@@ -185,6 +189,7 @@ impl Shell {
         ensures moved { self.new.moved ≡ self.old.moved }
         ensures shape { shape_of (bank_of bank.new) ≡ shape_of (bank_of bank.old) }
         ensures err { OnErr result (IsUnchanged self.old self.new (bank_of bank.old) (bank_of bank.new)) }
+        ensures memory { OnErr result ((c : ℕ) (i : Stage) → StandsFor self.old (bank_of bank.old) c i → serving_takes_memory (flat_in self.old) i ≡ true) }
     {
         each_act_comes_nearer();
         ticks_and_acts_can_be_counted();

@@ -1,5 +1,5 @@
 -- What serving a system call does to a bank, to the table of open files and to what is printed (IEEE 1364-2005, clause 17).
-use Rattle.std.specs.Prelude.{ℕ, ◌-ℤ◌, ◌+◌, ℤ, Bool, List, [], ◌∷◌, ◌++◌, map, drop, codes, slice_index, slice_index_or, slice_set, if◌then◌else◌, Option, Some, None}
+use Rattle.std.specs.Prelude.{ℕ, ◌-ℤ◌, ◌+◌, ℤ, Bool, true, false, List, [], ◌∷◌, ◌++◌, map, drop, codes, slice_index, slice_index_or, slice_set, if◌then◌else◌, Option, Some, None}
 use Rattle.cell_form.specs.vl_base.specs.declared.files.File.{File}
 use Rattle.cell_form.specs.vl_base.specs.declared.files.OpenFile.{OpenFile}
 use Rattle.cell_form.specs.vl_base.specs.Display.{letter_text}
@@ -96,3 +96,10 @@ abbrev pub way_of : TrapCall → Served
 way_of call.Finish = s.Finish
 way_of (call.Save name) = s.Save name
 way_of c = s.Went
+
+-- serving such a call takes memory: what is printed, a snapshot's name, a memory's words
+abbrev pub takes_memory : TrapCall → Bool
+takes_memory (call.Print parts newline) = true
+takes_memory (call.Save name) = true
+takes_memory (call.ReadHex name w first last) = true
+takes_memory c = false

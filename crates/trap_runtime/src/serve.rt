@@ -1,6 +1,6 @@
 //! One system call (IEEE 1364-2005, clause 17).
 
-ghost use Rattle.std.specs.Prelude.{◌≡◌, IfOk, OnOk, OnErr};
+ghost use Rattle.std.specs.Prelude.{◌≡◌, true, IfOk, OnOk, OnErr};
 ghost use Rattle.cell_form.specs.vl_base.specs.Files as file;
 ghost use Rattle.cell_form.specs.Views.{bank_of};
 ghost use Rattle.ten_files.specs.Tables.{open_files, IsTableOf};
@@ -72,7 +72,7 @@ fn read_hex(
 }
 
 /// Serves a call that the run goes on behind, whatever it is: just its effect. The state register is the caller's. Want of memory
-/// leaves all as it was.
+/// leaves all as it was, and is the answer only of a call that takes memory.
 fn serve_call(
     alloc: Global,
     trap: &Trap,
@@ -88,6 +88,7 @@ fn serve_call(
     ensures bank { OnErr result (bank_of bank.new ≡ bank_of bank.old) }
     ensures files { OnErr result (table.new ≡ table.old) }
     ensures printed { OnErr result (out.new.items ≡ out.old.items) }
+    ensures memory { OnErr result (s.takes_memory trap.now.call ≡ true) }
     ensures fits { IsTableOf files.now table.new }
 {
     match &trap.call {
@@ -132,9 +133,10 @@ fn serve_call(
     }
 }
 
-/// How a call is served.
+/// How a call is served. The name of a snapshot is copied: nothing else takes memory.
 fn way_of(alloc: Global, call: &TrapCall) -> Result<Served, AllocError>
-    ensures { IfOk result (λ way. way ≡ s.way_of call.now) }
+    ensures way { IfOk result (λ way. way ≡ s.way_of call.now) }
+    ensures memory { OnErr result (s.takes_memory call.now ≡ true) }
 {
     match call {
         TrapCall::Finish => Ok(Served::Finish),
@@ -143,7 +145,8 @@ fn way_of(alloc: Global, call: &TrapCall) -> Result<Served, AllocError>
     }
 }
 
-/// Serves the call of a trap: just its effect, and how. The state register is the caller's. Want of memory leaves all as it was.
+/// Serves the call of a trap: just its effect, and how. The state register is the caller's. Want of memory leaves all as it was, and is
+/// the answer only of a call that takes memory.
 pub fn serve(
     alloc: Global,
     trap: &Trap,
@@ -160,6 +163,7 @@ pub fn serve(
     ensures bank { OnErr result (bank_of bank.new ≡ bank_of bank.old) }
     ensures files { OnErr result (table.new ≡ table.old) }
     ensures printed { OnErr result (out.new.items ≡ out.old.items) }
+    ensures memory { OnErr result (s.takes_memory trap.now.call ≡ true) }
     ensures fits { IsTableOf files.now table.new }
 {
     let way = way_of(alloc, &trap.call)?;

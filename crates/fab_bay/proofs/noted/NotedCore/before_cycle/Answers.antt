@@ -1,46 +1,33 @@
 use Rattle.std.proofs.Common.{arith}
 use Rattle.fab_bay.specs.Ways.{transits}
-use Rattle.fab_bay.proofs.Rounds.{both, onward}
+use Rattle.fab_bay.proofs.Going.{none}
+use Rattle.fab_bay.proofs.Rounds.{onward}
 use Rattle.fab_bay.proofs.noted.NotedCore.before_cycle.Goals as goal
 
-pub returns-then-is_err-clause-goes : goal.returns-then-is_err-clause-goes
-returns-then-is_err-clause-goes c = c.serve_all.ensures.goes (transits c.args.leaving.now.items)
+pub rests-init : goal.rests-init
+rests-init c = record { ready = c.requires.ready; whys = c.requires.whys; goes = none c.args.number c.args.self.now (transits c.args.leaving.now.items) }
 
-pub returns-then-is_err-2-clause-goes : goal.returns-then-is_err-2-clause-goes
-returns-then-is_err-2-clause-goes c =
-    let k = c.args.number in
-    let x = c.args.self.now in
-    let held = c.hold_where_due.new.self in
-    let left = c.leave_all.new.self in
-    let a = transits c.args.leaving.now.items in
-    let b = transits c.leave_all.new.leaving.items in
-    onward k 0 0 0 x held left a a b (both k 0 0 0 x c.serve_all.new.self held c.serve_all.ensures.goes c.hold_where_due.ensures.goes (omega arith) a) c.leave_all.ensures.goes (omega arith)
+pub rests-preserved : goal.rests-preserved
+rests-preserved c = record {
+  ready = c.step_to_cycle.ensures.ready;
+  whys = c.step_to_cycle.ensures.whys;
+  goes =
+      onward c.args.number 0 0 0 c.args.self.now c.rests.self c.step_to_cycle.new.self (transits c.args.leaving.now.items) (transits c.rests.leaving.items) (transits c.step_to_cycle.new.leaving.items)
+      c.rests.invariant.goes c.step_to_cycle.ensures.goes (omega arith);
+}
 
-pub returns-then-is_err-3-clause-goes : goal.returns-then-is_err-3-clause-goes
-returns-then-is_err-3-clause-goes c =
-    let k = c.args.number in
-    let x = c.args.self.now in
-    let held = c.hold_where_due.new.self in
-    let left = c.leave_all.new.self in
-    let made = c.rebuild_at_rest.new.self in
-    let a = transits c.args.leaving.now.items in
-    let b = transits c.leave_all.new.leaving.items in
-    onward k 0 0 0 x left made a b b
-    (onward k 0 0 0 x held left a a b (both k 0 0 0 x c.serve_all.new.self held c.serve_all.ensures.goes c.hold_where_due.ensures.goes (omega arith) a) c.leave_all.ensures.goes (omega arith))
-    (c.rebuild_at_rest.ensures.goes b) (omega arith)
+pub returns-in-Ok-true-clause-goes : goal.returns-in-Ok-true-clause-goes
+returns-in-Ok-true-clause-goes c =
+    onward c.args.number 0 0 0 c.args.self.now c.rests.self c.step_to_cycle.new.self (transits c.args.leaving.now.items) (transits c.rests.leaving.items) (transits c.step_to_cycle.new.leaving.items)
+    c.rests.invariant.goes c.step_to_cycle.ensures.goes (omega arith)
 
-pub returns-clause-goes : goal.returns-clause-goes
-returns-clause-goes c =
-    let k = c.args.number in
-    let x = c.args.self.now in
-    let held = c.hold_where_due.new.self in
-    let left = c.leave_all.new.self in
-    let made = c.rebuild_at_rest.new.self in
-    let end = c.hold_where_due-2.new.self in
-    let a = transits c.args.leaving.now.items in
-    let b = transits c.leave_all.new.leaving.items in
-    onward k 0 0 0 x made end a b b
-    (onward k 0 0 0 x left made a b b
-    (onward k 0 0 0 x held left a a b (both k 0 0 0 x c.serve_all.new.self held c.serve_all.ensures.goes c.hold_where_due.ensures.goes (omega arith) a) c.leave_all.ensures.goes (omega arith))
-    (c.rebuild_at_rest.ensures.goes b) (omega arith))
-    (c.hold_where_due-2.ensures.goes b) (omega arith)
+pub returns-in-Ok-true-clause-settled : goal.returns-in-Ok-true-clause-settled
+returns-in-Ok-true-clause-settled c = c.in-Ok-true.ensures.settled cc
+
+pub returns-in-Ok-true-clause-steps : goal.returns-in-Ok-true-clause-steps
+returns-in-Ok-true-clause-steps c = c.in-Ok-true.ensures.steps cc
+
+pub returns-in-Err-clause-goes : goal.returns-in-Err-clause-goes
+returns-in-Err-clause-goes c =
+    onward c.args.number 0 0 0 c.args.self.now c.rests.self c.step_to_cycle.new.self (transits c.args.leaving.now.items) (transits c.rests.leaving.items) (transits c.step_to_cycle.new.leaving.items)
+    c.rests.invariant.goes c.step_to_cycle.ensures.goes (omega arith)

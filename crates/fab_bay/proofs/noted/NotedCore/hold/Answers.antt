@@ -1,7 +1,7 @@
 use Rattle.std.proofs.Common.{refl}
 use Rattle.fab_core.specs.fab_model.specs.Fabrics.{held}
 use Rattle.fab_bay.proofs.Events.{goes-hold, keeps-noted}
-use Rattle.fab_bay.proofs.Near.{near-hold}
+use Rattle.fab_bay.proofs.Near.{none-held}
 use Rattle.fab_bay.proofs.noted.NotedCore.hold.Goals as goal
 
 pub returns-clause-goes : goal.returns-clause-goes
@@ -10,7 +10,11 @@ returns-clause-goes c = λ number out.
     goes-hold number x (record x { core = c.hold.new.self }) out (record { label = refl; berths = refl; waiting = refl; notes = refl; told = refl }) c.requires.free c.hold.ensures
 
 pub returns-clause-near : goal.returns-clause-near
-returns-clause-near c = let f = c.requires.fabric.0 in let h = c.requires.fabric.1 in near-hold c.args.self.now c.hold.new.self f h (c.hold.ensures f h.core)
+returns-clause-near c =
+    let f = c.requires.fabric.0 in
+    let h = c.requires.fabric.1 in
+    let x = c.args.self.now in
+    none-held x (record x { core = c.hold.new.self }) f h.core (c.hold.ensures f h.core)
 
 pub returns-clause-held : goal.returns-clause-held
 returns-clause-held c = λ f h.

@@ -1,9 +1,8 @@
-use Rattle.std.proofs.Common.{[], ap, sym, ◌∙◌, subst}
+use Rattle.std.proofs.Common.{[], sym, ◌∙◌, subst}
 use Rattle.fab_core.specs.fab_model.specs.Fabrics.{Fabric}
 use Rattle.fab_bay.specs.Standing.{IsNoted}
 use Rattle.fab_bay.proofs.Acts.{held-by}
 use Rattle.fab_bay.proofs.Going.{none}
-use Rattle.fab_bay.proofs.Nears.{nears-kept, nears-same}
 use Rattle.fab_bay.proofs.Rounds.{ready-on}
 use Rattle.fab_bay.proofs.noted.NotedCore.hold_on.Goals as goal
 
@@ -11,10 +10,10 @@ pub returns-then-self-clause-goes : goal.returns-then-self-clause-goes
 returns-then-self-clause-goes c = λ out. none c.args.number c.args.self.now out
 
 pub returns-then-self-clause-near : goal.returns-then-self-clause-near
-returns-then-self-clause-near c = nears-same c.args.self.now
+returns-then-self-clause-near c = λ most w. w
 
 pub returns-clause-near : goal.returns-clause-near
-returns-clause-near c = nears-kept c.args.self.now c.hold.new.self (ap (λ v. v.items) c.hold.ensures.notes) c.hold.ensures.near
+returns-clause-near c = c.hold.ensures.near
 
 pub returns-clause-ready : goal.returns-clause-ready
 returns-clause-ready c =

@@ -1,10 +1,12 @@
-use Rattle.std.proofs.Common.{◌++◌, ◌∷◌, [], ap, ◌∙◌, refl, arith}
+use Rattle.std.proofs.Common.{◌++◌, ◌∷◌, [], sym, ap, ◌∙◌, subst, refl, arith}
 use Rattle.std.specs.Prelude.{vec_len, vec_capacity}
+use Rattle.fab_core.specs.declared.cores.FabCore.{FabCore}
+use Rattle.fab_core.specs.fab_model.specs.Fabrics.{rebuilt}
+use Rattle.fab_core.specs.Standing.{IsFabric}
 use Rattle.fab_bay.specs.declared.noted.NotedCore.{NotedCore}
-use Rattle.fab_bay.proofs.Coming.{coming_more, coming_room, coming_start, coming_there, joined_many, many_join, rebuilt_goes, start_many, start_of, IsCame, IsRebuilt}
-use Rattle.fab_bay.proofs.Gaps.{joined-near}
+use Rattle.fab_bay.proofs.Coming.{coming_more, coming_room, coming_start, coming_there, joined_many, many_join, noted_rebuilt, rebuilt_goes, start_many, start_of, IsCame, IsRebuilt}
 use Rattle.fab_bay.proofs.Kept.{still_goes, IsStill}
-use Rattle.fab_bay.proofs.Near.{near-core, short-none}
+use Rattle.fab_bay.proofs.Near.{none-rebuilt, none-still}
 use Rattle.fab_bay.proofs.Places.{berths_many}
 use Rattle.fab_bay.proofs.noted.NotedCore.join.Goals as goal
 
@@ -18,8 +20,8 @@ returns-in-Err c =
     let s : IsStill x z = record { label = refl; core = c.in-Err.ensures.err; berths = refl; waiting = refl; notes = refl; told = refl } in
     record {
       goes = λ out. still_goes c.args.number x z out s;
-      near = let f = c.requires.fabric.0 in let h = c.requires.fabric.1 in near-core x c.rebuild.new.self f h (c.in-Err.ensures.err f h.core);
-      short = λ n added e. short-none x.notes.items x.notes.items added refl e;
+      near = let f = c.requires.fabric.0 in let h = c.requires.fabric.1 in none-still x z f h.core (c.in-Err.ensures.err f h.core);
+      rebuilt = tt;
       room = let r = c.requires.room in let a = r.notes in let b = r.told in record { notes = omega (arith, a); told = omega (arith, b) };
     }
 
@@ -148,7 +150,7 @@ returns-after-loop-place c =
     let i = c.loop-place.place in
     record {
       goes = λ out. rebuilt_goes c.args.number x y c.loop-place.self i r v.coming out c.requires.rest (λ g n. let j = v.joins g n in omega (arith, j, t, most));
-      near = let j = v.joins f h in joined-near c.args.number i x y c.loop-place.self r v.coming f h (omega (arith, j, t, most));
-      short = λ n added e. v.coming.short added e;
+      near = none-rebuilt x c.loop-place.self f h.core (subst (λ (k : FabCore). IsFabric k (rebuilt f)) (sym v.coming.core) (c.in-Ok.ensures.fabric f h.core));
+      rebuilt = λ g n. let j = v.joins g n in noted_rebuilt c.args.number x y c.loop-place.self i r v.coming g n (omega (arith, j, t, most));
       room = let j = v.joins f h in coming_room c.args.number i x y c.loop-place.self f r h (omega (arith, j, t, most)) v.coming;
     }

@@ -1,3 +1,7 @@
+use Rattle.std.proofs.Common.{length, ap, arith}
+use Rattle.std.specs.declared.alloc.Global.{Global}
+use Rattle.std.specs.declared.vec.Vec.{Vec}
+use Rattle.fab_bay.specs.declared.berth.Berth.{Berth}
 use Rattle.fab_bay.proofs.Gone.{room_kept, room_same}
 use Rattle.fab_bay.proofs.Kept.{still_back, still_goes, still_noted, still_of, still_then}
 use Rattle.fab_bay.proofs.noted.NotedCore.leave.Goals as goal
@@ -25,6 +29,7 @@ returns-in-Err c =
       err = λ out. still_goes c.args.number x y out (still_of x y s);
       why = tt;
       left = tt;
+      moves = tt;
       room = room_same x y s c.prepare.ensures.kept c.requires.room;
     }
 
@@ -40,5 +45,10 @@ returns-in-Ok c =
       err = tt;
       why = λ f p h first. e.why f p (still_noted x y f (still_of x y s) h) first;
       left = e.left;
+      moves =
+          let a = ap (λ (v : Vec Berth Global). length v.items) s.berths in
+          let b = ap (λ (v : Vec Berth Global). length v.items) s.waiting in
+          let m = e.moves in
+          omega (arith, a, b, m);
       room = e.room;
     }

@@ -1,5 +1,7 @@
 use Rattle.std.proofs.Common.{Some, refl, ◌≡◌, false, ◌++◌, ◌∷◌, [], ◌+◌, suc, length, List, ap, sym, ◌∙◌, subst, arith, get_or}
 use Rattle.std.specs.Prelude.{◌==◌, position}
+use Rattle.std.specs.declared.alloc.Global.{Global}
+use Rattle.std.specs.declared.vec.Vec.{Vec}
 use Rattle.fab_core.specs.fab_model.specs.Points.{departed, due, Point}
 use Rattle.fab_core.specs.fab_model.specs.Fabrics.{left}
 use Rattle.fab_core.specs.ten_parcel.specs.declared.parcel.Parcel.{Parcel}
@@ -11,7 +13,7 @@ use Rattle.fab_bay.proofs.Events.{berthed}
 use Rattle.fab_bay.proofs.Gone.{goes_gone_leave, gone_leave, out_closed, out_written, place_first, place_some, place_there, ran_berth, ran_noted, ran_still, ready_of, rests_if, room_left, IsOut, IsRan, IsReady}
 use Rattle.fab_bay.specs.Ways.{IsLast}
 use Rattle.fab_bay.proofs.Leavers.{leaver_last, IsLeaver}
-use Rattle.fab_bay.proofs.Places.{berths_many, some-equal}
+use Rattle.fab_bay.proofs.Places.{berths_many, removed_many, some-equal}
 use Rattle.fab_bay.proofs.Ran.{room_less}
 use Rattle.fab_bay.proofs.noted.NotedCore.leave_with_room.Goals as goal
 
@@ -135,6 +137,12 @@ returns c =
           let u = c.leave-leaver.ensures.out g v.0 (c.ran_one.ensures.kept g j).core v.2 in
           gone_leave k t i x y z b s n o g j (c.requires.rest g j) w v.0 v.2 u.0 (subst (λ (a : Parcel). IsPointOf a (departed w v.0)) (sym c.into_leaver-transit.ensures.parcel) u.1)
           (subst (λ (a : FabCore). IsFabric a (left t g)) (sym c.write.ensures.core) (c.leave-leaver.ensures.fabric g (c.ran_one.ensures.kept g j).core)));
+      moves =
+          let a = ap length o.berths in
+          let q = removed_many y.berths.items i (ran_still t i x y b r f h) in
+          let u = ap (λ (v : Vec Berth Global). length v.items) c.ran_one.ensures.waiting in
+          let v = ap length o.waiting in
+          omega (arith, a, q, m, m2, u, v);
       left = (p, at, out.0, subst (λ (a : Point). a.stopped ≡ false) (sym same) (ran_berth t i x y b r f h p).lives, last);
       why = λ g a j first. (c.leave-leaver.ensures.out g a (c.ran_one.ensures.kept g j).core first).0;
       room = room_left x y z i (ran_still t i x y b r f h) (m2 ∙ sym m) o.berths

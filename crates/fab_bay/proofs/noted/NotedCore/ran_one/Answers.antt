@@ -3,8 +3,7 @@ use Rattle.std.specs.Vec.{with_item}
 use Rattle.std.proofs.lemmas.Option.{slice_get_read}
 use Rattle.fab_bay.proofs.Onward.{goes-none}
 use Rattle.fab_bay.proofs.Places.{berths_many}
-use Rattle.fab_bay.proofs.Ran.{none-one, none-runs, ran-one, ran-runs, noted_at, ran-goes, ran-kept, ran-set, ran-short, still-set, wrote, Read}
-use Rattle.fab_bay.proofs.Near.{near-ran}
+use Rattle.fab_bay.proofs.Ran.{none-one, none-runs, ran-one, ran-runs, noted_at, ran-goes, ran-kept, ran-set, still-set, wrote, Read}
 use Rattle.fab_bay.proofs.noted.NotedCore.ran_one.Goals as goal
 
 pub resident-tenant-requires : goal.resident-tenant-requires
@@ -58,37 +57,6 @@ returns-then-from-tick-clause-noted c =
     let r : Read x i old who tick = record { here = slice_get_read x.berths.items (length x.berths.items) i old refl c.requires.place c.index.ensures; resident = c.resident-tenant.ensures; inside = c.requires.place } in
     let n = wrote c.args.number x w i old m who tick c.ran.result v r c.if-from-tick.true c.ran.ensures.entry (record { label = e.label; core = e.core; waiting = e.waiting; notes = e.notes; told = e.told }) e.berths c.index_mut.ensures.value refl in
     ran-set c.args.number x (record w { berths = v }) i old who tick c.ran.result r n
-
-pub returns-then-from-tick-clause-near : goal.returns-then-from-tick-clause-near
-returns-then-from-tick-clause-near c =
-    let x = c.args.self.now in
-    let i = c.args.place in
-    let old = c.index.result.now in
-    let m = c.index_mut.result.now in
-    let who = c.resident-tenant.result.0 in
-    let tick = c.resident-tenant.result.1 in
-    let w = c.write.new.self in
-    let e = c.write.ensures in
-    let v = with_item w.berths i (noted_at tick m) in
-    let r : Read x i old who tick = record { here = slice_get_read x.berths.items (length x.berths.items) i old refl c.requires.place c.index.ensures; resident = c.resident-tenant.ensures; inside = c.requires.place } in
-    let n = wrote c.args.number x w i old m who tick c.ran.result v r c.if-from-tick.true c.ran.ensures.entry (record { label = e.label; core = e.core; waiting = e.waiting; notes = e.notes; told = e.told }) e.berths c.index_mut.ensures.value refl in
-    let set = ran-set c.args.number x (record w { berths = v }) i old who tick c.ran.result r n in
-    near-ran x (record w { berths = v }) c.requires.fabric.0 i c.requires.fabric.1 c.requires.place set e.core
-
-pub returns-then-from-tick-clause-short : goal.returns-then-from-tick-clause-short
-returns-then-from-tick-clause-short c =
-    let x = c.args.self.now in
-    let i = c.args.place in
-    let old = c.index.result.now in
-    let m = c.index_mut.result.now in
-    let who = c.resident-tenant.result.0 in
-    let tick = c.resident-tenant.result.1 in
-    let w = c.write.new.self in
-    let e = c.write.ensures in
-    let v = with_item w.berths i (noted_at tick m) in
-    let r : Read x i old who tick = record { here = slice_get_read x.berths.items (length x.berths.items) i old refl c.requires.place c.index.ensures; resident = c.resident-tenant.ensures; inside = c.requires.place } in
-    let n = wrote c.args.number x w i old m who tick c.ran.result v r c.if-from-tick.true c.ran.ensures.entry (record { label = e.label; core = e.core; waiting = e.waiting; notes = e.notes; told = e.told }) e.berths c.index_mut.ensures.value refl in
-    ran-short c.args.number x (record w { berths = v }) i old who tick c.ran.result r n
 
 pub returns-then-from-tick-clause-runs : goal.returns-then-from-tick-clause-runs
 returns-then-from-tick-clause-runs c =

@@ -1,8 +1,8 @@
-use Rattle.std.proofs.Common.{◌+◌, List, ◌++◌, length, ap, sym, ◌∙◌, arith}
-use Rattle.fab_core.specs.fab_model.specs.declared.note.Note.{Note}
+use Rattle.std.proofs.Common.{◌+◌, length, ap, arith}
+use Rattle.std.proofs.lemmas.Result.{on_ok_weaker}
 use Rattle.fab_bay.proofs.Gone.{room_same}
 use Rattle.fab_bay.proofs.Kept.{still_back, still_goes, still_noted, still_of, still_then}
-use Rattle.fab_bay.proofs.Near.{near-by, short-none}
+use Rattle.fab_bay.proofs.Near.{none-same, none-then}
 use Rattle.fab_bay.proofs.Ran.{room_less}
 use Rattle.fab_bay.proofs.noted.NotedCore.rebuild.Goals as goal
 
@@ -29,8 +29,8 @@ returns-in-Err c =
     let s = c.prepare.ensures.same in
     record {
       goes = λ out. still_goes c.args.number x y out (still_of x y s);
-      near = near-by x y s.core s.berths;
-      short = λ n added e. short-none x.notes.items y.notes.items added s.notes e;
+      near = none-same x y s.core;
+      rebuilt = tt;
       room = room_same x y s c.prepare.ensures.kept c.requires.room;
     }
 
@@ -42,7 +42,7 @@ returns-in-Ok c =
     let s = c.prepare.ensures.same in
     record {
       goes = λ out. still_then c.args.number 0 x y z out out (still_of x y s) (c.rebuild_with_room.ensures.goes out);
-      near = λ n. c.rebuild_with_room.ensures.near (near-by x y s.core s.berths n);
-      short = λ n added e. c.rebuild_with_room.ensures.short (near-by x y s.core s.berths n) added (e ∙ ap (λ (ns : List Note). ns ++ added) (sym s.notes));
+      near = none-then x y z (none-same x y s.core) c.rebuild_with_room.ensures.near;
+      rebuilt = on_ok_weaker c.rebuild_with_room.result (λ g f n. g f (still_noted x y f (still_of x y s) n)) c.rebuild_with_room.ensures.rebuilt;
       room = c.rebuild_with_room.ensures.room;
     }

@@ -1,6 +1,5 @@
 use Rattle.std.proofs.Common.{[]}
 use Rattle.fab_bay.proofs.Going.{none}
-use Rattle.fab_bay.proofs.Nears.{nears-same}
 use Rattle.fab_bay.proofs.Rounds.{ready-on}
 use Rattle.fab_bay.proofs.noted.NotedCore.rebuild_at_rest.Goals as goal
 
@@ -8,10 +7,10 @@ pub returns-then-not-is_at_rest-clause-goes : goal.returns-then-not-is_at_rest-c
 returns-then-not-is_at_rest-clause-goes c = λ out. none c.args.number c.args.self.now out
 
 pub returns-then-not-is_at_rest-clause-near : goal.returns-then-not-is_at_rest-clause-near
-returns-then-not-is_at_rest-clause-near c = nears-same c.args.self.now
+returns-then-not-is_at_rest-clause-near c = λ most w. w
 
 pub returns-clause-near : goal.returns-clause-near
-returns-clause-near c = record { near = c.rebuild.ensures.near; short = c.rebuild.ensures.short }
+returns-clause-near c = c.rebuild.ensures.near
 
 pub returns-clause-ready : goal.returns-clause-ready
 returns-clause-ready c = ready-on c.args.number 0 c.args.self.now c.rebuild.new.self c.requires.ready (c.rebuild.ensures.goes []) c.rebuild.ensures.room

@@ -1,8 +1,8 @@
 use Rattle.std.proofs.Common.{length, ap, sym, refl, arith}
+use Rattle.std.proofs.lemmas.Result.{on_ok_weaker}
 use Rattle.fab_bay.specs.declared.noted.NotedCore.{NotedCore}
-use Rattle.fab_bay.proofs.Gaps.{near-items}
 use Rattle.fab_bay.proofs.Kept.{still_goes, still_noted, still_then, IsStill}
-use Rattle.fab_bay.proofs.Near.{short-none}
+use Rattle.fab_bay.proofs.Near.{none-same, none-then}
 use Rattle.fab_bay.proofs.noted.NotedCore.rebuild_with_room.Goals as goal
 
 pub join-requires : goal.join-requires
@@ -37,8 +37,8 @@ returns-in-Err c =
     let e = ap length c.reserve.ensures.items in
     record {
       goes = λ out. still_goes c.args.number x y out s;
-      near = near-items x y refl c.reserve.ensures.items;
-      short = λ n added i. short-none x.notes.items x.notes.items added refl i;
+      near = none-same x y refl;
+      rebuilt = tt;
       room = record { notes = omega (arith, a, e); told = omega (arith, b, e) };
     }
 
@@ -49,7 +49,7 @@ returns-in-Ok c =
     let s : IsStill x y = record { label = refl; core = λ f h. h; berths = c.reserve.ensures.items; waiting = refl; notes = refl; told = refl } in
     record {
       goes = λ out. still_then c.args.number 0 x y c.join.new.self out out s (c.join.ensures.goes out);
-      near = λ n. c.join.ensures.near (near-items x y refl c.reserve.ensures.items n);
-      short = λ n. c.join.ensures.short (near-items x y refl c.reserve.ensures.items n);
+      near = none-then x y c.join.new.self (none-same x y refl) c.join.ensures.near;
+      rebuilt = on_ok_weaker c.join.result (λ g f n. g f (still_noted x y f s n)) c.join.ensures.rebuilt;
       room = c.join.ensures.room;
     }

@@ -1,11 +1,11 @@
-use Rattle.std.proofs.Common.{[], ◌+◌, refl}
+use Rattle.std.proofs.Common.{◌+◌, refl}
 use Rattle.fab_bay.proofs.Going.{none}
-use Rattle.fab_bay.proofs.Nears.{nears-same, nears-then}
+use Rattle.fab_bay.proofs.Near.{none-then}
 use Rattle.fab_bay.proofs.Rounds.{both}
 use Rattle.fab_bay.proofs.noted.NotedCore.run_to_rest.Goals as goal
 
 pub acts-init : goal.acts-init
-acts-init c = record { ready = c.requires.ready; near = nears-same c.args.self.now; goes = (0, λ out. none c.args.number c.args.self.now out) }
+acts-init c = record { ready = c.requires.ready; near = λ most w. w; goes = (0, λ out. none c.args.number c.args.self.now out) }
 
 pub returns-in-Ok-true-clause-goes : goal.returns-in-Ok-true-clause-goes
 returns-in-Ok-true-clause-goes c =
@@ -20,14 +20,10 @@ returns-in-Err-clause-goes c =
     (g.0 + h.0, both c.args.number g.0 h.0 (g.0 + h.0) c.args.self.now c.acts.self c.step_to_rest.new.self g.1 h.1 refl)
 
 pub returns-in-Ok-true-clause-near : goal.returns-in-Ok-true-clause-near
-returns-in-Ok-true-clause-near c =
-    nears-then c.args.self.now c.acts.self c.step_to_rest.new.self (c.acts.invariant.goes.1 []).added (c.step_to_rest.ensures.goes.1 []).added (c.acts.invariant.goes.1 []).notes
-    (c.step_to_rest.ensures.goes.1 []).notes c.acts.invariant.near c.step_to_rest.ensures.near
+returns-in-Ok-true-clause-near c = none-then c.args.self.now c.acts.self c.step_to_rest.new.self c.acts.invariant.near c.step_to_rest.ensures.near
 
 pub returns-in-Err-clause-near : goal.returns-in-Err-clause-near
-returns-in-Err-clause-near c =
-    nears-then c.args.self.now c.acts.self c.step_to_rest.new.self (c.acts.invariant.goes.1 []).added (c.step_to_rest.ensures.goes.1 []).added (c.acts.invariant.goes.1 []).notes
-    (c.step_to_rest.ensures.goes.1 []).notes c.acts.invariant.near c.step_to_rest.ensures.near
+returns-in-Err-clause-near c = none-then c.args.self.now c.acts.self c.step_to_rest.new.self c.acts.invariant.near c.step_to_rest.ensures.near
 
 pub acts-preserved : goal.acts-preserved
 acts-preserved c =
@@ -35,7 +31,6 @@ acts-preserved c =
     let h = c.step_to_rest.ensures.goes in
     record {
       ready = c.step_to_rest.ensures.ready;
-      near = nears-then c.args.self.now c.acts.self c.step_to_rest.new.self (c.acts.invariant.goes.1 []).added (c.step_to_rest.ensures.goes.1 []).added (c.acts.invariant.goes.1 []).notes
-          (c.step_to_rest.ensures.goes.1 []).notes c.acts.invariant.near c.step_to_rest.ensures.near;
+      near = none-then c.args.self.now c.acts.self c.step_to_rest.new.self c.acts.invariant.near c.step_to_rest.ensures.near;
       goes = (g.0 + h.0, both c.args.number g.0 h.0 (g.0 + h.0) c.args.self.now c.acts.self c.step_to_rest.new.self g.1 h.1 refl);
     }

@@ -5,11 +5,9 @@ use Rattle.std.specs.declared.vec.Vec.{Vec}
 use Rattle.std.proofs.lemmas.Option.{slice_get-get_or, slice_get_read}
 use Rattle.fab_core.specs.fab_model.specs.Points.{tick_of}
 use Rattle.fab_core.specs.fab_lock.specs.declared.entry.Entry.{Entry}
-use Rattle.fab_core.specs.fab_lock.specs.declared.entry.Kind.TheVariants.{Saved}
 use Rattle.fab_core.specs.fab_model.specs.Tokens.{out_at, put_at}
 use Rattle.fab_bay.specs.declared.berth.Berth.{Berth}
 use Rattle.fab_bay.proofs.Events.{berthed, has-place}
-use Rattle.fab_bay.proofs.Near.{near-by, ran-near-short, short-one, short-then}
 use Rattle.fab_bay.specs.Marks.{is_run, mark_at}
 use Rattle.fab_bay.proofs.Going.{closed-by, closed-run}
 use Rattle.fab_bay.proofs.Gone.{place_first}
@@ -129,16 +127,5 @@ returns-clause-room c = λ n h. c.write.ensures.room n (c.ran_one.ensures.room (
 pub returns-clause-core : goal.returns-clause-core
 returns-clause-core c = c.write.ensures.core ∙ c.ran_one.ensures.core
 
-pub returns-clause-near : goal.returns-clause-near
-returns-clause-near c = λ n. near-by c.ran_one.new.self c.write.new.self c.write.ensures.core c.write.ensures.berths (c.ran_one.ensures.near n)
-
-pub returns-clause-short : goal.returns-clause-short
-returns-clause-short c = λ n added eq.
-    let x = c.args.self.now in
-    let y = c.ran_one.new.self in
-    let i = c.in-Some.place in
-    let b = berthed c.args.tenant x i (ap (λ (bs : List Berth). position (λ b. b.tenant == c.args.tenant) bs) (sym c.deref.ensures.value) ∙ (sym c.berth_of.ensures ∙ c.in-Some.is)) in
-    let d = c.ran_one.ensures.goes [] in
-    let m = c.saved.result in
-    short-then x.notes.items y.notes.items c.write.new.self.notes.items d.added (m ∷ []) added d.notes c.write.ensures.notes eq
-    (ran-near-short x y c.requires.fabric.0 i d.added c.requires.fabric.2 b.inside c.ran_one.ensures.short n d.notes) (short-one m Saved (ap (λ (w : Entry). w.kind) c.saved.ensures.entry) tt)
+pub returns-clause-waiting : goal.returns-clause-waiting
+returns-clause-waiting c = c.write.ensures.waiting ∙ c.ran_one.ensures.waiting

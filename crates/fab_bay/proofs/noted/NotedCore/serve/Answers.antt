@@ -1,4 +1,4 @@
-use Rattle.std.proofs.Common.{◌+◌, ◌++◌, ◌<◌, length, refl, sym, ap, ◌∙◌, subst}
+use Rattle.std.proofs.Common.{◌+◌, ◌<◌, length, refl, sym, ap, ◌∙◌, subst}
 use Rattle.std.specs.declared.alloc.Global.{Global}
 use Rattle.std.specs.declared.vec.Vec.{Vec}
 use Rattle.ten_core.specs.sub_nodes.specs.Code.{table_of}
@@ -11,9 +11,10 @@ use Rattle.fab_bay.specs.Acts.{acts_in, saves_in}
 use Rattle.fab_bay.specs.Standing.{HasRoomFor}
 use Rattle.fab_bay.proofs.Acts.{call-nearer, save-along, save-fewer, still-by, trap-by}
 use Rattle.fab_bay.proofs.Events.{first-served, goes-core, goes-same, goes-serve, on-ok, room-by, same-back, same-noted, serve-noted}
-use Rattle.fab_bay.proofs.Near.{near-by, near-core, near-served, short-none}
+use Rattle.fab_bay.proofs.Near.{none-same, none-served, none-still, none-then}
 use Rattle.fab_bay.proofs.Onward.{goes-then}
 use Rattle.fab_bay.proofs.Saves.{goes-saved}
+use Rattle.fab_bay.proofs.Wanted.{rests-by}
 use Rattle.fab_bay.proofs.noted.NotedCore.serve.Goals as goal
 
 pub returns-then-is_err-clause-goes : goal.returns-then-is_err-clause-goes
@@ -90,77 +91,78 @@ returns-then-saved-clause-room c =
     room-by n (length u.berths.items) u (sym (c.saved_one.ensures.long ∙ ap (λ (v : Vec Berth Global). length v.items) c.prepare.ensures.same.berths)) (c.saved_one.ensures.room n (record { notes = r.notes; told = r.told }))
 
 pub returns-then-is_err-clause-near : goal.returns-then-is_err-clause-near
-returns-then-is_err-clause-near c = let s = c.prepare.ensures.same in near-by c.args.self.now c.prepare.new.self s.core s.berths
+returns-then-is_err-clause-near c = none-same c.args.self.now c.prepare.new.self c.prepare.ensures.same.core
 
-pub returns-then-is_err-clause-short : goal.returns-then-is_err-clause-short
-returns-then-is_err-clause-short c = λ n added e. short-none c.args.self.now.notes.items c.prepare.new.self.notes.items added c.prepare.ensures.same.notes e
-
-pub returns-then-is_err-clause-holding : goal.returns-then-is_err-clause-holding
-returns-then-is_err-clause-holding c = ap (λ (k : FabCore). k.holding) c.prepare.ensures.same.core
+pub returns-then-is_err-clause-rests : goal.returns-then-is_err-clause-rests
+returns-then-is_err-clause-rests c =
+    let s = c.prepare.ensures.same in
+    rests-by c.args.self.now c.prepare.new.self (ap (λ (v : Vec Berth Global). length v.items) s.berths) (ap (λ (v : Vec Berth Global). length v.items) s.waiting) (ap (λ (k : FabCore). k.holding) s.core)
 
 pub returns-in-Err-clause-near : goal.returns-in-Err-clause-near
-returns-in-Err-clause-near c = λ n.
+returns-in-Err-clause-near c =
     let x = c.args.self.now in
     let y = c.prepare.new.self in
     let s = c.prepare.ensures.same in
     let f = c.requires.fabric.0 in
     let k = same-noted x y f s c.requires.fabric.1 in
-    near-core y c.serve.new.self f k (c.in-Err.ensures.err f k.core) (near-by x y s.core s.berths n)
+    let z = record y { core = c.serve.new.self } in
+    none-then x y z (none-same x y s.core) (none-still y z f k.core (c.in-Err.ensures.err f k.core))
 
-pub returns-in-Err-clause-short : goal.returns-in-Err-clause-short
-returns-in-Err-clause-short c = λ n added e. short-none c.args.self.now.notes.items c.prepare.new.self.notes.items added c.prepare.ensures.same.notes e
-
-pub returns-in-Err-clause-holding : goal.returns-in-Err-clause-holding
-returns-in-Err-clause-holding c =
+pub returns-in-Err-clause-rests : goal.returns-in-Err-clause-rests
+returns-in-Err-clause-rests c =
+    let x = c.args.self.now in
+    let y = c.prepare.new.self in
+    let s = c.prepare.ensures.same in
     let f = c.requires.fabric.0 in
     let h = c.requires.fabric.1 in
-    let k = same-noted c.args.self.now c.prepare.new.self f c.prepare.ensures.same h in
-    (c.in-Err.ensures.err f k.core).holding ∙ sym h.core.holding
+    let k = same-noted x y f s h in
+    rests-by x (record y { core = c.serve.new.self }) (ap (λ (v : Vec Berth Global). length v.items) s.berths) (ap (λ (v : Vec Berth Global). length v.items) s.waiting)
+    ((c.in-Err.ensures.err f k.core).holding ∙ sym h.core.holding)
 
 pub returns-else-saved-clause-near : goal.returns-else-saved-clause-near
-returns-else-saved-clause-near c = λ n.
+returns-else-saved-clause-near c =
     let x = c.args.self.now in
     let y = c.prepare.new.self in
     let s = c.prepare.ensures.same in
     let f = c.requires.fabric.0 in
     let k = same-noted x y f s c.requires.fabric.1 in
-    near-served c.each_act_comes_nearer.ensures.call_ticks c.args.tenant y c.serve.new.self f k (c.in-Ok.ensures.fabric f k.core) (near-by x y s.core s.berths n)
+    let z = record y { core = c.serve.new.self } in
+    none-then x y z (none-same x y s.core) (none-served c.each_act_comes_nearer.ensures.call_ticks c.args.tenant y z f k.core (c.in-Ok.ensures.fabric f k.core))
 
-pub returns-else-saved-clause-short : goal.returns-else-saved-clause-short
-returns-else-saved-clause-short c = λ n added e. short-none c.args.self.now.notes.items c.prepare.new.self.notes.items added c.prepare.ensures.same.notes e
-
-pub returns-else-saved-clause-holding : goal.returns-else-saved-clause-holding
-returns-else-saved-clause-holding c =
+pub returns-else-saved-clause-rests : goal.returns-else-saved-clause-rests
+returns-else-saved-clause-rests c =
+    let x = c.args.self.now in
+    let y = c.prepare.new.self in
+    let s = c.prepare.ensures.same in
     let f = c.requires.fabric.0 in
     let h = c.requires.fabric.1 in
-    let k = same-noted c.args.self.now c.prepare.new.self f c.prepare.ensures.same h in
-    (c.in-Ok.ensures.fabric f k.core).holding ∙ sym h.core.holding
+    let k = same-noted x y f s h in
+    rests-by x (record y { core = c.serve.new.self }) (ap (λ (v : Vec Berth Global). length v.items) s.berths) (ap (λ (v : Vec Berth Global). length v.items) s.waiting)
+    ((c.in-Ok.ensures.fabric f k.core).holding ∙ sym h.core.holding)
 
 pub returns-then-saved-clause-near : goal.returns-then-saved-clause-near
-returns-then-saved-clause-near c = λ n.
+returns-then-saved-clause-near c =
     let x = c.args.self.now in
     let y = c.prepare.new.self in
     let s = c.prepare.ensures.same in
     let f = c.requires.fabric.0 in
     let k = same-noted x y f s c.requires.fabric.1 in
-    c.saved_one.ensures.near (near-served c.each_act_comes_nearer.ensures.call_ticks c.args.tenant y c.serve.new.self f k (c.in-Ok.ensures.fabric f k.core) (near-by x y s.core s.berths n))
+    let z = record y { core = c.serve.new.self } in
+    let u = c.saved_one.new.self in
+    none-then x z u (none-then x y z (none-same x y s.core) (none-served c.each_act_comes_nearer.ensures.call_ticks c.args.tenant y z f k.core (c.in-Ok.ensures.fabric f k.core)))
+    (none-same z u c.saved_one.ensures.core)
 
-pub returns-then-saved-clause-short : goal.returns-then-saved-clause-short
-returns-then-saved-clause-short c = λ n added e.
+pub returns-then-saved-clause-rests : goal.returns-then-saved-clause-rests
+returns-then-saved-clause-rests c =
     let x = c.args.self.now in
     let y = c.prepare.new.self in
     let s = c.prepare.ensures.same in
-    let f = c.requires.fabric.0 in
-    let k = same-noted x y f s c.requires.fabric.1 in
-    let near = near-served c.each_act_comes_nearer.ensures.call_ticks c.args.tenant y c.serve.new.self f k (c.in-Ok.ensures.fabric f k.core) (near-by x y s.core s.berths n) in
-    c.saved_one.ensures.short near added (e ∙ ap (λ l. l ++ added) (sym s.notes))
-
-pub returns-then-saved-clause-holding : goal.returns-then-saved-clause-holding
-returns-then-saved-clause-holding c =
     let f = c.requires.fabric.0 in
     let h = c.requires.fabric.1 in
-    let k = same-noted c.args.self.now c.prepare.new.self f c.prepare.ensures.same h in
-    ap (λ (w : FabCore). w.holding) c.saved_one.ensures.core ∙ (c.in-Ok.ensures.fabric f k.core).holding ∙ sym h.core.holding
+    let k = same-noted x y f s h in
+    rests-by x c.saved_one.new.self (c.saved_one.ensures.long ∙ ap (λ (v : Vec Berth Global). length v.items) s.berths)
+    (ap (λ (v : Vec Berth Global). length v.items) c.saved_one.ensures.waiting ∙ ap (λ (v : Vec Berth Global). length v.items) s.waiting)
+    (ap (λ (w : FabCore). w.holding) c.saved_one.ensures.core ∙ (c.in-Ok.ensures.fabric f k.core).holding ∙ sym h.core.holding)
 
 pub returns-else-saved-clause-call : goal.returns-else-saved-clause-call
 returns-else-saved-clause-call c = λ e.

@@ -1,31 +1,29 @@
-use Rattle.std.proofs.Common.{[], sym, ◌∙◌, arith}
-use Rattle.fab_bay.proofs.Finding.{serves-first}
+use Rattle.std.proofs.Common.{refl, ◌∙◌, arith}
 use Rattle.fab_bay.proofs.Going.{none}
-use Rattle.fab_bay.proofs.Nears.{nears-same, nears-then}
-use Rattle.fab_bay.proofs.Rounds.{both, ready-on}
+use Rattle.fab_bay.proofs.Rounds.{both}
 use Rattle.fab_bay.proofs.noted.NotedCore.serve_all.Goals as goal
 
-pub loop-init : goal.loop-init
-loop-init c = record { ready = c.requires.ready; near = nears-same c.args.self.now; goes = λ out. none c.args.number c.args.self.now out }
+pub calls-init : goal.calls-init
+calls-init c = record { ready = c.requires.ready; goes = λ out. none c.args.number c.args.self.now out; rests = refl }
 
-pub serve-requires-clause-waits : goal.serve-requires-clause-waits
-serve-requires-clause-waits c = λ f n. serves-first f c.in-Some.tenant n.core.once (sym c.in-Some.is ∙ c.next_trap.ensures f n.core)
-
-pub returns-then-is_err-clause-ready : goal.returns-then-is_err-clause-ready
-returns-then-is_err-clause-ready c = ready-on c.args.number 0 c.loop.self c.serve.new.self c.loop.invariant.ready (c.serve.ensures.goes []) c.serve.ensures.room
-
-pub returns-then-is_err-clause-goes : goal.returns-then-is_err-clause-goes
-returns-then-is_err-clause-goes c = both c.args.number 0 0 0 c.args.self.now c.loop.self c.serve.new.self c.loop.invariant.goes c.serve.ensures.goes (omega arith)
-
-pub returns-then-is_err-clause-near : goal.returns-then-is_err-clause-near
-returns-then-is_err-clause-near c =
-    nears-then c.args.self.now c.loop.self c.serve.new.self (c.loop.invariant.goes []).added (c.serve.ensures.goes []).added (c.loop.invariant.goes []).notes (c.serve.ensures.goes []).notes c.loop.invariant.near
-    (record { near = c.serve.ensures.near; short = c.serve.ensures.short })
-
-pub loop-preserved : goal.loop-preserved
-loop-preserved c = record {
-  ready = ready-on c.args.number 0 c.loop.self c.serve.new.self c.loop.invariant.ready (c.serve.ensures.goes []) c.serve.ensures.room;
-  near = nears-then c.args.self.now c.loop.self c.serve.new.self (c.loop.invariant.goes []).added (c.serve.ensures.goes []).added (c.loop.invariant.goes []).notes (c.serve.ensures.goes []).notes c.loop.invariant.near
-      (record { near = c.serve.ensures.near; short = c.serve.ensures.short });
-  goes = both c.args.number 0 0 0 c.args.self.now c.loop.self c.serve.new.self c.loop.invariant.goes c.serve.ensures.goes (omega arith);
+pub calls-preserved : goal.calls-preserved
+calls-preserved c = record {
+  ready = c.serve_to_call.ensures.ready;
+  goes = both c.args.number 0 0 0 c.args.self.now c.calls.self c.serve_to_call.new.self c.calls.invariant.goes c.serve_to_call.ensures.goes (omega arith);
+  rests = c.serve_to_call.ensures.rests ∙ c.calls.invariant.rests;
 }
+
+pub returns-in-Ok-false-clause-goes : goal.returns-in-Ok-false-clause-goes
+returns-in-Ok-false-clause-goes c = both c.args.number 0 0 0 c.args.self.now c.calls.self c.serve_to_call.new.self c.calls.invariant.goes c.serve_to_call.ensures.goes (omega arith)
+
+pub returns-in-Ok-false-clause-quiet : goal.returns-in-Ok-false-clause-quiet
+returns-in-Ok-false-clause-quiet c = c.in-Ok-false.ensures.quiet cc
+
+pub returns-in-Ok-false-clause-rests : goal.returns-in-Ok-false-clause-rests
+returns-in-Ok-false-clause-rests c = c.serve_to_call.ensures.rests ∙ c.calls.invariant.rests
+
+pub returns-in-Err-clause-goes : goal.returns-in-Err-clause-goes
+returns-in-Err-clause-goes c = both c.args.number 0 0 0 c.args.self.now c.calls.self c.serve_to_call.new.self c.calls.invariant.goes c.serve_to_call.ensures.goes (omega arith)
+
+pub returns-in-Err-clause-rests : goal.returns-in-Err-clause-rests
+returns-in-Err-clause-rests c = c.serve_to_call.ensures.rests ∙ c.calls.invariant.rests

@@ -4,7 +4,6 @@ use Rattle.fab_core.specs.fab_model.specs.Points.{tick_of}
 use Rattle.fab_core.specs.declared.cores.FabCore.{FabCore}
 use Rattle.fab_core.specs.Standing.{IsFabric}
 use Rattle.fab_bay.proofs.Events.{room-by}
-use Rattle.fab_bay.proofs.Near.{ran-near-short, short-none, short-then}
 use Rattle.fab_bay.proofs.Onward.{goes-none, goes-then}
 use Rattle.fab_bay.proofs.Ran.{behind, get-set-other, noted_at, room_less, settled-all, settled-more}
 use Rattle.fab_bay.specs.declared.berth.Berth.{Berth}
@@ -21,8 +20,6 @@ loop-place-init c =
       core = refl;
       long = refl;
       room = λ m e. room-by (length x.berths.items) m x (omega (arith, e)) c.requires.room;
-      near = λ n. n;
-      short = λ n added e. short-none x.notes.items x.notes.items added refl e;
       once = λ added e. once-none x added e;
       settled = λ f core j b p lt at stands. let z : ⊥ = omega (arith, lt) in absurd z;
     }
@@ -53,11 +50,6 @@ loop-place-preserved c =
       core = e.core ∙ v.core;
       long = b.long ∙ v.long;
       room = λ m eq. e.room m (v.room (suc m) (omega (arith, eq)));
-      near = λ n. e.near (v.near n);
-      short = λ n added eq.
-          let a = v.goes [] in
-          let d = e.goes [] in
-          short-then x.notes.items s.notes.items y.notes.items a.added d.added added a.notes d.notes eq (v.short n a.added a.notes) (ran-near-short s y f i d.added h lt e.short (v.near n) d.notes);
       once = λ added eq.
           let a = v.goes [] in
           let d = e.goes [] in

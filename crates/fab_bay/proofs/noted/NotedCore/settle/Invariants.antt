@@ -4,8 +4,7 @@ use Rattle.fab_core.specs.Standing.{IsFabric}
 use Rattle.fab_core.specs.fab_model.specs.declared.note.Note.{Note}
 use Rattle.fab_core.specs.fab_model.specs.declared.transit.Transit.{Transit}
 use Rattle.fab_bay.specs.Standing.{HasRoomFor, IsNoted}
-use Rattle.fab_bay.specs.Nearness.{IsNear}
-use Rattle.fab_bay.specs.Ways.{AreShort, Settles}
+use Rattle.fab_bay.specs.Ways.{Settles}
 use Rattle.fab_bay.proofs.Ran.{AreSettledTo}
 use Rattle.fab_bay.proofs.Wholes.{IsOnce}
 use Rattle.fab_bay.proofs.noted.NotedCore.settle.Given as goal
@@ -17,8 +16,6 @@ invariant-loop-place l = record {
   core : l.self.core ≡ l.initial.self.core;
   long : length l.self.berths.items ≡ length l.initial.self.berths.items;
   room : (m : ℕ) → l.place + m ≡ length l.initial.self.berths.items → HasRoomFor m l.self;
-  near : IsNear l.initial.self → IsNear l.self;
-  short : IsNear l.initial.self → (added : List Note) → l.self.notes.items ≡ l.initial.self.notes.items ++ added → AreShort added;
   once : (added : List Note) → l.self.notes.items ≡ l.initial.self.notes.items ++ added → IsOnce l.initial.self l.self l.place added;
   settled : (f : Fabric) → IsFabric l.initial.self.core f → AreSettledTo l.place l.self.berths.items f.residents;
 }

@@ -1,8 +1,9 @@
-use Rattle.std.proofs.Common.{◌≡◌, true, false, [], sym, ap, ◌∙◌, arith}
+use Rattle.std.proofs.Common.{◌≡◌, true, false, [], sym, ◌∙◌, arith}
 use Rattle.fab_core.specs.fab_model.specs.Fabrics.{held}
 use Rattle.fab_bay.proofs.Acts.{acts-by, cycle-nearer}
-use Rattle.fab_bay.proofs.Nears.{nears-kept, nears-then}
+use Rattle.fab_bay.proofs.Near.{none-then}
 use Rattle.fab_bay.proofs.Rounds.{both, ready-on}
+use Rattle.fab_bay.proofs.Wanted.{held-steps}
 use Rattle.fab_bay.proofs.noted.NotedCore.step_to_rest.Goals as goal
 
 pub returns-in-Ok-true-clause-goes : goal.returns-in-Ok-true-clause-goes
@@ -15,22 +16,21 @@ pub returns-then-is_at_rest-clause-goes : goal.returns-then-is_at_rest-clause-go
 returns-then-is_at_rest-clause-goes c = (0, both c.args.number 0 0 0 c.args.self.now c.serve_to_call.new.self c.hold_on.new.self c.serve_to_call.ensures.goes c.hold_on.ensures.goes (omega arith))
 
 pub returns-then-is_at_rest-clause-near : goal.returns-then-is_at_rest-clause-near
-returns-then-is_at_rest-clause-near c =
-    let g = c.serve_to_call.ensures.goes [] in
-    let h = c.hold_on.ensures.goes [] in
-    nears-then c.args.self.now c.serve_to_call.new.self c.hold_on.new.self g.added h.added g.notes h.notes c.serve_to_call.ensures.near c.hold_on.ensures.near
+returns-then-is_at_rest-clause-near c = none-then c.args.self.now c.serve_to_call.new.self c.hold_on.new.self c.serve_to_call.ensures.near c.hold_on.ensures.near
 
 pub returns-clause-near : goal.returns-clause-near
 returns-clause-near c =
     let x = c.args.self.now in
-    let served = c.serve_to_call.new.self in
     let held = c.hold_on.new.self in
-    let g = c.serve_to_call.ensures.goes [] in
-    let h = c.hold_on.ensures.goes [] in
-    let w = both c.args.number 0 0 0 x served held c.serve_to_call.ensures.goes c.hold_on.ensures.goes (omega arith) [] in
-    let e = c.cycle.ensures.goes c.args.number [] in
-    nears-then x held c.cycle.new.self w.added e.added w.notes e.notes (nears-then x served held g.added h.added g.notes h.notes c.serve_to_call.ensures.near c.hold_on.ensures.near)
-    (nears-kept held c.cycle.new.self (ap (λ v. v.items) c.cycle.ensures.notes) (c.cycle.ensures.near c.hold_on.ensures.holds))
+    none-then x held c.cycle.new.self (none-then x c.serve_to_call.new.self held c.serve_to_call.ensures.near c.hold_on.ensures.near) (c.cycle.ensures.near c.hold_on.ensures.holds)
+
+pub cycle-requires-clause-steps : goal.cycle-requires-clause-steps
+cycle-requires-clause-steps c =
+    let ready = c.serve_to_call.ensures.ready in
+    let f = ready.fabric in
+    let h = c.hold_on.ensures.held f ready.noted in
+    let no_call : c.in-Ok-false.field-0 ≡ false = cc in
+    (held f, h, held-steps f (c.in-Ok-false.ensures.quiet no_call f ready.noted) (c.is_at_rest.ensures (held f) h ∙ c.if-is_at_rest.false))
 
 pub cycle-requires-clause-order : goal.cycle-requires-clause-order
 cycle-requires-clause-order c = λ f n free. let z : ◌≡◌ true false = sym c.hold_on.ensures.holds ∙ (n.core.holding ∙ free) in let y : ⊥ = cc in absurd y

@@ -1,14 +1,15 @@
-use Rattle.std.proofs.Common.{List, [], refl, sym, ap, ◌∙◌}
+use Rattle.std.proofs.Common.{List, [], refl, sym, ap, ◌∙◌, subst}
 use Rattle.fab_core.specs.fab_model.specs.declared.note.Note.{Note}
 use Rattle.fab_core.specs.fab_model.specs.Histories.{place_of, replay}
+use Rattle.fab_core.specs.fab_model.specs.Worlds.{run}
 use Rattle.fab_bay.specs.declared.leaving.Taken.{Taken}
 use Rattle.fab_bay.specs.declared.noted.NotedCore.{NotedCore}
 use Rattle.fab_bay.specs.Refusals.{IsAway}
-use Rattle.fab_bay.specs.Nearness.{IsNear}
-use Rattle.fab_bay.specs.Standing.{IsBay}
+use Rattle.fab_bay.specs.Nearness.{IsWithin}
+use Rattle.fab_bay.specs.Standing.{IsBay, IsNoted}
 use Rattle.fab_bay.proofs.Arriving.{away_of, here_of}
 use Rattle.fab_bay.proofs.Calls.{bay-again, bay-like, IsLike}
-use Rattle.fab_bay.proofs.Near.{near-settled}
+use Rattle.fab_bay.proofs.Rises.{found-within, next_tick}
 use Rattle.fab_bay.proofs.Taking.{found-by, found-label}
 use Rattle.fab_bay.proofs.noted.NotedCore.take.Goals as goal
 
@@ -30,11 +31,14 @@ returns-clause-taken c =
     let begins : IsLike x b = record { label = s.label; core = s.core; berths = s.berths; waiting = s.waiting; notes = s.notes } in
     let ends : IsLike d e = record { label = refl; core = refl; berths = refl; waiting = refl; notes = refl } in
     let bay : IsBay b = bay-like x b begins c.requires.bay in
-    let near : IsNear b = near-settled b bay.fabric bay.noted bay.settled in
+    let within : IsWithin (next_tick x.notes.items) b = subst (λ (ns : List Note). IsWithin (next_tick ns) b) s.notes (found-within b bay.fabric bay.noted bay.settled) in
+    let ready = c.take_there-found.ensures.ready in
+    let f = (run (c.settle.ensures.goes []).events (record { fabric = ready.fabric; transit = [] })).fabric in
+    let noted : IsNoted d f = ((c.settle.ensures.goes []).leads ready.fabric [] ready.noted tt).0 in
     let there : (IsAway x.notes.items c.args.tenant → ⊥) = here_of x c.requires.bay.fabric c.args.tenant c.requires.bay.noted (sym c.is_there.ensures ∙ c.if-not-is_there.false) in (
       λ away. absurd (there away),
       found-by c.args.number c.args.tenant x b m d e t begins (s.told ∙ c.new-2.ensures.items) c.settle.ensures.goes ends (ap (λ v. v.items) c.replace-entries.ensures.value) there
-          near c.take_there-found.ensures.near c.settle.ensures.short c.settle.ensures.whole found c.take_there-found.ensures.found,
+          within c.take_there-found.ensures.near c.settle.ensures.core f noted c.settle.ensures.whole found c.take_there-found.ensures.found,
     )
 
 pub returns-clause-bay : goal.returns-clause-bay

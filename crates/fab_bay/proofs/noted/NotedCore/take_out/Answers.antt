@@ -1,9 +1,7 @@
-use Rattle.std.proofs.Common.{List, ◌++◌, sym, ap, ◌∙◌}
-use Rattle.fab_core.specs.fab_model.specs.declared.note.Note.{Note}
 use Rattle.fab_bay.proofs.Flags.{keeps-same}
 use Rattle.fab_bay.proofs.Gone.{room_kept, room_same}
 use Rattle.fab_bay.proofs.Kept.{still_back, still_goes, still_noted, still_of, still_then}
-use Rattle.fab_bay.proofs.Near.{near-by, short-none}
+use Rattle.fab_bay.proofs.Near.{none-same, none-then}
 use Rattle.fab_bay.proofs.noted.NotedCore.take_out.Goals as goal
 
 pub take_with_room-requires : goal.take_with_room-requires
@@ -30,8 +28,8 @@ returns-in-Err c =
       flag = tt;
       withdrawn = tt;
       err = λ out. still_goes c.args.number x y out (still_of x y s);
-      near = near-by x y s.core s.berths;
-      short = λ n added e. short-none x.notes.items y.notes.items added s.notes e;
+      within = tt;
+      near = none-same x y s.core;
       room = room_same x y s c.prepare.ensures.kept c.requires.room;
     }
 
@@ -48,7 +46,7 @@ returns-in-Ok c =
       flag = keeps-same x y c.take_with_room.result s.notes e.flag;
       withdrawn = e.withdrawn;
       err = tt;
-      near = λ n. e.near (near-by x y s.core s.berths n);
-      short = λ n added i. e.short (near-by x y s.core s.berths n) added (i ∙ ap (λ (ns : List Note). ns ++ added) (sym s.notes));
+      within = λ most w. e.within most (none-same x y s.core most w);
+      near = none-then x y z (none-same x y s.core) e.near;
       room = e.room;
     }

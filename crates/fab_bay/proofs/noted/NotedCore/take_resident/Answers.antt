@@ -2,14 +2,11 @@ use Rattle.std.proofs.Common.{◌++◌, ◌∷◌, [], ◌+◌, suc, length, ap,
 use Rattle.fab_core.specs.fab_model.specs.Fabrics.{has, taken}
 use Rattle.fab_core.specs.ten_parcel.specs.declared.parcel.Parcel.{Parcel}
 use Rattle.fab_core.specs.ten_parcel.specs.Parcels.{ticks_of}
-use Rattle.fab_core.specs.fab_lock.specs.declared.entry.Entry.{Entry}
-use Rattle.fab_core.specs.fab_lock.specs.declared.entry.Kind.TheVariants.{Left}
 use Rattle.fab_core.specs.declared.cores.FabCore.{FabCore}
 use Rattle.fab_core.specs.Standing.{IsFabric, IsPointOf}
 use Rattle.fab_bay.proofs.Events.{berthed}
-use Rattle.fab_bay.proofs.Gaps.{taken-near}
 use Rattle.fab_bay.proofs.Gone.{goes_gone_take, gone_take, has_resident, out_keeps, out_closed, out_number, out_withdrawn, out_written, place_there, ran_berth, ran_noted, ran_still, ready_of, room_left, for_none, taker_of, yes-no, IsOut, IsRan, IsReady}
-use Rattle.fab_bay.proofs.Near.{ran-near-short, short-one, short-then}
+use Rattle.fab_bay.proofs.Near.{came-within, none-taken}
 use Rattle.fab_bay.proofs.Places.{berths_many}
 use Rattle.fab_bay.proofs.Ran.{room_less}
 use Rattle.fab_bay.proofs.noted.NotedCore.take_resident.Goals as goal
@@ -116,13 +113,8 @@ returns c =
       number = out_number k t i x y z b s n o f for_none out.0 h l;
       flag = out_keeps k t i x y z b s n o f out.0 h l;
       withdrawn = out_withdrawn k t i x y z b s n o f out.0 h l;
-      near = λ j.
-          taken-near k t i x y z b s n o f h (c.requires.rest f h)
-          (subst (λ (a : FabCore). IsFabric a (taken t f)) (sym c.write.ensures.core) (c.take.ensures.fabric f (c.ran_one.ensures.kept f h).core)) (c.ran_one.ensures.near j);
-      short = λ j added e.
-          let d = c.ran_one.ensures.goes [] in
-          short-then x.notes.items y.notes.items z.notes.items d.added (n ∷ []) added d.notes c.write.ensures.notes e
-          (ran-near-short x y f i d.added h (place_there t i x f c.requires.place h) c.ran_one.ensures.short j d.notes) (short-one n Left (ap (λ (a : Entry). a.kind) c.left-note.ensures.entry) tt);
+      within = came-within t x f s.parcel out.0 h.core out.1 at;
+      near = none-taken t x z f h.core (subst (λ (a : FabCore). IsFabric a (taken t f)) (sym c.write.ensures.core) (c.take.ensures.fabric f (c.ran_one.ensures.kept f h).core));
       room = room_left x y z i (ran_still t i x y b r f h) (m2 ∙ sym m) o.berths
           (c.ran_one.ensures.room (length x.berths.items + 1) (room_less (suc (length x.berths.items + 1)) (length x.berths.items + 2) x (omega arith) c.requires.room))
           (λ a j. c.write.ensures.room a (record { notes = j.notes; told = j.told }));

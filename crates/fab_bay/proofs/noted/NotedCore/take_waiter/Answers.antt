@@ -1,16 +1,12 @@
-use Rattle.std.proofs.Common.{◌∷◌, [], ap, sym, ◌∙◌, subst, arith, get_or}
-use Rattle.std.proofs.lemmas.List.{append-nil}
+use Rattle.std.proofs.Common.{ap, sym, ◌∙◌, subst, arith, get_or}
 use Rattle.fab_core.specs.fab_model.specs.Points.{Point}
 use Rattle.fab_core.specs.fab_model.specs.Fabrics.{has, taken}
 use Rattle.fab_core.specs.ten_parcel.specs.declared.parcel.Parcel.{Parcel}
-use Rattle.fab_core.specs.fab_lock.specs.declared.entry.Entry.{Entry}
-use Rattle.fab_core.specs.fab_lock.specs.declared.entry.Kind.TheVariants.{Left}
 use Rattle.fab_core.specs.declared.cores.FabCore.{FabCore}
 use Rattle.fab_core.specs.Standing.{IsFabric, IsPointOf}
-use Rattle.fab_bay.proofs.Gaps.{withdrawn-near}
 use Rattle.fab_bay.proofs.Gone.{for_none, goes_gone_take, gone_line, has_waiter, line_taker, line_waiter, ready_of, room_stays, waiter_there, withdrawn_closed, withdrawn_keeps, withdrawn_number, withdrawn_out, withdrawn_written, yes-no, IsReady, IsWithdrawn}
 use Rattle.fab_bay.proofs.Leavers.{leaver_ticks}
-use Rattle.fab_bay.proofs.Near.{short-one, short-then}
+use Rattle.fab_bay.proofs.Near.{came-within, none-taken}
 use Rattle.fab_bay.proofs.noted.NotedCore.take_waiter.Goals as goal
 
 pub take-requires : goal.take-requires
@@ -94,9 +90,7 @@ returns c =
       number = withdrawn_number k t i x z b s n o f h out.0 out.1 at;
       flag = withdrawn_keeps k t i x z b s n o f h out.0 out.1 at;
       withdrawn = withdrawn_out k t i x z b s n o f h out.0 out.1 at;
-      near = withdrawn-near k t i x z b s n o f h (subst (λ (a : FabCore). IsFabric a (taken t f)) (sym c.write.ensures.core) (c.take.ensures.fabric f h.core));
-      short = λ j added e.
-          short-then x.notes.items x.notes.items z.notes.items [] (n ∷ []) added (sym (append-nil x.notes.items)) c.write.ensures.notes e tt
-          (short-one n Left (ap (λ (a : Entry). a.kind) c.left-note.ensures.entry) tt);
+      within = came-within t x f s.parcel out.0 h.core out.1 at;
+      near = none-taken t x z f h.core (subst (λ (a : FabCore). IsFabric a (taken t f)) (sym c.write.ensures.core) (c.take.ensures.fabric f h.core));
       room = room_stays x z o.berths c.requires.room (λ a j. c.write.ensures.room a (record { notes = j.notes; told = j.told }));
     }

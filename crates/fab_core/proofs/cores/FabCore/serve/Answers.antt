@@ -86,3 +86,14 @@ returns-clause-err c =
       residents = same-stands t x.joined x.residents.items f.residents k old d c.serve.new.joined r h.apart e.part e.others g;
       line = h.line;
     }) e.err
+
+pub returns-clause-memory : goal.returns-clause-memory
+returns-clause-memory c =
+    let x = c.args.self.now in
+    let t = c.args.tenant in
+    let k = c.in-Some.place in
+    let old = c.index_mut.result.now in
+    on_err_weaker c.serve.result (λ g f p h is.
+    let d = found-at t x f c.deref.result.now c.resident_of.result k old c.deref.ensures.value c.resident_of.ensures c.in-Some.is c.index_mut.ensures.value h in
+    g p (found-stands t x.joined x.residents.items f.residents k old d p is))
+    c.serve.ensures.memory

@@ -12,7 +12,7 @@ use Rattle.ten_shell.specs.Shells.{flat_in, is_at_boundary, left_at, left_in, ru
 use Rattle.fab_join.specs.Parts.{part_at}
 use Rattle.fab_model.specs.Points.{Point, served, waits, run_in}
 use Rattle.fab_core.specs.Standing.{IsPoint, Stands}
-use Rattle.fab_core.proofs.Points.{trap-is, waits-alike}
+use Rattle.fab_core.proofs.Points.{memory-is, trap-is, waits-alike}
 use Rattle.fab_core.proofs.Standing.{kept-point, others-kept, put-stands, served-point}
 use Rattle.fab_core.proofs.Tests.{on-ok-4}
 use Rattle.fab_core.proofs.resident.Resident.serve.Goals as goal
@@ -66,3 +66,12 @@ returns-clause-err c =
     c.swap_part.ensures.parts c.swap_part-2.ensures.parts c.swap_part-2.ensures.own p p h e.same (e.shape ∙ ap shape_of c.swap_part.ensures.own)
     (kept-point s t a b p (subst (λ x. IsPoint s x p) (sym c.swap_part.ensures.own) h.point) v))
     e.err
+
+pub returns-clause-memory : goal.returns-clause-memory
+returns-clause-memory c =
+    let s = c.args.self.now.tenant.shell in
+    let a : BankData = bank_of c.swap_part.new.own in
+    on_err_weaker c.serve-served.result (λ k p h.
+    let g = subst (λ x. IsPoint s x p) (sym c.swap_part.ensures.own) h.point in
+    memory-is s a p g (λ w. k w p.acts p.stage g.stands))
+    c.serve-served.ensures.memory

@@ -1,14 +1,15 @@
 use Rattle.std.proofs.Common.{◌<◌, List, length, ap, ◌∙◌, sym, arith, set, subst}
 use Rattle.std.specs.Prelude.{IfSome}
 use Rattle.std.proofs.lemmas.List.{length-map}
+use Rattle.std.proofs.lemmas.Result.{err_from_is_err_and}
 use Rattle.trap_runtime.specs.cell_form.specs.Views.{bank_of}
 use Rattle.trap_runtime.specs.ten_files.specs.Tables.{open_files}
 use Rattle.trap_runtime.specs.Served.{Works}
 use Rattle.trap_runtime.specs.Traps.{IsTrap}
 use Rattle.fab_join.specs.Laid.{part_data}
 use Rattle.fab_join.specs.Parts.{PartData, part_at, with_bank}
-use Rattle.fab_join.specs.Traps.{trap_in, part_served, way_of_trap}
-use Rattle.fab_join.proofs.PartTraps.{may-serve, view-served, table-served, text-served, way-served}
+use Rattle.fab_join.specs.Traps.{trap_in, part_served, trap_takes_memory, way_of_trap}
+use Rattle.fab_join.proofs.PartTraps.{may-serve, view-served, table-served, text-served, way-served, memory-served}
 use Rattle.fab_join.proofs.joined.Joined.serve.Goals as goal
 
 pub serve_present-requires-clause-trap : goal.serve_present-requires-clause-trap
@@ -74,3 +75,14 @@ returns-clause-way c =
     let i = c.args.part in
     let lt : i < length ps = omega (arith, sym (length-map ps (part_data b)) ∙ ap length c.self.view_is) in
     c.in_ok-way.ensures.way ∙ way-served b ps i x lt c.index.ensures c.self.invariant ∙ ap (λ (qs : List PartData). way_of_trap (trap_in (part_at qs i))) c.self.view_is
+
+pub returns-in_err-way-clause-memory : goal.returns-in_err-way-clause-memory
+returns-in_err-way-clause-memory c =
+    let ps = c.self.inside.parts.items in
+    let b = bank_of c.self.inside.bank in
+    let x = c.index.result.now in
+    let i = c.args.part in
+    let lt : i < length ps = omega (arith, sym (length-map ps (part_data b)) ∙ ap length c.self.view_is) in
+    rw (err_from_is_err_and c.from_residual.result c.from_residual.ensures.1).1
+    (sym (memory-served b ps i x lt c.index.ensures c.self.invariant ∙ ap (λ (qs : List PartData). trap_takes_memory (trap_in (part_at qs i))) c.self.view_is)
+    ∙ c.in_err-way.ensures.memory)

@@ -1,4 +1,5 @@
 use Rattle.std.proofs.Common.{◌∙◌, ap, sym, not, ◌&&◌}
+use Rattle.std.proofs.lemmas.Result.{err_from_is_err_and}
 use Rattle.ten_core.specs.cell_form.specs.Views.{bank_of}
 use Rattle.ten_shell.specs.Shells.{flat_in, is_at_boundary, is_left, left_in, run_of}
 use Rattle.ten_shell.proofs.Tests.{and-left, and-right, clash, other}
@@ -52,3 +53,8 @@ pub returns-clause-left : goal.returns-clause-left
 returns-clause-left c = λ h.
     let w = c.requires.2 in
     absurd (clash c.args.self.now.engine.waits h (w.at.waits ∙ sym (c.at_trap.ensures (bank_of c.args.bank.now) (run_of c.args.self.now) w.order c.requires.0 c.requires.1 w.at) ∙ c.if-at_trap.false))
+
+pub returns-in_err-make_save-clause-memory : goal.returns-in_err-make_save-clause-memory
+returns-in_err-make_save-clause-memory c = rw (err_from_is_err_and c.from_residual-in_err-make_save.result c.from_residual-in_err-make_save.ensures.1).1 (λ h.
+    let w = c.requires.2 in
+    absurd (clash c.args.self.now.engine.waits h (w.at.waits ∙ sym (c.at_trap.ensures (bank_of c.args.bank.now) (run_of c.args.self.now) w.order c.requires.0 c.requires.1 w.at) ∙ c.if-at_trap.false)))

@@ -1,5 +1,5 @@
 use Rattle.std.proofs.Common.{◌∙◌, ◌+◌, ◌<◌, ◌^◌, sym, subst}
-use Rattle.std.proofs.lemmas.Result.{on_ok_weaker}
+use Rattle.std.proofs.lemmas.Result.{on_err_weaker, on_ok_weaker}
 use Rattle.ten_core.specs.cell_form.specs.Views.{bank_of}
 use Rattle.ten_shell.specs.Shells.{run_of}
 use Rattle.ten_shell.proofs.Standing.{called, called-left}
@@ -31,3 +31,6 @@ returns-clause-left c =
     let trap = sym w.at.waits ∙ c.requires.3 in
     called-left s (bank_of c.args.bank.now) n i w done.done done.saves (near.call_ticks o w.order n i w.running) trap c.serve.new.self (bank_of c.serve.new.bank) c.serve.ensures.origin
     (near.call o w.order n i w.running trap) (k o w.order n i w.running.tame w.at) there) c.serve.ensures.ok
+
+pub returns-clause-memory : goal.returns-clause-memory
+returns-clause-memory c = on_err_weaker c.serve.result (λ k. λ n i w. k (run_of c.args.self.now) w.order n i w.running.tame w.at) c.serve.ensures.memory

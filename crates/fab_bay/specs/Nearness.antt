@@ -13,7 +13,7 @@ use Rattle.fab_bay.specs.declared.noted.NotedCore.{NotedCore}
 
 -- the tenant is inside by these notes, at this tick
 abbrev pub IsAt : List Note → (tenant tick : ℕ) → Type 0
-IsAt notes t k = (since : ℕ) × (called : Bool) × (deed : Deed) × (place_of t (replay [] notes) ≡ Inside since k called deed)
+IsAt notes t k = (since : ℕ) × (came : Bool) × (deed : Deed) × (place_of t (replay [] notes) ≡ Inside since k came deed)
 
 -- from the history found to the history left nobody's tick rises by more than one: of nobody who is inside still, and of nobody who came out
 pub record AreNear (found left : List Note) (gone : List Transit) : Type 0 where

@@ -2,10 +2,9 @@
 """gate_times.py [--page FILE] COMMAND..: runs COMMAND (say `rt ci`), looks once a second at the checks and builds of `rattle` on
 this machine, and then prints what each crate took, in seconds of processor: the proof of its own contracts (of a library, with
 what others check against), its test functions, its must-fail edits, and of a program its builds by both compilers. The dearest
-stand first; behind the sums stand how long COMMAND ran before the first check, and in all. What other `rt` commands on the machine
-do meanwhile is counted too, and what a run finds kept on the machine costs nothing: the table of a whole gate is made where
-nothing is kept. With --page the table stands in FILE as a table of Markdown, in place of the one between the two marks there.
-Ends with COMMAND's status."""
+stand first; behind the sums stand how long COMMAND ran before the first check, and in all. Only what COMMAND starts is counted, and
+what a run finds kept on the machine costs nothing: the table of a whole gate is made where nothing is kept. With --page the table
+stands in FILE as a table of Markdown, in place of the one between the two marks there. Ends with COMMAND's status."""
 
 import collections
 import os
@@ -34,15 +33,29 @@ def kind_of(words, folder):
     return "builds" if "--crate-checked" in words else "proof"
 
 
-def look(seen):
-    """Notes of each check and build that runs what it took so far, with what it started."""
+def stat_of(process):
+    """What the system tells of a process behind its name: the second is the process that started it."""
+    with open(f"/proc/{process}/stat") as file:
+        return file.read().rsplit(")", 1)[1].split()
+
+
+def is_below(process, first):
+    """The process is the first one, or was started by one that is below it."""
+    while process not in ("0", "1"):
+        if process == first:
+            return True
+        process = stat_of(process)[1]
+    return False
+
+
+def look(seen, first):
+    """Notes of each check and build below the first process what it took so far, with what it started."""
     for process in filter(str.isdigit, os.listdir("/proc")):
         try:
             words = words_of(process)
-            if words is None:
+            if words is None or not is_below(process, first):
                 continue
-            with open(f"/proc/{process}/stat") as file:
-                stat = file.read().rsplit(")", 1)[1].split()
+            stat = stat_of(process)
             folder = os.readlink(f"/proc/{process}/cwd")
         except (OSError, IndexError):
             continue
@@ -100,7 +113,7 @@ def main():
     seen, begun, first = {}, time.time(), None
     child = subprocess.Popen(words)
     while child.poll() is None:
-        look(seen)
+        look(seen, str(child.pid))
         if first is None and seen:
             first = time.time() - begun
         time.sleep(1)

@@ -12,5 +12,7 @@ pub(crate) mod selects;
 pub(crate) mod shifts;
 pub(crate) mod value;
 
+pub use cell_form::bank::Bank;
+pub use cell_form::cell;
 pub use vl_base::files;
 pub use vl_base::items::{Items, Nums, Text};

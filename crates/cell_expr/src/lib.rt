@@ -22,3 +22,6 @@ mod leaf;
 mod spot;
 mod statement;
 mod target;
+
+pub use cell_emit::{at, cell, pending};
+pub use vl_design::design;

@@ -43,7 +43,7 @@ pub struct Spot {
 
 /// How many bits spots have.
 #[tactic(auto, using(crate::proofs::Spotting::listed))]
-pub fn bits_of(spots: &[Spot]) -> u32
+fn bits_of(spots: &[Spot]) -> u32
     requires narrow { sp.bits_of spots.now ≤ 128 }
     ensures { result ≡ sp.bits_of spots.now }
 {
@@ -55,7 +55,7 @@ pub fn bits_of(spots: &[Spot]) -> u32
 }
 
 /// Bits of a slot from a bit on.
-pub fn part_of(
+fn part_of(
     alloc: Global,
     cells: &mut CellList,
     here: u32,

@@ -11,6 +11,6 @@ pub mod cell;
 pub mod laws;
 pub mod table;
 
-pub use vl_base::bits::Bits;
+pub use vl_base::bits::{BinOp, Bits, UnOp};
 pub use vl_base::files;
-pub use vl_base::items::{Items, Text, Words};
+pub use vl_base::items::{Items, Nums, Text, Words};

@@ -17,3 +17,5 @@ pub mod levels;
 pub mod nets;
 mod orders;
 mod tables;
+
+pub use vl_bits::design;

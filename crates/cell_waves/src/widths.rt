@@ -29,7 +29,7 @@ pub fn has_width(signal: &Signal) -> bool
 }
 
 /// The width of a signal's value in bits: none of a memory, and none where it isn't from 1 to 128.
-pub fn value_width(signal: &Signal) -> Option<u8>
+fn value_width(signal: &Signal) -> Option<u8>
     ensures there { HasValue (row_of signal.now).kind → IsWidth (row_of signal.now).width → result ≡ Some (row_of signal.now).width }
     ensures within { IfSome result (λ w. (w ≡ (row_of signal.now).width) × IsWidth w × HasValue (row_of signal.now).kind) }
 {

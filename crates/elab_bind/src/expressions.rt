@@ -231,7 +231,7 @@ pub(crate) fn bind_selects(alloc: Global, ss: &[SelectTree]) -> Result<Vec<Selec
 /// A name with its selects.
 #[cycle(bind)]
 #[tactic(auto, using(elab_plain::proofs::Walks::opens))]
-pub fn bind_name(alloc: Global, n: &Name) -> Result<Ex, AllocError>
+fn bind_name(alloc: Global, n: &Name) -> Result<Ex, AllocError>
     ensures { IfOk result (λ a. seen a ≡ f.named n.now) }
 {
     let selects = bind_selects(alloc, n.selects.as_slice())?;
@@ -269,7 +269,7 @@ pub(crate) fn bind_arguments(
 /// A system call.
 #[cycle(bind)]
 #[tactic(auto, using(elab_plain::proofs::Walks::opens))]
-pub fn bind_system(alloc: Global, c: &SystemCall) -> Result<Ex, AllocError>
+fn bind_system(alloc: Global, c: &SystemCall) -> Result<Ex, AllocError>
     ensures { IfOk result (λ a. seen a ≡ f.system c.now) }
 {
     let name = copied(alloc, &c.name)?;

@@ -1,6 +1,6 @@
 //! Constants: the values of expressions over no signals (IEEE 1364-2005, clauses 4.10 and 5).
 
-ghost use Rattle.std.specs.Prelude.{◌≡◌, ◌≤◌, ◌<◌, ◌*◌, ◌^◌, length, option_map, ◌↔◌, is_some, IsTrue, IfSome};
+ghost use Rattle.std.specs.Prelude.{◌≡◌, ◌≤◌, ◌<◌, ◌*◌, ◌^◌, length, option_map};
 ghost use Rattle.std.specs.Int.Digits.{number_from_digits};
 ghost use Rattle.elab_plain.specs.vl_flat.specs.Expressions.{text_form, text_value};
 ghost use Rattle.elab_plain.specs.vl_flat.specs.Expressions as flat;
@@ -185,19 +185,5 @@ pub fn is_constant(scope: &Scope<'_, '_>, e: &Ex) -> bool
             is_constant(scope, t) && is_constant(scope, a) && is_constant(scope, b)
         }
         _ => false,
-    }
-}
-
-/// The value of a constant read for itself; None exactly where the expression is none.
-pub fn constant(scope: &Scope<'_, '_>, e: &Ex) -> Option<Bits>
-    ensures some { IsTrue (is_some result) ↔ IsTrue (flat.is_constant (seen_scope scope.now).names (seen e.now)) }
-    ensures value { IfSome result (λ b. b.value ≡ constants.constant_value (flat.exp (seen_scope scope.now) (seen e.now))) }
-    ensures width { IfSome result (λ b. b.width ≡ (constants.constant_form (flat.exp (seen_scope scope.now) (seen e.now))).width) }
-{
-    if is_constant(scope, e) {
-        let form = constant_form(scope, e);
-        Some(evaluate(scope, e, form))
-    } else {
-        None
     }
 }

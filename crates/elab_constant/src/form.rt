@@ -58,7 +58,7 @@ pub fn taken(scope: &Scope<'_, '_>, mark: SelectMark, left: &Ex, right: &Ex) -> 
 }
 
 /// The form of what a name stands for.
-pub fn known_form(known: Option<Known>) -> Form
+fn known_form(known: Option<Known>) -> Form
     ensures { result ≡ kept (scopes.form_of (option_map binding_of known)) }
 {
     match known {
@@ -96,7 +96,7 @@ pub fn is_memory(known: Option<Known>) -> bool
 
 /// The form of what is left behind selects on a value of a form.
 #[tactic(auto, using(crate::proofs::Kept::keeps))]
-pub fn selects_form(scope: &Scope<'_, '_>, form: Form, selects: &[Select]) -> Form
+fn selects_form(scope: &Scope<'_, '_>, form: Form, selects: &[Select]) -> Form
     ensures { result ≡ kept (selects_form (seen_scope scope.now) form (selects_before selects.now x.NoSelects)) }
 {
     match selects {
@@ -235,7 +235,7 @@ fn times(n: u8, width: u32) -> u32
 /// The widths of expressions together, kept within 129.
 #[cycle(form)]
 #[tactic(auto, using(crate::proofs::Kept::keeps))]
-pub fn total_width(scope: &Scope<'_, '_>, es: &[Ex]) -> u32
+fn total_width(scope: &Scope<'_, '_>, es: &[Ex]) -> u32
     ensures same { result ≡ min 129 (flat.total_width (seen_scope scope.now) (of_list (map seen es.now))) }
     ensures narrow { result ≤ 129 }
 {

@@ -40,7 +40,7 @@ pub fn falls(range: Range) -> bool
 }
 
 /// The two bounds of a range.
-pub fn bounds_of(scope: &Scope<'_, '_>, range: &Bounds) -> Range
+fn bounds_of(scope: &Scope<'_, '_>, range: &Bounds) -> Range
     ensures { numbers result ≡ r.bounds_of (seen_scope scope.now).names (seen_bounds range.now) }
 {
     Range {
@@ -60,7 +60,7 @@ pub fn optional_bounds(scope: &Scope<'_, '_>, range: &Option<Bounds>) -> Range
 }
 
 /// The range of a type as it is written.
-pub fn written(scope: &Scope<'_, '_>, kind: &DataType) -> Range
+fn written(scope: &Scope<'_, '_>, kind: &DataType) -> Range
     ensures { numbers result ≡ r.written (seen_scope scope.now).names (seen_type kind.now) }
 {
     match kind {

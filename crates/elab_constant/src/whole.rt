@@ -27,7 +27,7 @@ pub struct Whole {
 
 /// The whole number that a value stands for: in two's complement where it is signed.
 #[tactic(auto, using(crate::proofs::Wholes::halves))]
-pub fn whole_number(bits: Bits, signed: bool) -> Whole
+fn whole_number(bits: Bits, signed: bool) -> Whole
     ensures { whole_of result ≡ v.reading signed bits.width bits.value }
 {
     let half = 1 << (bits.width - 1);
@@ -46,7 +46,7 @@ pub fn whole_number(bits: Bits, signed: bool) -> Whole
 
 /// The whole number of a constant read for itself; what is none counts as 0.
 #[tactic(auto, using(crate::proofs::Wholes::readings))]
-pub fn reading(scope: &Scope<'_, '_>, e: &Ex) -> Whole
+fn reading(scope: &Scope<'_, '_>, e: &Ex) -> Whole
     ensures same { whole_of result ≡ constants.constant_reading (flat.constant (seen_scope scope.now) (seen e.now)) }
     ensures plain { whole_of result ≡ constants.constant_reading (flat.constant (plainly (seen_scope scope.now).names) (seen e.now)) }
 {

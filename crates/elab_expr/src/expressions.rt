@@ -248,7 +248,7 @@ fn named(
 
 /// Expressions one by one.
 #[cycle(exp)]
-pub fn exps(alloc: Global, scope: &Scope<'_, '_>, es: &[Ex]) -> Result<Vec<Expr>, AllocError>
+fn exps(alloc: Global, scope: &Scope<'_, '_>, es: &[Ex]) -> Result<Vec<Expr>, AllocError>
     ensures { IfOk result (λ v. map exp_of v.items ≡ map (n.seen_exp (seen_scope scope.now)) es.now) }
 {
     let mut all = Vec::new(alloc);

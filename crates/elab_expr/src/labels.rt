@@ -42,7 +42,7 @@ fn wild_label(alloc: Global, scope: &Scope<'_, '_>, e: &Ex) -> Result<Expr, Allo
 }
 
 /// A label of a case, or of a `casez` where `wild`.
-pub fn label(alloc: Global, scope: &Scope<'_, '_>, wild: bool, e: &Ex) -> Result<Expr, AllocError>
+fn label(alloc: Global, scope: &Scope<'_, '_>, wild: bool, e: &Ex) -> Result<Expr, AllocError>
     ensures { IfOk result (λ a. exp_of a ≡ flat.label (seen_scope scope.now) wild (seen e.now)) }
 {
     if wild {

@@ -35,7 +35,7 @@ pub fn left_place(l: &Left) -> Place
 }
 
 /// The first name in a left side; none where it names nothing.
-pub fn first_name(l: &Left) -> &[u8]
+fn first_name(l: &Left) -> &[u8]
     ensures { result.now ≡ spec.first_name (seen_left l.now) }
 {
     match l {

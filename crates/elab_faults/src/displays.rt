@@ -104,7 +104,7 @@ fn shown(from: Showing, scope: &Scope<'_, '_>, a: &Argument) -> Showing
 }
 
 /// The faults of the arguments of a display.
-pub fn display_faults(best: Option<Stop>, scope: &Scope<'_, '_>, given: &[Argument]) -> Option<Stop>
+fn display_faults(best: Option<Stop>, scope: &Scope<'_, '_>, given: &[Argument]) -> Option<Stop>
     ensures { result ≡ s.earliest best (f.display_faults (seen_scope scope.now) 0 (args_before given.now x.NoArgs)) }
 {
     let mut all = Showing { best, taken: 0 };

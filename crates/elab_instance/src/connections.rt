@@ -133,7 +133,7 @@ fn among<'m>(
 }
 
 /// The connections of names by a list.
-pub fn connections_of<'m>(
+fn connections_of<'m>(
     alloc: Global,
     names: &[&'m [u8]],
     list: &'m [Connection],

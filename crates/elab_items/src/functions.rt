@@ -28,7 +28,7 @@ pub(crate) fn copied_names(
 }
 
 /// Inputs of one type.
-pub(crate) fn bind_inputs(alloc: Global, a: &FunctionPort) -> Result<Locals, AllocError>
+fn bind_inputs(alloc: Global, a: &FunctionPort) -> Result<Locals, AllocError>
     ensures { IfOk result (λ b. s.seen_locals b ≡ d.inputs_in a.now) }
 {
     let names = copied_names(alloc, a.names.as_slice())?;

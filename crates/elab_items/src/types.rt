@@ -33,7 +33,7 @@ pub(crate) fn bind_bounds(alloc: Global, r: &Range) -> Result<Bounds, AllocError
 }
 
 /// The bounds of a range that may stand there.
-pub(crate) fn bind_range(alloc: Global, range: &Option<Range>) -> Result<Option<Bounds>, AllocError>
+fn bind_range(alloc: Global, range: &Option<Range>) -> Result<Option<Bounds>, AllocError>
     ensures { IfOk result (λ b. option_map s.seen_bounds b ≡ option_map d.bounds range.now) }
 {
     match range {

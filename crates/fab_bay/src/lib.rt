@@ -36,5 +36,7 @@ mod serve;
 mod take;
 mod turn;
 
-pub use fab_core::{Entry, Lock, LockSeat, parcel, transit};
+pub use fab_core::{Entry, Lock, LockSeat, note, parcel, shell, transit};
+pub use ten_core::origin;
 pub use vl_design::Text;
+pub use vl_design::capacity::Cost;

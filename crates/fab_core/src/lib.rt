@@ -21,6 +21,7 @@ mod swapping;
 mod tests_of;
 
 pub use fab_join::joined;
-pub use fab_model::{Entry, Kept, Lock, LockSeat, note, parcel, transit};
+pub use fab_model::{Entry, Kept, Lock, LockSeat, note, parcel, tenant, transit};
 pub use ten_shell::shell;
 pub use vl_design::Text;
+pub use vl_design::capacity::Cost;

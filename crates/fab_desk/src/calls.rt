@@ -13,6 +13,7 @@ ghost use Rattle.fab_bay.specs.fab_model.specs.Origins.{StartsFrom};
 ghost use Rattle.fab_bay.specs.fab_model.specs.Histories.{entry_of};
 ghost use Rattle.fab_desk.specs.Desks.{itself, serving, DidNothing, DidPut, DidRefuse, DidTake, DidTurn, Finds, Gives, IsFound};
 
+use crate::closed::Closed;
 use crate::desk::{Desk, DeskSeat};
 use fab_bay::bay::Bay;
 use fab_bay::leaving::{Receipt, Refused, Taken, Turn};
@@ -207,12 +208,14 @@ impl Desk {
     }
 
     /// Ends the desk: its bay, with its history. It may wait.
-    pub fn close<R: Wait>(self, rt: &R, seat: DeskSeat) -> Bay
+    pub fn close<R: Wait>(self, rt: &R, seat: DeskSeat) -> Closed
         requires { IsSeatOf self seat }
         ensures label { result.label ≡ self.label }
         ensures found { Finds self.label seat.view result.notes.items }
     {
         let DeskSeat { mut seat } = seat;
-        self.grab(rt, &mut seat)
+        Closed {
+            bay: self.grab(rt, &mut seat),
+        }
     }
 }

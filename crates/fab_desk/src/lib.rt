@@ -7,7 +7,8 @@
 //! short of.
 //!
 //! Proved: `seat` gives a number that no other seat has, `join_seat` what both seats know, `close` the bay (`put`, `turn`, `take`,
-//! `progress`, `seat`, `join_seat`, `close`, by `DidPut`, `DidTurn`, `DidTake`, `Finds`).
+//! `progress`, `seat`, `join_seat`, `close`, by `DidPut`, `DidTurn`, `DidTake`, `Finds`). The bay of a desk that has ended is a `Closed`,
+//! which no other public call gives.
 //!
 //! Proved: threads may share a desk, and be given it and its seats (`laws.rt`).
 //!
@@ -16,7 +17,8 @@
 #![tactic(auto)]
 
 pub mod calls;
+pub mod closed;
 pub mod desk;
 pub mod laws;
 
-pub use fab_bay::{bay, leaving, noted};
+pub use fab_bay::{Text, bay, leaving, noted, parcel, transit};

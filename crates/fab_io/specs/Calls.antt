@@ -1,7 +1,7 @@
 -- Counts that stand still at their end, and numbered calls of which some are to fail.
 use Rattle.std.specs.Prelude.{ℕ, ◌+◌, ◌==◌, Bool, List, [], if◌then◌else◌, nat_lt}
 use Rattle.std.specs.List.{list_any}
-use Rattle.fab_io.specs.Outside.{most_count}
+use Rattle.fab_io.specs.Outside.{Miss, most_count}
 
 -- a count's next value
 abbrev pub next_count : ℕ → ℕ
@@ -28,7 +28,8 @@ after_call calls = record calls {
   faults = (if fails_next calls then next_count calls.faults else calls.faults);
 }
 
--- how often a store of real files failed, and how often it reported a file absent or too long
+-- how often a store of real files failed, how often it reported a file absent or too long, and the reads that failed
 pub record Reports : Type 0 where
   pub faults : ℕ
   pub absences : ℕ
+  pub missed : List Miss

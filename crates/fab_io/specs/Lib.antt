@@ -1,3 +1,4 @@
 pub mod Calls
 pub mod Memory
+pub mod Missing
 pub mod Outside

@@ -1,6 +1,8 @@
--- What stores and sinks tell, and when a count rose.
-use Rattle.std.specs.Prelude.{◌≡◌, ◌≢◌, ℕ, ◌<◌, ◌≤◌, ◌^◌, ◌-◌, List, length, if◌then◌else◌, Option, Some, None, IfSome, ◌⊎◌}
+-- What stores and sinks tell, which reads failed, and when a count rose.
+use Rattle.std.specs.Prelude.{◌≡◌, ◌≢◌, ℕ, ◌<◌, ◌≤◌, ◌^◌, ◌-◌, List, [], ◌∷◌, length, if◌then◌else◌, Option, Some, None, IfSome, Result, Ok, Err, ◌⊎◌}
 use Rattle.std.specs.Str.{bytes_eq}
+use Rattle.fab_io.specs.declared.store.ReadError.{ReadError}
+use Rattle.fab_io.specs.declared.store.ReadError.TheVariants as read
 
 -- the files that a store tells: the bytes of each name that is there
 abbrev pub Files : Type 0
@@ -37,3 +39,21 @@ abbrev pub ChangesOnly : Option Files → Option Files → List ℕ → Type 0
 ChangesOnly None new name = new ≡ None
 ChangesOnly (Some old) new name =
     (files : Files) × (new ≡ Some files) × ((asked : List ℕ) → asked ≢ name → files asked ≡ old asked)
+
+-- ---- reads that failed
+
+-- a read that failed: the name that was asked for, and why
+pub record Miss : Type 0 where
+  pub path : List ℕ
+  pub why : ReadError
+
+-- that of a read of a name that was answered so, if it failed: want of memory is no failure of the store
+abbrev pub miss_of : List ℕ → ReadError → List Miss
+miss_of name read.NotThere = record { path = name; why = read.NotThere } ∷ []
+miss_of name read.TooLong = record { path = name; why = read.TooLong } ∷ []
+miss_of name read.Failed = record { path = name; why = read.Failed } ∷ []
+miss_of name read.Memory = []
+
+abbrev pub misses : {X : Type 0} → List ℕ → Result X ReadError → List Miss
+misses name (Ok x) = []
+misses name (Err why) = miss_of name why

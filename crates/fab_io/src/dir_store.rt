@@ -1,10 +1,11 @@
 //! Real files as a store.
 
-ghost use Rattle.std.specs.Prelude.{◌≡◌, ◌≢◌, ◌≤◌, ◌↔◌, length, take, IfOk, IfErr, IfSome, OnOk, OnErr, IsErrOf};
+ghost use Rattle.std.specs.Prelude.{◌≡◌, ◌≢◌, ◌≤◌, ◌∷◌, ◌++◌, ◌↔◌, [], length, take, IfOk, IfErr, IfSome, OnOk, OnErr, IsErrOf};
 ghost use Rattle.std.specs.IoError.{error_kind};
 ghost use Rattle.fab_io.specs.Calls.{next_count};
 
 use crate::calls::raised;
+use crate::misses::Misses;
 use crate::store::{ReadError, Store, WriteError};
 use std::alloc::Global;
 use std::fs::File;
@@ -78,6 +79,7 @@ pub struct DirStore<R> {
     rt: R,
     faults: u64,
     absences: u64,
+    missed: Misses,
 }
 
 impl<R> Model for DirStore<R> {
@@ -85,18 +87,19 @@ impl<R> Model for DirStore<R> {
 
     ghost Value = { Reports };
 
-    ghost view = { λ store. record { faults = store.faults; absences = store.absences } };
+    ghost view = { λ store. record { faults = store.faults; absences = store.absences; missed = store.missed } };
 }
 
 impl<R: Files> DirStore<R> {
     /// The files of a runtime, or of a reference to one.
     pub fn new(rt: R) -> Self
-        ensures { result ≡ record { faults = 0; absences = 0 } }
+        ensures { result ≡ record { faults = 0; absences = 0; missed = [] } }
     {
         DirStore {
             rt,
             faults: 0,
             absences: 0,
+            missed: Misses::new(),
         }
     }
 
@@ -124,13 +127,15 @@ impl<R: Files> Store for DirStore<R> {
 
     ghost absences = { λ store. store.absences };
 
+    ghost missed = { λ store. store.missed };
+
     /// Reads a file of at most `most` bytes. A path that names a folder is `Failed`.
     fn read(&mut self, alloc: Global, name: &str, most: u64) -> Result<Vec<u8>, ReadError>
         ensures short { IfOk result (λ bytes. length bytes.items ≤ most) }
         ensures ok { OnOk result (self.new ≡ self.old) }
-        ensures not_there { IsErrOf result ReadError.NotThere → self.new ≡ record self.old { absences = next_count self.old.absences } }
-        ensures too_long { IsErrOf result ReadError.TooLong → self.new ≡ record self.old { absences = next_count self.old.absences } }
-        ensures failed { IsErrOf result ReadError.Failed → self.new ≡ record self.old { faults = next_count self.old.faults } }
+        ensures not_there { IsErrOf result ReadError.NotThere → self.new ≡ record self.old { absences = next_count self.old.absences; missed = self.old.missed ++ record { path = name.now; why = ReadError.NotThere } ∷ [] } }
+        ensures too_long { IsErrOf result ReadError.TooLong → self.new ≡ record self.old { absences = next_count self.old.absences; missed = self.old.missed ++ record { path = name.now; why = ReadError.TooLong } ∷ [] } }
+        ensures failed { IsErrOf result ReadError.Failed → self.new ≡ record self.old { faults = next_count self.old.faults; missed = self.old.missed ++ record { path = name.now; why = ReadError.Failed } ∷ [] } }
         ensures memory { IsErrOf result ReadError.Memory → self.new ≡ self.old }
     {
         let answer = read_file(&self.rt, alloc, name, most);
@@ -139,6 +144,7 @@ impl<R: Files> Store for DirStore<R> {
             Err(ReadError::NotThere | ReadError::TooLong) => self.absences = raised(self.absences),
             Err(ReadError::Failed) => self.faults = raised(self.faults),
         }
+        self.missed.note(name, &answer);
         answer
     }
 

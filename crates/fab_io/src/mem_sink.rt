@@ -75,6 +75,7 @@ impl Sink for MemSink {
         ensures within { IfOk result (λ n. n ≤ length bytes.now) }
         ensures taken { IfOk result (λ n. self.new.taken ≡ self.old.taken ++ take n bytes.now) }
         ensures failed { IsErrOf result WriteError.Failed → HasRisen self.old.calls.faults self.new.calls.faults }
+        ensures quiet { ¬ IsErrOf result WriteError.Failed → self.new.calls.faults ≡ self.old.calls.faults }
         ensures err { OnErr result (self.new.taken ≡ self.old.taken) }
 
         // How many it takes, what the sink holds then, and which error comes when.

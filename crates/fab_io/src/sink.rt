@@ -23,5 +23,6 @@ pub trait Sink {
         ensures within { IfOk result (λ n. n ≤ length bytes.now) }
         ensures taken { IfOk result (λ n. taken self.new ≡ option_map (λ t. t ++ take n bytes.now) (taken self.old)) }
         ensures failed { IsErrOf result WriteError.Failed → HasRisen (faults self.old) (faults self.new) }
+        ensures quiet { ¬ IsErrOf result WriteError.Failed → faults self.new ≡ faults self.old }
         ensures err { OnErr result (taken self.new ≡ taken self.old) };
 }

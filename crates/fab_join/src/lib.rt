@@ -14,3 +14,5 @@ mod numbers;
 mod serving;
 mod span;
 mod stepping;
+
+pub use trap_runtime::{Bank, PortMap, table};

@@ -1,6 +1,7 @@
--- Whoever leaves started from what whoever was put in line starts from.
+-- Whoever is noted was put in line, and whoever leaves started from what whoever was put in line starts from.
 use Rattle.std.proofs.Common.{◌≡◌, ℕ, eqb, Bool, true, false, List, [], ◌∷◌, ◌++◌, cond, refl, sym, ap, ◌∙◌, subst, Option, Some, None}
-use Rattle.std.specs.Prelude.{⊤}
+use Rattle.std.specs.Prelude.{⊤, is_some}
+use Rattle.std.specs.List.{AllByRecursion}
 use Rattle.std.proofs.lemmas.Bool.{eqb-true}
 use Rattle.ten_core.specs.vl_design.specs.declared.capacity.Cost.{Cost}
 use Rattle.ten_core.specs.declared.origin.Origin.{Origin}
@@ -94,3 +95,36 @@ module _ (all : Origins) where
 
   pub leavers_own : (g : ℕ) (c : Cost) (notes : List Note) → IsLegal g c notes → AreOwn all (puts notes) → AreOwn all (outs notes)
   leavers_own g c notes l k = outs-own g c [] notes l tt k
+
+  -- ---- who is noted
+
+  -- something is named that its tenant starts from
+  abbrev pub IsNamed : Note → Type 0
+  IsNamed n = (o : Origin) × StartsFrom all n.entry.tenant o
+
+  line-named : (n : Note) (o : Option Deed) → is_some o ≡ true → AreOwn all (told n.entry o) → IsNamed n
+  line-named n None e h = let z : ⊥ = cc in absurd z
+  line-named n (Some d) e h = (d.origin, h.0)
+
+  note-named : (k : Kind) (g : ℕ) (n : Note) (p : Place) → IsPlaceOwn n.entry.tenant p → May g k p n → AreOwn all (put_at k n) → IsNamed n
+  note-named Line g n Away h m w = line-named n (deed_in n) m.0 w
+  note-named Line g n (Inside since now came d) h m w = absurd m
+  note-named Came g n Away h m w = absurd m
+  note-named Came g n (Inside since now came d) h m w = (d.origin, h)
+  note-named Ran g n Away h m w = absurd m
+  note-named Ran g n (Inside since now came d) h m w = (d.origin, h)
+  note-named Saved g n Away h m w = absurd m
+  note-named Saved g n (Inside since now came d) h m w = (d.origin, h)
+  note-named Left g n Away h m w = absurd m
+  note-named Left g n (Inside since now came d) h m w = (d.origin, h)
+
+  notes-named : (g : ℕ) (c : Cost) (ss : List Seat) (ns : List Note) → IsLegalFrom g c ss ns → AreSeatsOwn ss → AreOwn all (puts ns) → AllByRecursion IsNamed ns
+  notes-named g c ss [] l h k = tt
+  notes-named g c ss (n ∷ ns) l h k =
+      let p = own-parts (put_at n.entry.kind n) (puts ns) k in (
+        note-named n.entry.kind g n (place_of n.entry.tenant ss) (place-own n.entry.tenant ss h) l.0 p.0,
+        notes-named g c (after n.entry.kind ss n) ns l.2 (after-own n.entry.kind g ss n h p.0) p.1,
+      )
+
+  pub all_named : (g : ℕ) (c : Cost) (notes : List Note) → IsLegal g c notes → AreOwn all (puts notes) → AllByRecursion IsNamed notes
+  all_named g c notes l k = notes-named g c [] notes l tt k

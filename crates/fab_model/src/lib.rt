@@ -22,4 +22,5 @@ pub mod notes_laws;
 pub mod transit;
 
 pub use fab_lock::{Entry, Kept, Kind, Lock, LockSeat};
+pub use ten_core::origin;
 pub use ten_parcel::{parcel, tenant};

@@ -1,11 +1,11 @@
 -- Orders that are given to tenants while they run, and what comes of them (own).
 use Rattle.std.specs.Prelude.{ℕ, ◌+◌, ◌<◌, ◌≤◌, ◌==◌, ◌&&◌, List, [], ◌∷◌, ◌++◌, length, slice_index_or, max, if◌then◌else◌, Option, Some, None, All, ⊤}
-use Rattle.fab_bay.specs.vl_design.specs.Alone.{FreeSave}
-use Rattle.fab_bay.specs.fab_lock.specs.Histories.{high}
-use Rattle.fab_bay.specs.fab_model.specs.Tokens.{token_of, Token}
-use Rattle.fab_bay.specs.declared.noted.Label.{Label}
-use Rattle.fab_bay.specs.declared.noted.NotedCore.{NotedCore}
-use Rattle.fab_bay.specs.fab_model.specs.Histories.{entry_of}
+use Rattle.fab_desk.specs.fab_bay.specs.vl_design.specs.Alone.{FreeSave}
+use Rattle.fab_desk.specs.fab_bay.specs.fab_lock.specs.Histories.{high}
+use Rattle.fab_desk.specs.fab_bay.specs.fab_model.specs.Tokens.{token_of, Token}
+use Rattle.fab_desk.specs.fab_bay.specs.declared.noted.Label.{Label}
+use Rattle.fab_desk.specs.fab_bay.specs.declared.noted.NotedCore.{NotedCore}
+use Rattle.fab_desk.specs.fab_bay.specs.fab_model.specs.Histories.{entry_of}
 use Rattle.fab_orders.specs.declared.outcomes.Answer.{Answer}
 use Rattle.fab_orders.specs.declared.outcomes.Finding.{Finding}
 use Rattle.fab_orders.specs.declared.outcomes.Order.{Order}

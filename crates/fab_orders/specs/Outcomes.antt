@@ -1,19 +1,19 @@
 -- What a run comes to (own).
 use Rattle.std.specs.Prelude.{◌≡◌, ℕ, ◌+◌, ◌<◌, ◌≤◌, ◌==◌, ◌&&◌, ◌||◌, Bool, true, false, List, [], length, map, slice_index_or, slice_get, nat_le, nat_lt, if◌then◌else◌, All, Option, Some, None}
-use Rattle.fab_bay.specs.vl_design.specs.declared.design.End.{End}
-use Rattle.fab_bay.specs.vl_design.specs.Alone.{reason_at, Boundary, Ends, FreeSave}
-use Rattle.fab_bay.specs.vl_design.specs.Queue.{Queue}
-use Rattle.fab_bay.specs.ten_parcel.specs.declared.parcel.Parcel.{Parcel}
-use Rattle.fab_bay.specs.ten_parcel.specs.Parcels.{free_of, is_moved, is_stopped, number_of, origin_in, run_of, ticks_of, IsParcel}
-use Rattle.fab_bay.specs.ten_plan.specs.Plans.{move_at}
-use Rattle.fab_bay.specs.fab_model.specs.declared.transit.Stay.{Stay}
-use Rattle.fab_bay.specs.fab_model.specs.declared.transit.Transit.{Transit}
-use Rattle.fab_bay.specs.fab_model.specs.Histories.{stays_of, AreLinesByFirst, IsLegal}
-use Rattle.fab_bay.specs.fab_model.specs.Moves.{ends_idle}
-use Rattle.fab_bay.specs.fab_model.specs.Origins.{AreOwn}
-use Rattle.fab_bay.specs.fab_model.specs.Tokens.{outs, puts, token_of, Token}
-use Rattle.fab_bay.specs.declared.noted.Label.{Label}
-use Rattle.fab_bay.specs.declared.noted.NotedCore.{NotedCore}
+use Rattle.fab_desk.specs.fab_bay.specs.vl_design.specs.declared.design.End.{End}
+use Rattle.fab_desk.specs.fab_bay.specs.vl_design.specs.Alone.{reason_at, Boundary, Ends, FreeSave}
+use Rattle.fab_desk.specs.fab_bay.specs.vl_design.specs.Queue.{Queue}
+use Rattle.fab_desk.specs.fab_bay.specs.ten_parcel.specs.declared.parcel.Parcel.{Parcel}
+use Rattle.fab_desk.specs.fab_bay.specs.ten_parcel.specs.Parcels.{free_of, is_moved, is_stopped, number_of, origin_in, run_of, ticks_of, IsParcel}
+use Rattle.fab_desk.specs.fab_bay.specs.ten_plan.specs.Plans.{move_at}
+use Rattle.fab_desk.specs.fab_bay.specs.fab_model.specs.declared.transit.Stay.{Stay}
+use Rattle.fab_desk.specs.fab_bay.specs.fab_model.specs.declared.transit.Transit.{Transit}
+use Rattle.fab_desk.specs.fab_bay.specs.fab_model.specs.Histories.{stays_of, AreLinesByFirst, IsLegal}
+use Rattle.fab_desk.specs.fab_bay.specs.fab_model.specs.Moves.{ends_idle}
+use Rattle.fab_desk.specs.fab_bay.specs.fab_model.specs.Origins.{AreOwn}
+use Rattle.fab_desk.specs.fab_bay.specs.fab_model.specs.Tokens.{outs, puts, token_of, Token}
+use Rattle.fab_desk.specs.fab_bay.specs.declared.noted.Label.{Label}
+use Rattle.fab_desk.specs.fab_bay.specs.declared.noted.NotedCore.{NotedCore}
 use Rattle.fab_orders.specs.declared.outcomes.Answer.{Answer}
 use Rattle.fab_orders.specs.declared.outcomes.Cause.{Cause}
 use Rattle.fab_orders.specs.declared.outcomes.Finding.{Finding}

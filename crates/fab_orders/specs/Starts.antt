@@ -1,12 +1,12 @@
 -- What a run begins with (own).
 use Rattle.std.specs.Prelude.{◌≡◌, ℕ, ◌<◌, ◌≤◌, true, false, List, [], map, length, slice_get, slice_index_or, Some, None}
-use Rattle.fab_bay.specs.ten_core.specs.declared.origin.Origin.{Origin}
-use Rattle.fab_bay.specs.ten_parcel.specs.declared.parcel.Parcel.{Parcel}
-use Rattle.fab_bay.specs.ten_parcel.specs.Parcels.{cost_of, free_of, is_moved, is_stopped, number_of, origin_in, run_of, IsParcel}
-use Rattle.fab_bay.specs.ten_plan.specs.Plans.{move_at}
-use Rattle.fab_bay.specs.fab_model.specs.Fabrics.{within}
-use Rattle.fab_bay.specs.fab_model.specs.Origins.{Origins}
-use Rattle.fab_bay.specs.declared.noted.Label.{Label}
+use Rattle.fab_desk.specs.fab_bay.specs.ten_core.specs.declared.origin.Origin.{Origin}
+use Rattle.fab_desk.specs.fab_bay.specs.ten_parcel.specs.declared.parcel.Parcel.{Parcel}
+use Rattle.fab_desk.specs.fab_bay.specs.ten_parcel.specs.Parcels.{cost_of, free_of, is_moved, is_stopped, number_of, origin_in, run_of, IsParcel}
+use Rattle.fab_desk.specs.fab_bay.specs.ten_plan.specs.Plans.{move_at}
+use Rattle.fab_desk.specs.fab_bay.specs.fab_model.specs.Fabrics.{within}
+use Rattle.fab_desk.specs.fab_bay.specs.fab_model.specs.Origins.{Origins}
+use Rattle.fab_desk.specs.fab_bay.specs.declared.noted.Label.{Label}
 use Rattle.fab_orders.specs.declared.outcomes.Start.{Start}
 
 -- what the tenants start from, in the order of their numbers

@@ -6,4 +6,4 @@
 
 pub mod outcomes;
 
-pub use fab_bay::parcel;
+pub use fab_desk::parcel;

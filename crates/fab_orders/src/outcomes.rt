@@ -1,8 +1,8 @@
 //! What a run begins with and comes to.
 
-use fab_bay::Text;
-use fab_bay::bay::Bay;
-use fab_bay::transit::Transit;
+use fab_desk::Text;
+use fab_desk::closed::Closed;
+use fab_desk::transit::Transit;
 use std::snapshot::Snapshot;
 
 /// A tenant that is to run, and the number of the fabric where it begins.
@@ -90,8 +90,8 @@ pub struct Answer {
 pub struct Outcome {
     /// The tenants as they ended.
     pub ended: Vec<Transit>,
-    /// The bays.
-    pub bays: Vec<Bay>,
+    /// The bays, each of a desk that has ended.
+    pub bays: Vec<Closed>,
     /// The orders.
     pub answers: Vec<Answer>,
 }

@@ -14,7 +14,8 @@ use Rattle.fab_core.specs.sub_nodes.specs.Cycles.{Stage, rises}
 use Rattle.fab_core.specs.ten_core.specs.declared.origin.Origin.{Origin}
 use Rattle.fab_core.specs.ten_core.specs.Tenants.{origin_of}
 use Rattle.fab_core.specs.ten_shell.specs.declared.shell.Shell.{Shell}
-use Rattle.fab_core.specs.ten_shell.specs.Shells.{flat_in, free_in, is_at_boundary, is_left, left_in, StandsFor}
+use Rattle.fab_core.specs.ten_shell.specs.Leaving.{end_in}
+use Rattle.fab_core.specs.ten_shell.specs.Shells.{flat_in, free_in, is_at_boundary, is_left, left_in, Rests, StandsFor}
 use Rattle.fab_core.specs.ten_parcel.specs.declared.parcel.Parcel.{Parcel}
 use Rattle.fab_core.specs.ten_parcel.specs.declared.parcel.Parcel.TheVariants as parcel
 use Rattle.fab_core.specs.ten_parcel.specs.declared.tenant.Tenant.{Tenant}
@@ -22,6 +23,7 @@ use Rattle.fab_core.specs.ten_parcel.specs.Parcels.{run_of, ticks_of}
 use Rattle.fab_core.specs.fab_model.specs.Points.{ended, rests, run_in, Point}
 use Rattle.fab_core.specs.Standing.{IsAtRest, IsPoint, IsPointOf}
 use Rattle.fab_core.proofs.Arriving.{parcel_is, parcel_number}
+use Rattle.fab_core.proofs.Resting.{rests_from}
 use Rattle.fab_core.proofs.Parcels.{free_is, moved_is, origin_is, stopped_is, ticks_is}
 use Rattle.fab_core.specs.fab_model.specs.declared.transit.Stay.{Stay}
 use Rattle.fab_core.specs.fab_model.specs.declared.transit.Transit.{Transit}
@@ -81,6 +83,15 @@ module _ (t : Tenant) (p : Point) (a : IsAtRest t p) (n : ended p ≡ None) wher
 
   left_none : left_in t.shell ≡ []
   left_none = a.point.left up ∙ none
+
+  -- its shell has no reason to end either
+  goes_on : end_in (origin_of (arc_value t.shell.engine.origin)).plan t.shell.stopped p.stage.state ≡ None
+  goes_on =
+      subst (λ (o : Origin). end_in (origin_of o).plan t.shell.stopped p.stage.state ≡ None) (sym a.point.origin)
+      (subst (λ (s : Bool). end_in (run_in p).plan s p.stage.state ≡ None) (sym a.point.stopped) n)
+
+  pub may_stop : (b : BankData) × (c : ℕ) × (i : Stage) × StandsFor t.shell b c i × Rests t.shell i × (end_in (origin_of (arc_value t.shell.engine.origin)).plan t.shell.stopped i.state ≡ None)
+  may_stop = (bank_of t.bank, p.acts, p.stage, a.point.stands, rests_from t.shell (bank_of t.bank) p a.point a.rests, goes_on)
 
   pub may_save : (c : ℕ) × (i : Stage) × StandsFor t.shell (bank_of t.bank) c i × (is_at_boundary (flat_in t.shell) i ≡ true) × (left_in t.shell ≡ [])
   may_save = (p.acts, p.stage, a.point.stands, up, left_none)

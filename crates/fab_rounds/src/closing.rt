@@ -7,14 +7,14 @@ ghost use Rattle.fab_orders.specs.Outcomes.{IsOutcome};
 
 use crate::ledgers::Ledger;
 use crate::workers::Worker;
-use fab_desk::bay::Bay;
+use fab_desk::closed::Closed;
 use fab_desk::desk::{Desk, DeskSeat};
 use fab_orders::outcomes::Outcome;
 use std::alloc::{AllocError, Global};
 use std::sync::Wait;
 
 /// Joins the worker's seat into the first one, and ends the desk.
-fn close_one<R: Wait>(rt: &R, desk: Desk, first: DeskSeat, other: DeskSeat) -> Bay
+fn close_one<R: Wait>(rt: &R, desk: Desk, first: DeskSeat, other: DeskSeat) -> Closed
     requires first { IsFirst desk first }
     requires other { IsSeatOf desk other }
     requires apart { other.view.low ≢ 0 }

@@ -30,5 +30,6 @@ mod sorting;
 mod taking;
 mod workers;
 
-pub use fab_desk::{bay, noted};
+pub use fab_desk::{bay, closed, noted};
+pub use fab_io::gate;
 pub use fab_orders::outcomes;

@@ -10,9 +10,9 @@ use fab_core::parcel::Parcel;
 use fab_core::transit::Transit;
 use std::alloc::{AllocError, Global};
 
-/// Ends a run where it rests.
+/// Ends a run that goes on where it rests.
 fn stop(parcel: &mut Parcel)
-    requires { (p : Point) × IsPointOf parcel.old p }
+    requires { (p : Point) × IsPointOf parcel.old p × (ended p ≡ None) }
     ensures { (p : Point) → IsPointOf parcel.old p → IsPointOf parcel.new (record p { stopped = true }) }
 {
     match parcel {
@@ -32,9 +32,9 @@ fn save(alloc: Global, parcel: &mut Parcel, name: Text) -> Result<(), AllocError
     }
 }
 
-/// Stops a tenant where it rests.
+/// Stops a tenant that goes on where it rests.
 pub(crate) fn stopped(transit: Transit) -> Transit
-    requires { (p : Point) × IsPointOf transit.parcel p }
+    requires { (p : Point) × IsPointOf transit.parcel p × (ended p ≡ None) }
     ensures { IsStopped transit result }
 {
     let Transit {

@@ -12,4 +12,4 @@ pub mod piece;
 pub mod show_text;
 pub mod text;
 
-pub use vl_design::{design, words};
+pub use vl_design::{Bits, Text, design, words};

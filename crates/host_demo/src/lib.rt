@@ -1,8 +1,8 @@
 //! The command `demo`: its script, the sources of its tenants, and the summary of their runs.
 //!
 //! Proved: the script, the sources and the summary of the demonstration are exactly as defined (`script_text`, `summary`), and its store
-//! has just these sources and never fails (`store_of`, `read`, `write`); law: for 1 to 32 tenants the script has a reading, and all that is
-//! read for it is there (`laws.rt`).
+//! has just these sources (`store_of`); law: for 1 to 32 tenants the script has a reading, and all that is read for it is there
+//! (`laws.rt`).
 //!
 //! Tested: that the sources are accepted.
 #![tactic(auto)]

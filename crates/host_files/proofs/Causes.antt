@@ -1,12 +1,13 @@
--- A cause that counts from later on is one that counts from before.
-use Rattle.std.proofs.Common.{◌≡◌, ◌≤◌, ℕ, List, Result, Err, arith, inl, inr, sym, subst}
+-- A cause that counts from later on is one that counts from before; and the reads that failed, one call after another.
+use Rattle.std.proofs.Common.{◌≡◌, ◌≤◌, ◌∙◌, ℕ, List, ◌++◌, Result, Ok, Err, append-nil, inl, inr, sym, ap, subst}
 use Rattle.std.specs.Prelude.{Option}
 use Rattle.host_form.specs.fab_io.specs.declared.store.ReadError.{ReadError}
 use Rattle.host_form.specs.fab_io.specs.declared.store.ReadError.TheVariants as read
-use Rattle.host_form.specs.fab_io.specs.Outside.{Files, HasRisen}
+use Rattle.host_form.specs.fab_io.specs.Outside.{Files, Miss}
 use Rattle.host_form.specs.host_text.specs.declared.script.FileLine.{FileLine}
 use Rattle.host_form.specs.host_text.specs.declared.script.TenantLine.{TenantLine}
-use Rattle.host_files.specs.Reading.{Counts, counts_of, IsCause}
+use Rattle.host_files.specs.declared.loaded.LoadError.{LoadError}
+use Rattle.host_files.specs.Reading.{Counts, counts_of, IsCause, missed_by, missed_in}
 use Rattle.host_files.specs.Steps.{IsFileMissed, IsPartMissed}
 use Rattle.host_files.specs.Steps as part
 use Rattle.host_form.specs.fab_io.proofs.Shared.{risen-before}
@@ -49,3 +50,16 @@ asked-for told old new asked path most limit why e h =
 -- the error that is handed on is the one that came
 pub handed : {T U E : Type 0} (r : Result T E) (s : Result U E) (x e : E) → r ≡ Err x → (y : E) × (s ≡ Err y) × (y ≡ x) → s ≡ Err e → r ≡ Err e
 handed r s x e came p is = let q = p.1 in let same = p.2 in cc
+
+-- ---- reads that failed
+
+-- where all was read, none did
+pub none-noted : {T : Type 0} (old new : List Miss) (r : Result T LoadError) (x : T) → r ≡ Ok x → new ≡ old ++ missed_in r → new ≡ old
+none-noted old new r x e h = h ∙ ap (λ (t : Result _ LoadError). old ++ missed_in t) e ∙ append-nil old
+
+-- an error that is handed on tells of the same read
+pub noted-handed : {T U : Type 0} (start old new : List Miss) (r : Result T LoadError) (s : Result U LoadError) (x : LoadError) → old ≡ start → new ≡ old ++ missed_in r
+    → r ≡ Err x → (y : LoadError) × (s ≡ Err y) × (y ≡ x) → new ≡ start ++ missed_in s
+noted-handed start old new r s x same h e p =
+    let told : missed_in s ≡ missed_in r = ap missed_in p.1 ∙ ap missed_by p.2 ∙ sym (ap missed_in e) in
+    h ∙ ap (λ (ms : List Miss). ms ++ missed_in r) same ∙ ap (λ (ms : List Miss). start ++ ms) (sym told)

@@ -3,7 +3,7 @@ use Rattle.std.proofs.Common.{◌≡◌, ◌≤◌, ◌<◌, ℕ, ◌+◌, ◌-�
 use Rattle.std.specs.Prelude.{Option, Some, None, IfSome, IsNone, get_or, min, unwrap_or, is_some, cond, nat_lt}
 use Rattle.std.specs.List.{AllByRecursion, IsDistinct, position_or_len}
 use Rattle.std.specs.Str.{bytes_eq}
-use Rattle.std.proofs.lemmas.List.{take_more, take_all, map_push, length-take}
+use Rattle.std.proofs.lemmas.List.{take_more, map_push, length-take}
 use Rattle.std.proofs.lemmas.List.Sums.{sum_by_more}
 use Rattle.host_form.specs.fab_io.specs.declared.store.ReadError.{ReadError}
 use Rattle.host_form.specs.fab_io.specs.Outside.{Files, IsTold}

@@ -16,8 +16,8 @@ use Rattle.ten_core.specs.ten_plan.specs.Held.{saved_of}
 use Rattle.host_form.specs.Saves.{path_of}
 use Rattle.host_files.specs.declared.kept.Kept.{Kept}
 use Rattle.host_files.specs.Kept.{saved_in, CanBeWritten, CanBeKept}
-use Rattle.host_files.specs.Writes.{Write, writes_in, saved_of_kept, writes_of, LeavesFront}
-use Rattle.host_files.proofs.Writing.{write_of, behind, AreWritten, more, front, unwritten, one-written}
+use Rattle.host_files.specs.Writes.{Write, writes_in, saved_of_kept, writes_of, LeavesFront, LosesOne}
+use Rattle.host_files.proofs.Writing.{write_of, behind, AreWritten, more, front, lost-front, one-lost, unwritten, one-written}
 
 pub on-err : {A : Type 0} {E : Type 0} {X : Type 0} (r : Result A E) → X → OnErr r X
 on-err (Ok a) x = tt
@@ -54,6 +54,12 @@ module _ (tenant : List ℕ) (k : Kept) (told : Option Files) where
       let one = write_of tenant (saved_of rows x) in
       front (writes_in tenant (saved_in k)) (one ∷ []) (writes ys) told now after (at-front xs ys x now e s).done (unwritten one now after error other same)
 
+  pub saving-lost : (xs ys : List Saved) (x : Saved) (now after : Option Files) → xs ≡ x ∷ ys → IsSaving xs now → ChangesOnly now after (path_of tenant x.name)
+      → LosesOne (writes_in tenant (saved_in k)) told after
+  saving-lost xs ys x now after e s changes =
+      let one = write_of tenant (saved_of rows x) in
+      lost-front (writes_in tenant (saved_in k)) (one ∷ []) (writes ys) told now after (at-front xs ys x now e s).done (one-lost one now after changes)
+
 -- ---- those of all tenants
 
 module _ (all : List Write) (told : Option Files) where
@@ -86,3 +92,8 @@ module _ (all : List Write) (told : Option Files) where
       → IsWriting ts ks now → LeavesFront (writes_in t.name (saved_of_kept k)) now after → LeavesFront all told after
   writing-front ts us t ks ls k now after e f w g =
       front all (writes_in t.name (saved_of_kept k)) (writes_of us ls) told now after (at-first ts us t ks ls k now e f w).done g
+
+  pub writing-lost : (ts us : List TenantLine) (t : TenantLine) (ks ls : List (Option Kept)) (k : Option Kept) (now after : Option Files) → ts ≡ t ∷ us → ks ≡ k ∷ ls
+      → IsWriting ts ks now → LosesOne (writes_in t.name (saved_of_kept k)) now after → LosesOne all told after
+  writing-lost ts us t ks ls k now after e f w g =
+      lost-front all (writes_in t.name (saved_of_kept k)) (writes_of us ls) told now after (at-first ts us t ks ls k now e f w).done g

@@ -1,14 +1,13 @@
 -- Files written one after the other.
 use Rattle.std.proofs.Common.{◌≡◌, ℕ, zero, suc, List, [], ◌∷◌, ◌++◌, length, take, drop, refl, sym, ap, ◌∙◌, subst, append_assoc}
-use Rattle.std.specs.Prelude.{Option, Some, None, option_map, slice_get}
+use Rattle.std.specs.Prelude.{Option, Some, None, option_map}
 use Rattle.host_form.specs.fab_io.specs.declared.store.WriteError.{WriteError}
 use Rattle.host_form.specs.fab_io.specs.declared.store.WriteError.TheVariants.{Failed, Memory}
 use Rattle.host_form.specs.fab_io.specs.Outside.{Files, with_file, ChangesOnly}
 use Rattle.ten_core.specs.vl_design.specs.Snapshots.{Saved}
 use Rattle.host_form.specs.Saves.{path_of, with_saves}
 use Rattle.ten_core.specs.ten_plan.specs.Written.{bytes_of}
-use Rattle.host_files.specs.Writes.{Write, writes_in, after_writes, LeavesFront}
-use Rattle.ten_core.specs.vl_base.proofs.Lists.{get_at_length as here}
+use Rattle.host_files.specs.Writes.{Write, writes_in, after_writes, LeavesFront, LosesOne}
 
 -- ---- lists
 
@@ -21,11 +20,6 @@ split [] zero = refl
 split [] (suc n) = refl
 split (x ∷ xs) zero = refl
 split (x ∷ xs) (suc n) = ap (λ (zs : List _). x ∷ zs) (split xs n)
-
-split-at : {A : Type 0} (xs : List A) (n : ℕ) (x : A) → slice_get xs n ≡ Some x → xs ≡ take n xs ++ x ∷ drop (suc n) xs
-split-at [] n x e = cc
-split-at (y ∷ ys) zero x e = let is : y ≡ x = cc in ap (λ (z : _). z ∷ ys) is
-split-at (y ∷ ys) (suc n) x e = ap (λ (zs : List _). y ∷ zs) (split-at ys n x e)
 
 -- ---- writes
 
@@ -73,25 +67,35 @@ joined : (done ws rest front left : List Write) → ws ≡ front ++ left → don
 joined done ws rest front left e =
     ap (λ (vs : List Write). done ++ (vs ++ rest)) e ∙ ap (λ (vs : List Write). done ++ vs) (append_assoc front left rest) ∙ sym (append_assoc done front (left ++ rest))
 
+pub lost-front : (all ws rest : List Write) (told now after : Option Files) → AreWritten all (ws ++ rest) told now → LosesOne ws now after → LosesOne all told after
+lost-front all ws rest told now after a l = record {
+  done = a.done ++ l.done;
+  lost = l.lost;
+  behind = l.behind ++ rest;
+  are = a.split ∙ joined a.done ws rest l.done (l.lost ∷ l.behind) l.are;
+  files = subst (λ (x : Option Files). ChangesOnly x after l.lost.path) (ap (behind l.done) a.is ∙ sym (behind-append a.done l.done told)) l.files;
+}
+
 pub front : (all ws rest : List Write) (told now after : Option Files) → AreWritten all (ws ++ rest) told now → LeavesFront ws now after → LeavesFront all told after
 front all ws rest told now after a (LeavesFront.written n e) =
     let first = a.done ++ take n ws in
     let parts : all ≡ first ++ (drop n ws ++ rest) = a.split ∙ joined a.done ws rest (take n ws) (drop n ws) (split ws n) in
     LeavesFront.written (length first)
     (e ∙ ap (behind (take n ws)) a.is ∙ sym (behind-append a.done (take n ws) told) ∙ sym (take-all all first (drop n ws ++ rest) told parts))
-front all ws rest told now after a (LeavesFront.failed n w get changes) =
-    let first = a.done ++ take n ws in
-    let left = w ∷ drop (suc n) ws in
-    let parts : all ≡ first ++ (left ++ rest) = a.split ∙ joined a.done ws rest (take n ws) left (split-at ws n w get) in
-    let is : behind (take n ws) now ≡ behind (take (length first) all) told =
-    ap (behind (take n ws)) a.is ∙ sym (behind-append a.done (take n ws) told) ∙ sym (take-all all first (left ++ rest) told parts) in
-    LeavesFront.failed (length first) w (ap (λ (vs : List Write). slice_get vs (length first)) parts ∙ here first w (drop (suc n) ws ++ rest))
-    (subst (λ (x : Option Files). ChangesOnly x after w.path) is changes)
+front all ws rest told now after a (LeavesFront.failed l) = LeavesFront.failed (lost-front all ws rest told now after a l)
 
 -- one write that came to nothing
+pub one-lost : (w : Write) (now after : Option Files) → ChangesOnly now after w.path → LosesOne (w ∷ []) now after
+one-lost w now after changes = record {
+  done = [];
+  lost = w;
+  behind = [];
+  are = refl;
+  files = subst (λ (x : Option Files). ChangesOnly x after w.path) (sym (with_none now)) changes;
+}
+
 pub unwritten : (w : Write) (now after : Option Files) (e : WriteError) → (e ≡ Failed → ChangesOnly now after w.path) → (e ≡ Memory → after ≡ now) → LeavesFront (w ∷ []) now after
-unwritten w now after Failed other same =
-    LeavesFront.failed 0 w refl (subst (λ (x : Option Files). ChangesOnly x after w.path) (sym (with_none now)) (other refl))
+unwritten w now after Failed other same = LeavesFront.failed (one-lost w now after (other refl))
 unwritten w now after Memory other same = LeavesFront.written 0 (same refl ∙ sym (with_none now))
 
 pub one-written : (w : Write) (now after : Option Files) → after ≡ option_map (with_file w.path w.bytes) now → after ≡ behind (w ∷ []) now

@@ -1,15 +1,17 @@
 -- What is read for a script, of how many bytes at most, and why something was not read.
-use Rattle.std.specs.Prelude.{◌≡◌, ℕ, ◌-◌, ◌≤◌, List, [], ◌∷◌, ◌++◌, length, min, flat_map, slice_get, Option, Some, option_map, unwrap_or, IfSome, ◌⊎◌, ⊤}
+use Rattle.std.specs.Prelude.{◌≡◌, ℕ, ◌-◌, ◌≤◌, List, [], ◌∷◌, ◌++◌, length, min, flat_map, slice_get, Option, Some, option_map, unwrap_or, IfSome, Result, Ok, Err, ◌⊎◌, ⊤}
 use Rattle.std.specs.List.{sum_by}
 use Rattle.std.specs.declared.vec.Vec.{Vec}
 use Rattle.host_form.specs.fab_io.specs.declared.store.ReadError.{ReadError}
 use Rattle.host_form.specs.fab_io.specs.declared.store.ReadError.TheVariants as read
-use Rattle.host_form.specs.fab_io.specs.Outside.{Files, HasRisen, IsAbsent, IsTooLong}
+use Rattle.host_form.specs.fab_io.specs.Outside.{Files, HasRisen, IsAbsent, IsTooLong, Miss}
 use Rattle.host_form.specs.host_text.specs.declared.script.FileLine.{FileLine}
 use Rattle.host_form.specs.host_text.specs.declared.script.TenantLine.{TenantLine}
 use Rattle.host_form.specs.host_text.specs.declared.script.Script.{Script}
 use Rattle.host_form.specs.Origins.{AreFilesAt, IsSnapshotAt}
 use Rattle.host_files.specs.declared.loaded.Loaded.{Loaded}
+use Rattle.host_files.specs.declared.loaded.LoadError.{LoadError}
+use Rattle.host_files.specs.declared.loaded.LoadError.TheVariants as load
 
 -- ---- limits
 
@@ -45,6 +47,15 @@ IsCause told old new path most read.NotThere = IsAbsent told path ⊎ HasRisen o
 IsCause told old new path most read.TooLong = IsTooLong told path most ⊎ HasRisen old.absences new.absences
 IsCause told old new path most read.Failed = HasRisen old.faults new.faults
 IsCause told old new path most read.Memory = ⊥
+
+-- the read that failed, where not all was read; none where memory was wanting
+abbrev pub missed_by : LoadError → List Miss
+missed_by (load.Unread path why) = record { path = path; why = why } ∷ []
+missed_by load.Memory = []
+
+abbrev pub missed_in : {X : Type 0} → Result X LoadError → List Miss
+missed_in (Ok x) = []
+missed_in (Err error) = missed_by error
 
 -- ---- what was read
 

@@ -1,5 +1,5 @@
 -- The files that the snapshots of tenants are written to (own).
-use Rattle.std.specs.Prelude.{◌≡◌, ℕ, List, [], ◌∷◌, ◌++◌, map, take, slice_get, Option, Some, None, option_map}
+use Rattle.std.specs.Prelude.{◌≡◌, ℕ, List, [], ◌∷◌, ◌++◌, map, take, Option, Some, None, option_map}
 use Rattle.host_form.specs.fab_io.specs.Outside.{Files, with_file, ChangesOnly}
 use Rattle.ten_core.specs.vl_design.specs.Snapshots as run
 use Rattle.ten_core.specs.ten_plan.specs.Written.{bytes_of}
@@ -31,7 +31,15 @@ abbrev pub after_writes : List Write → Files → Files
 after_writes [] files = files
 after_writes (w ∷ ws) files = after_writes ws (with_file w.path w.bytes files)
 
--- the first of the writes are done; a write that failed may have changed the file of its path
+-- one of the writes failed: those before it are done, none behind it is, and it may have changed the file of its path
+pub record LosesOne (writes : List Write) (told after : Option Files) : Type 0 where
+  pub done : List Write
+  pub lost : Write
+  pub behind : List Write
+  pub are : writes ≡ done ++ lost ∷ behind
+  pub files : ChangesOnly (option_map (after_writes done) told) after lost.path
+
+-- the first of the writes are done, and the next one may have failed
 pub data LeavesFront (writes : List Write) (told after : Option Files) : Type 0 where
   written : (n : ℕ) → after ≡ option_map (after_writes (take n writes)) told → LeavesFront writes told after
-  failed : (n : ℕ) (w : Write) → slice_get writes n ≡ Some w → ChangesOnly (option_map (after_writes (take n writes)) told) after w.path → LeavesFront writes told after
+  failed : LosesOne writes told after → LeavesFront writes told after

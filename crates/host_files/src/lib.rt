@@ -12,4 +12,4 @@ pub mod load;
 pub mod loaded;
 pub mod write;
 
-pub use host_form::{block, mem_store, refusal, script, statement, store};
+pub use host_form::{block, refusal, script, statement, steady_store, store};

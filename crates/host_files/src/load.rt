@@ -1,14 +1,14 @@
 //! The reading of what a script's tenants have.
 
-ghost use Rattle.std.specs.Prelude.{◌≡◌, ◌≢◌, ◌≤◌, ◌<◌, ◌-◌, ℕ, List, true, length, min, IfOk, IfSome, OnOk, IsErrOf, IsNone, Some};
+ghost use Rattle.std.specs.Prelude.{◌≡◌, ◌≢◌, ◌≤◌, ◌<◌, ◌-◌, ◌++◌, ℕ, List, true, length, min, IfOk, IfSome, OnOk, IsErrOf, IsNone, Some};
 ghost use Rattle.std.specs.List.{AllByRecursion, IsDistinct};
 ghost use Rattle.std.specs.Str.{bytes_eq};
-ghost use Rattle.host_form.specs.fab_io.specs.Outside.{IsTold};
+ghost use Rattle.host_form.specs.fab_io.specs.Outside.{IsTold, miss_of};
 ghost use Rattle.ten_core.specs.vl_base.specs.Files.{number_of};
 ghost use Rattle.host_form.specs.host_text.specs.Words.{is_path};
 ghost use Rattle.host_form.specs.host_text.specs.Laws.{IsWithinLimits, IsSpelt, IsSpeltTenant, IsSpeltFile};
 ghost use Rattle.host_form.specs.Origins.{AreFilesAt, IsSnapshotAt};
-ghost use Rattle.host_files.specs.Reading.{counts_of, IsCause, bytes_in, bytes_of, IsLoaded, AreLoaded, IsMissed, IsAvailable, most_file, most_snapshot};
+ghost use Rattle.host_files.specs.Reading.{counts_of, IsCause, missed_by, missed_in, bytes_in, bytes_of, IsLoaded, AreLoaded, IsMissed, IsAvailable, most_file, most_snapshot};
 ghost use Rattle.host_files.specs.Steps.{IsAdded, IsFileMissed, IsPartMissed, AreWithin, IsSnapshotWithin, IsTenantWithin};
 
 use crate::loaded::{LoadError, Loaded};
@@ -49,19 +49,17 @@ fn copy_of(alloc: Global, text: &Text) -> Result<Text, AllocError>
 }
 
 /// That the file of a path was not read.
-fn unread(alloc: Global, path: &Text, why: ReadError) -> LoadError
-    ensures { (asked : List ℕ) (cause : ReadError) → result ≡ LoadError.Unread asked cause → (asked ≡ path.now) × (cause ≡ why) × (why ≢ ReadError.Memory) }
+fn unread(asked: Text, why: ReadError) -> LoadError
+    ensures asked { (path : List ℕ) (cause : ReadError) → result ≡ LoadError.Unread path cause → (path ≡ asked) × (cause ≡ why) × (why ≢ ReadError.Memory) }
+    ensures missed { missed_by result ≡ miss_of asked why }
 {
     if why == ReadError::Memory {
         return LoadError::Memory;
     }
-    match copy_of(alloc, path) {
-        Ok(asked) => LoadError::Unread(asked, why),
-        Err(_) => LoadError::Memory,
-    }
+    LoadError::Unread(asked, why)
 }
 
-/// Reads the file of a path of at most so many bytes.
+/// Reads the file of a path of at most so many bytes. Its path is copied before, so a read that failed is always told.
 pub fn read_at<S: Store>(
     alloc: Global,
     path: &Text,
@@ -72,13 +70,17 @@ pub fn read_at<S: Store>(
     ensures told { S.told store.new ≡ S.told store.old }
     ensures faults { S.faults store.old ≤ S.faults store.new }
     ensures absences { S.absences store.old ≤ S.absences store.new }
+    ensures noted { S.missed store.new ≡ S.missed store.old ++ missed_in result }
     ensures bytes { IfOk result (λ bytes. IsTold (S.told store.old) path.now bytes.items × (length bytes.items ≤ most)) }
     ensures missed { (asked : List ℕ) (why : ReadError) → IsErrOf result (LoadError.Unread asked why) → (asked ≡ path.now)
         × IsCause (S.told store.old) (counts_of (S.faults store.old) (S.absences store.old)) (counts_of (S.faults store.new) (S.absences store.new)) path.now most why }
 {
+    let Ok(asked) = copy_of(alloc, path) else {
+        return Err(LoadError::Memory);
+    };
     match store.read(alloc, path_text(path), most) {
         Ok(bytes) => Ok(bytes),
-        Err(why) => Err(unread(alloc, path, why)),
+        Err(why) => Err(unread(asked, why)),
     }
 }
 
@@ -92,6 +94,7 @@ fn read_snapshot<S: Store>(
     ensures told { S.told store.new ≡ S.told store.old }
     ensures faults { S.faults store.old ≤ S.faults store.new }
     ensures absences { S.absences store.old ≤ S.absences store.new }
+    ensures noted { S.missed store.new ≡ S.missed store.old ++ missed_in result }
     ensures snapshot { IfOk result (λ bytes. IfSome (S.told store.old) (λ files. IsSnapshotAt files resume.now (bytes_in bytes))) }
     ensures within { OnOk result (IfSome (S.told store.old) (λ files. IsSnapshotWithin files resume.now)) }
     ensures missed { (asked : List ℕ) (why : ReadError) → IsErrOf result (LoadError.Unread asked why) → (resume.now ≡ Some asked)
@@ -125,6 +128,7 @@ impl Reader {
         ensures told { S.told store.new ≡ S.told store.old }
         ensures faults { S.faults store.old ≤ S.faults store.new }
         ensures absences { S.absences store.old ≤ S.absences store.new }
+        ensures noted { S.missed store.new ≡ S.missed store.old ++ missed_in result }
         ensures added { OnOk result (IsAdded (S.told store.old) line.now set.old set.new self.old.room self.new.room) }
         ensures missed { (asked : List ℕ) (why : ReadError) → IsErrOf result (LoadError.Unread asked why) → (asked ≡ line.now.path)
             × IsCause (S.told store.old) (counts_of (S.faults store.old) (S.absences store.old)) (counts_of (S.faults store.new) (S.absences store.new)) asked (min most_file self.old.room) why }
@@ -157,6 +161,7 @@ impl Reader {
         ensures told { S.told store.new ≡ S.told store.old }
         ensures faults { S.faults store.old ≤ S.faults store.new }
         ensures absences { S.absences store.old ≤ S.absences store.new }
+        ensures noted { S.missed store.new ≡ S.missed store.old ++ missed_in result }
         ensures files { IfOk result (λ set. IfSome (S.told store.old) (λ files. AreFilesAt files lines.now set)) }
         ensures within { OnOk result (IfSome (S.told store.old) (λ files. AreWithin files self.old.room lines.now)) }
         ensures room { OnOk result (IfSome (S.told store.old) (λ files. self.new.room ≡ self.old.room - bytes_of files lines.now)) }
@@ -182,6 +187,7 @@ impl Reader {
         ensures told { S.told store.new ≡ S.told store.old }
         ensures faults { S.faults store.old ≤ S.faults store.new }
         ensures absences { S.absences store.old ≤ S.absences store.new }
+        ensures noted { S.missed store.new ≡ S.missed store.old ++ missed_in result }
         ensures loaded { IfOk result (λ loaded. IfSome (S.told store.old) (λ files. IsLoaded files line.now loaded)) }
         ensures within { OnOk result (IfSome (S.told store.old) (λ files. IsTenantWithin files self.old.room line.now)) }
         ensures room { OnOk result (IfSome (S.told store.old) (λ files. self.new.room ≡ self.old.room - bytes_of files line.now.files)) }
@@ -201,7 +207,7 @@ impl Reader {
 
 /// Reads what a script's tenants have, tenant by tenant: its source, its files in order, and its snapshot, if it has one. Read are
 /// sources of at most 2,097,152 bytes, snapshots of at most 16,777,216, and files, each of at most the lesser of 4,194,304 bytes and
-/// what the files read before it leave of 268,435,456. The first read that fails ends it.
+/// what the files read before it leave of 268,435,456. The first read that fails ends it, and is told with its path.
 pub fn load<S: Store>(
     alloc: Global,
     script: &Script,
@@ -212,6 +218,7 @@ pub fn load<S: Store>(
     ensures told { S.told store.new ≡ S.told store.old }
     ensures faults { S.faults store.old ≤ S.faults store.new }
     ensures absences { S.absences store.old ≤ S.absences store.new }
+    ensures noted { S.missed store.new ≡ S.missed store.old ++ missed_in result }
     ensures loaded { IfOk result (λ all. IfSome (S.told store.old) (λ files. AreLoaded files script.now.tenants all.items)) }
     ensures count { IfOk result (λ all. length all.items ≡ length script.now.tenants) }
     ensures within { IfOk result (λ all. IfSome (S.told store.old) (λ files. IsAvailable files script.now)) }

@@ -15,7 +15,7 @@ ghost use Rattle.ten_core.specs.ten_plan.specs.Written.{bytes_of, written};
 ghost use Rattle.host_form.specs.Saves.{path_of};
 ghost use Rattle.elab_laws.specs.Names.{is_named};
 ghost use Rattle.host_files.specs.Kept.{saved_in, IsKeptOf, CanBeKept};
-ghost use Rattle.host_files.specs.Writes.{writes_in, saved_of_kept, writes_of, after_writes, LeavesFront};
+ghost use Rattle.host_files.specs.Writes.{writes_in, saved_of_kept, writes_of, after_writes, LeavesFront, LosesOne};
 
 use crate::kept::Kept;
 use host_form::script::TenantLine;
@@ -63,7 +63,8 @@ fn write_one<S: Store>(
     requires design { CanBeHeld (flat_of design.now) }
     requires snapshot { IsSnapshot (written (snapshot_of (flat_of design.now).rows saved.held)) }
     ensures faults { S.faults store.old ≤ S.faults store.new }
-    ensures absences { S.absences store.old ≤ S.absences store.new }
+    ensures absences { S.absences store.new ≡ S.absences store.old }
+    ensures missed { S.missed store.new ≡ S.missed store.old }
     ensures written { OnOk result (S.told store.new ≡ option_map (with_file (path_of tenant.now saved.name) (bytes_of (snapshot_of (flat_of design.now).rows saved.held))) (S.told store.old)) }
     ensures failed { IsErrOf result WriteError.Failed → HasRisen (S.faults store.old) (S.faults store.new) }
     ensures others { IsErrOf result WriteError.Failed → ChangesOnly (S.told store.old) (S.told store.new) (path_of tenant.now saved.name) }
@@ -88,9 +89,11 @@ fn write_saved<S: Store>(
     requires tenant { is_name tenant.now ≡ true }
     requires kept { IsKeptOf kept }
     ensures faults { S.faults store.old ≤ S.faults store.new }
-    ensures absences { S.absences store.old ≤ S.absences store.new }
+    ensures absences { S.absences store.new ≡ S.absences store.old }
+    ensures missed { S.missed store.new ≡ S.missed store.old }
     ensures all { OnOk result (S.told store.new ≡ option_map (after_writes (writes_in tenant.now (saved_in kept))) (S.told store.old)) }
     ensures front { OnErr result (LeavesFront (writes_in tenant.now (saved_in kept)) (S.told store.old) (S.told store.new)) }
+    ensures lost { IsErrOf result WriteError.Failed → LosesOne (writes_in tenant.now (saved_in kept)) (S.told store.old) (S.told store.new) }
     ensures failed { IsErrOf result WriteError.Failed → HasRisen (S.faults store.old) (S.faults store.new) }
 {
     let Kept { origin, saved } = kept;
@@ -110,9 +113,11 @@ fn write_kept<S: Store>(
     requires tenant { is_name tenant.now.name ≡ true }
     requires kept { CanBeKept kept }
     ensures faults { S.faults store.old ≤ S.faults store.new }
-    ensures absences { S.absences store.old ≤ S.absences store.new }
+    ensures absences { S.absences store.new ≡ S.absences store.old }
+    ensures missed { S.missed store.new ≡ S.missed store.old }
     ensures all { OnOk result (S.told store.new ≡ option_map (after_writes (writes_in tenant.now.name (saved_of_kept kept))) (S.told store.old)) }
     ensures front { OnErr result (LeavesFront (writes_in tenant.now.name (saved_of_kept kept)) (S.told store.old) (S.told store.new)) }
+    ensures lost { IsErrOf result WriteError.Failed → LosesOne (writes_in tenant.now.name (saved_of_kept kept)) (S.told store.old) (S.told store.new) }
     ensures failed { IsErrOf result WriteError.Failed → HasRisen (S.faults store.old) (S.faults store.new) }
 {
     match kept {
@@ -133,9 +138,11 @@ pub fn write_all<S: Store>(
     requires names { AllByRecursion IsSpeltTenant tenants.now }
     requires kept { AllByRecursion CanBeKept kept.items }
     ensures faults { S.faults store.old ≤ S.faults store.new }
-    ensures absences { S.absences store.old ≤ S.absences store.new }
+    ensures absences { S.absences store.new ≡ S.absences store.old }
+    ensures missed { S.missed store.new ≡ S.missed store.old }
     ensures all { OnOk result (S.told store.new ≡ option_map (after_writes (writes_of tenants.now kept.items)) (S.told store.old)) }
     ensures front { OnErr result (LeavesFront (writes_of tenants.now kept.items) (S.told store.old) (S.told store.new)) }
+    ensures lost { IsErrOf result WriteError.Failed → LosesOne (writes_of tenants.now kept.items) (S.told store.old) (S.told store.new) }
     ensures failed { IsErrOf result WriteError.Failed → HasRisen (S.faults store.old) (S.faults store.new) }
 {
     'tenants: for (tenant, kept) in tenants.iter().zip(kept) {

@@ -6,17 +6,10 @@ use Rattle.host_text.specs.declared.script.TenantLine.{TenantLine}
 use Rattle.fab_io.specs.Outside.{Files}
 use Rattle.host_form.specs.Origins.{Source, Tenant, AreFilesAt, IsSnapshotAt, IsRead}
 use Rattle.host_form.specs.Reports.{AreRead}
-use Rattle.host_form.specs.Laws.{Judges}
-
--- each text is judged in one way at most
-abbrev pub IsOneJudgement : (List ℕ → Source → Type 0) → Type 0
-IsOneJudgement judged = (text : List ℕ) (a b : Source) → judged text a → judged text b → a ≡ b
+use Rattle.host_form.specs.Laws.{IsOneJudgement}
 
 pub some_is : {X : Type 0} {x y : X} → ◌≡◌ {A = Option X} (Some x) (Some y) → x ≡ y
 some_is h = cc
-
-pub judges-once : (judge : List ℕ → Option Source) → IsOneJudgement (Judges judge)
-judges-once judge text a b h k = some_is (sym h ∙ k)
 
 same_file : (f g : File) → f.name ≡ g.name → f.bytes ≡ g.bytes → f ≡ g
 same_file f g n b = ap₂ (λ (name : List ℕ) (bytes : List ℕ). record { name = name; bytes = bytes }) n b

@@ -16,7 +16,8 @@ use Rattle.host_form.specs.Orders.{Answered, stop_of, free_line}
 use Rattle.host_form.specs.Runs.{IsEnd, alone, stopped, Run, IsRun, Outcome, Refused, Ran, IsOutcome}
 use Rattle.host_form.specs.Reports.{blocks_of, AreOutcomes, IsReport}
 use Rattle.host_form.specs.Saves.{with_saves, IsKept, AreSaved, LeavesFiles}
-use Rattle.host_form.proofs.Once.{IsOneJudgement, some_is, all-read-once}
+use Rattle.host_form.specs.Laws.{IsOneJudgement}
+use Rattle.host_form.proofs.Once.{some_is, all-read-once}
 use Rattle.host_form.proofs.Times.{visits-once}
 use Rattle.host_form.proofs.Verdicts.{origin-once, refusal-once, not-both}
 use Rattle.host_text.specs.vl_design.proofs.Shared.{from_first as keeps_from}

@@ -16,6 +16,10 @@ abbrev pub AreAscending : List Errand → Type 0
 AreAscending [] = ⊤
 AreAscending (e ∷ es) = AllByRecursion (λ f. e.tick ≤ f.tick) es × AreAscending es
 
+-- each text is judged in one way at most
+abbrev pub IsOneJudgement : (List ℕ → Source → Type 0) → Type 0
+IsOneJudgement judged = (text : List ℕ) (a b : Source) → judged text a → judged text b → a ≡ b
+
 -- what texts are judged to be, where a function says it
 abbrev pub Judges : (List ℕ → Option Source) → List ℕ → Source → Type 0
 Judges judge text x = judge text ≡ Some x

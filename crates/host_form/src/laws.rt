@@ -1,6 +1,6 @@
 //! What follows from the definitions alone.
 
-ghost use Rattle.std.specs.Prelude.{◌≡◌, ◌≤◌, ◌⊎◌, ℕ, true, List, [], Option, Some, map, slice_get};
+ghost use Rattle.std.specs.Prelude.{◌≡◌, ◌≤◌, ◌⊎◌, ℕ, true, List, [], Some, map, slice_get};
 ghost use Rattle.std.specs.List.{AllByRecursion};
 ghost use Rattle.host_text.specs.vl_base.specs.declared.place.Place.{Place};
 ghost use Rattle.host_text.specs.vl_design.specs.declared.design.End.TheVariants.{Stopped};
@@ -8,18 +8,16 @@ ghost use Rattle.host_text.specs.vl_design.specs.Cost.{Cost};
 ghost use Rattle.host_text.specs.vl_design.specs.Snapshots.{Saved};
 ghost use Rattle.host_text.specs.vl_design.specs.Alone.{Origin, FreeSave, Keeps, first_tick, stop_at, save_names};
 ghost use Rattle.host_text.specs.declared.script.FabricLine.{FabricLine};
-ghost use Rattle.host_text.specs.declared.script.Script.{Script};
 ghost use Rattle.host_text.specs.declared.script.TenantLine.{TenantLine};
 ghost use Rattle.host_text.specs.Laws.{AreOrdered as AreSorted};
 ghost use Rattle.host_form.specs.Histories.{Histories, Visit, visits_on, times, AreOrdered, Chain, AreVisits};
-ghost use Rattle.host_form.specs.Laws.{AreAscending, Judges, name_of, IsTellable};
+ghost use Rattle.host_form.specs.Laws.{AreAscending};
 ghost use Rattle.fab_io.specs.Outside.{Files};
-ghost use Rattle.host_form.specs.Origins.{Source, Tenant, IsRead, IsOrigin, IsRefused, is_planned, plan_of};
+ghost use Rattle.host_form.specs.Origins.{Tenant, IsOrigin, IsRefused, is_planned, plan_of};
 ghost use Rattle.host_text.specs.ten_plan.specs.Plans.{errand_of};
 ghost use Rattle.host_form.specs.Orders.{Answered, stop_of};
 ghost use Rattle.host_form.specs.Runs.{Run, IsRun};
-ghost use Rattle.host_form.specs.Reports.{IsReport, blocks_of};
-ghost use Rattle.host_form.specs.Saves.{LeavesFiles, IsReordered, with_saves};
+ghost use Rattle.host_form.specs.Saves.{IsReordered, with_saves};
 
 /// A plan has the errands of the script in their order, which is that of ticks, but for moves to fabrics that are too
 /// small: all of them where no move is to one, and none where there are none.
@@ -34,12 +32,6 @@ pub fn a_plan_keeps_the_order_of_errands()
 pub fn unplanned_moves_change_no_stop_and_no_save()
     ensures stops { (fabrics : List FabricLine) (c : Cost) (t : TenantLine) (k : ℕ) → stop_at k (plan_of fabrics c t).errands ≡ stop_at k (map errand_of t.errands) }
     ensures saves { (fabrics : List FabricLine) (c : Cost) (t : TenantLine) (k : ℕ) → save_names k (plan_of fabrics c t).errands ≡ save_names k (map errand_of t.errands) }
-{}
-
-/// A line of a script is read as one tenant at most.
-pub fn a_line_is_read_in_one_way()
-    ensures { (judge : List ℕ → Option Source) (told : Files) (line : TenantLine) (t u : Tenant) →
-        IsRead (Judges judge) told line t → IsRead (Judges judge) told line u → t ≡ u }
 {}
 
 /// A tenant at a fabric of the script has one origin or is refused in one way, and never both.
@@ -66,16 +58,6 @@ pub fn stays_are_known_by_how_often_each_is_there()
         AreOrdered visits → ((v : Visit) → times v visits ≡ times v trail) → AreVisits histories tenant from to visits }
 {}
 
-/// For these files, these histories, and these replies to its free orders, a script has one report at most, and leaves one set of
-/// files.
-pub fn a_script_has_one_report_at_most()
-    ensures report { (judge : List ℕ → Option Source) (told : Files) (s : Script) (histories : Histories) (bytes others : List ℕ) →
-        (a : IsReport (Judges judge) told s histories bytes) (b : IsReport (Judges judge) told s histories others) → a.answers ≡ b.answers → bytes ≡ others }
-    ensures files { (judge : List ℕ → Option Source) (told : Files) (s : Script) (histories : Histories) (bytes others : List ℕ) →
-        (a : IsReport (Judges judge) told s histories bytes) (b : IsReport (Judges judge) told s histories others) → a.answers ≡ b.answers →
-        (left right : Files) → LeavesFiles (Judges judge) told s histories bytes a left → LeavesFiles (Judges judge) told s histories others b right → left ≡ right }
-{}
-
 /// Snapshots that are made besides a run may be made in any order: there are some that are kept so, and they leave the same files.
 pub fn free_saves_may_be_made_in_any_order()
     ensures { (o : Origin) (free others : List FreeSave) (k : ℕ) (saved : List Saved) → IsReordered free others → Keeps o free k saved →
@@ -92,17 +74,4 @@ pub fn ticks_stay_within_the_budget()
 pub fn a_stopped_tenant_has_a_stop()
     ensures { (fabrics : List FabricLine) (histories : Histories) (answers : List Answered) (n : ℕ) (t : Tenant) (r : Run) → IsRun fabrics histories answers n t r →
         r.reason ≡ Stopped → (stop_of n answers ≡ Some r.tick) ⊎ (stop_at r.tick (map errand_of t.line.errands) ≡ true) }
-{}
-
-/// A report has a block for each tenant, in the order of the script.
-pub fn tenants_are_reported_in_order()
-    ensures { (judge : List ℕ → Option Source) (told : Files) (s : Script) (histories : Histories) (bytes : List ℕ) →
-        (r : IsReport (Judges judge) told s histories bytes) → map name_of (blocks_of s r.tenants r.outcomes) ≡ map (λ t. t.name) s.tenants }
-{}
-
-/// The bytes of a report tell the replies to the free orders of a script.
-pub fn the_bytes_tell_the_replies()
-    ensures { (judge : List ℕ → Option Source) (told : Files) (s : Script) (histories : Histories) (bytes : List ℕ) →
-        (a b : IsReport (Judges judge) told s histories bytes) → IsTellable s a.tenants a.outcomes a.answers → IsTellable s b.tenants b.outcomes b.answers →
-        a.answers ≡ b.answers }
 {}

@@ -5,13 +5,15 @@
 //!
 //! Proved: seven worked rows computed from these (`rows.rt`).
 //!
-//! Proved: one origin or one refusal, one report and one set of files for given replies, stays in one way, ticks within the budget, a stop
-//! has a cause, the bytes tell the replies (`laws.rt`).
+//! Proved: one origin or one refusal, stays in one way, ticks within the budget, a stop has a cause (`laws.rt`); one report and one set of
+//! files for given replies, wherever a source is judged in one way (`proofs/Whole`).
 #![tactic(auto)]
 
 pub mod laws;
 pub mod refusal;
 pub mod rows;
 
-pub use fab_io::{dir_store, gate, mem_sink, mem_store, sink, std_sink, store};
+pub use fab_io::{
+    dir_store, gate, mem_sink, mem_store, sink, std_sink, steady_sink, steady_store, store,
+};
 pub use host_text::{block, script, statement};

@@ -5,3 +5,4 @@ pub mod Decided
 pub mod Weighed
 pub mod Runs
 pub mod Noted
+pub mod Judging

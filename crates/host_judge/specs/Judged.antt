@@ -27,7 +27,7 @@ kind_words (k.Lex cause) = codes "lex " ++ decimal cause
 kind_words k.Parse = codes "parse"
 kind_words (k.Construct number) = codes "construct " ++ decimal number
 kind_words (k.Limit number) = codes "limit " ++ decimal number
-kind_words k.Loop = codes "loop"
+kind_words (k.Loop cycle) = codes "loop"
 
 -- what the bytes of a source are judged to be: the design that they stand for, or the place and the kind of their refusal
 abbrev pub judged : List ℕ → Source → Type 0

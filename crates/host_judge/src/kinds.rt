@@ -48,7 +48,7 @@ fn push_kind(alloc: Global, kind: Kind, text: &mut Vec<u8>) -> Result<(), AllocE
             text,
         ),
         Kind::Limit(number) => push_counted(alloc, b"limit ".as_slice(), u64::from(number), text),
-        Kind::Loop => text.extend_from_slice(b"loop"),
+        Kind::Loop(_) => text.extend_from_slice(b"loop"),
     }
 }
 

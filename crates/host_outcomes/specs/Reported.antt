@@ -1,5 +1,7 @@
 -- What the histories of a run tell a report (own).
-use Rattle.std.specs.Prelude.{ℕ, ◌+◌, Bool, true, false, List, [], ◌∷◌, length, map, slice_index_or}
+use Rattle.std.specs.Prelude.{ℕ, ◌+◌, Bool, true, false, not, List, [], ◌∷◌, filter, length, map, slice_index_or}
+use Rattle.std.specs.List.{AllByRecursion}
+use Rattle.fab_orders.specs.fab_bay.specs.Ways.{AreBelow}
 use Rattle.fab_orders.specs.fab_bay.specs.declared.noted.NotedCore.{NotedCore}
 use Rattle.host_judge.specs.host_form.specs.Histories as report
 use Rattle.host_judge.specs.host_form.specs.Histories.{Histories}
@@ -20,6 +22,14 @@ numbers_from n (false ∷ refused) = n ∷ numbers_from (n + 1) refused
 -- the number in the script of the tenant that is number k of those that aren't refused; one that no tenant has where there are fewer
 abbrev pub number_in : List Bool → ℕ → ℕ
 number_in refused k = slice_index_or (numbers_from 0 refused) k (length refused)
+
+-- how many tenants aren't refused, which are those that run
+abbrev pub running : List Bool → ℕ
+running refused = length (filter (λ r. not r) refused)
+
+-- these bays' histories tell of those tenants alone that run
+abbrev pub AreOfThoseThatRun : List Bool → List NotedCore → Type 0
+AreOfThoseThatRun refused bays = AllByRecursion (λ b. AreBelow (running refused) b.notes.items) bays
 
 -- a note in which the tenant has its number in the script
 abbrev pub renumbered : List Bool → report.Note → report.Note

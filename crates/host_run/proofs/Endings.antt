@@ -1,5 +1,5 @@
 -- What the report of a script's tenants comes to.
-use Rattle.std.proofs.Common.{◌≡◌, ℕ, suc, ◌<◌, Bool, List, [], ◌∷◌, length, filter, get_or, map, sym, ◌∙◌, subst, arith, Option, Ok, Err}
+use Rattle.std.proofs.Common.{◌≡◌, ℕ, ◌<◌, ◌≤◌, Bool, List, length, filter, get_or, map, sym, ◌∙◌, subst, arith, Option, Ok, Err}
 use Rattle.std.specs.Prelude.{not, IfOk, Result}
 use Rattle.std.specs.List.{AllByRecursion}
 use Rattle.host_form.specs.fab_io.specs.Outside.{Files}
@@ -26,11 +26,11 @@ use Rattle.host_run.specs.declared.reported.Reported.{Reported}
 use Rattle.host_run.specs.Reported.{AreBays, IsReported}
 use Rattle.host_run.specs.Rooms.{room_of}
 use Rattle.host_run.specs.Steps.{orders_for, Begin, Says}
-use Rattle.host_run.proofs.BaysOfScript.{are_bays, as_many, same_at}
+use Rattle.host_run.proofs.BaysOfScript.{all_each, are_bays, as_many, same_at}
 use Rattle.host_run.proofs.Named.{given_named}
-use Rattle.host_run.proofs.Reports.{is_reported, AllAreReported, DoAsOrders, EndAtTheirCosts, MayBeGiven, OrdersAreSeen, TenantsAreRead}
+use Rattle.host_run.proofs.Reports.{as_many_starts, is_reported, AllAreReported, DoAsOrders, EndAtTheirCosts, MayBeGiven, OrdersAreSeen, TenantsAreRead}
 use Rattle.host_run.proofs.Saves.{all_can, kept_count, MayBeReordered}
-use Rattle.host_run.proofs.Tellable.{readies_count, refusals_count, starts_count, tellable, tenants_count, AllAreNamed}
+use Rattle.host_run.proofs.Tellable.{few, refusals_count, starts_count, tellable, tenants_count, AllAreNamed}
 
 -- the same, of the refusals that were handed on
 pub begin_on : (s : Script) (loaded : List Loaded) (refusals others : List (Option Refusal)) (labels : List Label) (starts : List Start) → others ≡ refusals
@@ -55,21 +55,21 @@ module _ (s : Script) (loaded : List Loaded) (refusals : List (Option Refusal)) 
   pub as_many_refusals : length refusals ≡ length s.tenants
   as_many_refusals = refusals_count s.fabrics begin.tenants refusals begin.readies begin.judged ∙ tenants_count s.tenants loaded begin.tenants begin.are
 
-  pub as_many_starts : length starts ≡ length (filter (λ r. not r) (map is_refused refusals))
-  as_many_starts = starts_count begin.readies starts begin.begun ∙ readies_count s.fabrics begin.tenants refusals begin.readies begin.judged
+  pub few_starts : length starts ≤ length s.tenants
+  few_starts =
+      let n = starts_count begin.readies starts begin.begun in
+      let f = few s.fabrics begin.tenants refusals begin.readies begin.judged in
+      let t = tenants_count s.tenants loaded begin.tenants begin.are in
+      omega (arith, n, f, t)
 
   pub orders_may_be_given : OrdersMayBeGiven → AreOrders labels starts (orders_for s refusals starts)
   orders_may_be_given may =
-      may labels starts s.fabrics (map is_refused refusals) s.free as_many_starts (as_many s.fabrics labels begin.room)
+      may labels starts s.fabrics (map is_refused refusals) s.free (as_many_starts s loaded refusals labels starts begin) (as_many s.fabrics labels begin.room)
       (λ g l f lt. same_at (λ (k : Label). k.capacity) (λ (x : FabricLine). room_of x.capacity) labels s.fabrics begin.room g l f (let n = as_many s.fabrics labels begin.room in omega (arith, lt, n)))
 
 -- tenants that begin are parcels
 pub all_parcels : (labels : List Label) (starts : List Start) → AreStarts labels starts → AllByRecursion (λ x. IsParcel x.transit.parcel) starts
-all_parcels labels starts h = each starts (λ i d l. (h i d l).parcel)
-  where
-    each : (ss : List Start) → ((i : ℕ) (d : Start) → i < length ss → IsParcel (get_or ss i d).transit.parcel) → AllByRecursion (λ x. IsParcel x.transit.parcel) ss
-    each [] f = tt
-    each (x ∷ ss) f = (f 0 x (omega arith), each ss (λ i d l. f (suc i) d (omega (arith, l))))
+all_parcels labels starts h = all_each (λ (x : Start). IsParcel x.transit.parcel) starts (λ i d l. (h i d l).parcel)
 
 -- ---- behind it
 
@@ -86,9 +86,10 @@ module _ (s : Script) (loaded : List Loaded) (refusals : List (Option Refusal)) 
     report_ok (Ok r) says same = λ files there. is_reported s loaded refusals labels starts out begin outcome limits read cost done may seen all reordered files r says same there
     report_ok (Err e) says same = tt
 
-  pub bays_ok : {E : Type 0} (result : Result Reported E) → IfOk result (λ r. r.bays.items ≡ out.bays.items) → IfOk result (λ r. AreBays s.fabrics r.bays.items)
+  pub bays_ok : {E : Type 0} (result : Result Reported E) → IfOk result (λ r. r.bays.items ≡ out.bays.items) → IfOk result (λ r. AreBays s r.bays.items)
   bays_ok (Ok r) same =
-      subst (λ (bs : List NotedCore). AreBays s.fabrics bs) (sym same) (are_bays s.fabrics labels begin.room starts (orders_for s refusals starts) out begin.labelled outcome)
+      subst (λ (bs : List NotedCore). AreBays s bs) (sym same)
+      (are_bays labels starts (orders_for s refusals starts) out begin.labelled outcome s begin.room (few_starts s loaded refusals labels starts begin))
   bays_ok (Err e) same = tt
 
   pub kept_ok : {E : Type 0} (result : Result Reported E) → IfOk result (λ r. Says s refusals out.ended.items out.answers.items r.refused r.blocks.items r.text.items r.kept.items)

@@ -1,5 +1,5 @@
 -- What follows of a call from its outcome.
-use Rattle.std.proofs.Common.{◌≡◌, ◌≤◌, ℕ, List, [], ◌∷◌, ◌++◌, length, take, drop, Ok, refl, sym, ap, ◌∙◌, subst, arith, inl, inr}
+use Rattle.std.proofs.Common.{◌≡◌, ◌≤◌, ℕ, List, [], ◌∷◌, ◌++◌, length, length-append, take, drop, Ok, refl, sym, ap, ◌∙◌, subst, arith, inl, inr}
 use Rattle.std.specs.Prelude.{Option, Some, None, option_map, ◌⊎◌}
 use Rattle.std.proofs.lemmas.List.{take-append-drop}
 use Rattle.host_form.specs.fab_io.specs.declared.store.ReadError.{ReadError}
@@ -9,12 +9,12 @@ use Rattle.fab_rounds.specs.fab_bay.specs.declared.noted.NotedCore.{NotedCore}
 use Rattle.host_text.specs.declared.script.Script.{Script}
 use Rattle.host_text.specs.Reading.{reading}
 use Rattle.host_files.specs.Reading.{Counts, IsAsked, IsCause, IsMissed}
-use Rattle.host_files.specs.Writes.{after_writes, LeavesFront, Write}
+use Rattle.host_files.specs.Writes.{after_writes, LeavesFront, LosesOne, Write}
 use Rattle.host_run.specs.Taking.{Takes}
 use Rattle.host_run.specs.Demos.{IsShown}
 use Rattle.host_run.specs.Words.{command_of, path_of, Command, Run, Check, Demo}
-use Rattle.host_run.specs.Due.{Outside, IsDue, ran, checked, shown, misused, misread, unread_named, unread_file, all, cut, short, unsaved, Outcome, wrote, starved, most_of}
-use Rattle.host_run.specs.Claims.{HasReported, HasJudged, HasShown, IsMisused, HasMisread, HasMissed, IsUnread, TakesFront, IsGiven, IsServed, IsFaulty, IsCheckable, IsStarved}
+use Rattle.host_run.specs.Due.{Outside, IsDue, ran, checked, shown, misused, misread, unread_named, unread_file, all, cut, short, unsaved, lost, Outcome, wrote, starved, most_of}
+use Rattle.host_run.specs.Claims.{HasReported, HasJudged, HasShown, IsMisused, HasMisread, HasMissed, IsUnread, IsCut, IsUnsaved, HasFailed, TakesFront, IsGiven, IsServed, IsFaulty, IsCheckable, IsStarved}
 use Rattle.host_text.specs.vl_base.proofs.Lists.{append_nil as append-none}
 pub use Rattle.host_files.proofs.Writing.{with_none as written-none}
 
@@ -83,7 +83,7 @@ no-file {told = told} s old new path bytes asked script why c t l f g (most, h, 
 
 module _ (words : List (List ℕ)) (a b : Outside) (bays : List NotedCore) (r : ℕ) where
   abbrev IsDueNow : ℕ → List ℕ → List Write → Type 0
-  IsDueNow status text writes = IsDue a.told a.counts b.counts words status text bays writes
+  IsDueNow status text writes = IsDue a.told a.counts b.counts a.missed b.missed words status text bays writes
 
   -- what is due with a status, and was taken and written whole
   record IsDone : Type 0 where
@@ -104,8 +104,8 @@ module _ (words : List (List ℕ)) (a b : Outside) (bays : List NotedCore) (r : 
   }
   done six seven (wrote due (cut n t f e h)) = absurd (six e)
   done six seven (wrote due (short n t f e)) = absurd (seven e)
-  done six seven (wrote due (unsaved t f (inl e))) = absurd (seven e)
-  done six seven (wrote due (unsaved t f (inr e))) = absurd (six e.0)
+  done six seven (wrote due (unsaved t f e)) = absurd (seven e)
+  done six seven (wrote due (lost t f e h)) = absurd (six e)
   done six seven (starved e t f) = absurd (seven e)
 
   -- where nothing is to be written, no told file changes
@@ -127,7 +127,7 @@ module _ (words : List (List ℕ)) (a b : Outside) (bays : List NotedCore) (r : 
       d = done not.3 not.4 o
 
       go : {text : List ℕ} {writes : List Write} → IsDueNow r text writes → Takes a.taken b.taken text → b.told ≡ option_map (after_writes writes) a.told → HasReported words a b bays r
-      go {text} {writes} (ran {path = p} x {script = s} e c t l y f h) w k = record {
+      go {text} {writes} (ran {path = p} x {script = s} e c t l y f h ms) w k = record {
         path = p;
         bytes = x;
         script = s;
@@ -142,12 +142,12 @@ module _ (words : List (List ℕ)) (a b : Outside) (bays : List NotedCore) (r : 
         takes = w;
         files = k;
       }
-      go (checked v e c t l y f s) w k = absurd cc
-      go (shown e c h s) w k = absurd cc
-      go (misused e c t f s) w k = absurd (not.0 e)
-      go (misread v e c t l y x f s) w k = absurd (not.1 e)
-      go (unread_named {path = p} n y e c q t x f s) w k = absurd (not.2 e)
-      go (unread_file v q y e c t l x m u f s) w k = absurd (not.2 e)
+      go (checked v e c t l y f s ms) w k = absurd cc
+      go (shown e c h s ms) w k = absurd cc
+      go (misused e c t f s ms) w k = absurd (not.0 e)
+      go (misread v e c t l y x f s ms) w k = absurd (not.1 e)
+      go (unread_named {path = p} n y e c q t x f s ms) w k = absurd (not.2 e)
+      go (unread_file v q y e c t l x m u f s ms) w k = absurd (not.2 e)
 
   pub has_judged : (path : List ℕ) → command_of words ≡ Some (Check path) → (r ≡ 0) ⊎ (r ≡ 3) → Outcome words a b bays r → HasJudged words a b bays r
   has_judged path check z o = go d.due d.takes d.files
@@ -159,8 +159,8 @@ module _ (words : List (List ℕ)) (a b : Outside) (bays : List NotedCore) (r : 
       d = done not.3 not.4 o
 
       go : {text : List ℕ} {writes : List Write} → IsDueNow r text writes → Takes a.taken b.taken text → b.told ≡ option_map (after_writes writes) a.told → HasJudged words a b bays r
-      go (ran v e c t l y f h) w k = absurd cc
-      go {text} {writes} (checked {path = p} x e c t l y f s) w k = record {
+      go (ran v e c t l y f h ms) w k = absurd cc
+      go {text} {writes} (checked {path = p} x e c t l y f s ms) w k = record {
         path = p;
         bytes = x;
         said = text;
@@ -172,11 +172,11 @@ module _ (words : List (List ℕ)) (a b : Outside) (bays : List NotedCore) (r : 
         files = same writes s k;
         none = f;
       }
-      go (shown e c h s) w k = absurd cc
-      go (misused e c t f s) w k = absurd (not.0 e)
-      go (misread v e c t l y x f s) w k = absurd (not.1 e)
-      go (unread_named {path = p} n y e c q t x f s) w k = absurd (not.2 e)
-      go (unread_file v q y e c t l x m u f s) w k = absurd (not.2 e)
+      go (shown e c h s ms) w k = absurd cc
+      go (misused e c t f s ms) w k = absurd (not.0 e)
+      go (misread v e c t l y x f s ms) w k = absurd (not.1 e)
+      go (unread_named {path = p} n y e c q t x f s ms) w k = absurd (not.2 e)
+      go (unread_file v q y e c t l x m u f s ms) w k = absurd (not.2 e)
 
   pub has_shown : (tenants : ℕ) → command_of words ≡ Some (Demo tenants) → r ≡ 0 → Outcome words a b bays r → HasShown tenants a b bays
   has_shown tenants demo z o = go d.due d.takes d.files
@@ -185,15 +185,15 @@ module _ (words : List (List ℕ)) (a b : Outside) (bays : List NotedCore) (r : 
       d = done (λ e. omega arith) (λ e. omega arith) o
 
       go : {text : List ℕ} {writes : List Write} → IsDueNow r text writes → Takes a.taken b.taken text → b.told ≡ option_map (after_writes writes) a.told → HasShown tenants a b bays
-      go (ran v e c t l y f h) w k = absurd cc
-      go (checked v e c t l y f s) w k = absurd cc
-      go {text} {writes} (shown {tenants = n} e c h s) w k =
+      go (ran v e c t l y f h ms) w k = absurd cc
+      go (checked v e c t l y f s ms) w k = absurd cc
+      go {text} {writes} (shown {tenants = n} e c h s ms) w k =
           let is : n ≡ tenants = cc in
           record { text = text; shown = subst (λ (m : ℕ). IsShown m text bays) is h; takes = w; files = same writes s k }
-      go (misused e c t f s) w k = absurd (omega arith)
-      go (misread v e c t l y x f s) w k = absurd (omega arith)
-      go (unread_named n y e c q t x f s) w k = absurd (omega arith)
-      go (unread_file v q y e c t l x m u f s) w k = absurd (omega arith)
+      go (misused e c t f s ms) w k = absurd (omega arith)
+      go (misread v e c t l y x f s ms) w k = absurd (omega arith)
+      go (unread_named n y e c q t x f s ms) w k = absurd (omega arith)
+      go (unread_file v q y e c t l x m u f s ms) w k = absurd (omega arith)
 
   pub is_misused : r ≡ 2 → Outcome words a b bays r → IsMisused words a b bays
   is_misused z o = go d.due d.takes d.files
@@ -202,13 +202,13 @@ module _ (words : List (List ℕ)) (a b : Outside) (bays : List NotedCore) (r : 
       d = done (λ e. omega arith) (λ e. omega arith) o
 
       go : {text : List ℕ} {writes : List Write} → IsDueNow r text writes → Takes a.taken b.taken text → b.told ≡ option_map (after_writes writes) a.told → IsMisused words a b bays
-      go (ran v e c t l y f h) w k = absurd ((no-other r e).0 z)
-      go (checked v e c t l y f s) w k = absurd ((no-other r e).0 z)
-      go (shown e c h s) w k = absurd (omega arith)
-      go {text} {writes} (misused e c t f s) w k = record { command = c; takes = subst (Takes a.taken b.taken) t w; files = same writes s k; none = f }
-      go (misread v e c t l y x f s) w k = absurd (omega arith)
-      go (unread_named {path = p} n y e c q t x f s) w k = absurd (omega arith)
-      go (unread_file v q y e c t l x m u f s) w k = absurd (omega arith)
+      go (ran v e c t l y f h ms) w k = absurd ((no-other r e).0 z)
+      go (checked v e c t l y f s ms) w k = absurd ((no-other r e).0 z)
+      go (shown e c h s ms) w k = absurd (omega arith)
+      go {text} {writes} (misused e c t f s ms) w k = record { command = c; takes = subst (Takes a.taken b.taken) t w; files = same writes s k; none = f }
+      go (misread v e c t l y x f s ms) w k = absurd (omega arith)
+      go (unread_named {path = p} n y e c q t x f s ms) w k = absurd (omega arith)
+      go (unread_file v q y e c t l x m u f s ms) w k = absurd (omega arith)
 
   pub has_misread : r ≡ 4 → Outcome words a b bays r → HasMisread words a b bays
   has_misread z o = go d.due d.takes d.files
@@ -217,11 +217,11 @@ module _ (words : List (List ℕ)) (a b : Outside) (bays : List NotedCore) (r : 
       d = done (λ e. omega arith) (λ e. omega arith) o
 
       go : {text : List ℕ} {writes : List Write} → IsDueNow r text writes → Takes a.taken b.taken text → b.told ≡ option_map (after_writes writes) a.told → HasMisread words a b bays
-      go (ran v e c t l y f h) w k = absurd ((no-other r e).1 z)
-      go (checked v e c t l y f s) w k = absurd ((no-other r e).1 z)
-      go (shown e c h s) w k = absurd (omega arith)
-      go (misused e c t f s) w k = absurd (omega arith)
-      go {text} {writes} (misread {path = p} x {line = n} {cause = m} e c t l y u f s) w k = record {
+      go (ran v e c t l y f h ms) w k = absurd ((no-other r e).1 z)
+      go (checked v e c t l y f s ms) w k = absurd ((no-other r e).1 z)
+      go (shown e c h s ms) w k = absurd (omega arith)
+      go (misused e c t f s ms) w k = absurd (omega arith)
+      go {text} {writes} (misread {path = p} x {line = n} {cause = m} e c t l y u f s ms) w k = record {
         path = p;
         bytes = x;
         line = n;
@@ -234,8 +234,8 @@ module _ (words : List (List ℕ)) (a b : Outside) (bays : List NotedCore) (r : 
         files = same writes s k;
         none = f;
       }
-      go (unread_named {path = p} n y e c q t x f s) w k = absurd (omega arith)
-      go (unread_file v q y e c t l x m u f s) w k = absurd (omega arith)
+      go (unread_named {path = p} n y e c q t x f s ms) w k = absurd (omega arith)
+      go (unread_file v q y e c t l x m u f s ms) w k = absurd (omega arith)
 
   pub has_missed : r ≡ 5 → Outcome words a b bays r → HasMissed words a b bays
   has_missed z o = go d.due d.takes d.files
@@ -244,32 +244,70 @@ module _ (words : List (List ℕ)) (a b : Outside) (bays : List NotedCore) (r : 
       d = done (λ e. omega arith) (λ e. omega arith) o
 
       go : {text : List ℕ} {writes : List Write} → IsDueNow r text writes → Takes a.taken b.taken text → b.told ≡ option_map (after_writes writes) a.told → HasMissed words a b bays
-      go (ran v e c t l y f h) w k = absurd ((no-other r e).2 z)
-      go (checked v e c t l y f s) w k = absurd ((no-other r e).2 z)
-      go (shown e c h s) w k = absurd (omega arith)
-      go (misused e c t f s) w k = absurd (omega arith)
-      go (misread v e c t l y x f s) w k = absurd (omega arith)
-      go {text} {writes} (unread_named {path = p} n y e c q t x f s) w k =
-          record { path = p; why = y; cause = IsUnread.named n c q t; takes = subst (Takes a.taken b.taken) x w; files = same writes s k; none = f }
-      go {text} {writes} (unread_file v p y e c t l x m u f s) w k =
-          record { path = p; why = y; cause = IsUnread.file v c t l x m; takes = subst (Takes a.taken b.taken) u w; files = same writes s k; none = f }
+      go (ran v e c t l y f h ms) w k = absurd ((no-other r e).2 z)
+      go (checked v e c t l y f s ms) w k = absurd ((no-other r e).2 z)
+      go (shown e c h s ms) w k = absurd (omega arith)
+      go (misused e c t f s ms) w k = absurd (omega arith)
+      go (misread v e c t l y x f s ms) w k = absurd (omega arith)
+      go {text} {writes} (unread_named {path = p} n y e c q t x f s ms) w k =
+          record { path = p; why = y; cause = IsUnread.named n c q t; only = ms; takes = subst (Takes a.taken b.taken) x w; files = same writes s k; none = f }
+      go {text} {writes} (unread_file v p y e c t l x m u f s ms) w k =
+          record { path = p; why = y; cause = IsUnread.file v c t l x m; only = ms; takes = subst (Takes a.taken b.taken) u w; files = same writes s k; none = f }
 
   -- what was due has one of five statuses
   due_status : {s : ℕ} {text : List ℕ} {writes : List Write} → IsDueNow s text writes → (s ≡ 6 → ⊥) × (s ≡ 7 → ⊥)
-  due_status {s} (ran v e c t l y f h) = let not = no-other s e in (not.3, not.4)
-  due_status {s} (checked v e c t l y f w) = let not = no-other s e in (not.3, not.4)
-  due_status (shown e c h s) = (λ h. omega arith, λ h. omega arith)
-  due_status (misused e c t f s) = (λ h. omega arith, λ h. omega arith)
-  due_status (misread v e c t l y x f s) = (λ h. omega arith, λ h. omega arith)
-  due_status (unread_named {path = p} n y e c q t x f s) = (λ h. omega arith, λ h. omega arith)
-  due_status (unread_file v q y e c t l x m u f s) = (λ h. omega arith, λ h. omega arith)
+  due_status {s} (ran v e c t l y f h ms) = let not = no-other s e in (not.3, not.4)
+  due_status {s} (checked v e c t l y f w ms) = let not = no-other s e in (not.3, not.4)
+  due_status (shown e c h s ms) = (λ h. omega arith, λ h. omega arith)
+  due_status (misused e c t f s ms) = (λ h. omega arith, λ h. omega arith)
+  due_status (misread v e c t l y x f s ms) = (λ h. omega arith, λ h. omega arith)
+  due_status (unread_named {path = p} n y e c q t x f s ms) = (λ h. omega arith, λ h. omega arith)
+  due_status (unread_file v q y e c t l x m u f s ms) = (λ h. omega arith, λ h. omega arith)
 
-  pub has_failed : r ≡ 6 → Outcome words a b bays r → HasRisen a.failures b.failures ⊎ HasRisen a.counts.faults b.counts.faults
+  -- the sink failed behind a front of the text
+  cut_of : {s : ℕ} {text : List ℕ} {writes : List Write} → IsDueNow s text writes → (n : ℕ) → Takes a.taken b.taken (take n text) → b.told ≡ a.told → HasRisen a.failures b.failures
+      → IsCut words a b bays
+  cut_of {s} {text} {writes} due n t f h = record {
+    status = s;
+    front = take n text;
+    rest = drop n text;
+    writes = writes;
+    due = subst (λ x. IsDueNow s x writes) (sym (take-append-drop n text)) due;
+    takes = t;
+    files = f;
+    sink = h;
+  }
+
+  -- of no writes none fails
+  none-lost : (writes : List Write) → writes ≡ [] → LosesOne writes a.told b.told → ⊥
+  none-lost writes none l =
+      let size : length (l.done ++ l.lost ∷ l.behind) ≡ 0 = ap length (sym l.are ∙ none) in
+      let sum = length-append l.done (l.lost ∷ l.behind) in
+      omega (arith, size, sum)
+
+  -- what has files to be written is due for a script that was run, and no read failed
+  has_run : {s : ℕ} {text : List ℕ} {writes : List Write} → IsDueNow s text writes → LosesOne writes a.told b.told → ((s ≡ 0) ⊎ (s ≡ 3)) × (b.missed ≡ a.missed)
+  has_run (ran v e c t l y f h ms) k = (e, ms)
+  has_run {writes = ws} (checked v e c t l y f s ms) k = absurd (none-lost ws s k)
+  has_run {writes = ws} (shown e c h s ms) k = absurd (none-lost ws s k)
+  has_run {writes = ws} (misused e c t f s ms) k = absurd (none-lost ws s k)
+  has_run {writes = ws} (misread v e c t l y x f s ms) k = absurd (none-lost ws s k)
+  has_run {writes = ws} (unread_named {path = p} n y e c q t x f s ms) k = absurd (none-lost ws s k)
+  has_run {writes = ws} (unread_file v q y e c t l x m u f s ms) k = absurd (none-lost ws s k)
+
+  -- the store failed in a write behind the text
+  unsaved_of : {s : ℕ} {text : List ℕ} {writes : List Write} → IsDueNow s text writes → Takes a.taken b.taken text → LosesOne writes a.told b.told → HasRisen a.counts.faults b.counts.faults
+      → IsUnsaved words a b bays
+  unsaved_of {s} {text} {writes} due t f h =
+      let of_run = has_run due f in
+      record { status = s; text = text; writes = writes; due = due; ran = of_run.0; takes = t; files = f; store = h; read = of_run.1 }
+
+  pub has_failed : r ≡ 6 → Outcome words a b bays r → HasFailed words a b bays
   has_failed z (wrote due (all e t f)) = absurd ((due_status due).0 (sym e ∙ z))
-  has_failed z (wrote due (cut n t f e h)) = inl h
+  has_failed z (wrote due (cut n t f e h)) = inl (cut_of due n t f h)
   has_failed z (wrote due (short n t f e)) = absurd (omega arith)
-  has_failed z (wrote due (unsaved t f (inl e))) = absurd (omega arith)
-  has_failed z (wrote due (unsaved t f (inr e))) = inr e.1
+  has_failed z (wrote due (unsaved t f e)) = absurd (omega arith)
+  has_failed z (wrote due (lost t f e h)) = inr (unsaved_of due t f h)
   has_failed z (starved e t f) = absurd (omega arith)
 
   -- a front of the text was taken, and no told file changes
@@ -298,68 +336,62 @@ module _ (words : List (List ℕ)) (a b : Outside) (bays : List NotedCore) (r : 
     order = λ more. absurd (more refl);
   }
 
-  pub takes_front : r ≡ 6 → Outcome words a b bays r → TakesFront words a b bays
-  takes_front z (wrote due (all e t f)) = absurd ((due_status due).0 (sym e ∙ z))
-  takes_front z (wrote due (cut n t f e h)) = front_of due n t f
-  takes_front z (wrote due (short n t f e)) = absurd (omega arith)
-  takes_front z (wrote due (unsaved t f e)) = saved_of due t f
-  takes_front z (starved e t f) = absurd (omega arith)
-
   pub is_starved : r ≡ 7 → Outcome words a b bays r → IsStarved words a b bays
   is_starved z (wrote due (all e t f)) = absurd ((due_status due).1 (sym e ∙ z))
   is_starved z (wrote due (cut n t f e h)) = absurd (omega arith)
   is_starved z (wrote due (short n t f e)) = inr (front_of due n t f)
   is_starved z (wrote due (unsaved t f e)) = inr (saved_of due t f)
+  is_starved z (wrote due (lost t f e h)) = absurd (omega arith)
   is_starved z (starved e t f) = inl (t, f)
 
   -- words that are no command are answered by the usage, or the sink failed, or memory
   pub is_usage : command_of words ≡ None → Outcome words a b bays r → (r ≡ 2) ⊎ ((r ≡ 6) ⊎ (r ≡ 7))
   is_usage none (wrote due (cut n t k d h)) = inr (inl d)
   is_usage none (wrote due (short n t k d)) = inr (inr d)
-  is_usage none (wrote due (unsaved t k (inl d))) = inr (inr d)
-  is_usage none (wrote due (unsaved t k (inr d))) = inr (inl d.0)
+  is_usage none (wrote due (unsaved t k d)) = inr (inr d)
+  is_usage none (wrote due (lost t k d h)) = inr (inl d)
   is_usage none (starved e t f) = inr (inr e)
-  is_usage none (wrote (ran v e c t l y f h) (all d w k)) = absurd cc
-  is_usage none (wrote (checked v e c t l y f s) (all d w k)) = absurd cc
-  is_usage none (wrote (shown e c h s) (all d w k)) = absurd cc
-  is_usage none (wrote (misused e c t f s) (all d w k)) = inl (d ∙ e)
-  is_usage none (wrote (misread v e c t l y x f s) (all d w k)) = absurd cc
-  is_usage none (wrote (unread_named {path = p} n y e c q t x f s) (all d w k)) = absurd cc
-  is_usage none (wrote (unread_file v q y e c t l x m u f s) (all d w k)) = absurd cc
+  is_usage none (wrote (ran v e c t l y f h ms) (all d w k)) = absurd cc
+  is_usage none (wrote (checked v e c t l y f s ms) (all d w k)) = absurd cc
+  is_usage none (wrote (shown e c h s ms) (all d w k)) = absurd cc
+  is_usage none (wrote (misused e c t f s ms) (all d w k)) = inl (d ∙ e)
+  is_usage none (wrote (misread v e c t l y x f s ms) (all d w k)) = absurd cc
+  is_usage none (wrote (unread_named {path = p} n y e c q t x f s ms) (all d w k)) = absurd cc
+  is_usage none (wrote (unread_file v q y e c t l x m u f s ms) (all d w k)) = absurd cc
 
   -- the demonstration is answered by its summary, or the sink failed, or the store, or memory
   pub is_demo : (tenants : ℕ) → command_of words ≡ Some (Demo tenants) → Outcome words a b bays r → (r ≡ 0) ⊎ ((r ≡ 6) ⊎ (r ≡ 7))
   is_demo tenants demo (wrote due (cut n t k d h)) = inr (inl d)
   is_demo tenants demo (wrote due (short n t k d)) = inr (inr d)
-  is_demo tenants demo (wrote due (unsaved t k (inl d))) = inr (inr d)
-  is_demo tenants demo (wrote due (unsaved t k (inr d))) = inr (inl d.0)
+  is_demo tenants demo (wrote due (unsaved t k d)) = inr (inr d)
+  is_demo tenants demo (wrote due (lost t k d h)) = inr (inl d)
   is_demo tenants demo (starved e t f) = inr (inr e)
-  is_demo tenants demo (wrote (ran v e c t l y f h) (all d w k)) = absurd cc
-  is_demo tenants demo (wrote (checked v e c t l y f s) (all d w k)) = absurd cc
-  is_demo tenants demo (wrote (shown e c h s) (all d w k)) = inl (d ∙ e)
-  is_demo tenants demo (wrote (misused e c t f s) (all d w k)) = absurd cc
-  is_demo tenants demo (wrote (misread v e c t l y x f s) (all d w k)) = absurd cc
-  is_demo tenants demo (wrote (unread_named {path = p} n y e c q t x f s) (all d w k)) = absurd (no-path words n tenants p c demo q)
-  is_demo tenants demo (wrote (unread_file v q y e c t l x m u f s) (all d w k)) = absurd cc
+  is_demo tenants demo (wrote (ran v e c t l y f h ms) (all d w k)) = absurd cc
+  is_demo tenants demo (wrote (checked v e c t l y f s ms) (all d w k)) = absurd cc
+  is_demo tenants demo (wrote (shown e c h s ms) (all d w k)) = inl (d ∙ e)
+  is_demo tenants demo (wrote (misused e c t f s ms) (all d w k)) = absurd cc
+  is_demo tenants demo (wrote (misread v e c t l y x f s ms) (all d w k)) = absurd cc
+  is_demo tenants demo (wrote (unread_named {path = p} n y e c q t x f s ms) (all d w k)) = absurd (no-path words n tenants p c demo q)
+  is_demo tenants demo (wrote (unread_file v q y e c t l x m u f s ms) (all d w k)) = absurd cc
 
   -- a told script that has no reading, without a count that rose, is answered by its fault, or the sink failed, or memory
   pub is_faulty : IsFaulty a.told words → (HasRisen a.counts.faults b.counts.faults → ⊥) → (HasRisen a.counts.absences b.counts.absences → ⊥)
       → Outcome words a b bays r → (r ≡ 4) ⊎ ((r ≡ 6) ⊎ (r ≡ 7))
   is_faulty i f g (wrote due (cut n t k d h)) = inr (inl d)
   is_faulty i f g (wrote due (short n t k d)) = inr (inr d)
-  is_faulty i f g (wrote due (unsaved t k (inl d))) = inr (inr d)
-  is_faulty i f g (wrote due (unsaved t k (inr d))) = inr (inl d.0)
+  is_faulty i f g (wrote due (unsaved t k d)) = inr (inr d)
+  is_faulty i f g (wrote due (lost t k d h)) = inr (inl d)
   is_faulty i f g (starved e t k) = inr (inr e)
-  is_faulty i f g (wrote (ran {path = p} v e c t l y m h) (all d w k)) =
+  is_faulty i f g (wrote (ran {path = p} v e c t l y m h ms) (all d w k)) =
       let is = told-bytes i.given (Run p) p v c refl t in
       let faulty = i.faulty in
       absurd cc
-  is_faulty i f g (wrote (checked v e c t l y m s) (all d w k)) = let command = i.given.command in absurd cc
-  is_faulty i f g (wrote (shown e c h s) (all d w k)) = let command = i.given.command in absurd cc
-  is_faulty i f g (wrote (misused e c t m s) (all d w k)) = let command = i.given.command in absurd cc
-  is_faulty i f g (wrote (misread v e c t l y x m s) (all d w k)) = inl (d ∙ e)
-  is_faulty i f g (wrote (unread_named {path = p} n y e c q t x m s) (all d w k)) = absurd (no-named i.given a.counts b.counts n p y c q f g t)
-  is_faulty i f g (wrote (unread_file {path = p} v q y e c t l x m u n s) (all d w k)) =
+  is_faulty i f g (wrote (checked v e c t l y m s ms) (all d w k)) = let command = i.given.command in absurd cc
+  is_faulty i f g (wrote (shown e c h s ms) (all d w k)) = let command = i.given.command in absurd cc
+  is_faulty i f g (wrote (misused e c t m s ms) (all d w k)) = let command = i.given.command in absurd cc
+  is_faulty i f g (wrote (misread v e c t l y x m s ms) (all d w k)) = inl (d ∙ e)
+  is_faulty i f g (wrote (unread_named {path = p} n y e c q t x m s ms) (all d w k)) = absurd (no-named i.given a.counts b.counts n p y c q f g t)
+  is_faulty i f g (wrote (unread_file {path = p} v q y e c t l x m u n s ms) (all d w k)) =
       let is = told-bytes i.given (Run p) p v c refl t in
       let faulty = i.faulty in
       absurd cc
@@ -369,41 +401,41 @@ module _ (words : List (List ℕ)) (a b : Outside) (bays : List NotedCore) (r : 
       → (HasRisen a.failures b.failures → ⊥) → Outcome words a b bays r → (r ≡ 0) ⊎ ((r ≡ 3) ⊎ (r ≡ 7))
   is_complete i f g z (wrote due (cut n t k d h)) = absurd (z h)
   is_complete i f g z (wrote due (short n t k d)) = inr (inr d)
-  is_complete i f g z (wrote due (unsaved t k (inl d))) = inr (inr d)
-  is_complete i f g z (wrote due (unsaved t k (inr d))) = absurd (f d.1)
+  is_complete i f g z (wrote due (unsaved t k d)) = inr (inr d)
+  is_complete i f g z (wrote due (lost t k d h)) = absurd (f h)
   is_complete i f g z (starved e t k) = inr (inr e)
-  is_complete i f g z (wrote (ran v (inl e) c t l y m h) (all d w k)) = inl (d ∙ e)
-  is_complete i f g z (wrote (ran v (inr e) c t l y m h) (all d w k)) = inr (inl (d ∙ e))
-  is_complete i f g z (wrote (checked v (inl e) c t l y m s) (all d w k)) = inl (d ∙ e)
-  is_complete i f g z (wrote (checked v (inr e) c t l y m s) (all d w k)) = inr (inl (d ∙ e))
-  is_complete (inl i) f g z (wrote (shown e c h s) (all d w k)) = let command = i.given.command in absurd cc
-  is_complete (inl i) f g z (wrote (misused e c t m s) (all d w k)) = let command = i.given.command in absurd cc
-  is_complete (inl i) f g z (wrote (misread {path = p} v e c t l y x m s) (all d w k)) =
+  is_complete i f g z (wrote (ran v (inl e) c t l y m h ms) (all d w k)) = inl (d ∙ e)
+  is_complete i f g z (wrote (ran v (inr e) c t l y m h ms) (all d w k)) = inr (inl (d ∙ e))
+  is_complete i f g z (wrote (checked v (inl e) c t l y m s ms) (all d w k)) = inl (d ∙ e)
+  is_complete i f g z (wrote (checked v (inr e) c t l y m s ms) (all d w k)) = inr (inl (d ∙ e))
+  is_complete (inl i) f g z (wrote (shown e c h s ms) (all d w k)) = let command = i.given.command in absurd cc
+  is_complete (inl i) f g z (wrote (misused e c t m s ms) (all d w k)) = let command = i.given.command in absurd cc
+  is_complete (inl i) f g z (wrote (misread {path = p} v e c t l y x m s ms) (all d w k)) =
       let is = told-bytes i.given (Run p) p v c refl t in
       let reads = i.reads in
       absurd cc
-  is_complete (inl i) f g z (wrote (unread_named {path = p} n y e c q t x m s) (all d w k)) = absurd (no-named i.given a.counts b.counts n p y c q f g t)
-  is_complete (inl i) f g z (wrote (unread_file {path = p} v q {script = o} y e c t l x m u n s) (all d w k)) =
+  is_complete (inl i) f g z (wrote (unread_named {path = p} n y e c q t x m s ms) (all d w k)) = absurd (no-named i.given a.counts b.counts n p y c q f g t)
+  is_complete (inl i) f g z (wrote (unread_file {path = p} v q {script = o} y e c t l x m u n s ms) (all d w k)) =
       absurd (no-file i a.counts b.counts p v q o y c t x f g m)
-  is_complete (inr i) f g z (wrote (shown e c h s) (all d w k)) = let command = i.given.command in absurd cc
-  is_complete (inr i) f g z (wrote (misused e c t m s) (all d w k)) = let command = i.given.command in absurd cc
-  is_complete (inr i) f g z (wrote (misread v e c t l y x m s) (all d w k)) = let command = i.given.command in absurd cc
-  is_complete (inr i) f g z (wrote (unread_named {path = p} n y e c q t x m s) (all d w k)) = absurd (no-named i.given a.counts b.counts n p y c q f g t)
-  is_complete (inr i) f g z (wrote (unread_file v q y e c t l x m u n s) (all d w k)) = let command = i.given.command in absurd cc
+  is_complete (inr i) f g z (wrote (shown e c h s ms) (all d w k)) = let command = i.given.command in absurd cc
+  is_complete (inr i) f g z (wrote (misused e c t m s ms) (all d w k)) = let command = i.given.command in absurd cc
+  is_complete (inr i) f g z (wrote (misread v e c t l y x m s ms) (all d w k)) = let command = i.given.command in absurd cc
+  is_complete (inr i) f g z (wrote (unread_named {path = p} n y e c q t x m s ms) (all d w k)) = absurd (no-named i.given a.counts b.counts n p y c q f g t)
+  is_complete (inr i) f g z (wrote (unread_file v q y e c t l x m u n s ms) (all d w k)) = let command = i.given.command in absurd cc
 
   -- the statuses that there are
   pub is_status : Outcome words a b bays r → (r ≡ 0) ⊎ ((r ≡ 2) ⊎ ((r ≡ 3) ⊎ ((r ≡ 4) ⊎ ((r ≡ 5) ⊎ ((r ≡ 6) ⊎ (r ≡ 7))))))
-  is_status (wrote (ran v (inl e) c t l y f h) (all d w k)) = inl (d ∙ e)
-  is_status (wrote (ran v (inr e) c t l y f h) (all d w k)) = inr (inr (inl (d ∙ e)))
-  is_status (wrote (checked v (inl e) c t l y f s) (all d w k)) = inl (d ∙ e)
-  is_status (wrote (checked v (inr e) c t l y f s) (all d w k)) = inr (inr (inl (d ∙ e)))
-  is_status (wrote (shown e c h s) (all d w k)) = inl (d ∙ e)
-  is_status (wrote (misused e c t f s) (all d w k)) = inr (inl (d ∙ e))
-  is_status (wrote (misread v e c t l y x f s) (all d w k)) = inr (inr (inr (inl (d ∙ e))))
-  is_status (wrote (unread_named {path = p} n y e c q t x f s) (all d w k)) = inr (inr (inr (inr (inl (d ∙ e)))))
-  is_status (wrote (unread_file v q y e c t l x m u f s) (all d w k)) = inr (inr (inr (inr (inl (d ∙ e)))))
+  is_status (wrote (ran v (inl e) c t l y f h ms) (all d w k)) = inl (d ∙ e)
+  is_status (wrote (ran v (inr e) c t l y f h ms) (all d w k)) = inr (inr (inl (d ∙ e)))
+  is_status (wrote (checked v (inl e) c t l y f s ms) (all d w k)) = inl (d ∙ e)
+  is_status (wrote (checked v (inr e) c t l y f s ms) (all d w k)) = inr (inr (inl (d ∙ e)))
+  is_status (wrote (shown e c h s ms) (all d w k)) = inl (d ∙ e)
+  is_status (wrote (misused e c t f s ms) (all d w k)) = inr (inl (d ∙ e))
+  is_status (wrote (misread v e c t l y x f s ms) (all d w k)) = inr (inr (inr (inl (d ∙ e))))
+  is_status (wrote (unread_named {path = p} n y e c q t x f s ms) (all d w k)) = inr (inr (inr (inr (inl (d ∙ e)))))
+  is_status (wrote (unread_file v q y e c t l x m u f s ms) (all d w k)) = inr (inr (inr (inr (inl (d ∙ e)))))
   is_status (wrote due (cut n t z d h)) = inr (inr (inr (inr (inr (inl d)))))
   is_status (wrote due (short n t z d)) = inr (inr (inr (inr (inr (inr d)))))
-  is_status (wrote due (unsaved t z (inl d))) = inr (inr (inr (inr (inr (inr d)))))
-  is_status (wrote due (unsaved t z (inr d))) = inr (inr (inr (inr (inr (inl d.0)))))
+  is_status (wrote due (unsaved t z d)) = inr (inr (inr (inr (inr (inr d)))))
+  is_status (wrote due (lost t z d h)) = inr (inr (inr (inr (inr (inl d)))))
   is_status (starved e t f) = inr (inr (inr (inr (inr (inr e)))))

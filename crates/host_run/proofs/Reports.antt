@@ -1,5 +1,6 @@
 -- What was said of the tenants of a script is its report.
 use Rattle.std.proofs.Common.{◌≡◌, ℕ, ◌<◌, Bool, List, [], length, get_or, map, refl, sym, ap, ◌∙◌, subst, Option}
+use Rattle.std.specs.List.{AllByRecursion}
 use Rattle.host_form.specs.fab_io.specs.Outside.{Files}
 use Rattle.host_text.specs.vl_design.specs.Cost.{Cost}
 use Rattle.host_text.specs.declared.block.Block.{Block}
@@ -12,6 +13,7 @@ use Rattle.host_text.specs.Laws.{IsWithinLimits}
 use Rattle.host_report.specs.fab_model.specs.declared.transit.Transit.{Transit}
 use Rattle.fab_rounds.specs.fab_bay.specs.declared.noted.Label.{Label}
 use Rattle.fab_rounds.specs.fab_bay.specs.declared.noted.NotedCore.{NotedCore}
+use Rattle.fab_rounds.specs.fab_bay.specs.Ways.{AreBelow}
 use Rattle.fab_rounds.specs.fab_orders.specs.declared.outcomes.Answer.{Answer}
 use Rattle.fab_rounds.specs.fab_orders.specs.declared.outcomes.Order.{Order}
 use Rattle.fab_rounds.specs.fab_orders.specs.declared.outcomes.Outcome as rounds
@@ -33,15 +35,16 @@ use Rattle.host_judge.specs.Judged.{judged, AreJudged, AreTenants}
 use Rattle.host_outcomes.specs.Begun.{AreBegun}
 use Rattle.host_outcomes.specs.Ends.{is_refusal, AreTold, DidAs}
 use Rattle.host_report.specs.Ends.{is_refused, AreEnds}
-use Rattle.host_outcomes.specs.Reported.{histories_for, number_in, numbers_from}
+use Rattle.host_outcomes.specs.Reported.{histories_for, number_in, numbers_from, running, AreOfThoseThatRun}
 use Rattle.host_outcomes.specs.Seen.{Sees}
 use Rattle.host_files.specs.Writes.{after_writes, writes_of}
 use Rattle.host_outcomes.specs.Given.{answered, costs_begun, costs_of, given}
 use Rattle.host_run.specs.declared.reported.Reported.{Reported}
 use Rattle.host_run.specs.Reported.{IsReported}
 use Rattle.host_run.specs.Steps.{orders_for, AreAnswersTo, Begin, Says}
+use Rattle.host_run.proofs.BaysOfScript.{all_below}
 use Rattle.host_run.proofs.Saves.{are_saved, MayBeReordered}
-use Rattle.host_run.proofs.Tellable.{lines_same, refusals_count, tenants_count}
+use Rattle.host_run.proofs.Tellable.{lines_same, readies_count, refusals_count, starts_count, tenants_count}
 
 -- ---- what the libraries below say
 
@@ -79,6 +82,10 @@ MayBeGiven = (s : Script) (tenants : List Tenant) (refusals : List (Option Refus
     AreAnswered s.fabrics histories ys [] (answered s.fabrics (map is_refused refusals) (costs_of out.ended.items) s.free out.answers.items)
 
 -- ---- the report
+
+module _ (s : Script) (loaded : List Loaded) (refusals : List (Option Refusal)) (labels : List Label) (starts : List Start) (begin : Begin s loaded refusals labels starts) where
+  pub as_many_starts : length starts ≡ running (map is_refused refusals)
+  as_many_starts = starts_count begin.readies starts begin.begun ∙ readies_count s.fabrics begin.tenants refusals begin.readies begin.judged
 
 module _ (s : Script) (loaded : List Loaded) (refusals : List (Option Refusal)) (labels : List Label) (starts : List Start) (out : rounds.Outcome)
     (begin : Begin s loaded refusals labels starts) (outcome : IsOutcome labels starts (orders_for s refusals starts) out) where
@@ -133,6 +140,9 @@ module _ (s : Script) (loaded : List Loaded) (refusals : List (Option Refusal)) 
             is = says.is begin.tenants lines ∙ ap (λ (bs : List Block). report bs (map (free_line s) answers)) (sym told.2);
           };
           refused = told.3;
+          those = subst (λ (bays : List NotedCore). AreOfThoseThatRun refused bays) (sym same)
+              (subst (λ (n : ℕ). AllByRecursion (λ (b : NotedCore). AreBelow n b.notes.items) out.bays.items) (as_many_starts s loaded refusals labels starts begin)
+              (all_below labels starts orders out begin.labelled outcome));
           blocks = says.told begin.tenants lines ∙ sym told.2;
           any = says.any;
           saves = subst (λ (ls : List TenantLine). AreSaved answers 0 begin.tenants ys files (after_writes (writes_of ls r.kept.items) files)) lines

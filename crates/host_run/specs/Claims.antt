@@ -1,12 +1,12 @@
 -- What the host claims, status by status.
-use Rattle.std.specs.Prelude.{◌≡◌, ◌≢◌, ℕ, ◌≤◌, List, [], ◌++◌, length, Option, Some, None, option_map, Ok, Err, ◌⊎◌}
+use Rattle.std.specs.Prelude.{◌≡◌, ◌≢◌, ℕ, ◌≤◌, List, [], ◌∷◌, ◌++◌, length, Option, Some, None, option_map, Ok, Err, ◌⊎◌}
 use Rattle.host_form.specs.fab_io.specs.declared.store.ReadError.{ReadError}
-use Rattle.host_form.specs.fab_io.specs.Outside.{Files, IsTold}
+use Rattle.host_form.specs.fab_io.specs.Outside.{Files, HasRisen, IsTold}
 use Rattle.fab_rounds.specs.fab_bay.specs.declared.noted.NotedCore.{NotedCore}
 use Rattle.host_text.specs.declared.script.Script.{Script}
 use Rattle.host_text.specs.Reading.{reading}
 use Rattle.host_files.specs.Reading.{most_source, IsAvailable, IsCause, IsMissed}
-use Rattle.host_files.specs.Writes.{after_writes, LeavesFront, Write}
+use Rattle.host_files.specs.Writes.{after_writes, LeavesFront, LosesOne, Write}
 use Rattle.host_run.specs.Reported.{AreBays}
 use Rattle.host_run.specs.Runs.{HasRun}
 use Rattle.host_run.specs.Taking.{Takes}
@@ -29,7 +29,7 @@ pub record HasReported (words : List (List ℕ)) (a b : Outside) (bays : List No
   pub read : IsTold a.told path bytes
   pub short : length bytes ≤ most_script
   pub reads : reading bytes ≡ Ok script
-  pub fabrics : AreBays script.fabrics bays
+  pub fabrics : AreBays script bays
   pub ran : (files : Files) → a.told ≡ Some files → HasRun files script status report bays writes
   pub takes : Takes a.taken b.taken report
   pub files : b.told ≡ option_map (after_writes writes) a.told
@@ -84,23 +84,53 @@ pub data IsUnread (words : List (List ℕ)) (a b : Outside) (path : List ℕ) (w
   file : {script_path : List ℕ} (bytes : List ℕ) {s : Script} → command_of words ≡ Some (Run script_path) → IsTold a.told script_path bytes → length bytes ≤ most_script →
       reading bytes ≡ Ok s → IsMissed a.told a.counts b.counts s path why → IsUnread words a b path why
 
--- status 5: a read of this path failed for this cause, and the sink has taken the line that says so; no told file changes, and no bay is there
+-- status 5: a read of this path failed for this cause, and no other read of the call did, and the sink has taken the line that says so; no told
+-- file changes, and no bay is there
 pub record HasMissed (words : List (List ℕ)) (a b : Outside) (bays : List NotedCore) : Type 0 where
   pub path : List ℕ
   pub why : ReadError
   pub cause : IsUnread words a b path why
+  pub only : b.missed ≡ a.missed ++ record { path = path; why = why } ∷ []
   pub takes : Takes a.taken b.taken (unread path why)
   pub files : b.told ≡ a.told
   pub none : bays ≡ []
 
--- statuses 6 and 7: the sink has taken the front of what was due, and a front of its files is written, none of them where the sink
+-- status 6, where the sink failed: it has taken the front of what was due, and no told file changes
+pub record IsCut (words : List (List ℕ)) (a b : Outside) (bays : List NotedCore) : Type 0 where
+  pub status : ℕ
+  pub front : List ℕ
+  pub rest : List ℕ
+  pub writes : List Write
+  pub due : IsDue a.told a.counts b.counts a.missed b.missed words status (front ++ rest) bays writes
+  pub takes : Takes a.taken b.taken front
+  pub files : b.told ≡ a.told
+  pub sink : HasRisen a.failures b.failures
+
+-- status 6, where the store failed, and no read of the call did: the sink has taken all that was due, with status 0 or 3, and of the files that were
+-- due to be written one failed, behind those before it
+pub record IsUnsaved (words : List (List ℕ)) (a b : Outside) (bays : List NotedCore) : Type 0 where
+  pub status : ℕ
+  pub text : List ℕ
+  pub writes : List Write
+  pub due : IsDue a.told a.counts b.counts a.missed b.missed words status text bays writes
+  pub ran : (status ≡ 0) ⊎ (status ≡ 3)
+  pub takes : Takes a.taken b.taken text
+  pub files : LosesOne writes a.told b.told
+  pub store : HasRisen a.counts.faults b.counts.faults
+  pub read : b.missed ≡ a.missed
+
+-- status 6: so it is, the one or the other
+abbrev pub HasFailed : List (List ℕ) → Outside → Outside → List NotedCore → Type 0
+HasFailed words a b bays = IsCut words a b bays ⊎ IsUnsaved words a b bays
+
+-- status 7, where something was due: the sink has taken the front of it, and a front of its files is written, none of them where the sink
 -- hasn't taken all
 pub record TakesFront (words : List (List ℕ)) (a b : Outside) (bays : List NotedCore) : Type 0 where
   pub status : ℕ
   pub front : List ℕ
   pub rest : List ℕ
   pub writes : List Write
-  pub due : IsDue a.told a.counts b.counts words status (front ++ rest) bays writes
+  pub due : IsDue a.told a.counts b.counts a.missed b.missed words status (front ++ rest) bays writes
   pub takes : Takes a.taken b.taken front
   pub files : LeavesFront writes a.told b.told
   pub order : rest ≢ [] → b.told ≡ a.told

@@ -16,7 +16,7 @@ use Rattle.host_demo.specs.Texts as demo
 pub record IsSummed (files : Files) (bytes text : List ℕ) (bays : List NotedCore) : Type 0 where
   pub script : Script
   pub reads : reading bytes ≡ Ok script
-  pub fabrics : AreBays script.fabrics bays
+  pub fabrics : AreBays script bays
   pub blocks : List Block
   pub ran : HasBlocks files script bays blocks
   pub is : text ≡ summary blocks

@@ -1,7 +1,7 @@
 -- What is due, as the code has it (own).
 use Rattle.std.specs.Prelude.{◌≡◌, ℕ, List, [], length, Option}
 use Rattle.std.specs.List.{AllByRecursion}
-use Rattle.host_form.specs.fab_io.specs.Outside.{Files}
+use Rattle.host_form.specs.fab_io.specs.Outside.{Files, Miss}
 use Rattle.host_text.specs.Laws.{IsSpeltTenant}
 use Rattle.host_files.specs.Reading.{Counts}
 use Rattle.host_files.specs.Kept.{CanBeKept}
@@ -13,8 +13,8 @@ use Rattle.host_run.specs.Due.{IsDue}
 abbrev pub writes_due : Due → List Write
 writes_due d = writes_of d.tenants d.kept.items
 
-abbrev pub IsDueBy : Option Files → Counts → Counts → List (List ℕ) → Due → Type 0
-IsDueBy told old new words d = IsDue told old new words d.status d.text.items d.bays.items (writes_due d)
+abbrev pub IsDueBy : Option Files → Counts → Counts → List Miss → List Miss → List (List ℕ) → Due → Type 0
+IsDueBy told old new before after words d = IsDue told old new before after words d.status d.text.items d.bays.items (writes_due d)
 
 -- a text, and nothing was run
 pub record IsOnly (status : ℕ) (text : List ℕ) (d : Due) : Type 0 where

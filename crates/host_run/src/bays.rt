@@ -2,14 +2,14 @@
 
 ghost use Rattle.std.specs.Prelude.{◌≡◌, [], option_copied, slice_get};
 
-use fab_rounds::bay::Bay;
+use fab_rounds::closed::Closed;
 use std::alloc::Global;
 use std::marker::Model;
 
-/// The bays of a script's fabrics, in their order: each with the history of its fabric. Contracts see them as a list.
+/// The bays of a script's fabrics, in their order: each of a desk that has ended, with the history of its fabric. Contracts see them as a list.
 #[derive(Drop)]
 pub struct Bays {
-    bays: Vec<Bay>,
+    bays: Vec<Closed>,
 }
 
 impl Model for Bays {
@@ -36,14 +36,14 @@ impl Bays {
     }
 
     /// The bay of the fabric of a number. None exactly where there are not so many.
-    pub fn get(&self, fabric: usize) -> Option<&Bay>
+    pub fn get(&self, fabric: usize) -> Option<&Closed>
         ensures { option_copied result ≡ slice_get self.now fabric }
     {
         self.bays.as_slice().get(fabric)
     }
 
     /// Takes over bays in place of those that are there.
-    pub(crate) fn hold(&mut self, bays: Vec<Bay>)
+    pub(crate) fn hold(&mut self, bays: Vec<Closed>)
         ensures { self.new ≡ bays.items }
     {
         self.bays = bays;

@@ -18,16 +18,17 @@ use crate::lines;
 use crate::reported::Reported;
 use crate::run::run_script;
 use crate::words::Command;
-use fab_rounds::bay::Bay;
+use fab_rounds::closed::Closed;
 use host_check::check::{Checked, check};
 use host_demo::laws::the_demonstration_can_be_run;
 use host_demo::script::script_text;
-use host_demo::store::{SteadyStore, store_of};
+use host_demo::store::store_of;
 use host_demo::summary::summary;
 use host_files::kept::Kept;
 use host_files::load::load;
 use host_files::loaded::LoadError;
 use host_form::gate::Gate;
+use host_form::steady_store::SteadyStore;
 use host_form::store::{ReadError, Store};
 use host_text::Items;
 use host_text::read::read_script;
@@ -55,7 +56,7 @@ pub(crate) struct Due {
     /// What each keeps.
     pub(crate) kept: Vec<Option<Kept>>,
     /// The bays.
-    pub(crate) bays: Vec<Bay>,
+    pub(crate) bays: Vec<Closed>,
 }
 
 /// A text, of a call in which nothing was run.
@@ -109,7 +110,7 @@ fn due_of_script<R: Threads + Wait + Sync, S: Store, G: Gate + Sync>(
     ensures faults { S.faults store.old ≤ S.faults store.new }
     ensures absences { S.absences store.old ≤ S.absences store.new }
     ensures due { IfOk result (λ d. (words : List (List ℕ)) (path bytes : List ℕ) → command_of words ≡ Some (Run path) → IsTold (S.told store.old) path bytes → length bytes ≤ most_script →
-        reading bytes ≡ Ok script → IsDueBy (S.told store.old) (counts_of (S.faults store.old) (S.absences store.old)) (counts_of (S.faults store.new) (S.absences store.new)) words d) }
+        reading bytes ≡ Ok script → IsDueBy (S.told store.old) (counts_of (S.faults store.old) (S.absences store.old)) (counts_of (S.faults store.new) (S.absences store.new)) (S.missed store.old) (S.missed store.new) words d) }
     ensures written { IfOk result CanBeWritten }
 {
     a_script_keeps_to_its_limits();
@@ -140,7 +141,7 @@ fn due_of_bytes<R: Threads + Wait + Sync, S: Store, G: Gate + Sync>(
     ensures faults { S.faults store.old ≤ S.faults store.new }
     ensures absences { S.absences store.old ≤ S.absences store.new }
     ensures due { IfOk result (λ d. (words : List (List ℕ)) (path : List ℕ) → command_of words ≡ Some (Run path) → IsTold (S.told store.old) path bytes.now →
-        IsDueBy (S.told store.old) (counts_of (S.faults store.old) (S.absences store.old)) (counts_of (S.faults store.new) (S.absences store.new)) words d) }
+        IsDueBy (S.told store.old) (counts_of (S.faults store.old) (S.absences store.old)) (counts_of (S.faults store.new) (S.absences store.new)) (S.missed store.old) (S.missed store.new) words d) }
     ensures written { IfOk result CanBeWritten }
 {
     match read_script(alloc, bytes) {
@@ -174,7 +175,7 @@ fn due_of_path<R: Threads + Wait + Sync, S: Store, G: Gate + Sync>(
     ensures faults { S.faults store.old ≤ S.faults store.new }
     ensures absences { S.absences store.old ≤ S.absences store.new }
     ensures due { IfOk result (λ d. (words : List (List ℕ)) → command_of words ≡ Some (Run path.now) →
-        IsDueBy (S.told store.old) (counts_of (S.faults store.old) (S.absences store.old)) (counts_of (S.faults store.new) (S.absences store.new)) words d) }
+        IsDueBy (S.told store.old) (counts_of (S.faults store.old) (S.absences store.old)) (counts_of (S.faults store.new) (S.absences store.new)) (S.missed store.old) (S.missed store.new) words d) }
     ensures written { IfOk result CanBeWritten }
 {
     match store.read(alloc, path, MOST_SCRIPT) {
@@ -199,7 +200,7 @@ fn due_of_source_path<S: Store>(alloc: Global, path: &str, store: &mut S) -> Res
     ensures faults { S.faults store.old ≤ S.faults store.new }
     ensures absences { S.absences store.old ≤ S.absences store.new }
     ensures due { IfOk result (λ d. (words : List (List ℕ)) → command_of words ≡ Some (Check path.now) →
-        IsDueBy (S.told store.old) (counts_of (S.faults store.old) (S.absences store.old)) (counts_of (S.faults store.new) (S.absences store.new)) words d) }
+        IsDueBy (S.told store.old) (counts_of (S.faults store.old) (S.absences store.old)) (counts_of (S.faults store.new) (S.absences store.new)) (S.missed store.old) (S.missed store.new) words d) }
     ensures written { IfOk result CanBeWritten }
 {
     match store.read(alloc, path, MOST_SOURCE) {
@@ -300,7 +301,7 @@ pub(crate) fn due_for<R: Threads + Wait + Sync, S: Store, G: Gate + Sync>(
     ensures faults { S.faults store.old ≤ S.faults store.new }
     ensures absences { S.absences store.old ≤ S.absences store.new }
     ensures due { IfOk result (λ d. (words : List (List ℕ)) → command_of words ≡ Some (command_in command.entry) →
-        IsDueBy (S.told store.old) (counts_of (S.faults store.old) (S.absences store.old)) (counts_of (S.faults store.new) (S.absences store.new)) words d) }
+        IsDueBy (S.told store.old) (counts_of (S.faults store.old) (S.absences store.old)) (counts_of (S.faults store.new) (S.absences store.new)) (S.missed store.old) (S.missed store.new) words d) }
     ensures written { IfOk result CanBeWritten }
 {
     match command {

@@ -7,7 +7,7 @@ ghost use Rattle.host_run.specs.Words.{command_of, Run, Check, Demo};
 ghost use Rattle.host_run.specs.Due.{around, Outcome, Wrote};
 ghost use Rattle.host_run.specs.Dues.{writes_due, CanBeWritten};
 ghost use Rattle.host_run.specs.Statuses as w;
-ghost use Rattle.host_run.specs.Claims.{HasReported, HasJudged, HasShown, IsMisused, HasMisread, HasMissed, TakesFront, IsServed, IsFaulty, IsCheckable, IsStarved};
+ghost use Rattle.host_run.specs.Claims.{HasReported, HasJudged, HasShown, IsMisused, HasMisread, HasMissed, HasFailed, IsServed, IsFaulty, IsCheckable, IsStarved};
 
 use crate::bays::Bays;
 use crate::due::{Due, due_for};
@@ -44,7 +44,8 @@ fn write_due<S: Store, K: Sink>(
 ) -> u8
     requires { CanBeWritten due }
     ensures faults { S.faults store.old ≤ S.faults store.new }
-    ensures absences { S.absences store.old ≤ S.absences store.new }
+    ensures absences { S.absences store.new ≡ S.absences store.old }
+    ensures missed { S.missed store.new ≡ S.missed store.old }
     ensures bays { bays.new ≡ due.bays.items }
     ensures wrote { Wrote due.text.items due.status (writes_due due) (around S.Store K.Sink store.old sink.old) (around S.Store K.Sink store.new sink.new) result }
 {
@@ -116,8 +117,7 @@ pub fn host<R: Threads + Wait + Sync, S: Store, K: Sink, G: Gate + Sync>(
     ensures misused { result ≡ 2 → IsMisused (map string_bytes words.now) (around S.Store K.Sink store.old sink.old) (around S.Store K.Sink store.new sink.new) bays.new }
     ensures misread { result ≡ 4 → HasMisread (map string_bytes words.now) (around S.Store K.Sink store.old sink.old) (around S.Store K.Sink store.new sink.new) bays.new }
     ensures missed { result ≡ 5 → HasMissed (map string_bytes words.now) (around S.Store K.Sink store.old sink.old) (around S.Store K.Sink store.new sink.new) bays.new }
-    ensures failed { result ≡ 6 → HasRisen (K.faults sink.old) (K.faults sink.new) ⊎ HasRisen (S.faults store.old) (S.faults store.new) }
-    ensures cut { result ≡ 6 → TakesFront (map string_bytes words.now) (around S.Store K.Sink store.old sink.old) (around S.Store K.Sink store.new sink.new) bays.new }
+    ensures failed { result ≡ 6 → HasFailed (map string_bytes words.now) (around S.Store K.Sink store.old sink.old) (around S.Store K.Sink store.new sink.new) bays.new }
     ensures starved { result ≡ 7 → IsStarved (map string_bytes words.now) (around S.Store K.Sink store.old sink.old) (around S.Store K.Sink store.new sink.new) bays.new }
 
     // Which status it is.

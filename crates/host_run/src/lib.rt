@@ -27,4 +27,7 @@ mod said;
 mod starts;
 mod words;
 
-pub use host_form::{dir_store, gate, mem_sink, mem_store, std_sink};
+pub use fab_rounds::bay;
+pub use host_form::{
+    dir_store, gate, mem_sink, mem_store, sink, std_sink, steady_sink, steady_store, store,
+};

@@ -1,6 +1,6 @@
 //! What the run of a script comes to.
 
-use fab_rounds::bay::Bay;
+use fab_rounds::closed::Closed;
 use host_files::kept::Kept;
 use host_text::block::Block;
 
@@ -16,5 +16,5 @@ pub struct Reported {
     /// The snapshots that each tenant keeps, in the order of the script; None where it is refused.
     pub kept: Vec<Option<Kept>>,
     /// The bays of the fabrics, in the order of the script.
-    pub bays: Vec<Bay>,
+    pub bays: Vec<Closed>,
 }

@@ -116,7 +116,7 @@ pub fn run_script<R: Threads + Wait + Sync, G: Gate + Sync>(
     requires read { (bytes : List ℕ) × (reading bytes ≡ Ok script.now) }
     requires count { length loaded.items ≡ length script.now.tenants }
     ensures report { IfOk result (λ r. (files : Files) → AreLoaded files script.now.tenants loaded.items → IsReported files script.now r) }
-    ensures bays { IfOk result (λ r. AreBays script.now.fabrics r.bays.items) }
+    ensures bays { IfOk result (λ r. AreBays script.now r.bays.items) }
     ensures kept { IfOk result (λ r. AllByRecursion CanBeKept r.kept.items) }
     ensures count { IfOk result (λ r. length r.kept.items ≡ length script.now.tenants) }
 {

@@ -26,4 +26,4 @@ pub mod statement;
 pub mod text_laws;
 mod words;
 
-pub use ten_plan::{Cost, Items, Place, Text, plan};
+pub use ten_plan::{Bytes, Cost, Items, Place, Text, plan};

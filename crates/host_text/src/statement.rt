@@ -200,7 +200,7 @@ fn free<'a>(words: &[&'a [u8]]) -> Result<Statement<'a>, u8>
 }
 
 /// The statement that a word and the words behind it say, or the least of the causes 1, 2 and 3.
-pub(crate) fn read_statement<'a>(word: &[u8], words: &[&'a [u8]]) -> Result<Statement<'a>, u8>
+fn read_statement<'a>(word: &[u8], words: &[&'a [u8]]) -> Result<Statement<'a>, u8>
     ensures { seen_answer result ≡ s.statement word.now (map (λ w. w.now) words.now) }
 {
     if word == b"at".as_slice() {

@@ -12,3 +12,6 @@ pub mod port;
 pub mod restore;
 #[cfg(test)]
 mod tests;
+
+pub use cell_form::bank::{Bank, PortMap};
+pub use cell_form::{Bits, Words};

@@ -11,3 +11,6 @@ pub mod laws;
 pub mod reading;
 pub mod snapshot;
 pub mod writing;
+
+pub use vl_base::files;
+pub use vl_base::items::{Bytes, Items, Text, Words};

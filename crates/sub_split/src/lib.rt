@@ -13,3 +13,5 @@ pub mod split;
 mod statements;
 pub mod table;
 mod waves;
+
+pub use vl_design::{Text, design};

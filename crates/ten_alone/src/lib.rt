@@ -6,3 +6,6 @@
 
 pub mod alone;
 pub mod laws;
+
+pub use ten_core::origin;
+pub use ten_parcel::parcel;

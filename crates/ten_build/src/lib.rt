@@ -17,3 +17,6 @@ pub mod build;
 pub mod fit_laws;
 pub mod functions_laws;
 pub mod laws;
+
+pub use ten_make::Image;
+pub use vl_front::fault;

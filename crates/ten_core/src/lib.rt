@@ -37,7 +37,7 @@ mod states;
 pub mod write;
 
 pub use snap_form::snapshot;
-pub use ten_plan::held;
+pub use ten_plan::{held, plan};
 pub use trap_runtime::{Bank, PortMap, table};
 pub use vl_design::capacity::Cost;
 pub use vl_design::{Bytes, Items, Place, Text, design, files};

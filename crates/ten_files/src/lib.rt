@@ -19,4 +19,6 @@ mod slots;
 pub mod table;
 
 pub use fmt_text::design;
+pub use vl_base::bits::Bits;
+pub use vl_base::files;
 pub use vl_base::items::{Items, Text};

@@ -1,6 +1,6 @@
 //! Files are opened and closed (IEEE 1364-2005, clause 17.2.1).
 
-ghost use Rattle.std.specs.Prelude.{◌≡◌, ◌≤◌, ◌++◌, ◌∷◌, IfOk, OnOk, length, take, drop};
+ghost use Rattle.std.specs.Prelude.{◌≡◌, ◌≤◌, ◌++◌, ◌∷◌, IfOk, OnOk, OnErr, length, take, drop};
 ghost use Rattle.vl_base.specs.Files as f;
 ghost use Rattle.vl_base.specs.declared.files.OpenFile.{OpenFile as Row};
 
@@ -52,7 +52,8 @@ fn place_behind(table: &[OpenFile], slot: u8) -> usize
 
 /// Adds a row, in ascending order of slots.
 fn add_row(table: &mut Vec<OpenFile>, file: OpenFile) -> Result<(), AllocError>
-    ensures { OnOk result (table.new.items ≡ f.with_file file table.old.items) }
+    ensures ok { OnOk result (table.new.items ≡ f.with_file file table.old.items) }
+    ensures err { OnErr result (table.new.items ≡ table.old.items) }
 {
     let place = place_behind(table, file.slot);
     table.insert(place, file)?;
@@ -69,6 +70,7 @@ pub fn open(
 ) -> Result<u32, AllocError>
     ensures table { OnOk result (table.new.items ≡ (f.opened files.now table.old.items name.now).table) }
     ensures answer { IfOk result (λ a. a ≡ (f.opened files.now table.old.items name.now).answer) }
+    ensures err { OnErr result (table.new.items ≡ table.old.items) }
 {
     if files.find(name).is_none() {
         return Ok(0);

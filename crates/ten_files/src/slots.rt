@@ -16,7 +16,7 @@ pub(crate) fn descriptor(slot: usize) -> u32
 }
 
 /// The slot of a descriptor. None where it is of none of the 16.
-pub(crate) fn slot_of(fd: u32) -> Option<usize>
+fn slot_of(fd: u32) -> Option<usize>
     ensures below { IfSome result (λ slot. slot < 16) }
     ensures slot { IfSome result (λ slot. f.descriptor slot ≡ fd) }
     ensures none { IfNone result ((slot : ℕ) → slot < 16 → f.descriptor slot ≢ fd) }

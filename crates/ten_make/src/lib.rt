@@ -18,4 +18,5 @@ pub mod design_laws;
 pub mod image;
 pub mod laws;
 
+pub use ten_core::design;
 pub use ten_core::image::Image;

@@ -6,6 +6,7 @@ use Rattle.vl_eval.specs.vl_design.specs.declared.design.End.{End}
 use Rattle.vl_eval.specs.vl_design.specs.declared.design.End.TheVariants.{Finished, Stopped}
 use Rattle.vl_eval.specs.vl_design.specs.Alone.{Boundary, Ends, Keeps, at_first, first_tick, reason_at, saved_at}
 use Rattle.vl_eval.specs.vl_design.specs.Queue.{Queue}
+use Rattle.vl_eval.specs.vl_design.specs.State.{State}
 use Rattle.vl_eval.specs.vl_design.specs.Snapshots as run
 use Rattle.vl_eval.specs.vl_design.specs.Trees.{flat_of}
 use Rattle.vl_eval.specs.vl_design.proofs.Settling.{boundary_once}
@@ -13,13 +14,14 @@ use Rattle.ten_core.specs.Tenants.{origin_of}
 use Rattle.ten_core.specs.ten_plan.specs.Held.{saved_of, snapshot_of}
 use Rattle.ten_core.specs.ten_plan.specs.declared.held.Saved.{Saved}
 use Rattle.ten_zero.specs.Early.{state_in}
+use Rattle.ten_shell.specs.Leaving.{end_in, resting}
 use Rattle.ten_shell.specs.Shells as shell
 use Rattle.ten_shell.specs.Shells.{saved_in}
 use Rattle.ten_parcel.specs.declared.parcel.Over.{Over}
 use Rattle.ten_parcel.specs.declared.parcel.Parcel.{Parcel}
 use Rattle.ten_parcel.specs.declared.parcel.Parcel.TheVariants as parcel
 use Rattle.ten_parcel.specs.declared.tenant.Tenant.{Tenant}
-use Rattle.ten_parcel.specs.Parcels.{free_of, is_stopped, run_of, ticks_of, IsAtRest, IsOver}
+use Rattle.ten_parcel.specs.Parcels.{end_at, free_of, is_stopped, run_of, ticks_of, HasNotEnded, IsAtRest, IsOver}
 
 -- ---- what is told
 
@@ -36,7 +38,7 @@ HasKept p saved = Keeps (run_of p) (free_of p) (ticks_of p) (map (saved_of (run_
 
 -- it has this reason to end there, if it has one
 abbrev pub HasReason : Parcel → Option End → Type 0
-HasReason p end = (q : Queue) → Boundary (run_of p) (ticks_of p) q → end ≡ (if is_stopped p then Some Stopped else reason_at (run_of p).plan (ticks_of p) q)
+HasReason p end = (q : Queue) → Boundary (run_of p) (ticks_of p) q → end ≡ end_at p q
 
 -- it ends there
 abbrev pub HasEnded : Parcel → Option End → Type 0
@@ -79,6 +81,14 @@ module _ (t : Tenant) (s : IsAtRest t) where
       subst (λ k. Some end ≡ reason_at (shell.run_of t.shell).plan k there.0) s.on.at.ticks why in
       (there.0, subst (λ k. Ends (shell.run_of t.shell) k end there.0) (sym s.on.at.ticks) (ends there.0 end there.1 (sym here)))
 
+  -- where it rests it has no reason to end, and wasn't stopped
+  pub unended-there : IsThere → HasNotEnded (parcel.Rests t) → end_in (shell.run_of t.shell).plan t.shell.stopped s.stage.state ≡ None
+  unended-there x goes_on =
+      let plan = (shell.run_of t.shell).plan in
+      let here : (if t.shell.stopped then Some Stopped else reason_at plan s.stage.state.ticks x.0) ≡ None =
+      subst (λ k. (if t.shell.stopped then Some Stopped else reason_at plan k x.0) ≡ None) s.on.at.ticks (goes_on x.0 (bound x.0 x.1)) in
+      subst (λ (z : State). (if t.shell.stopped then Some Stopped else reason_at plan s.stage.state.ticks (resting z)) ≡ None) x.2 here
+
   -- what hasn't finished at this boundary rests where the clock rises next
   pub alive-there : IsThere → (q : Queue) → Boundary (shell.run_of t.shell) t.shell.engine.ticks q → q.state.finished ≡ false → s.stage.state.finished ≡ false
   alive-there x q at f =
@@ -113,6 +123,9 @@ module _ (x : Over) (s : IsOver x) where
       let same : q ≡ e.0 = boundary_once at e.1.at in
       let finished : q.state.finished ≡ true = ap (λ z. z.state.finished) same ∙ finished-over e in
       rw finished refl
+
+  pub never-unended : IsEnded → HasNotEnded (parcel.Over x) → ⊥
+  never-unended e goes_on = let z : ◌≡◌ {A = Option End} (Some Finished) None = reason-over e e.0 e.1.at ∙ goes_on e.0 e.1.at in cc
 
   pub ended-over : IsEnded → HasEnded (parcel.Over x) (Some Finished)
   ended-over e = λ alive. (e.0, e.1)

@@ -1,11 +1,14 @@
 -- Tenants on their way, and at rest (own).
-use Rattle.std.specs.Prelude.{◌≡◌, ℕ, false, List, [], Bool, ⊤}
+use Rattle.std.specs.Prelude.{◌≡◌, ℕ, false, List, [], Bool, ⊤, if◌then◌else◌, Option, Some, None}
 use Rattle.std.specs.Arc.{arc_value}
 use Rattle.std.specs.List.{AllByRecursion}
 use Rattle.vl_eval.specs.vl_design.specs.declared.capacity.Cost.{Cost}
+use Rattle.vl_eval.specs.vl_design.specs.declared.design.End.{End}
+use Rattle.vl_eval.specs.vl_design.specs.declared.design.End.TheVariants.{Stopped}
 use Rattle.vl_eval.specs.vl_design.specs.Costs.{saturated_cost}
 use Rattle.vl_eval.specs.vl_design.specs.Alone as alone
 use Rattle.vl_eval.specs.vl_design.specs.Cost.{cost}
+use Rattle.vl_eval.specs.vl_design.specs.Queue.{Queue}
 use Rattle.vl_eval.specs.vl_design.specs.Trees.{flat_of}
 use Rattle.ten_core.specs.cell_form.specs.Views.{bank_of}
 use Rattle.sub_nodes.specs.Cycles.{Stage}
@@ -16,7 +19,7 @@ use Rattle.ten_core.specs.snap_form.specs.Spelling.{IsSnapshot}
 use Rattle.ten_core.specs.ten_plan.specs.Held.{snapshot_of}
 use Rattle.ten_core.specs.ten_plan.specs.Written.{written}
 use Rattle.ten_shell.specs.Shells as shell
-use Rattle.ten_shell.specs.Shells.{CanRunOn, Rests, StandsFor}
+use Rattle.ten_shell.specs.Shells.{CanRunOn, IsUnchanged, Rests, StandsFor}
 use Rattle.ten_parcel.specs.declared.parcel.Over.{Over}
 use Rattle.ten_parcel.specs.declared.parcel.Parcel.{Parcel}
 use Rattle.ten_parcel.specs.declared.parcel.Parcel.TheVariants as parcel
@@ -46,6 +49,12 @@ pub record IsOver (x : Over) : Type 0 where
 abbrev pub IsParcel : Parcel → Type 0
 IsParcel (parcel.Rests t) = IsAtRest t
 IsParcel (parcel.Over x) = IsOver x
+
+-- nothing of it has changed
+abbrev pub IsSameParcel : Parcel → Parcel → Type 0
+IsSameParcel (parcel.Rests t) (parcel.Rests u) = IsUnchanged t.shell u.shell (bank_of t.bank) (bank_of u.bank)
+IsSameParcel (parcel.Over x) (parcel.Over y) = x ≡ y
+IsSameParcel p q = ⊥
 
 -- it is a tenant, which can go on its way
 abbrev pub IsTenant : Parcel → Type 0
@@ -86,6 +95,14 @@ cost_of p = saturated_cost (cost (run_of p).flat)
 abbrev pub is_stopped : Parcel → Bool
 is_stopped (parcel.Rests t) = t.shell.stopped
 is_stopped (parcel.Over x) = false
+
+-- why its run has ended at this boundary, if it has: it was stopped besides, or its run alone ends there
+abbrev pub end_at : Parcel → Queue → Option End
+end_at p q = if is_stopped p then Some Stopped else alone.reason_at (run_of p).plan (ticks_of p) q
+
+-- it hasn't ended where it rests
+abbrev pub HasNotEnded : Parcel → Type 0
+HasNotEnded p = (q : Queue) → alone.Boundary (run_of p) (ticks_of p) q → end_at p q ≡ None
 
 -- the parcel has just been loaded: with this number, from this origin; nothing was made or stopped besides
 pub record IsLoaded (n : ℕ) (x : Origin) (p : Parcel) : Type 0 where

@@ -18,3 +18,6 @@ pub mod parcel;
 mod reopen;
 mod resume;
 pub mod tenant;
+
+pub use ten_core::{Bank, Cost, Text, design, held, origin};
+pub use ten_shell::shell;

@@ -1,14 +1,13 @@
 //! Tenants at rest.
 
-ghost use Rattle.std.specs.Prelude.{◌≡◌, ◌++◌, ◌∷◌, [], true, false, if◌then◌else◌, IfOk, IfSome, OnOk, OnErr, IsNone, Some, map};
+ghost use Rattle.std.specs.Prelude.{◌≡◌, ◌++◌, ◌∷◌, [], true, false, IfOk, IfSome, OnOk, OnErr, IsNone, map};
 ghost use Rattle.std.specs.Arc.{arc_value};
-ghost use Rattle.vl_eval.specs.vl_design.specs.declared.design.End.TheVariants.{Stopped};
-ghost use Rattle.vl_eval.specs.vl_design.specs.Alone.{Boundary, Ends, Keeps, reason_at};
+ghost use Rattle.vl_eval.specs.vl_design.specs.Alone.{Boundary, Ends, Keeps};
 ghost use Rattle.vl_eval.specs.vl_design.specs.Queue.{Queue};
 ghost use Rattle.ten_core.specs.ten_plan.specs.Held.{saved_of};
 ghost use Rattle.ten_core.specs.ten_plan.specs.Written.{HasRows};
 ghost use Rattle.ten_shell.specs.Shells.{CanRunOn};
-ghost use Rattle.ten_parcel.specs.Parcels.{cost_of, free_of, is_moved, is_stopped, number_of, origin_in, run_of, ticks_of, AreWritable, IsLoaded, IsParcel, IsTenant};
+ghost use Rattle.ten_parcel.specs.Parcels.{cost_of, end_at, free_of, is_moved, is_stopped, number_of, origin_in, run_of, ticks_of, AreWritable, HasNotEnded, IsLoaded, IsParcel, IsSameParcel, IsTenant};
 
 use crate::laws::a_run_over_in_time_zero_has_ended;
 use crate::load::{Begun, begin};
@@ -175,7 +174,7 @@ impl Parcel {
     /// Why its run has ended, if it has. One that has not ended is a tenant, which can go on its way.
     pub fn ended(&self) -> Option<End>
         requires { IsParcel self.now }
-        ensures reason { (q : Queue) → Boundary (run_of self.now) (ticks_of self.now) q → result ≡ (if is_stopped self.now then Some Stopped else reason_at (run_of self.now).plan (ticks_of self.now) q) }
+        ensures reason { (q : Queue) → Boundary (run_of self.now) (ticks_of self.now) q → result ≡ end_at self.now q }
         ensures ends { IfSome result (λ end. is_stopped self.now ≡ false → (q : Queue) × Ends (run_of self.now) (ticks_of self.now) end q) }
         ensures tenant { IsNone result → IsTenant self.now }
     {
@@ -187,10 +186,10 @@ impl Parcel {
         }
     }
 
-    /// Ends its run here, where it hasn't ended.
+    /// Ends its run here, where it hasn't ended: `ended` tells. From then on `ended` says that it was stopped.
     pub fn stop(&mut self)
         requires parcel { IsParcel self.old }
-        requires tenant { IsTenant self.old }
+        requires goes_on { HasNotEnded self.old }
         ensures parcel { IsParcel self.new }
         ensures stopped { is_stopped self.new ≡ true }
         ensures run { run_of self.new ≡ run_of self.old }
@@ -199,9 +198,11 @@ impl Parcel {
         ensures number { number_of self.new ≡ number_of self.old }
         ensures moved { is_moved self.new ≡ is_moved self.old }
     {
+        a_shell_at_rest_is_at_a_boundary();
+        a_run_over_in_time_zero_has_ended();
         match self {
             Parcel::Rests(tenant) => tenant.shell.stop(),
-            Parcel::Over(_) => (),
+            Parcel::Over(_) => unreachable!(),
         }
     }
 
@@ -211,7 +212,7 @@ impl Parcel {
         requires goes_on { (q : Queue) × Boundary (run_of self.old) (ticks_of self.old) q × (q.state.finished ≡ false) }
         ensures parcel { IsParcel self.new }
         ensures free { OnOk result (free_of self.new ≡ free_of self.old ++ record { name = name; tick = ticks_of self.old } ∷ []) }
-        ensures same { OnErr result (free_of self.new ≡ free_of self.old) }
+        ensures err { OnErr result (IsSameParcel self.old self.new) }
         ensures run { run_of self.new ≡ run_of self.old }
         ensures ticks { ticks_of self.new ≡ ticks_of self.old }
         ensures stopped { is_stopped self.new ≡ is_stopped self.old }

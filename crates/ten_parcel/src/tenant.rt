@@ -77,6 +77,7 @@ impl Tenant {
     pub fn run(&mut self, alloc: Global) -> Result<(), AllocError>
         requires { (c : ℕ) × (i : Stage) × IsOn self.old c i × (self.old.shell.stopped ≡ false) }
         ensures rests { OnOk result (IsAtRest self.new) }
+        ensures stands { (c : ℕ) × (i : Stage) × IsOn self.new c i }
         ensures ended { OnOk result ((c : ℕ) (i : Stage) → IsOn self.new c i → goes_on (run_of self.new.shell).plan (flat_in self.new.shell) i ≡ false) }
         ensures same { IsSameTenant self.old.shell self.new.shell }
     {
@@ -106,6 +107,7 @@ impl Tenant {
     /// The next act: the call that waits is served, or else a cycle is done.
     fn advance(&mut self, alloc: Global) -> Result<(), AllocError>
         requires { (c : ℕ) × (i : Stage) × IsReady self.old c i × (goes_on (run_of self.old.shell).plan (flat_in self.old.shell) i ≡ true) }
+        ensures stands { OnErr result ((c : ℕ) (i : Stage) → IsOn self.old c i → IsOn self.new c i) }
         ensures nearer { OnOk result ((c : ℕ) (i : Stage) → IsReady self.old c i → goes_on (run_of self.old.shell).plan (flat_in self.old.shell) i ≡ true → IsNearer self.old.shell i self.new) }
         ensures same { IsSameTenant self.old.shell self.new.shell }
     {

@@ -13,4 +13,4 @@ pub mod plan;
 pub mod saved;
 
 pub use vl_design::capacity::Cost;
-pub use vl_design::{Bytes, Items, Place, Text};
+pub use vl_design::{Bytes, Items, Place, Text, Words, files};

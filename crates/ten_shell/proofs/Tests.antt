@@ -92,15 +92,6 @@ rests-none false true true e h = let z : ⊥ = cc in absurd z
 rests-none false true false e h = refl
 rests-none false false x e h = let z : ⊥ = cc in absurd z
 
--- where a run is over, or at a boundary
-pub last-there : (f r : Bool) → (f || r) ≡ true → (f || (not f && r)) ≡ true
-last-there true r e = refl
-last-there false r e = e
-
-pub last-before : (f r : Bool) → f ≡ false → r ≡ false → (f || (not f && r)) ≡ false
-last-before true r e h = let z : ⊥ = cc in absurd z
-last-before false r e h = h
-
 -- ---- results
 
 pub ok-3 : {T E : Type 0} (P Q R S : T → Type 0) → ((t : T) → P t → Q t → R t → S t) → (r : Result T E) → IfOk r P → IfOk r Q → IfOk r R → IfOk r S

@@ -9,3 +9,5 @@
 pub mod laws;
 mod saves;
 pub mod shell;
+
+pub use ten_core::{Bank, Text, design, engine, held};

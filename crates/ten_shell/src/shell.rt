@@ -1,6 +1,6 @@
 //! Shells.
 
-ghost use Rattle.std.specs.Prelude.{◌≡◌, ℕ, suc, true, false, List, ◌++◌, ◌∷◌, [], OnOk, OnErr, IfOk, if◌then◌else◌, Some, None, not, ◌&&◌, ◌||◌, ◌-◌, slice_get, slice_index};
+ghost use Rattle.std.specs.Prelude.{◌≡◌, ℕ, suc, true, false, List, ◌++◌, ◌∷◌, [], OnOk, OnErr, IfOk, if◌then◌else◌, Some, None, not, ◌&&◌, ◌||◌, ◌-◌, slice_index};
 ghost use Rattle.std.specs.Arc.{arc_value};
 ghost use Rattle.vl_design.specs.Alone.{Boundary, first_tick, reason_at};
 ghost use Rattle.vl_design.specs.declared.design.End.TheVariants.{Stopped};
@@ -9,8 +9,7 @@ ghost use Rattle.ten_core.specs.cell_form.specs.Data.{BankData};
 ghost use Rattle.ten_core.specs.cell_form.specs.Sound.{shape_of};
 ghost use Rattle.ten_core.specs.cell_form.specs.States.{table_cycled};
 ghost use Rattle.ten_core.specs.cell_form.specs.Views.{bank_of};
-ghost use Rattle.ten_core.specs.sub_nodes.specs.Code.{table_of};
-ghost use Rattle.ten_core.specs.sub_nodes.specs.Cycles.{Stage, rises};
+ghost use Rattle.ten_core.specs.sub_nodes.specs.Cycles.{Stage};
 ghost use Rattle.ten_core.specs.ten_form.specs.Registers.{state_register};
 ghost use Rattle.ten_core.specs.Memory.{serving_takes_memory};
 ghost use Rattle.ten_core.specs.Runs.{after_cycle, after_call};
@@ -18,7 +17,7 @@ ghost use Rattle.ten_core.specs.Tenants.{table_in};
 ghost use Rattle.ten_plan.specs.Plans.{move_at, AreBefore};
 ghost use Rattle.ten_core.specs.Begins.{Begins};
 ghost use Rattle.ten_shell.specs.Shells.{beat_of, flat_in, free_in, is_at_boundary, is_left, left_at, left_in, rests_in, run_of, waits_in, CanRunOn, IsBegunShell, IsSameTenant, IsUnchanged, MayCycle, Rests, StandsFor};
-ghost use Rattle.ten_shell.specs.Leaving.{why_in, why_of};
+ghost use Rattle.ten_shell.specs.Leaving.{end_in, why_in, why_of};
 
 use std::alloc::{AllocError, Global};
 use ten_core::Bank;
@@ -210,21 +209,14 @@ impl Shell {
         requires { (b : BankData) × (c : ℕ) × (i : Stage) × StandsFor self.now b c i }
         ensures { (b : BankData) (c : ℕ) (i : Stage) → StandsFor self.now b c i → result ≡ (is_at_boundary (flat_in self.now) i && is_left (left_in self.now)) }
     {
-        self.is_at_boundary() && self.next_save().is_some()
+        self.at_boundary() && self.next_save().is_some()
     }
 
     /// The run goes on, and the clock rises next.
-    fn is_at_boundary(&self) -> bool
+    pub fn at_boundary(&self) -> bool
         ensures { (b : BankData) (c : ℕ) (i : Stage) → StandsFor self.now b c i → result ≡ is_at_boundary (flat_in self.now) i }
     {
-        !self.done() && self.at_boundary()
-    }
-
-    /// The clock rises next.
-    pub fn at_boundary(&self) -> bool
-        ensures { (b : BankData) (c : ℕ) (i : Stage) → StandsFor self.now b c i → result ≡ rises (slice_get (table_of (flat_in self.now)).nodes i.node) }
-    {
-        self.engine.at_boundary()
+        !self.done() && self.engine.at_boundary()
     }
 
     /// A `$finish` was done.
@@ -341,6 +333,7 @@ impl Shell {
 
     /// Ends its run where it rests and hasn't ended.
     pub fn stop(&mut self)
+        requires { (b : BankData) × (c : ℕ) × (i : Stage) × StandsFor self.old b c i × Rests self.old i × (end_in (run_of self.old).plan self.old.stopped i.state ≡ None) }
         ensures stands { (b : BankData) (c : ℕ) (i : Stage) → StandsFor self.old b c i → StandsFor self.new b c i }
         ensures stopped { self.new ≡ record self.old { stopped = true } }
     {

@@ -11,5 +11,5 @@ pub mod serve;
 pub mod served;
 
 pub use cell_form::bank::{Bank, Port, PortMap};
-pub use cell_form::{cell, table};
+pub use cell_form::{Text, cell, files, table};
 pub use ten_files::table::Table;

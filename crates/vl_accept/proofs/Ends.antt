@@ -28,7 +28,7 @@ judges P None (Err f) h e = absurd e
 judges P (Some s) (Err Memory) h e = tt
 judges P (Some s) (Err (Construct at n)) h e = (s, h, e)
 judges P (Some s) (Err (Limit at n)) h e = (s, h, e)
-judges P (Some s) (Err (Loop at)) h e = (s, h, e)
+judges P (Some s) (Err (Loop at cycle)) h e = (s, h, e)
 
 -- ---- the whole
 
@@ -36,7 +36,7 @@ pub accepts-uses : (T : Type 0) (d : p.Design) (f : Fault) → Judges {T = T} (I
 accepts-uses T d Memory h = tt
 accepts-uses T d (Construct at n) h = let (s, first, e) = h in misused first e
 accepts-uses T d (Limit at n) h = let (s, first, e) = h in misused first e
-accepts-uses T d (Loop at) h = let (s, first, e) = h in misused first e
+accepts-uses T d (Loop at cycle) h = let (s, first, e) = h in misused first e
 
 pub accepts-limit : (d : p.Design) (s : Stop) (f : Fault) → IsFirst (IsUseFault d) None → Unrolls d (Err s) → f ≡ fault_of s → Accepts d (Err f)
 accepts-limit d stop.Memory f h k e = subst (λ z. Accepts d (Err z)) (sym e) tt
@@ -55,4 +55,4 @@ module _ (d : p.Design) (uses : IsFirst (IsUseFault d) None) (limits : first_lim
   accepts-settled u (Err Memory) e h = tt
   accepts-settled u (Err (Construct at n)) e h = refused (Construct at n) (subst (λ z. Settles z (Err (Construct at n))) e h)
   accepts-settled u (Err (Limit at n)) e h = refused (Limit at n) (subst (λ z. Settles z (Err (Limit at n))) e h)
-  accepts-settled u (Err (Loop at)) e h = refused (Loop at) (subst (λ z. Settles z (Err (Loop at))) e h)
+  accepts-settled u (Err (Loop at cycle)) e h = refused (Loop at cycle) (subst (λ z. Settles z (Err (Loop at cycle))) e h)

@@ -14,7 +14,7 @@ use Rattle.vl_check.specs.vl_design.specs.Syntax.{Flat, Proc, Nop}
 use Rattle.vl_check.specs.vl_design.specs.Trees.{flat_of, proc_of}
 use Rattle.vl_check.specs.vl_design.proofs.TreeLemmas.{procs-map}
 use Rattle.vl_runs.specs.vl_paths.specs.Graph as g
-use Rattle.cell_level.specs.Cycles.{Leads, IsOnCycle, IsLowestCycle}
+use Rattle.cell_level.specs.Cycles.{Leads, IsCycle, IsOnCycle, IsLowestCycle}
 use Rattle.vl_accept.specs.declared.fault.Fault.TheVariants.{Loop}
 use Rattle.vl_accept.specs.Accepted.{IsLoop, IsLowest}
 pub use Rattle.vl_latch.specs.vl_base.proofs.Lists.{get_or_any as there-by}
@@ -50,7 +50,7 @@ process-is d cycle ps e h =
     let there : h.first < length d.processes = omega (arith, l, m) in
     subst (λ (xs : List Process). slice_index_or cycle 0 0 < length xs) (sym e) (subst (λ n. n < length d.processes) (sym (first-is (g.Edge (flat_of d)) cycle h)) there)
 
-pub is-loop : (d : Design) (cycle : List ℕ) (n : ℕ) (a : Process) → IsLowestCycle (g.Edge (flat_of d)) cycle → n ≡ slice_index_or cycle 0 0 → n < length d.processes → a ≡ get_or d.processes n a → IsLoop (placed d) (Loop a.place)
+pub is-loop : (d : Design) (cycle : List ℕ) (n : ℕ) (a : Process) → IsLowestCycle (g.Edge (flat_of d)) cycle → n ≡ slice_index_or cycle 0 0 → n < length d.processes → a ≡ get_or d.processes n a → IsLoop (placed d) (Loop a.place cycle)
 is-loop d cycle n a h e l i =
     let same : h.first ≡ n = sym (e ∙ first-is (g.Edge (flat_of d)) cycle h) in
     record {
@@ -61,12 +61,14 @@ is-loop d cycle n a h e l i =
         cyclic = subst (IsOnCycle (g.Edge (flat_of d))) same (h.is_cycle.others, h.is_cycle.closes);
         lowest = λ q m. h.lowest q (subst (λ z. q < z) (sym same) m);
       };
+      cycle = cycle;
+      is_cycle = subst (λ z. IsCycle (g.Edge (flat_of d)) z cycle) same h.is_cycle;
       place = refl;
     }
 
-pub is-loop-at : (d : Design) (cycle : List ℕ) (ps : List Process) (x : Process) → ps ≡ d.processes → IsLowestCycle (g.Edge (flat_of d)) cycle → IsLoop (placed d) (Loop (slice_index_or ps (slice_index_or cycle 0 0) x).place)
+pub is-loop-at : (d : Design) (cycle : List ℕ) (ps : List Process) (x : Process) → ps ≡ d.processes → IsLowestCycle (g.Edge (flat_of d)) cycle → IsLoop (placed d) (Loop (slice_index_or ps (slice_index_or cycle 0 0) x).place cycle)
 is-loop-at d cycle ps x e h =
     let n = slice_index_or cycle 0 0 in
     let l : n < length d.processes = process-is d cycle d.processes refl h in
     let a = slice_index_or d.processes n x in
-    subst (λ (xs : List Process). IsLoop (placed d) (Loop (slice_index_or xs n x).place)) (sym e) (is-loop d cycle n a h refl l (there-by d.processes n x a l))
+    subst (λ (xs : List Process). IsLoop (placed d) (Loop (slice_index_or xs n x).place cycle)) (sym e) (is-loop d cycle n a h refl l (there-by d.processes n x a l))

@@ -1,5 +1,5 @@
 -- A design is accepted, or refused for one fault.
-use Rattle.std.proofs.Common.{◌≡◌, ℕ, ◌<◌, true, false, List, refl, sym, ap, ◌∙◌, subst, arith, inl, inr}
+use Rattle.std.proofs.Common.{◌≡◌, ℕ, ◌<◌, true, false, List, [], refl, sym, ap, ◌∙◌, subst, arith, inl, inr}
 use Rattle.std.specs.Prelude.{Any, Option, Some, None, slice_get}
 use Rattle.vl_latch.specs.vl_base.specs.declared.place.Place.{Place}
 use Rattle.vl_latch.specs.vl_base.proofs.Orders.{comes_before-place}
@@ -19,7 +19,7 @@ use Rattle.cell_level.specs.Cycles.{IsOnCycle}
 use Rattle.vl_accept.specs.declared.fault.Fault.{Fault}
 use Rattle.vl_accept.specs.declared.fault.Fault.TheVariants.{Loop}
 use Rattle.vl_accept.specs.Stopping.{fault_of}
-use Rattle.vl_accept.specs.Accepted.{IsLowest, IsLoop, IsAccepted, IsRefused, misused, outgrown, unassigned, looped}
+use Rattle.vl_accept.specs.Accepted.{but_cycle, IsLowest, IsLoop, IsAccepted, IsRefused, misused, outgrown, unassigned, looped}
 use Rattle.vl_accept.proofs.Telling.{use-once}
 
 -- ---- paths
@@ -42,12 +42,12 @@ path-once d a b h k =
 lowest-once : (d : Flat) (p q : ℕ) → IsLowest d p → IsLowest d q → p ≡ q
 lowest-once d p q h k = omega (arith, λ (l : p < q). k.lowest p l h.cyclic, λ (l : q < p). h.lowest q l k.cyclic)
 
-loop-once : (d : Design) (f g : Fault) → IsLoop d f → IsLoop d g → f ≡ g
+loop-once : (d : Design) (f g : Fault) → IsLoop d f → IsLoop d g → but_cycle f ≡ but_cycle g
 loop-once d f g h k =
     let same : h.number ≡ k.number = lowest-once (flat d) h.number k.number h.lowest k.lowest in
     let there : Some h.process ≡ Some k.process = sym h.there ∙ (ap (slice_get d.processes) same ∙ k.there) in
     let process : h.process ≡ k.process = cc in
-    h.place ∙ (ap (λ (a : Process). Loop a.place) process ∙ sym k.place)
+    ap but_cycle h.place ∙ (ap (λ (a : Process). Loop a.place []) process ∙ sym (ap but_cycle k.place))
 
 -- ---- answers
 
@@ -69,18 +69,19 @@ accepted-or-refused d f h (looped u l p k) = h.loops k.number k.lowest.cyclic
 limit-same : (d : Design) (s t : Stop) → first_limit d ≡ Some s → first_limit d ≡ Some t → s ≡ t
 limit-same d s t h k = let e : Some s ≡ Some t = sym h ∙ k in cc
 
-pub refused-once : (d : Design) (f g : Fault) → IsRefused d f → IsRefused d g → f ≡ g
-refused-once d f g (misused {s} u e) (misused {s = t} v i) = e ∙ (ap fault_of (use-once d s t u v) ∙ sym i)
+-- for one fault, of which several loops may be shown
+pub refused-once : (d : Design) (f g : Fault) → IsRefused d f → IsRefused d g → but_cycle f ≡ but_cycle g
+refused-once d f g (misused {s} u e) (misused {s = t} v i) = ap but_cycle (e ∙ (ap fault_of (use-once d s t u v) ∙ sym i))
 refused-once d f g (misused {s} u e) (outgrown v m i) = no-use d s v u
 refused-once d f g (misused {s} u e) (unassigned v m q i) = no-use d s v u
 refused-once d f g (misused {s} u e) (looped v m q i) = no-use d s v u
 refused-once d f g (outgrown u l e) (misused {s = t} v i) = no-use d t u v
-refused-once d f g (outgrown {s} u l e) (outgrown {s = t} v m i) = e ∙ (ap fault_of (limit-same d s t l m) ∙ sym i)
+refused-once d f g (outgrown {s} u l e) (outgrown {s = t} v m i) = ap but_cycle (e ∙ (ap fault_of (limit-same d s t l m) ∙ sym i))
 refused-once d f g (outgrown {s} u l e) (unassigned v m q i) = no-limit d s m l
 refused-once d f g (outgrown {s} u l e) (looped v m q i) = no-limit d s m l
 refused-once d f g (unassigned u l p e) (misused {s = t} v i) = no-use d t u v
 refused-once d f g (unassigned u l p e) (outgrown {s = t} v m i) = no-limit d t l m
-refused-once d f g (unassigned {s} u l p e) (unassigned {s = t} v m q i) = e ∙ (ap fault_of (path-once (unrolled_placed d) s t p q) ∙ sym i)
+refused-once d f g (unassigned {s} u l p e) (unassigned {s = t} v m q i) = ap but_cycle (e ∙ (ap fault_of (path-once (unrolled_placed d) s t p q) ∙ sym i))
 refused-once d f g (unassigned {s} u l p e) (looped v m q i) = no-path (unrolled_placed d) s q p
 refused-once d f g (looped u l p k) (misused {s = t} v i) = no-use d t u v
 refused-once d f g (looped u l p k) (outgrown {s = t} v m i) = no-limit d t l m

@@ -1,6 +1,6 @@
 -- Designs that are accepted, and the first fault of one that isn't: in what it uses, in its limits, on its paths, or a
 -- combinational loop (own; IEEE 1364-2005, clauses 4.6, 6.1, 9.2, 9.6, 9.7 and 10.4).
-use Rattle.std.specs.Prelude.{◌≡◌, ℕ, ◌<◌, ⊤, Result, Ok, Err, Option, Some, None, slice_get}
+use Rattle.std.specs.Prelude.{◌≡◌, ℕ, ◌<◌, List, [], ⊤, Result, Ok, Err, Option, Some, None, slice_get}
 use Rattle.vl_check.specs.vl_design.specs.declared.stop.Stop.{Stop}
 use Rattle.vl_check.specs.vl_design.specs.Placed.{Design, Process}
 use Rattle.vl_check.specs.vl_design.specs.Plainly.{flat}
@@ -13,11 +13,11 @@ use Rattle.vl_check.specs.vl_design.specs.First.{IsFirst}
 use Rattle.vl_runs.specs.vl_paths.specs.Graph.{Edge}
 use Rattle.vl_check.specs.Uses.{IsUseFault}
 use Rattle.vl_latch.specs.Faults.{IsPathFault}
-use Rattle.cell_level.specs.Cycles.{IsOnCycle}
+use Rattle.cell_level.specs.Cycles.{IsCycle, IsOnCycle}
 use Rattle.cell_level.specs.Levelling.{IsOrder}
 use Rattle.vl_accept.specs.declared.accept.Accepted.{Accepted}
 use Rattle.vl_accept.specs.declared.fault.Fault.{Fault}
-use Rattle.vl_accept.specs.declared.fault.Fault.TheVariants.{Loop, Memory}
+use Rattle.vl_accept.specs.declared.fault.Fault.TheVariants.{Construct, Limit, Loop, Memory}
 use Rattle.vl_accept.specs.Stopping.{fault_of}
 
 -- no process lies on a combinational loop
@@ -29,13 +29,23 @@ pub record IsLowest (d : Flat) (p : ℕ) : Type 0 where
   pub cyclic : IsOnCycle (Edge d) p
   pub lowest : (q : ℕ) → q < p → IsOnCycle (Edge d) q → ⊥
 
--- the fault of the lowest process on a combinational loop
+-- the fault of the lowest process on a combinational loop, and such a loop, from that process on: each drives a bit that the next reads, the last one a
+-- bit that the first reads, and none comes twice
 pub record IsLoop (d : Design) (f : Fault) : Type 0 where
   pub number : ℕ
   pub process : Process
+  pub cycle : List ℕ
   pub there : slice_get d.processes number ≡ Some process
   pub lowest : IsLowest (flat d) number
-  pub place : f ≡ Loop process.place
+  pub is_cycle : IsCycle (Edge (flat d)) number cycle
+  pub place : f ≡ Loop process.place cycle
+
+-- a fault, whichever loop it shows
+abbrev pub but_cycle : Fault → Fault
+but_cycle (Loop place cycle) = Loop place []
+but_cycle (Construct place number) = Construct place number
+but_cycle (Limit place number) = Limit place number
+but_cycle Memory = Memory
 
 -- it uses nothing in a way that is refused, and passes no limit; with its loops unrolled, each bit is assigned on every path
 -- and before it is read, and there is no combinational loop

@@ -20,8 +20,8 @@ use cell_level::nets::Levels;
 use std::alloc::Global;
 use vl_check::design::Design;
 use vl_check::uses::uses;
-use vl_latch::Place;
 use vl_latch::paths::paths;
+use vl_latch::{Nums, Place};
 use vl_unroll::unroll::unroll;
 
 /// A design that is accepted.
@@ -54,10 +54,19 @@ fn judge_paths(alloc: Global, design: &Design) -> Result<(), Fault>
 /// The place of the first process of a combinational loop.
 fn place_of(design: &Design, cycle: &[u32]) -> Place
     requires { IsLowestCycle (Edge (flat_of design.now)) cycle.now }
-    ensures { IsLoop (placed design.now) (f.Loop result) }
+    ensures { IsLoop (placed design.now) (f.Loop result cycle.now) }
 {
     let first = cycle[0] as usize;
     design.processes.as_slice()[first].place
+}
+
+/// A combinational loop, as a fault.
+fn loop_of(design: &Design, cycle: Vec<u32>) -> Fault
+    requires { IsLowestCycle (Edge (flat_of design.now)) cycle.items }
+    ensures { IsLoop (placed design.now) result }
+{
+    let place = place_of(design, cycle.as_slice());
+    Fault::Loop(place, Nums::from_vec(cycle))
 }
 
 /// The order of the processes of an unrolled design.
@@ -67,7 +76,7 @@ fn order_of(alloc: Global, design: &Design) -> Result<Vec<u32>, Fault>
 {
     match level(alloc, design)? {
         Levels::Ordered(order) => Ok(order),
-        Levels::Loop(cycle) => Err(Fault::Loop(place_of(design, cycle.as_slice()))),
+        Levels::Loop(cycle) => Err(loop_of(design, cycle)),
     }
 }
 

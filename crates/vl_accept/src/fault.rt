@@ -5,17 +5,18 @@ ghost use Rattle.vl_accept.specs.Stopping as s;
 
 use std::alloc::AllocError;
 use vl_check::stop::Stop;
-use vl_latch::Place;
+use vl_latch::{Nums, Place};
 
 /// Why a design is refused.
-#[derive(Clone, Copy, Debug, PartialEq, Eq)]
+#[derive(Drop)]
 pub enum Fault {
     /// A refused construct, by its number.
     Construct(Place, u8),
     /// A limit that is passed, by its number.
     Limit(Place, u8),
-    /// A combinational loop, at the first token of the lowest process on one.
-    Loop(Place),
+    /// A combinational loop: the first token of the lowest process on one, and the numbers of the processes of one, that one first. Each drives a
+    /// bit that the next reads, and the last one a bit that the first reads.
+    Loop(Place, Nums),
     /// Memory ran out.
     Memory,
 }

@@ -6,7 +6,7 @@ use Rattle.std.proofs.lemmas.List.Sums.{sum_by-cons}
 use Rattle.vl_design.specs.declared.design.Design.{Design}
 use Rattle.vl_design.specs.declared.design.Process.{Process}
 use Rattle.vl_design.specs.declared.design.Signal.{Signal}
-use Rattle.vl_design.specs.Cost.{cost, body_cells, stm_cells, proc_cells, proc_regs, row_cells, row_mem, row_regs}
+use Rattle.vl_design.specs.Cost.{cost, body_cells, proc_cells, proc_regs, row_cells, row_mem, row_regs}
 use Rattle.vl_design.specs.Functions.{scope_of, zeros, fresh}
 use Rattle.vl_design.specs.Laws.{IsUnrolled}
 use Rattle.vl_design.specs.Plain.{plain_scope}
@@ -20,8 +20,8 @@ use Rattle.vl_design.specs.Trees.{flat_of}
 use Rattle.vl_design.specs.Width.{Scope}
 use Rattle.vl_limits.proofs.Alike.{Same, both, sames}
 use Rattle.vl_limits.proofs.Rounds.{capped}
-use Rattle.vl_design.specs.Costs.{saturated, statement_cells}
-use Rattle.vl_cost.specs.Walks.{block_cells, process_cells, process_regs, AreBodies, HasNoLoop}
+use Rattle.vl_design.specs.Costs.{saturated}
+use Rattle.vl_cost.specs.Walks.{process_cells, process_regs, AreBodies, HasNoLoop}
 use Rattle.vl_cost.proofs.Alike.{stm_alike, stm_same}
 use Rattle.vl_cost.proofs.Loopless.{procs-loopless, all-procs}
 use Rattle.vl_design.specs.vl_base.proofs.Lists.{sum_map as sum-map}
@@ -53,24 +53,6 @@ module _ (design : Design) (u : IsUnrolled (flat_of design)) where
         ap (min 18446744073709551615) (sum_by-cons (proc_cells scope s) (plain.proc (seen.process_of a)) (map plain.proc (map seen.process_of as')))
         ∙ (both 18446744073709551615 _ _ _ _ (one-cells a h.0) (all-cells as' h.1)
         ∙ sym (ap (min 18446744073709551615) (sum_by-cons (process_cells bodies) a as')))
-
-    abbrev block_of : Proc → ℕ
-    block_of p = stm_cells scope (body_cells scope) p.body s
-
-    block-same : (a : Process) → HasNoLoop (seen.stm_of a.body) → Same 18446744073709551615 (block_of (plain.proc (seen.process_of a))) (block_cells bodies a)
-    block-same a h =
-        stm_alike (Same 18446744073709551615) (sames 18446744073709551615) (body_cells scope) (λ i. slice_index bodies i) (λ i. capped 18446744073709551615 (slice_index bodies i) (body_cells scope i) (are i)) scope (plain_scope []) s (fresh []) a.path (seen.stm_of a.body) h
-
-    blocks-same : (as' : List Process) → AllByRecursion (λ a. HasNoLoop (seen.stm_of a.body)) as' →
-        Same 18446744073709551615 (sum_by block_of (map plain.proc (map seen.process_of as'))) (sum_by (block_cells bodies) as')
-    blocks-same [] h = refl
-    blocks-same (a ∷ as') h =
-        ap (min 18446744073709551615) (sum_by-cons block_of (plain.proc (seen.process_of a)) (map plain.proc (map seen.process_of as')))
-        ∙ (both 18446744073709551615 _ _ _ _ (block-same a h.0) (blocks-same as' h.1)
-        ∙ sym (ap (min 18446744073709551615) (sum_by-cons (block_cells bodies) a as')))
-
-    pub blocks-are : (as' : List Process) (r : ℕ) → as' ≡ design.processes → r ≡ saturated (sum_by (block_cells bodies) as') → r ≡ saturated (statement_cells d)
-    blocks-are as' r e h = h ∙ (ap (λ z. saturated (sum_by (block_cells bodies) z)) e ∙ sym (blocks-same design.processes (procs-loopless design u)))
 
     pub cells-are : (signals : List Signal) (as' : List Process) (rows sum all r : ℕ) → signals ≡ design.signals → as' ≡ design.processes →
         rows ≡ saturated (sum_by (λ x. row_cells x.kind) signals) → sum ≡ saturated (16 + rows) → all ≡ saturated (sum_by (process_cells bodies) as') → r ≡ saturated (sum + all) → r ≡ saturated ((cost d).cells)

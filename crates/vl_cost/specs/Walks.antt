@@ -71,7 +71,3 @@ process_cells bodies a = if is_init a.kind then 0 else 4 + cells_of bodies (stm_
 
 abbrev pub process_regs : List Signal → Process → ℕ
 process_regs signals a = if is_init a.kind then 0 else regs_of signals (stm_of [] a.body)
-
--- what its statement counts
-abbrev pub block_cells : List ℕ → Process → ℕ
-block_cells bodies a = cells_of bodies (stm_of [] a.body)

@@ -6,8 +6,8 @@ ghost use Rattle.vl_design.specs.Laws.{IsUnrolled};
 ghost use Rattle.vl_design.specs.Queue.{is_init};
 ghost use Rattle.vl_design.specs.Seen as seen;
 ghost use Rattle.vl_design.specs.Trees.{flat_of};
-ghost use Rattle.vl_design.specs.Costs.{saturated, saturated_cost, statement_cells};
-ghost use Rattle.vl_cost.specs.Walks.{block_cells, process_cells, process_regs, AreBodies, HasNoLoop};
+ghost use Rattle.vl_design.specs.Costs.{saturated, saturated_cost};
+ghost use Rattle.vl_cost.specs.Walks.{process_cells, process_regs, AreBodies, HasNoLoop};
 
 use crate::bodies::bodies_of;
 use crate::registers::stm_regs;
@@ -115,26 +115,4 @@ pub fn cost(alloc: Global, design: &Design) -> Result<Cost, AllocError>
         cells: design_cells(&bodies, design),
         mem: design_mem(design),
     })
-}
-
-/// The cells of the statements of processes.
-fn blocks_cells(bodies: &[u64], processes: &[Process]) -> u64
-    requires { All (λ a. HasNoLoop (seen.stm_of a.body)) processes.now }
-    ensures { result ≡ saturated (sum_by (block_cells bodies.now) processes.now) }
-{
-    let mut all = 0;
-    for process in processes {
-        all = plus(all, stm_cells(bodies, &process.body));
-    }
-    all
-}
-
-/// The cells of all statements of the processes of a design whose loops are unrolled, those of `initial` blocks too; the greatest
-/// number of 64 bits in the place of a greater one. It says how large the design gets where each call of a function has cells of its own.
-pub fn all_cells(alloc: Global, design: &Design) -> Result<u64, AllocError>
-    requires { IsUnrolled (flat_of design.now) }
-    ensures { IfOk result (λ n. n ≡ saturated (statement_cells (flat_of design.now))) }
-{
-    let bodies = bodies_of(alloc, design)?;
-    Ok(blocks_cells(&bodies, design.processes.as_slice()))
 }

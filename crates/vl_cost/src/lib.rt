@@ -1,7 +1,7 @@
 //! What a design costs of a fabric: register bits, cells and memory bits.
 //!
 //! Proved: of a design whose loops are unrolled: its cost (register bits, cells, memory bits) exactly as defined, or 2^64 - 1 where a
-//! number is greater (`cost`), and likewise the cells of all its statements (`all_cells`).
+//! number is greater (`cost`).
 #![tactic(auto)]
 
 mod bodies;
@@ -14,3 +14,6 @@ mod signals;
 mod statements;
 mod sums;
 mod tasks;
+
+pub use vl_design::capacity::Cost;
+pub use vl_design::design;

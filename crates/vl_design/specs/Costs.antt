@@ -1,8 +1,6 @@
 -- Costs in numbers of 64 bits, and what fits (own).
-use Rattle.std.specs.Prelude.{ℕ, ◌+◌, ◌≤◌, [], min, sum_by}
+use Rattle.std.specs.Prelude.{ℕ, ◌+◌, ◌≤◌, min}
 use Rattle.vl_design.specs.Cost as d
-use Rattle.vl_design.specs.Functions.{scope_of, zeros, fresh}
-use Rattle.vl_design.specs.Syntax.{Flat}
 use Rattle.vl_design.specs.declared.capacity.Cost.{Cost}
 
 -- a number, or 2 ^ 64 - 1 where it is greater
@@ -18,9 +16,3 @@ pub record Fits (used more capacity : Cost) : Type 0 where
   pub regs : used.regs + more.regs ≤ capacity.regs
   pub cells : used.cells + more.cells ≤ capacity.cells
   pub mem : used.mem + more.mem ≤ capacity.mem
-
--- the cells of all statements of processes, those of `initial` blocks too
-abbrev pub statement_cells : Flat → ℕ
-statement_cells design =
-    let scope = scope_of design [] in
-    sum_by (λ p. d.stm_cells scope (d.body_cells scope) p.body (fresh (zeros design.rows))) design.procs

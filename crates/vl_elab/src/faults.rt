@@ -31,7 +31,7 @@ use vl_design::stops::construct_if;
 
 /// The first of those so far and the faults of an expression, if one stands there.
 #[tactic(auto, using(crate::proofs::Steps::firsts))]
-pub fn optional_faults(best: Option<Stop>, names: &Names<'_>, e: &Option<Ex>) -> Option<Stop>
+fn optional_faults(best: Option<Stop>, names: &Names<'_>, e: &Option<Ex>) -> Option<Stop>
     ensures { result ≡ earliest best (p.optional_faults (look names.now) (option_map seen e.now)) }
 {
     match e {

@@ -22,5 +22,6 @@ mod ports;
 mod processes;
 mod signals;
 
+pub use elab_plain::source_tree;
 pub use vl_design::capacity::Cost;
 pub use vl_design::{Place, design, stop};

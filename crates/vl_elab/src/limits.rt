@@ -78,7 +78,7 @@ fn words_with(words: u64, more: u64) -> Result<u64, AllocError>
 }
 
 /// What is counted with one more signal.
-pub fn with_signal(t: Totals, signal: &Signal) -> Result<Totals, AllocError>
+fn with_signal(t: Totals, signal: &Signal) -> Result<Totals, AllocError>
     ensures { IfOk result (λ n. totals_of n ≡ o.with_signal (totals_of t) signal.now) }
 {
     let signals = signals_with(t, signal.kind)?;

@@ -30,7 +30,7 @@ use vl_design::design::{Event, Expr, ProcKind, Process, Stmt, StmtNode, Target, 
 use vl_design::{Items, Place};
 
 /// A process of an instance.
-pub fn process(
+fn process(
     alloc: Global,
     here: Here<'_, '_, '_>,
     at: Place,

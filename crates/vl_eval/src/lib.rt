@@ -2,7 +2,7 @@
 //! signals.
 //!
 //! Proved: widths and signs of sound expressions are those of the definitions (`form_of`), and so are their values, told what their calls
-//! of functions give, where that fits the functions' results (`value`, `own_value`).
+//! of functions give, where that fits the functions' results (`value`).
 //!
 //! Proved: the width and sign of an operator's value, and those in which its operands are read, are those of the definitions (`joined`,
 //! `assigned`, `unary_form`, `binary_form`, `operand_form`, `left_form`, `right_form`).

@@ -73,7 +73,7 @@ fn updated_word(room: &Room<'_>, values: &[Kept], u: Update) -> u128
 }
 
 /// Makes an update: bits that the signal doesn't have, and words that it doesn't have, are left out.
-pub fn write(room: &Room<'_>, values: &mut Vec<Kept>, u: Update)
+fn write(room: &Room<'_>, values: &mut Vec<Kept>, u: Update)
     requires named { IsNamed (names_of room.now) u.signal }
     requires fine { IsFine (names_of room.now).rows values.old.items }
     ensures { values.new.items ≡ with_update (names_of room.now).rows values.old.items (update_of u) }

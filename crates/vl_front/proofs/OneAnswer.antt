@@ -22,11 +22,12 @@ use Rattle.vl_elab.specs.vl_sound.specs.Meeting.{IsElaboration}
 use Rattle.vl_elab.proofs.Once.{elaborated_once}
 use Rattle.vl_accept.specs.declared.fault.Fault.{Fault}
 use Rattle.vl_accept.specs.declared.fault.Fault.TheVariants as accept
+use Rattle.vl_accept.specs.Accepted as shown
 use Rattle.vl_accept.specs.Accepted.{IsAccepted, IsRefused}
 use Rattle.vl_accept.proofs.Once.{accepted-or-refused, refused-once}
 use Rattle.vl_front.specs.declared.fault.Kind.{Kind}
 use Rattle.vl_front.specs.declared.fault.Kind.TheVariants as w
-use Rattle.vl_front.specs.Sources.{end_of, IsTreeOf, IsDesignOf, StandsFor, IsRefusal, fault, passed, unparsed, too_deep, too_long, misbuilt, outgrown, unfit, too_large, looped}
+use Rattle.vl_front.specs.Sources.{but_cycle, end_of, IsTreeOf, IsDesignOf, StandsFor, IsRefusal, fault, passed, unparsed, too_deep, too_long, misbuilt, outgrown, unfit, too_large, looped}
 
 -- where a text is refused, and for a reason of which kind
 abbrev Why : Type 0
@@ -103,8 +104,18 @@ parsed_once ts end r q (long p h e) (long p' k f) = e ∙ ap Err (same_place ts 
 abbrev why_of : Fault → Why
 why_of (accept.Construct p n) = why p (w.Construct n)
 why_of (accept.Limit p n) = why p (w.Limit n)
-why_of (accept.Loop p) = why p w.Loop
-why_of accept.Memory = why (record { line = 0; column = 0 }) w.Loop
+why_of (accept.Loop p cycle) = why p (w.Loop [])
+why_of accept.Memory = why (record { line = 0; column = 0 }) (w.Loop [])
+
+-- whichever loop is shown
+why_but : (f : Fault) → why_of f ≡ why_of (shown.but_cycle f)
+why_but (accept.Construct p n) = refl
+why_but (accept.Limit p n) = refl
+why_but (accept.Loop p cycle) = refl
+why_but accept.Memory = refl
+
+why_once : (f g : Fault) → shown.but_cycle f ≡ shown.but_cycle g → why_of f ≡ why_of g
+why_once f g e = why_but f ∙ (ap why_of e ∙ sym (why_but g))
 
 -- the design that runs, or the first fault for which it isn't accepted
 data Judged (d : p.Design) (r : Result Flat Why) : Type 0 where
@@ -115,7 +126,7 @@ judged_once : (d : p.Design) (r q : Result Flat Why) → Judged d r → Judged d
 judged_once d r q (runs a e) (runs b f) = e ∙ sym f
 judged_once d r q (runs a e) (refused g k f) = absurd (accepted-or-refused d g a k)
 judged_once d r q (refused g h e) (runs b f) = absurd (accepted-or-refused d g b h)
-judged_once d r q (refused g h e) (refused i k f) = e ∙ (ap (λ z. Err (why_of z)) (refused-once d g i h k) ∙ sym f)
+judged_once d r q (refused g h e) (refused i k f) = e ∙ (ap Err (why_once g i (refused-once d g i h k)) ∙ sym f)
 
 -- what is judged of the flat design, or the first fault or limit of the elaboration
 data Built (s : Source) (r : Result Flat Why) : Type 0 where
@@ -194,10 +205,10 @@ stands text d h = designed text h.flat (Ok d) h.of (runs h.accepted (ap Ok h.is)
 
 module _ (text : List ℕ) (place : Place) (kind : Kind) where
   -- for a reason that is this one
-  is : (a : Kind) → kind ≡ a → ◌≡◌ {A = Result Flat Why} (Err (why place kind)) (Err (why place a))
-  is a e = ap (λ z. Err (why place z)) e
+  is : (a : Kind) → kind ≡ a → ◌≡◌ {A = Result Flat Why} (Err (why place (but_cycle kind))) (Err (why place (but_cycle a)))
+  is a e = ap (λ z. Err (why place (but_cycle z))) e
 
-  refuses : IsRefusal text place kind → Answered text (Err (why place kind))
+  refuses : IsRefusal text place kind → Answered text (Err (why place (but_cycle kind)))
   refuses (fault {cause} h e) = unread (why place (w.Lex cause)) (misspelt place cause h refl) (is (w.Lex cause) e)
   refuses (passed {number} h e) = unread (why place (w.Limit number)) (past place number h refl) (is (w.Limit number) e)
   refuses (unparsed {tokens = ts} h g e) = untreed ts (why place w.Parse) (tokens ts h refl) (misplaced place g refl) (is w.Parse e)
@@ -207,15 +218,17 @@ module _ (text : List ℕ) (place : Place) (kind : Kind) where
   refuses (outgrown {tree = s} {number} h g e) = treed text s _ h (large place number g (is (w.Limit number) e))
   refuses (unfit {flat = d} {number} h g e) = designed text d _ h (refused (accept.Construct place number) g (is (w.Construct number) e))
   refuses (too_large {flat = d} {number} h g e) = designed text d _ h (refused (accept.Limit place number) g (is (w.Limit number) e))
-  refuses (looped {flat = d} h g e) = designed text d _ h (refused (accept.Loop place) g (is w.Loop e))
+  refuses (looped {flat = d} {cycle} h g e) = designed text d _ h (refused (accept.Loop place cycle) g (is (w.Loop cycle) e))
 
 pub one_design : (text : List ℕ) (d e : Flat) → StandsFor text d → StandsFor text e → d ≡ e
 one_design text d e h k = ok_same d e (answered_once text (Ok d) (Ok e) (stands text d h) (stands text e k))
 
-pub one_refusal : (text : List ℕ) (p q : Place) (a b : Kind) → IsRefusal text p a → IsRefusal text q b → (p ≡ q) × (a ≡ b)
+pub one_refusal : (text : List ℕ) (p q : Place) (a b : Kind) → IsRefusal text p a → IsRefusal text q b → (p ≡ q) × (but_cycle a ≡ but_cycle b)
 one_refusal text p q a b h g =
-    let same = err_same (why p a) (why q b) (answered_once text (Err (why p a)) (Err (why q b)) (refuses text p a h) (refuses text q b g)) in
+    let x = why p (but_cycle a) in
+    let y = why q (but_cycle b) in
+    let same = err_same x y (answered_once text (Err x) (Err y) (refuses text p a h) (refuses text q b g)) in
     (ap (λ (z : Why). z.0) same, ap (λ (z : Why). z.1) same)
 
 pub not_both : (text : List ℕ) (d : Flat) (p : Place) (a : Kind) → StandsFor text d → IsRefusal text p a → ⊥
-not_both text d p a h g = ok_no_err d (why p a) (answered_once text (Ok d) (Err (why p a)) (stands text d h) (refuses text p a g))
+not_both text d p a h g = let x = why p (but_cycle a) in ok_no_err d x (answered_once text (Ok d) (Err x) (stands text d h) (refuses text p a g))

@@ -58,7 +58,15 @@ pub data IsRefusal (text : List ℕ) (place : Place) (kind : Kind) : Type 0 wher
   outgrown : {tree : Source} {number : ℕ} → IsTreeOf text tree → IsElaboration tree (Err (Limit place number)) → kind ≡ k.Limit number → IsRefusal text place kind
   unfit : {flat : p.Design} {number : ℕ} → IsDesignOf text flat → IsRefused flat (accept.Construct place number) → kind ≡ k.Construct number → IsRefusal text place kind
   too_large : {flat : p.Design} {number : ℕ} → IsDesignOf text flat → IsRefused flat (accept.Limit place number) → kind ≡ k.Limit number → IsRefusal text place kind
-  looped : {flat : p.Design} → IsDesignOf text flat → IsRefused flat (accept.Loop place) → kind ≡ k.Loop → IsRefusal text place kind
+  looped : {flat : p.Design} {cycle : List ℕ} → IsDesignOf text flat → IsRefused flat (accept.Loop place cycle) → kind ≡ k.Loop cycle → IsRefusal text place kind
+
+-- a kind, whichever combinational loop it shows
+abbrev pub but_cycle : Kind → Kind
+but_cycle (k.Loop cycle) = k.Loop []
+but_cycle (k.Lex cause) = k.Lex cause
+but_cycle k.Parse = k.Parse
+but_cycle (k.Construct number) = k.Construct number
+but_cycle (k.Limit number) = k.Limit number
 
 -- with its loops unrolled, and an order of its processes, this is the design that a text stands for
 pub record IsAcceptedOf (text : List ℕ) (a : Accepted) : Type 0 where

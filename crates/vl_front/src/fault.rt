@@ -1,9 +1,10 @@
 //! Why a source is refused.
 
+use vl_accept::Nums;
 use vl_elab::Place;
 
 /// The kind of a refusal.
-#[derive(Clone, Copy, Debug, PartialEq, Eq)]
+#[derive(Drop)]
 pub enum Kind {
     /// A lexical fault, by its cause.
     Lex(u8),
@@ -13,12 +14,13 @@ pub enum Kind {
     Construct(u8),
     /// A limit that is passed, by its number.
     Limit(u8),
-    /// A combinational loop.
-    Loop,
+    /// A combinational loop, of the lowest process that lies on one: the numbers of its processes, that one first. Each drives a bit that the next reads,
+    /// and the last one a bit that the first reads.
+    Loop(Nums),
 }
 
 /// Why nothing is built.
-#[derive(Clone, Copy, Debug, PartialEq, Eq)]
+#[derive(Drop)]
 pub enum BuildError {
     /// The source is refused at a place, for a reason of a kind.
     Refused(Place, Kind),

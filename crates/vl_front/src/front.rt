@@ -40,7 +40,7 @@ fn of_design(alloc: Global, design: &Design) -> Result<Accepted, BuildError>
         Ok(accepted) => Ok(accepted),
         Err(Fault::Construct(place, number)) => refused(place, Kind::Construct(number)),
         Err(Fault::Limit(place, number)) => refused(place, Kind::Limit(number)),
-        Err(Fault::Loop(place)) => refused(place, Kind::Loop),
+        Err(Fault::Loop(place, cycle)) => refused(place, Kind::Loop(cycle)),
         Err(Fault::Memory) => Err(BuildError::Memory),
     }
 }

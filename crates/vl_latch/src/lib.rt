@@ -10,4 +10,6 @@ mod bits;
 pub mod bodies;
 pub mod paths;
 
+pub use vl_base::items::Nums;
 pub use vl_base::place::Place;
+pub use vl_design::{design, stop};

@@ -19,4 +19,4 @@ mod runs;
 mod step;
 mod strings;
 
-pub use vl_tree::{source_tree, token};
+pub use vl_tree::{Place, source_tree, token};

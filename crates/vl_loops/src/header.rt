@@ -23,7 +23,7 @@ use vl_eval::form_form::assigned;
 
 /// Whether a test holds.
 #[tactic(auto, using(crate::proofs::Widen::contexts))]
-pub(crate) fn holds(room: &Room<'_>, numbers: &[u128], test: &Expr) -> bool
+fn holds(room: &Room<'_>, numbers: &[u128], test: &Expr) -> bool
     requires sound { IsSoundExp (names_of room.now) (exp_of test.now) }
     requires constant { IsHeader (rows_of room.now) (exp_of test.now) }
     requires numbers { AreNumbers (rows_of room.now) numbers.now }

@@ -18,3 +18,4 @@ mod triggers;
 
 pub use sources::parse;
 pub use vl_pstmt::ParseFault;
+pub use vl_tree::{Place, source_tree, token};

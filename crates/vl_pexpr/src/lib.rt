@@ -11,3 +11,4 @@ pub mod parse;
 
 pub use grammar::expression_at;
 pub use parse::{ParseFault, expression};
+pub use vl_tree::{Place, token, tree};

@@ -10,7 +10,7 @@ use std::alloc::AllocError;
 use vl_tree::source_tree::{Function, FunctionDeclaration, FunctionPort, ParameterType};
 
 /// Whether a type has bits to select.
-pub fn is_vector(kind: &ParameterType) -> bool
+fn is_vector(kind: &ParameterType) -> bool
     ensures { result ≡ spec.is_vector kind.now }
 {
     match kind {

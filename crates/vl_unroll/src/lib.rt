@@ -10,3 +10,5 @@ mod put;
 mod statements;
 mod targets;
 pub mod unroll;
+
+pub use vl_design::{design, stop};

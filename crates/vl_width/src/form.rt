@@ -27,7 +27,7 @@ fn total_width(room: &Room<'_>, es: &[Expr]) -> u32
 
 /// The width and sign of an expression read for itself.
 #[cycle(form)]
-pub fn own_form(room: &Room<'_>, e: &Expr) -> Form
+fn own_form(room: &Room<'_>, e: &Expr) -> Form
     requires { IsSoundExp (names_of room.now) (exp_of e.now) }
     ensures { result ≡ w.form (names_of room.now) (exp_of e.now) }
 {

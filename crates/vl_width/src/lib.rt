@@ -10,3 +10,5 @@ pub(crate) mod own;
 pub(crate) mod reading;
 pub mod room;
 pub mod size;
+
+pub use vl_design::{design, sized};

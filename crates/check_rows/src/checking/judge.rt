@@ -27,7 +27,7 @@ fn answer_to_design(alloc: Global, design: &Design) -> Result<String, AllocError
         Ok(accepted) => costs(alloc, cost(alloc, &accepted.design)?),
         Err(Fault::Construct(place, number)) => numbered(alloc, "construct", number, place),
         Err(Fault::Limit(place, number)) => numbered(alloc, "limit", number, place),
-        Err(Fault::Loop(place)) => plain(alloc, "loop", place),
+        Err(Fault::Loop(place, _)) => plain(alloc, "loop", place),
         Err(Fault::Memory) => Err(AllocError),
     }
 }

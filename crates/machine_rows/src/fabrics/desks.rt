@@ -377,8 +377,8 @@ fn closed_text<R: Wait>(
 ) -> Result<String, AllocError>
     requires { IsAt wanted desk seat }
 {
-    let bay = desk.close(rt, seat);
-    history_text(alloc, &bay)
+    let closed = desk.close(rt, seat);
+    history_text(alloc, closed.bay())
 }
 
 /// What the orders of a row come to at a desk, and the history behind them.

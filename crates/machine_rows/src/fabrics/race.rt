@@ -145,8 +145,8 @@ fn race_of<R: Threads + Wait + Sync>(
     let (desk, seat) = Desk::new(alloc, wanted.label())?;
     let (mut seat, done) = both(rt, wanted, &desk, seat, first, second);
     let idle = to_end(rt, alloc, wanted, &desk, &mut seat);
-    let bay = desk.close(rt, seat);
-    Ok(done && idle? && left_at(&bay, 3) == 2)
+    let closed = desk.close(rt, seat);
+    Ok(done && idle? && left_at(closed.bay(), 3) == 2)
 }
 
 /// A race of two tenants of the row.

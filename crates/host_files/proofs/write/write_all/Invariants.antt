@@ -12,5 +12,6 @@ invariant-tenants g l = record {
       (into_iter_items (zip_second l.tenant-iterator)) (g.S.Store.told l.store);
   long : into_iter_len (zip_second l.tenant-iterator) ≡ length (into_iter_items (zip_second l.tenant-iterator));
   faults : g.S.Store.faults l.initial.store ≤ g.S.Store.faults l.store;
-  absences : g.S.Store.absences l.initial.store ≤ g.S.Store.absences l.store;
+  absences : g.S.Store.absences l.store ≡ g.S.Store.absences l.initial.store;
+  missed : g.S.Store.missed l.store ≡ g.S.Store.missed l.initial.store;
 }

@@ -11,7 +11,7 @@ returns-in-Check-clause-due g c = rw c.in-Check.is c.due_of_source_path.ensures.
 pub returns-in-Demo-clause-due : goal.returns-in-Demo-clause-due
 returns-in-Demo-clause-due g c =
     let here = counts_of (g.S.Store.faults c.args.store.now) (g.S.Store.absences c.args.store.now) in
-    rw c.in-Demo.is (due-shown c.due_of_demo.result (g.S.Store.told c.args.store.now) here here c.in-Demo.tenants c.due_of_demo.ensures.shown c.due_of_demo.ensures.nothing)
+    rw c.in-Demo.is (due-shown c.due_of_demo.result (g.S.Store.told c.args.store.now) here here (g.S.Store.missed c.args.store.now) c.in-Demo.tenants c.due_of_demo.ensures.shown c.due_of_demo.ensures.nothing)
 
 pub returns-in-Demo-clause-written : goal.returns-in-Demo-clause-written
 returns-in-Demo-clause-written g c = nothing-written c.due_of_demo.result c.due_of_demo.ensures.nothing

@@ -1,5 +1,6 @@
-use Rattle.std.proofs.Common.{ap, Err}
-use Rattle.host_files.specs.Reading.{counts_of}
+use Rattle.std.proofs.Common.{◌∙◌, ◌++◌, ap, Err}
+use Rattle.host_files.specs.Reading.{counts_of, missed_in}
+use Rattle.host_files.proofs.Causes.{none-noted}
 use Rattle.host_run.proofs.Dues.{run-due, run-written, unread-file-due}
 use Rattle.host_run.proofs.due.due_of_script.Goals as goal
 
@@ -14,8 +15,9 @@ returns-in-Ok-clause-due g c = λ words path bytes command there short reads.
     let due = c.due_of_run.ensures in
     let run = c.in_ok-reported-in-Ok.ensures in
     run-due (g.S.Store.told c.args.store.now) (counts_of (g.S.Store.faults c.args.store.now) (g.S.Store.absences c.args.store.now))
-    (counts_of (g.S.Store.faults c.load.new.store) (g.S.Store.absences c.load.new.store)) words c.args.script c.in-Ok.loaded.items c.in_ok-reported-in-Ok.reported c.due_of_run.result bytes
+    (counts_of (g.S.Store.faults c.load.new.store) (g.S.Store.absences c.load.new.store)) (g.S.Store.missed c.args.store.now) (g.S.Store.missed c.load.new.store) words c.args.script c.in-Ok.loaded.items c.in_ok-reported-in-Ok.reported c.due_of_run.result bytes
     due.status due.text due.tenants due.kept due.bays command there short reads run.bays c.in-Ok.ensures.loaded c.in-Ok.ensures.within run.report
+    (none-noted _ _ _ _ c.in-Ok.is c.load.ensures.noted)
 
 pub returns-in-Ok-clause-written : goal.returns-in-Ok-clause-written
 returns-in-Ok-clause-written g c =
@@ -28,5 +30,6 @@ pub returns-in-Err-Unread-clause-due : goal.returns-in-Err-Unread-clause-due
 returns-in-Err-Unread-clause-due g c = λ words path bytes command there short reads.
     let why = c.in-Err-Unread.why in
     unread-file-due (g.S.Store.told c.args.store.now) (counts_of (g.S.Store.faults c.args.store.now) (g.S.Store.absences c.args.store.now))
-    (counts_of (g.S.Store.faults c.load.new.store) (g.S.Store.absences c.load.new.store)) words c.args.script c.only.result bytes c.in-Err-Unread.path why c.only.ensures
+    (counts_of (g.S.Store.faults c.load.new.store) (g.S.Store.absences c.load.new.store)) (g.S.Store.missed c.args.store.now) (g.S.Store.missed c.load.new.store) words c.args.script c.only.result bytes c.in-Err-Unread.path why c.only.ensures
     c.in_ok-line-in-Err-Unread.ensures c.as_slice.ensures command there short reads (c.in-Err-Unread.ensures.missed _ why (ap Err c.in-Err-Unread.field-0-is))
+    (c.load.ensures.noted ∙ ap (λ r. g.S.Store.missed c.args.store.now ++ missed_in r) (c.in-Err-Unread.is ∙ ap Err c.in-Err-Unread.field-0-is))

@@ -1,4 +1,4 @@
-use Rattle.host_run.proofs.Outcomes.{has_reported, has_judged, has_shown, is_misused, has_misread, has_missed, has_failed, takes_front, is_starved, is_status, is_usage, is_demo, is_faulty, is_complete}
+use Rattle.host_run.proofs.Outcomes.{has_reported, has_judged, has_shown, is_misused, has_misread, has_missed, has_failed, is_starved, is_status, is_usage, is_demo, is_faulty, is_complete}
 use Rattle.host_run.proofs.host.host.Goals as goal
 
 pub returns-clause-ran : goal.returns-clause-ran
@@ -21,9 +21,6 @@ returns-clause-missed g c = λ e. has_missed _ _ _ _ _ e c.serve.ensures
 
 pub returns-clause-failed : goal.returns-clause-failed
 returns-clause-failed g c = λ e. has_failed _ _ _ _ _ e c.serve.ensures
-
-pub returns-clause-cut : goal.returns-clause-cut
-returns-clause-cut g c = λ e. takes_front _ _ _ _ _ e c.serve.ensures
 
 pub returns-clause-starved : goal.returns-clause-starved
 returns-clause-starved g c = λ e. is_starved _ _ _ _ _ e c.serve.ensures

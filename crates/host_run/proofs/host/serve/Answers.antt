@@ -8,7 +8,7 @@ use Rattle.host_run.proofs.host.serve.Goals as goal
 
 pub returns-then-not-is_command : goal.returns-then-not-is_command
 returns-then-not-is_command g c =
-    wrote (misused refl (none-of (command_of (map string_bytes c.args.words.now)) c.if-not-is_command.ensures) c.usage.ensures c.requires refl)
+    wrote (misused refl (none-of (command_of (map string_bytes c.args.words.now)) c.if-not-is_command.ensures) c.usage.ensures c.requires refl refl)
     (put-came c.put.result c.put.ensures.whole c.put.ensures.front c.put.ensures.failed refl c.status_of.ensures)
 
 pub due_for-requires-after_bounds : goal.due_for-requires-after_bounds
@@ -18,4 +18,4 @@ pub returns-in-Ok-due_for : goal.returns-in-Ok-due_for
 returns-in-Ok-due_for g c =
     let d = c.in-Ok-due_for.ensures in
     let w = c.write_due.ensures in
-    rw w.bays (wrote (due-later _ _ _ _ w.faults w.absences (d.due _ c.in-Ok.ensures)) (wrote-from _ _ _ _ _ _ _ _ _ d.told d.faults w.wrote))
+    rw w.bays (wrote (due-later _ _ _ _ _ _ _ w.faults w.absences w.missed (d.due _ c.in-Ok.ensures)) (wrote-from _ _ _ _ _ _ _ _ _ _ _ d.told d.faults w.wrote))

@@ -9,5 +9,5 @@ returns-in-Err-clause-wrote g c =
 pub returns-clause-wrote : goal.returns-clause-wrote
 returns-clause-wrote g c =
     let write = c.write_all.ensures in
-    saves-came c.write_all.result (rw c.deref.ensures.value at c.in_default.ensures.whole) (rw c.as_slice.ensures at write.all) (rw c.as_slice.ensures at write.front) write.failed
+    saves-came c.write_all.result (rw c.deref.ensures.value at c.in_default.ensures.whole) (rw c.as_slice.ensures at write.all) (rw c.as_slice.ensures at write.front) (rw c.as_slice.ensures at write.lost) write.failed
     c.status_of-2.ensures

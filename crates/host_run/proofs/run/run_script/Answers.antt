@@ -1,4 +1,5 @@
-use Rattle.host_run.proofs.Endings.{all_tellable, as_many_refusals, as_many_starts, bays_ok, begin_on, count_ok, kept_ok, orders_may_be_given, outcome_on, report_ok}
+use Rattle.host_run.proofs.Endings.{all_tellable, as_many_refusals, bays_ok, begin_on, count_ok, kept_ok, orders_may_be_given, outcome_on, report_ok}
+use Rattle.host_run.proofs.Reports.{as_many_starts}
 use Rattle.host_run.proofs.Reports.{are_answers}
 use Rattle.host_run.proofs.run.run_script.Goals as goal
 

@@ -1,8 +1,24 @@
 use Rattle.std.proofs.Common.{◌∙◌, refl, arith}
 use Rattle.std.proofs.lemmas.Result.{err_from_is_err_and}
 use Rattle.host_files.specs.Steps as part
-use Rattle.host_files.proofs.Causes.{handed, asked-for, cause-before, file-before}
+use Rattle.host_files.proofs.Causes.{handed, asked-for, cause-before, file-before, noted-handed, none-noted}
 use Rattle.host_files.proofs.load.Reader.read_tenant.Goals as goal
+
+pub returns-in_err-source-clause-noted : goal.returns-in_err-source-clause-noted
+returns-in_err-source-clause-noted g c =
+    noted-handed _ _ _ _ _ _ refl c.read_at.ensures.noted c.in_err-source.was (err_from_is_err_and c.from_residual.result c.from_residual.ensures.1)
+
+pub returns-in_err-files-clause-noted : goal.returns-in_err-files-clause-noted
+returns-in_err-files-clause-noted g c =
+    noted-handed _ _ _ _ _ _ (none-noted _ _ _ _ c.in_ok-source.was c.read_at.ensures.noted) c.read_files.ensures.noted c.in_err-files.was
+    (err_from_is_err_and c.from_residual-in_err-files.result c.from_residual-in_err-files.ensures.1)
+
+pub returns-in_err-snapshot-clause-noted : goal.returns-in_err-snapshot-clause-noted
+returns-in_err-snapshot-clause-noted g c =
+    let source = none-noted _ _ _ _ c.in_ok-source.was c.read_at.ensures.noted in
+    let files = none-noted _ _ _ _ c.in_ok-files.was c.read_files.ensures.noted in
+    noted-handed _ _ _ _ _ _ (files ∙ source) c.read_snapshot.ensures.noted c.in_err-snapshot.was
+    (err_from_is_err_and c.from_residual-in_err-snapshot.result c.from_residual-in_err-snapshot.ensures.1)
 
 pub returns-in_err-source-clause-missed : goal.returns-in_err-source-clause-missed
 returns-in_err-source-clause-missed g c = λ asked why e.

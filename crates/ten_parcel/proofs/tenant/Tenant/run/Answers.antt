@@ -40,3 +40,14 @@ returns-clause-rests c =
 
 pub returns-clause-ended : goal.returns-clause-ended
 returns-clause-ended c n i w = sym (c.goes_on.ensures n i w) ∙ c.acts-test.false
+
+pub returns-in_err-advance-clause-stands : goal.returns-in_err-advance-clause-stands
+returns-in_err-advance-clause-stands c =
+    let g = c.acts.invariant in
+    (g.acts, g.stage, c.in_err-advance.ensures.stands g.acts g.stage g.ready.on)
+
+pub returns-in_err-make_saves-2-clause-stands : goal.returns-in_err-make_saves-2-clause-stands
+returns-in_err-make_saves-2-clause-stands c =
+    let g = c.acts.invariant in
+    let n = c.in_ok-advance.ensures.nearer g.acts g.stage g.ready (sym (c.goes_on.ensures g.acts g.stage g.ready.on) ∙ c.acts-test.true) in
+    (n.acts, n.stage, c.make_saves-in-acts.ensures.stands n.acts n.stage n.on)

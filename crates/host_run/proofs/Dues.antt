@@ -211,7 +211,7 @@ due-shown-of (Err e) files tenants bytes same tells h = tt
 pub one-script : (bytes : List ℕ) (s t : Script) → reading bytes ≡ Ok s → reading bytes ≡ Ok t → s ≡ t
 one-script bytes s t e f = cc
 
-not-risen : HasRisen 0 0 → ⊥
+pub not-risen : HasRisen 0 0 → ⊥
 not-risen (inl l) = omega (arith, l)
 not-risen (inr l) = omega (arith, l)
 

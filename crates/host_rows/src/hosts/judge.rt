@@ -9,6 +9,9 @@ use host_run::gate::{Gate, NoGate};
 use host_run::host::host;
 use host_run::mem_sink::MemSink;
 use host_run::mem_store::MemStore;
+use host_run::steady::host_in_memory;
+use host_run::steady_sink::SteadySink;
+use host_run::steady_store::SteadyStore;
 use std::alloc::{AllocError, Global};
 use std::sync::Wait;
 use std::thread::Threads;
@@ -107,12 +110,41 @@ fn held(alloc: Global, count: u64) -> Result<String, AllocError> {
     format!(in alloc; "held {count}\n")
 }
 
+/// The status in a line and what the host prints, over a store and a sink that never fail.
+fn steady_answer<R: Threads + Wait + Sync>(
+    rt: &R,
+    alloc: Global,
+    row: &Row,
+) -> Result<String, AllocError> {
+    let words = words_of(alloc, row.words.as_str())?;
+    let mut store = SteadyStore::new(alloc);
+    for file in &row.files {
+        store.add(file.path.as_str(), file.bytes.as_slice())?;
+    }
+    let mut sink = SteadySink::new(alloc);
+    let mut bays = Bays::new(alloc);
+    let status = host_in_memory(
+        rt,
+        alloc,
+        words.as_slice(),
+        &mut store,
+        &mut sink,
+        &NoGate,
+        &mut bays,
+    );
+    let text = String::from_utf8_lossy(alloc, sink.taken())?;
+    format!(in alloc; "status {status}\n{text}")
+}
+
 /// The status in a line, what the host prints, a line of each file that is wanted otherwise, and a line of how many were held too long.
 fn answer<R: Threads + Wait + Clock + Sync>(
     rt: &R,
     alloc: Global,
     row: &Row,
 ) -> Result<String, AllocError> {
+    if row.is_plain() {
+        return steady_answer(rt, alloc, row);
+    }
     let mut store = store_of(alloc, row)?;
     let mut sink = MemSink::new(alloc, row.piece.max(1));
     sink.fail_call(row.failing_write)?;

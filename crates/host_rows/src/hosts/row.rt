@@ -4,6 +4,9 @@ use crate::hosts::gates::Hold;
 use crate::hosts::numbers::number;
 use std::alloc::{AllocError, Global};
 
+/// The most bytes that a sink takes in a call, where a row doesn't say.
+const PIECE: usize = 4096;
+
 /// A file of a store: its path and its bytes.
 #[derive(Drop)]
 pub struct Named {
@@ -44,11 +47,20 @@ pub struct Row {
 }
 
 impl Row {
+    /// Nothing fails in it, the sink takes as much as it is given, nobody is held at a gate, and no file is wanted behind the call.
+    pub fn is_plain(&self) -> bool {
+        self.piece == PIECE
+            && self.failing_read == 0
+            && self.failing_write == 0
+            && self.holds.is_empty()
+            && self.saved.is_empty()
+    }
+
     /// A row of these words, whose reads and writes don't fail.
     pub fn new(alloc: Global, words: &str) -> Result<Row, AllocError> {
         Ok(Row {
             words: String::from_str(alloc, words)?,
-            piece: 4096,
+            piece: PIECE,
             failing_read: 0,
             failing_write: 0,
             wanted: String::new(alloc),
